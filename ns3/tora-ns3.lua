@@ -1,3 +1,6 @@
+-- SPDX-FileCopyrightText: 2026 the Ginavoru authors
+-- SPDX-License-Identifier: GPL-2.0-only
+
 -- A Wireshark dissector for the broadcast packets of the ns-3 module (ns3/README.md, "On the air"): it spells each frame whole
 -- and hands it to tools/tora.lua, where that is loaded, too.
 --

@@ -17,7 +17,7 @@ from study import Usage, reading, refused, run, shown
 from world import Rounds
 
 # Lines of a simulation file that print nothing, where nothing is refused, and leave the clock
-QUIET = "dests link old need part mend open pull transmit pump deliver turn arm restart".split()
+QUIET = "dests link old erasure need part mend open pull transmit pump deliver turn arm restart".split()
 
 
 class Fold:

@@ -1,7 +1,7 @@
 #!/usr/bin/env bash
 # Checks the tools: the unit tests (tools/test_*.py), and on stored scenarios a small study, whose CSV, summary, loops and pictures
 # (as .dot) are compared with stored ones, the data in pages that play the runs, the reading of movement files, and the
-# refusals of bad input. Beside them the dissector, the completion, what ./tora install puts where, and that the manual page and
+# refusals of bad input. Beside them the dissector, the completion, what ./tora install puts where, and that the manual pages and
 # the help have the lines of docs/formats.md. Where the program stands, nodes of it are tried, too: their lock, log and keys, and what they tell programs.
 # usage: tools/check.sh [--store]
 #   --store   write what comes out to tools/stored in place of comparing; for a change that is meant to change it
@@ -276,8 +276,9 @@ check_install() {
   mkdir -p "$copy/crates/tora/src" "$copy/crates/tora/out" "$copy/tools" "$copy/docs" "$root/usr/share/tora"
   cp ../../tora ../../crates.txt "$copy/"
   cp -R ../install.py ../installed.sh ../tora.lua ../completion "$copy/tools/"
-  cp ../../docs/tora.1 "$copy/docs/"
+  cp -R ../../docs/man "$copy/docs/"
   refuses 2 'the program is not built' "$tora" install
+  refuses 2 'the program is not built' "$tora" deb
   printf '#!/bin/sh\necho "the program, $*${GLIBC_TUNABLES+ in pages as $GLIBC_TUNABLES}"\n' >"$program"
   chmod +x "$program"
   touch -d '1 minute ago' "$program"
@@ -315,10 +316,10 @@ check_completion() {
   same completion "$work/completion"
 }
 
-# The forms of lines in the manual page and the help are those of docs/formats.md.
+# The forms of lines in the manual pages and the help are those of docs/formats.md.
 check_forms() {
   python3 ../forms.py >"$work/found" || true
-  agrees /dev/null "$work/found" 'docs/formats.md has lines that the manual page or the help lacks, which'
+  agrees /dev/null "$work/found" 'docs/formats.md has lines that the manual pages or the help lack, which'
 }
 
 # What play.py refuses, and that no page is left behind.
@@ -474,6 +475,15 @@ jsonschema.validate(*[json.load(open(it)) for it in sys.argv[1:]])
   agrees "$work/wanted" "$work/routes" 'what examples/set-routes makes of it'
 }
 
+# Each file has a licence, as the command reuse (package reuse) reads it.
+check_licence() {
+  if ! command -v reuse >/dev/null; then
+    echo "check: no reuse (package reuse); the licences are not checked"
+    return
+  fi
+  holds 'each file has a licence' reuse --root ../.. lint
+}
+
 # The module for ns-3: its checks, where ns3/build has built it; the summary of a comparison without it.
 check_ns3() {
   local rows=../../docs/studies/ns3-proved.csv
@@ -503,6 +513,7 @@ check_dissector
 check_install
 check_completion
 check_page_refusals
+check_licence
 check_ns3
 echo "$passed passed, $failed failed"
 [ "$failed" = 0 ]

@@ -4,7 +4,7 @@
 usage: tools/drive.py [--ticks N] [--loss P] [--seed S] [--need N,D ..] [--large] [--keep FOLDER] PROGRAM FILE
 
   PROGRAM         the program `tora`
-  FILE            `dests`, `link` and `old` lines of a simulation file
+  FILE            `dests`, `link`, `old` and `erasure` lines of a simulation file
   --ticks N       so many steps (1 to 18446744073709551615; 100)
   --loss P        a datagram is lost with this probability, from 0 to 1 (0)
   --seed S        of the losses (1)
@@ -126,12 +126,12 @@ def simulated(program, limits, path):
 
 
 def first_lines(path):
-    """The `dests`, `link` and `old` lines of a simulation file, the first line among them."""
+    """The `dests`, `link`, `old` and `erasure` lines of a simulation file, the first line among them."""
     with reading(path) as source:
         lines = source.read().splitlines()
     if not lines or not re.fullmatch("dests [0-9,-]+", lines[0]):
         raise refused(path, 1, "no line `dests LIST`")
-    return [line for line in lines if line.split(" ")[0] in ("dests", "link", "old")]
+    return [line for line in lines if line.split(" ")[0] in ("dests", "link", "old", "erasure")]
 
 
 def compare(asked, folder):

@@ -60,7 +60,7 @@ class Ends:
     def __init__(self, path):
         """Before the first line."""
         self.path, self.parts, self.digest, self.line = path, None, None, 0
-        self.until, self.channel_file = None, None
+        self.until, self.channel_file, self.erasure = None, None, "plain"
 
     def begin(self, text):
         """Takes the first record."""
@@ -69,10 +69,13 @@ class Ends:
             raise refused(self.path, 1, "the line is cut: it does not end")
         if words[2] != "1":
             raise refused(self.path, 1, f"a trace of version {shown(words[2])}; 1 is read here")
-        if len(words) not in (3 + len(PARTS), 5 + len(PARTS)):
+        if len(words) not in (3 + len(PARTS), 5 + len(PARTS), 6 + len(PARTS)):
             raise refused(self.path, 1, f"`trace` has {1 + len(PARTS)} fields, not {len(words) - 2}")
         self.parts = {name: field(self.path, 1, "n", word) for name, word in zip(PARTS, words[3:])}
-        self.until, self.channel_file = self.more(*words[3 + len(PARTS):])
+        self.until, self.channel_file = self.more(*words[3 + len(PARTS):5 + len(PARTS)])
+        self.erasure = words[5 + len(PARTS)] if len(words) > 5 + len(PARTS) else "plain"
+        if self.erasure not in ("plain", "remembered"):
+            raise refused(self.path, 1, f"`{shown(self.erasure)}` is neither `plain` nor `remembered`")
 
     def more(self, until="-", channel_file="-"):
         """The last round and the digest of the channel file, None where there is none."""

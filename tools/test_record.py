@@ -30,6 +30,7 @@ REFUSED = {
     FIRST.replace(" 1\n", " 1 300\n"): "1: `trace` has 11 fields, not 12",
     FIRST.replace(" 1\n", " 1 300 12\n"): "1: `12` is no digest",
     FIRST.replace(" 1\n", f" 1 x {'0' * 64}\n"): "1: `x` is no number",
+    FIRST.replace(" 1\n", " 1 - - remember\n"): "1: `remember` is neither `plain` nor `remembered`",
 }
 
 
@@ -58,11 +59,12 @@ class RecordTest(unittest.TestCase):
     def test_more(self):
         """The last round and the digest of a channel file, which may be missing."""
         digest = "a" * 64
-        for more, wanted in (("", (None, None)), (" 300 -", (300, None)), (f" - {digest}", (None, digest)), (f" 0 {digest}", (0, digest))):
+        for more, wanted in (("", (None, None)), (" 300 -", (300, None)), (f" - {digest}", (None, digest)), (f" 0 {digest}", (0, digest)), (" - - remembered", (None, None)), (" 300 - remembered", (300, None))):
             with self.subTest(more=more), written(FIRST.replace("\n", more + "\n") + "1 need 1 2\n" + LAST) as path:
                 ends = Ends(path)
                 self.assertEqual(list(records(path, ends)), [Record(2, 1, "need", (1, 2))])
                 self.assertEqual((ends.until, ends.channel_file, last_round(path)), (*wanted, wanted[0]))
+                self.assertEqual(ends.erasure, "remembered" if more.endswith("remembered") else "plain")
 
     def test_until(self):
         """A run that has ended before the scenario's last round is measured as far as it goes."""

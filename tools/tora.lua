@@ -1,3 +1,6 @@
+-- SPDX-FileCopyrightText: 2026 the Ginavoru authors
+-- SPDX-License-Identifier: MIT
+
 -- A Wireshark dissector for the datagrams of a TORA node: frames of both versions, and the packets in them, as
 -- docs/formats.md ("Packets", "Frames", "Reading frames") has them.
 --

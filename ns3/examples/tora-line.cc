@@ -1,3 +1,6 @@
+// SPDX-FileCopyrightText: 2026 the Ginavoru authors
+// SPDX-License-Identifier: GPL-2.0-only
+
 /*
  * Three fixed nodes on a line, each in range of the next alone. The first sends 100 packets to the
  * third, four a second from 10 s on; then the routing tables are printed. ns3/README.md tells what

@@ -1,3 +1,6 @@
+// SPDX-FileCopyrightText: 2026 the Ginavoru authors
+// SPDX-License-Identifier: GPL-2.0-only
+
 #ifndef TORA_HEADER_H
 #define TORA_HEADER_H
 

@@ -1,6 +1,10 @@
+// SPDX-FileCopyrightText: 2026 the Ginavoru authors
+// SPDX-License-Identifier: GPL-2.0-only
+
 #include "tora-routing.h"
 
 #include "ns3/boolean.h"
+#include "ns3/enum.h"
 #include "ns3/nstime.h"
 #include "ns3/string.h"
 #include "ns3/trace-source-accessor.h"
@@ -111,6 +115,14 @@ ToraRoutingAttributes::AddLinks(TypeId tid)
                       BooleanValue(false),
                       MakeBooleanAccessor(&ToraRouting::m_isOld),
                       MakeBooleanChecker())
+        .AddAttribute("Erasure",
+                      "What the node makes of erased reference levels: Plain or Remembered.",
+                      EnumValue(ToraRouting::PLAIN),
+                      MakeEnumAccessor(&ToraRouting::m_erasure),
+                      MakeEnumChecker(ToraRouting::PLAIN,
+                                      "Plain",
+                                      ToraRouting::REMEMBERED,
+                                      "Remembered"))
         .AddAttribute("BeaconInterval",
                       "How long a node is silent at most.",
                       TimeValue(Seconds(1)),

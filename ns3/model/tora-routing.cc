@@ -1,3 +1,6 @@
+// SPDX-FileCopyrightText: 2026 the Ginavoru authors
+// SPDX-License-Identifier: GPL-2.0-only
+
 #define NS_LOG_APPEND_CONTEXT                                                                      \
     if (m_ipv4)                                                                                    \
     {                                                                                              \
@@ -131,6 +134,12 @@ bool
 ToraRouting::IsOld() const
 {
     return m_isOld;
+}
+
+ToraRouting::Erasure
+ToraRouting::GetErasure() const
+{
+    return m_erasure;
 }
 
 Ipv4Address

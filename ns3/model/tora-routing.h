@@ -1,3 +1,6 @@
+// SPDX-FileCopyrightText: 2026 the Ginavoru authors
+// SPDX-License-Identifier: GPL-2.0-only
+
 #ifndef TORA_ROUTING_H
 #define TORA_ROUTING_H
 
@@ -68,6 +71,13 @@ class ToraRouting : public Ipv4RoutingProtocol
     static const uint16_t PORT;
     /// The most bytes of a broadcast packet, with its IPv4 and UDP headers.
     static const uint32_t MAX_PACKET_SIZE;
+
+    /// What a node makes of the reference levels that it erased (docs/protocol.md).
+    enum Erasure
+    {
+        PLAIN,     //!< it forgets them, as the texts do
+        REMEMBERED //!< it takes no update of the level that it erased last
+    };
 
     /// Why a data packet was dropped.
     enum DropReason
@@ -182,6 +192,10 @@ class ToraRouting : public Ipv4RoutingProtocol
      * \returns whether the node's link ends speak version 1 of frames alone
      */
     bool IsOld() const;
+    /**
+     * \returns what the node makes of erased reference levels
+     */
+    Erasure GetErasure() const;
     /**
      * Finds the next hop to a destination.
      *
@@ -326,6 +340,7 @@ class ToraRouting : public Ipv4RoutingProtocol
     bool m_isTaking;        //!< whether received frames are handed over as bytes
     bool m_isLarge;         //!< whether nodes may have more than 32 links
     bool m_isOld;           //!< whether link ends speak version 1 of frames alone
+    Erasure m_erasure;      //!< what the node makes of erased reference levels
     Time m_beaconInterval;  //!< how long the node is silent at most
     Time m_heardTimeout;    //!< how long a neighbour counts as heard
     Time m_maxQueueTime;    //!< how long a packet waits at most

@@ -1,3 +1,6 @@
+// SPDX-FileCopyrightText: 2026 the Ginavoru authors
+// SPDX-License-Identifier: GPL-2.0-only
+
 #include "tora-line.h"
 #include "tora-routing.h"
 #include "tora-world.h"

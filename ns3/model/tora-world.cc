@@ -1,3 +1,6 @@
+// SPDX-FileCopyrightText: 2026 the Ginavoru authors
+// SPDX-License-Identifier: GPL-2.0-only
+
 #include "tora-world.h"
 
 #include "tora-line.h"
@@ -228,6 +231,10 @@ ToraWorld::LinesOfWorld()
         if (node->IsOld())
         {
             lines.push_back(ToraLineOf("old", id));
+        }
+        if (node->GetErasure() == ToraRouting::REMEMBERED)
+        {
+            lines.push_back(ToraLineOf("erasure", id, "remembered"));
         }
     }
     return lines;

@@ -1,3 +1,6 @@
+// SPDX-FileCopyrightText: 2026 the Ginavoru authors
+// SPDX-License-Identifier: GPL-2.0-only
+
 #ifndef TORA_WORLD_H
 #define TORA_WORLD_H
 
@@ -176,7 +179,7 @@ class ToraWorld : public SimpleRefCount<ToraWorld>
     /**
      * Makes the first lines of a file of the world, and notes its links.
      *
-     * \returns the lines: destinations, links and old nodes
+     * \returns the lines: destinations, links, old nodes, and nodes that remember erased levels
      */
     std::vector<std::string> LinesOfWorld();
     /// A tick: a round of the engine, and the turns of the nodes.

@@ -1,3 +1,6 @@
+// SPDX-FileCopyrightText: 2026 the Ginavoru authors
+// SPDX-License-Identifier: GPL-2.0-only
+
 /**
  * \file
  * \ingroup tora
@@ -5,12 +8,15 @@
  */
 #include "tora-net.h"
 
+#include "ns3/enum.h"
 #include "ns3/string.h"
 #include "ns3/test.h"
 #include "ns3/tora-engine.h"
 #include "ns3/tora-world.h"
 
 #include <cstdio>
+#include <fstream>
+#include <sstream>
 
 using namespace ns3;
 
@@ -115,12 +121,25 @@ class ToraRecordTestCase : public TestCase
 
     void DoRun() override
     {
-        std::string file = CreateTempDirFilename("run.sim");
+        Compare("plain.sim", ToraRouting::PLAIN);
+        Compare("remembered.sim", ToraRouting::REMEMBERED);
+    }
+
+    /**
+     * Compares a run with the simulation of its record.
+     *
+     * \param name the name of the record
+     * \param erasure what a node in the middle makes of erased levels; the others are plain
+     */
+    void Compare(const std::string& name, ToraRouting::Erasure erasure)
+    {
+        std::string file = CreateTempDirFilename(name);
         std::string heights;
         {
             ToraHelper tora;
             tora.Set("Record", StringValue(file));
             ToraNet net({0, 200, 210, 400, 600}, tora);
+            net.RoutingOf(1)->SetAttribute("Erasure", EnumValue(erasure));
             net.Flow(0, 4, 5, 40);
             net.Flow(3, 0, 6, 40);
             net.Run(12);
@@ -132,6 +151,13 @@ class ToraRecordTestCase : public TestCase
         }
         NS_TEST_EXPECT_MSG_NE(heights.find("hop 1"), std::string::npos, "there are routes");
         NS_TEST_EXPECT_MSG_EQ(Simulate(file), heights, "what tora sim prints");
+        std::ifstream record(file);
+        std::stringstream text;
+        text << record.rdbuf();
+        bool isTold = text.str().find("\nerasure ") != std::string::npos;
+        NS_TEST_EXPECT_MSG_EQ(isTold,
+                              (erasure == ToraRouting::REMEMBERED),
+                              "the record says what the node makes of erased levels");
     }
 };
 

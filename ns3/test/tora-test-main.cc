@@ -1,3 +1,6 @@
+// SPDX-FileCopyrightText: 2026 the Ginavoru authors
+// SPDX-License-Identifier: GPL-2.0-only
+
 /**
  * \file
  * Runs the tests where there is no ns-3 tree, whose test-runner does otherwise.

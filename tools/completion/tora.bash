@@ -5,13 +5,14 @@ _tora() {
   COMPREPLY=()
   for ((at = 1; at < COMP_CWORD; at++)); do
     case ${COMP_WORDS[at]} in
-      --times | --channel | --channel-file | --seed | --until | --trace | --log) at=$((at + 1)) ;;
+      --times | --channel | --channel-file | --seed | --until | --erasure | --trace | --log) at=$((at + 1)) ;;
       -*) ;;
       *) command=${COMP_WORDS[at]} && break ;;
     esac
   done
   case $before in
     --times | --channel | --seed | --until) return ;;
+    --erasure) mapfile -t COMPREPLY < <(compgen -W 'plain remembered' -- "$word") && return ;;
     --log) mapfile -t COMPREPLY < <(compgen -W 'off error warn info debug trace' -- "$word") && return ;;
     --trace | --channel-file) mapfile -t COMPREPLY < <(compgen -f -- "$word") && return ;;
   esac
@@ -19,14 +20,16 @@ _tora() {
     '')
       words+=' -V --version replay sim drive node key help'
       # the launcher at the top of the repository has words of its own
-      if [ -f "$(dirname "${COMP_WORDS[0]}")/tools/build.py" ]; then words+=' build test install uninstall'; fi
+      if [ -f "$(dirname "${COMP_WORDS[0]}")/tools/build.py" ]; then words+=' build test install uninstall deb'; fi
       ;;
-    sim) words+=' --times --channel --seed --channel-file --notice --large --until --progress --trace' files='*.sim' ;;
-    drive) words+=' --times --large --record' ;;
+    replay) words+=' --erasure' ;;
+    sim) words+=' --times --channel --seed --channel-file --notice --large --erasure --until --progress --trace' files='*.sim' ;;
+    drive) words+=' --times --large --erasure --record' ;;
     node) words+=' --check --log --log-time' files='*.toml' ;;
     help) words='replay sim drive node key' ;;
     install | uninstall) words='-h --help' files='*/' ;;
     build | test) words='-h --help --jobs' ;;
+    deb) words='-h --help --unproved --twice --out' files='*/' ;;
   esac
   mapfile -t COMPREPLY < <(compgen -W "$words" -- "$word")
   [[ $word != -* && -n $files ]] || return 0

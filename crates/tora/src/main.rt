@@ -23,12 +23,12 @@ pub use tora_script::{
 };
 pub use tora_simulate::{simulate, simulate_with};
 
-/// Replays standard input.
-fn replay_input(rt: &HostRuntime, is_verbose: bool) -> ExitCode {
+/// Replays standard input, for a node that makes what a word says of erased levels.
+fn replay_input(rt: &HostRuntime, erasure: Option<&str>, is_verbose: bool) -> ExitCode {
     let Ok(mut writer) = BufWriter::new(rt.alloc(), io::writer(rt)) else {
         return stop(rt, MEMORY, "memory");
     };
-    replay_command::run(rt, rt.stdin(), is_verbose, &mut writer)
+    replay_command::run(rt, erasure, rt.stdin(), is_verbose, &mut writer)
 }
 
 /// The words of `tora sim` that say what a simulation is made with.
@@ -40,6 +40,7 @@ fn setup_words<'a>(sim: &'a ArgMatches<'_>) -> SetupWords<'a> {
         has_notice: sim.get_flag("notice"),
         is_large: sim.get_flag("large"),
         until: sim.get_str("until"),
+        erasure: sim.get_str("erasure"),
         channel_file: sim.get_str("channel-file"),
     }
 }
@@ -58,10 +59,13 @@ fn simulate_to_output(rt: &HostRuntime, sim: &ArgMatches<'_>, is_verbose: bool) 
 /// Drives a world by the lines of standard input, and records it where a path is given for that.
 fn drive_input(rt: &HostRuntime, drive: &ArgMatches<'_>) -> ExitCode {
     let mut writer = io::writer(rt);
-    let (times, is_large) = (drive.get_str("times"), drive.get_flag("large"));
+    let (times, erasure) = (drive.get_str("times"), drive.get_str("erasure"));
+    let is_large = drive.get_flag("large");
     match drive.get_str("record") {
-        None => drive_command::run(rt, times, is_large, rt.stdin(), &mut writer),
-        Some(path) => record_command::run(rt, times, is_large, path, rt.stdin(), &mut writer),
+        None => drive_command::run(rt, times, erasure, is_large, rt.stdin(), &mut writer),
+        Some(path) => {
+            record_command::run(rt, times, erasure, is_large, path, rt.stdin(), &mut writer)
+        }
     }
 }
 
@@ -111,6 +115,7 @@ fn main(rt: HostRuntime) -> ExitCode {
         Some(("sim", sim)) => simulate_to_output(&rt, sim, is_verbose),
         Some(("drive", drive)) => drive_input(&rt, drive),
         Some(("key", _)) => key_command::run(&rt, &mut io::writer(&rt)),
-        _ => replay_input(&rt, is_verbose),
+        Some(("replay", replay)) => replay_input(&rt, replay.get_str("erasure"), is_verbose),
+        _ => replay_input(&rt, None, is_verbose),
     }
 }

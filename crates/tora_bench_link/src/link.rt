@@ -14,7 +14,7 @@ use tora_height::{Height, Id};
 use tora_keyed::{Key, KeyedWire};
 use tora_lane::Cargo;
 use tora_life::{LifeFile, MemDisk};
-use tora_neighbour::{Link, ListHub, UdpWire, UnixClock, Wire, run_neighbour};
+use tora_neighbour::{ClockTicks, Link, ListHub, UdpWire, UnixClock, Wire, run_neighbour};
 use tora_packet::{Packet, Update};
 
 /// Places for the life that begins and for the beats of a run.
@@ -76,7 +76,8 @@ fn run_end<R: Clock + Wait, W: Wire + Drop>(
         over: false,
     };
     let clock = UnixClock::new(rt);
-    let finished = run_neighbour(rt, Link { end, file, wire }, &clock, hub);
+    let mut ticks = ClockTicks { clock: &clock };
+    let finished = run_neighbour(rt, Link { end, file, wire }, &mut ticks, hub);
     Some(finished.hub.given)
 }
 

@@ -2,7 +2,7 @@
 use Rattle.std.specs.Prelude.{◌≡◌, ◌⊎◌, ℕ, Bool, false, List, Option}
 use Rattle.std.specs.Io.KnownBytes.{Appends}
 use Rattle.tora_arq.specs.declared.times.Times.{Times}
-use Rattle.tora_world.specs.declared.limits.Limits.{Limits}
+use Rattle.tora_script.specs.declared.setup.WorldOptions.{WorldOptions}
 use Rattle.tora_lines.specs.LineText.{Text}
 use Rattle.tora_drive.specs.DriveText.{drive_rules, shortened_text, greeting}
 use Rattle.tora_drive.specs.Recording.{recorded_rules}
@@ -15,13 +15,13 @@ pub record EndsGreeted {W : Type 0} (text : List ℕ → Text) (contents : W →
   pub ends : EndsWith text contents did_flush input greeted new is_lost status
 
 -- The same, or the greeting could not be written.
-abbrev pub EndsDrive : {W : Type 0} → Limits → Times → (W → Option (List ℕ)) → (W → Bool → W → Type 0) → Option (List ℕ) → W → W → ℕ → Type 0
-EndsDrive limits times contents did_flush input old new status = EndsGreeted (shortened_text (drive_rules limits times)) contents did_flush input old new false status ⊎ (status ≡ 1)
+abbrev pub EndsDrive : {W : Type 0} → WorldOptions → Times → (W → Option (List ℕ)) → (W → Bool → W → Type 0) → Option (List ℕ) → W → W → ℕ → Type 0
+EndsDrive options times contents did_flush input old new status = EndsGreeted (shortened_text (drive_rules options times)) contents did_flush input old new false status ⊎ (status ≡ 1)
 
 -- The same of a drive that is recorded, whose record is lost or not.
-abbrev pub EndsRecorded : {W : Type 0} → Limits → Times → (W → Option (List ℕ)) → (W → Bool → W → Type 0) → Option (List ℕ) → W → W → Bool → ℕ → Type 0
-EndsRecorded limits times contents did_flush input old new is_lost status = EndsGreeted (shortened_text (recorded_rules limits times)) contents did_flush input old new is_lost status ⊎ (status ≡ 1)
+abbrev pub EndsRecorded : {W : Type 0} → WorldOptions → Times → (W → Option (List ℕ)) → (W → Bool → W → Type 0) → Option (List ℕ) → W → W → Bool → ℕ → Type 0
+EndsRecorded options times contents did_flush input old new is_lost status = EndsGreeted (shortened_text (recorded_rules options times)) contents did_flush input old new is_lost status ⊎ (status ≡ 1)
 
 -- The same, or the file of the record could not be made, and nothing was written.
-abbrev pub EndsRecordedTo : {W : Type 0} → Limits → Times → (W → Option (List ℕ)) → (W → Bool → W → Type 0) → Option (List ℕ) → W → W → ℕ → Type 0
-EndsRecordedTo limits times contents did_flush input old new status = ((is_lost : Bool) × EndsRecorded limits times contents did_flush input old new is_lost status) ⊎ IsUnopened old new status
+abbrev pub EndsRecordedTo : {W : Type 0} → WorldOptions → Times → (W → Option (List ℕ)) → (W → Bool → W → Type 0) → Option (List ℕ) → W → W → ℕ → Type 0
+EndsRecordedTo options times contents did_flush input old new status = ((is_lost : Bool) × EndsRecorded options times contents did_flush input old new is_lost status) ⊎ IsUnopened old new status

@@ -1,6 +1,6 @@
 -- The exit statuses of a node.
 use Rattle.std.specs.Prelude.{◌≡◌, ◌⊎◌, ℕ, Bool, true, false, Result, Ok, Err}
-use Rattle.tora_core.specs.CoreRun.{CoreView, first_core}
+use Rattle.tora_core.specs.CoreRun.{CoreView, first_core_of}
 use Rattle.tora_config.specs.NodeConfig.{IsNodeConfig, peers_of}
 use Rattle.tora_config.specs.declared.NodeConfig.{NodeConfig}
 use Rattle.tora_node.specs.NodeRuns.{EndedView, IsRunOf}
@@ -28,7 +28,7 @@ status_of_node (Err Node.Output) = 1
 
 -- the core that the node of a configuration begins with
 abbrev pub core_of : NodeConfig → CoreView
-core_of config = first_core config.node (peers_of config.links.items) config.dests.items
+core_of config = first_core_of config.erasure config.node (peers_of config.links.items) config.dests.items
 
 -- What `run_node` answers of a node that began with this core: without a fault, its core is the run of items and each link had a thread
 -- without one; else it is a fault of the start, or the first one of what its threads came to

@@ -39,6 +39,8 @@ Lines of a simulation file, each ended by LF, of at most 4096 bytes:
   link A B           one line or more: a link; the nodes are those of the links
   old N              any number of lines right behind the links: the link ends
                      of N speak version 1 of frames alone
+  erasure N WORD     among these: what N makes of erased reference levels,
+                     plain or remembered, in place of what --erasure says
 behind these, in any order, events:
   need N D           N needs a route to destination D
   tick               the clock goes on by one tick of 100 ms
@@ -101,11 +103,13 @@ Exit statuses:
 
 /// What `--help` of `node` says of its configuration and commands.
 const NODE: &str = "\
-The configuration, a TOML file, has every one of these keys but the last, and
-no other:
+The configuration, a TOML file, has every one of these keys but `erasure` and
+`key_file`, and no other:
   node = I           the number of the node
   dests = [D, ..]    the destinations of its table, at most 64
   life_dir = \"DIR\"   the folder of its life files, made where it is missing
+  erasure = \"WORD\"   what it makes of erased reference levels: plain, as where
+                     the key is missing, or remembered
   [[link]]           one to 32 times, for each link:
   peer = K           its neighbour
   local = PORT       the UDP port of 127.0.0.1 that is bound for it
@@ -132,11 +136,22 @@ Exit statuses:
   4  a life file can't be opened or gives no number
   5  memory was refused";
 
+/// `--erasure` of `replay`, `sim` and `drive`.
+fn erasure<'a>(alloc: Global) -> Arg<'a> {
+    Arg::new(alloc, "erasure")
+        .long("erasure")
+        .value_name("WORD")
+        .help(
+            "What nodes make of erased reference levels: `plain`, or `remembered`, by which an update of a level that was erased is no height any more; plain without it",
+        )
+}
+
 /// `replay`.
-fn replay<'a>(alloc: Global) -> Command<'a> {
+fn replay<'a>(alloc: Global) -> Result<Command<'a>, AllocError> {
     Command::new(alloc, "replay")
         .about("Replays the inputs of one node, from standard input to standard output")
         .after_help(FORMATS)
+        .arg(erasure(alloc))
 }
 
 /// `--times` of `sim`.
@@ -241,6 +256,7 @@ fn sim<'a>(alloc: Global) -> Result<Command<'a>, AllocError> {
         .arg(channel_file(alloc))?
         .arg(notice(alloc))?
         .arg(large(alloc))?
+        .arg(erasure(alloc))?
         .arg(until(alloc))?
         .arg(progress(alloc))?
         .arg(trace(alloc))?
@@ -283,9 +299,10 @@ Lines of its own, behind the links:
                       datagram of these bytes
   forget ID           datagrams up to ID can't be named any more
 
-With --record PATH, `tora sim PATH`, with the same --times and --large, comes to
-the same world: PATH has the lines that did what they say, and the events of
-each step. `notice` is a fault then, as no line of a file stands for it.
+With --record PATH, `tora sim PATH`, with the same --times, --large and
+--erasure, comes to the same world: PATH has the lines that did what they say,
+and the events of each step. `notice` is a fault then, as no line of a file
+stands for it.
 
 Exit statuses:
   0  the input ended
@@ -300,6 +317,7 @@ fn drive<'a>(alloc: Global) -> Result<Command<'a>, AllocError> {
         .after_help(DRIVE)
         .arg(times(alloc))?
         .arg(large(alloc))?
+        .arg(erasure(alloc))?
         .arg(record(alloc))
 }
 
@@ -356,7 +374,7 @@ pub fn command<'a>(alloc: Global) -> Result<Command<'a>, AllocError> {
         .about("A TORA router node")
         .after_help(FORMATS)
         .arg(verbose(alloc))?
-        .subcommand(replay(alloc))?
+        .subcommand(replay(alloc)?)?
         .subcommand(sim(alloc)?)?
         .subcommand(drive(alloc)?)?
         .subcommand(node(alloc)?)?

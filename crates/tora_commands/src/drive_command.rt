@@ -1,4 +1,4 @@
-//! `tora drive [--times HELLO,SILENCE,RETRY,TRIES] [--large]`: a simulated world that another program drives, a line at a time.
+//! `tora drive [--times HELLO,SILENCE,RETRY,TRIES] [--large] [--erasure WORD]`: a simulated world that another program drives, a line at a time.
 ghost use Rattle.std.specs.Prelude.{◌≡◌, ◌≢◌, Ok, None, IfOk, IfErr, IfSome, option_map};
 ghost use Rattle.std.specs.Io.KnownBytes.{IsAtEnd};
 ghost use Rattle.std.specs.Process.{exit_status};
@@ -6,10 +6,10 @@ ghost use Rattle.tora_arq.specs.Settings.{IsTimes};
 ghost use Rattle.tora_lines.specs.Flushing.{IsFlushed};
 ghost use Rattle.tora_drive.specs.DriveText.{Drives, IsDriveBegun};
 ghost use Rattle.tora_commands.specs.Driving.{EndsDrive};
-ghost use Rattle.tora_commands.specs.SetupWords.{asked_limits};
+ghost use Rattle.tora_commands.specs.SetupWords.{asked_options};
 ghost use Rattle.tora_commands.specs.TimesWord.{asked_times};
 
-use crate::setup_words::limits;
+use crate::setup_words::asked_options;
 use crate::sim_command::tell;
 use crate::{INPUT, SetupFault, USAGE, asked_times, status, stop};
 use std::alloc::Global;
@@ -18,66 +18,73 @@ use std::process::ExitCode;
 use tora_arq::Times;
 use tora_drive::{Driven, drive_in, greet};
 use tora_lines::{Ended, Output, Recent, ReplayError, flushed};
-use tora_sim::{Limits, Sim};
+use tora_script::WorldOptions;
+use tora_sim::Sim;
 
 /// Drives a world, and flushes the writer: `Write` where that alone fails.
 fn drive_and_flush<S: Driven, R: Read, W: Output>(
     alloc: Global,
-    limits: Limits,
+    options: WorldOptions,
     times: Times,
     reader: &mut R,
     writer: &mut W,
 ) -> Result<Ended, ReplayError>
     requires { IsTimes times }
     ensures whole { IfOk result (λ ended. IfSome (R.remaining reader.old) (λ input.
-        Drives limits times input (W.contents writer.old) (W.contents writer.new) ended)) }
+        Drives options times input (W.contents writer.old) (W.contents writer.new) ended)) }
     ensures at_end { result ≡ Ok Ended.Whole → IsAtEnd (R.remaining reader.new) }
     ensures begun { IfErr result (λ e. e ≢ ReplayError.Write →
-        IsDriveBegun limits times (R.remaining reader.old) (R.remaining reader.new) (W.contents writer.old) (W.contents writer.new)) }
+        IsDriveBegun options times (R.remaining reader.old) (R.remaining reader.new) (W.contents writer.old) (W.contents writer.new)) }
     ensures flushed { IsFlushed W.did_flush result writer.new }
 {
-    let result = drive_in::<S, R, W>(alloc, limits, times, reader, writer);
+    let result = drive_in::<S, R, W>(alloc, options, times, reader, writer);
     flushed(writer, result)
 }
 
-/// Drives a world within the limits, whose link ends have these times.
+/// Drives a world with these options, whose link ends have these times.
 fn run_with<T: AllocGlobal + Eprint, R: Read + Drop, W: Output>(
     rt: &T,
-    limits: Limits,
+    options: WorldOptions,
     times: Times,
     reader: R,
     writer: &mut W,
 ) -> ExitCode
     requires { IsTimes times }
-    ensures { EndsDrive limits times W.contents W.did_flush (R.remaining reader) writer.old writer.new (exit_status result) }
+    ensures { EndsDrive options times W.contents W.did_flush (R.remaining reader) writer.old writer.new (exit_status result) }
 {
     let Ok(()) = greet(writer) else {
         return stop(rt, INPUT, "input");
     };
     let alloc = rt.alloc();
     let mut reader = Recent::new(alloc, reader);
-    let result = drive_and_flush::<Sim, Recent<R>, W>(alloc, limits, times, &mut reader, writer);
+    let result = drive_and_flush::<Sim, Recent<R>, W>(alloc, options, times, &mut reader, writer);
     tell(rt, &reader, result);
     status(rt, result)
 }
 
-/// Drives a world by the lines that a reader gives, with the times of link ends that a word asks for, within the greatest limits
-/// where it `is_large` and else within the standard ones, and ends with a status: 0 at the end of the input, 1 where reading or
-/// writing failed, 5 where memory was refused. A word that gives no times is a fault of usage, and nothing is written.
+/// Drives a world by the lines that a reader gives, with the times of link ends and the erasure that words ask for, within the
+/// greatest limits where it `is_large` and else within the standard ones, and ends with a status: 0 at the end of the input, 1 where reading or
+/// writing failed, 5 where memory was refused. A word that gives no times or no erasure is a fault of usage, and nothing is written.
 ///
 /// The writer has to hand on at once what is written: whoever drives waits for it.
 pub fn run<T: AllocGlobal + Eprint, R: Read + Drop, W: Output>(
     rt: &T,
     times: Option<&str>,
+    erasure: Option<&str>,
     is_large: bool,
     reader: R,
     writer: &mut W,
 ) -> ExitCode
-    ensures usage { asked_times (option_map (λ w. w.now) times.entry) ≡ None → (exit_status result ≡ 2) × (writer.new ≡ writer.old) }
-    ensures ends { IfSome (asked_times (option_map (λ w. w.now) times.entry)) (λ t. EndsDrive (asked_limits is_large) t W.contents W.did_flush (R.remaining reader) writer.old writer.new (exit_status result)) }
+    ensures times { asked_times (option_map (λ w. w.now) times.entry) ≡ None → (exit_status result ≡ 2) × (writer.new ≡ writer.old) }
+    ensures erasure { asked_options is_large (option_map (λ w. w.now) erasure.entry) ≡ None → (exit_status result ≡ 2) × (writer.new ≡ writer.old) }
+    ensures ends { IfSome (asked_times (option_map (λ w. w.now) times.entry)) (λ t. IfSome (asked_options is_large (option_map (λ w. w.now) erasure.entry)) (λ o.
+        EndsDrive o t W.contents W.did_flush (R.remaining reader) writer.old writer.new (exit_status result))) }
 {
     let Some(times) = asked_times(times) else {
         return stop(rt, USAGE, SetupFault::Times.cause());
     };
-    run_with(rt, limits(is_large), times, reader, writer)
+    let Some(options) = asked_options(is_large, erasure) else {
+        return stop(rt, USAGE, SetupFault::Erasure.cause());
+    };
+    run_with(rt, options, times, reader, writer)
 }

@@ -4,32 +4,34 @@ ghost use Rattle.std.specs.Io.KnownBytes.{IsAtEnd, Keeps};
 ghost use Rattle.tora_arq.specs.Settings.{IsTimes};
 ghost use Rattle.tora_lines.specs.Flushing.{IsFlushed};
 ghost use Rattle.tora_lines.specs.LineText.{fault_of};
-ghost use Rattle.tora_replay.specs.ReplayText.{first_fault, Replays, IsBegun};
+ghost use Rattle.tora_replay.specs.ReplayText.{first_fault_with, ReplaysWith, IsBegunWith};
 ghost use Rattle.tora_script.specs.SimulationText.{first_simulation_fault, Simulates, IsSimulationBegun};
 ghost use Rattle.tora_lines.specs.Flushing.{after_flush};
 
 use std::alloc::Global;
 use std::io::Read;
 use tora_arq::Times;
+use tora_core::Erasure;
 use tora_lines::{Ended, Output, ReplayError, flushed};
-use tora_replay::replay;
+use tora_replay::replay_with;
 use tora_script::{Simulator, simulate_in, simulate_told};
 
-/// Replays, and flushes the writer: `Write` where that alone fails.
+/// Replays for a node that makes this of erased levels, and flushes the writer: `Write` where that alone fails.
 pub fn replay_and_flush<R: Read, W: Output>(
     alloc: Global,
+    erasure: Erasure,
     reader: &mut R,
     writer: &mut W,
 ) -> Result<Ended, ReplayError>
     ensures whole { IfOk result (λ ended. IfSome (R.remaining reader.old) (λ input.
-        Replays input (W.contents writer.old) (W.contents writer.new) ended)) }
+        ReplaysWith erasure input (W.contents writer.old) (W.contents writer.new) ended)) }
     ensures at_end { result ≡ Ok Ended.Whole → IsAtEnd (R.remaining reader.new) }
-    ensures fault { IfOk result (λ ended. IfSome (R.remaining reader.old) (λ input. fault_of ended ≡ first_fault input)) }
+    ensures fault { IfOk result (λ ended. IfSome (R.remaining reader.old) (λ input. fault_of ended ≡ first_fault_with erasure input)) }
     ensures begun { IfErr result (λ e. e ≢ ReplayError.Write →
-        IsBegun (R.remaining reader.old) (R.remaining reader.new) (W.contents writer.old) (W.contents writer.new)) }
+        IsBegunWith erasure (R.remaining reader.old) (R.remaining reader.new) (W.contents writer.old) (W.contents writer.new)) }
     ensures flushed { IsFlushed W.did_flush result writer.new }
 {
-    let result = replay(alloc, reader, writer);
+    let result = replay_with(alloc, erasure, reader, writer);
     flushed(writer, result)
 }
 

@@ -21,6 +21,7 @@ use tora_config::{ConfigError, LinkConfig, NodeConfig, read_config};
 use tora_core::CoreError;
 use tora_height::Id;
 use tora_life::{Disk, FileDisk, LifeError, Owner, Tag};
+use tora_neighbour::clock_ticks;
 use tora_node::{Config, Ended, NodeError, run_node_with_wakers};
 use tora_simulate::{tell, tell_at};
 use tora_waking::NodeClock;
@@ -345,7 +346,12 @@ fn run_over<
     if lent.len() != count || disks.len() != count {
         return code_of(say(rt, Fault::Config));
     }
-    let ended = run_node_with_wakers(log, alloc, node, lent, disks, wakers, clock, reader, writer);
+    let Some(ticks) = clock_ticks(alloc, clock, count) else {
+        return code_of(say(rt, Fault::Memory));
+    };
+    let ended = run_node_with_wakers(
+        log, alloc, node, lent, disks, wakers, ticks, clock, reader, writer,
+    );
     finish(rt, config.life_dir.as_str(), ended, is_verbose)
 }
 
@@ -362,8 +368,9 @@ fn node_of(alloc: Global, config: &NodeConfig) -> Result<Config, Fault>
     else {
         return Err(Fault::Memory);
     };
-    match Config::new(
+    match Config::with_erasure(
         alloc,
+        config.erasure,
         config.node,
         peers.as_slice(),
         config.dests.as_slice(),

@@ -1,4 +1,4 @@
-//! `tora drive --record PATH [--times HELLO,SILENCE,RETRY,TRIES] [--large]`: a simulated world that another program drives, and its record.
+//! `tora drive --record PATH [--times HELLO,SILENCE,RETRY,TRIES] [--large] [--erasure WORD]`: a simulated world that another program drives, and its record.
 ghost use Rattle.std.specs.Prelude.{◌≡◌, ◌≢◌, is_some, Ok, None, IfOk, IfErr, IfSome, option_map};
 ghost use Rattle.std.specs.Io.KnownBytes.{IsAtEnd};
 ghost use Rattle.std.specs.Process.{exit_status};
@@ -7,10 +7,10 @@ ghost use Rattle.tora_lines.specs.Flushing.{IsFlushed};
 ghost use Rattle.tora_traced.specs.TraceOuts.{IsHandedOn};
 ghost use Rattle.tora_drive.specs.Recording.{DrivesRecorded, IsRecordedBegun};
 ghost use Rattle.tora_commands.specs.Driving.{EndsRecorded, EndsRecordedTo};
-ghost use Rattle.tora_commands.specs.SetupWords.{asked_limits};
+ghost use Rattle.tora_commands.specs.SetupWords.{asked_options};
 ghost use Rattle.tora_commands.specs.TimesWord.{asked_times};
 
-use crate::setup_words::limits;
+use crate::setup_words::asked_options;
 use crate::sim_command::tell;
 use crate::traced_command::{refuse_trace, traced_status};
 use crate::{INPUT, MEMORY, SetupFault, USAGE, asked_times, stop};
@@ -22,13 +22,14 @@ use std::rt::Files;
 use tora_arq::Times;
 use tora_drive::{Driven, drive_recorded, greet};
 use tora_lines::{Ended, Output, Recent, ReplayError, flushed};
-use tora_sim::{Limits, Sim};
+use tora_script::WorldOptions;
+use tora_sim::Sim;
 use tora_traced::TraceOut;
 
 /// Drives a world, writes its record, and flushes the writer: `Write` where that alone fails.
 fn drive_and_flush<S: Driven, R: Read, W: Output, V: Output>(
     alloc: Global,
-    limits: Limits,
+    options: WorldOptions,
     times: Times,
     reader: &mut R,
     writer: &mut W,
@@ -36,21 +37,21 @@ fn drive_and_flush<S: Driven, R: Read, W: Output, V: Output>(
 ) -> Result<Ended, ReplayError>
     requires { IsTimes times }
     ensures whole { IfOk result (λ ended. IfSome (R.remaining reader.old) (λ input.
-        DrivesRecorded limits times input (W.contents writer.old) (W.contents writer.new) ended)) }
+        DrivesRecorded options times input (W.contents writer.old) (W.contents writer.new) ended)) }
     ensures at_end { result ≡ Ok Ended.Whole → IsAtEnd (R.remaining reader.new) }
     ensures begun { IfErr result (λ e. e ≢ ReplayError.Write →
-        IsRecordedBegun limits times (R.remaining reader.old) (R.remaining reader.new) (W.contents writer.old) (W.contents writer.new)) }
+        IsRecordedBegun options times (R.remaining reader.old) (R.remaining reader.new) (W.contents writer.old) (W.contents writer.new)) }
     ensures flushed { IsFlushed W.did_flush result writer.new }
 {
-    let result = drive_recorded::<S, R, W, V>(alloc, limits, times, reader, writer, out);
+    let result = drive_recorded::<S, R, W, V>(alloc, options, times, reader, writer, out);
     flushed(writer, result)
 }
 
-/// Drives a world within the limits, whose link ends have these times, writes the record to what goes to the file at a path, and hands
+/// Drives a world with these options, whose link ends have these times, writes the record to what goes to the file at a path, and hands
 /// both on.
 pub fn run_over<T: AllocGlobal + Eprint, R: Read + Drop, W: Output, V: Output>(
     rt: &T,
-    limits: Limits,
+    options: WorldOptions,
     times: Times,
     reader: R,
     writer: &mut W,
@@ -58,7 +59,7 @@ pub fn run_over<T: AllocGlobal + Eprint, R: Read + Drop, W: Output, V: Output>(
     out: &mut TraceOut<V>,
 ) -> ExitCode
     requires { IsTimes times }
-    ensures { EndsRecorded limits times W.contents W.did_flush (R.remaining reader) writer.old writer.new (is_some out.new.failure) (exit_status result) }
+    ensures { EndsRecorded options times W.contents W.did_flush (R.remaining reader) writer.old writer.new (is_some out.new.failure) (exit_status result) }
 {
     let Ok(()) = greet(writer) else {
         return stop(rt, INPUT, "input");
@@ -67,7 +68,7 @@ pub fn run_over<T: AllocGlobal + Eprint, R: Read + Drop, W: Output, V: Output>(
     let mut reader = Recent::new(alloc, reader);
     let result = drive_and_flush::<Sim, Recent<R>, W, V>(
         alloc,
-        limits,
+        options,
         times,
         &mut reader,
         writer,
@@ -78,17 +79,17 @@ pub fn run_over<T: AllocGlobal + Eprint, R: Read + Drop, W: Output, V: Output>(
     traced_status(rt, result, out, path)
 }
 
-/// Drives a world within the limits, whose link ends have these times, and writes the record to the file at a path.
+/// Drives a world with these options, whose link ends have these times, and writes the record to the file at a path.
 fn run_with<T: Files + AllocGlobal + Eprint, R: Read + Drop, W: Output>(
     rt: &T,
-    limits: Limits,
+    options: WorldOptions,
     times: Times,
     path: &str,
     reader: R,
     writer: &mut W,
 ) -> ExitCode
     requires { IsTimes times }
-    ensures { EndsRecordedTo limits times W.contents W.did_flush (R.remaining reader) writer.old writer.new (exit_status result) }
+    ensures { EndsRecordedTo options times W.contents W.did_flush (R.remaining reader) writer.old writer.new (exit_status result) }
 {
     let made = match fs::create(rt, path) {
         Ok(made) => made,
@@ -98,27 +99,34 @@ fn run_with<T: Files + AllocGlobal + Eprint, R: Read + Drop, W: Output>(
         return stop(rt, MEMORY, "memory");
     };
     let mut out = TraceOut::new(lines);
-    run_over::<T, R, W, BufWriter<T::File>>(rt, limits, times, reader, writer, path, &mut out)
+    run_over::<T, R, W, BufWriter<T::File>>(rt, options, times, reader, writer, path, &mut out)
 }
 
 /// Drives a world by the lines that a reader gives, as `drive_command::run` does, and writes its record to the file at a path, which is
 /// made anew first.
 ///
 /// It ends with the status of the drive, or with 1 where that is 0 and the record could not be written; with 1, before anything is
-/// written, where its file can't be made; and with 5 where memory was refused. A word that gives no times is a fault of usage.
+/// written, where its file can't be made; and with 5 where memory was refused. A word that gives no times or no erasure is a fault of
+/// usage.
 pub fn run<T: Files + AllocGlobal + Eprint, R: Read + Drop, W: Output>(
     rt: &T,
     times: Option<&str>,
+    erasure: Option<&str>,
     is_large: bool,
     path: &str,
     reader: R,
     writer: &mut W,
 ) -> ExitCode
-    ensures usage { asked_times (option_map (λ w. w.now) times.entry) ≡ None → (exit_status result ≡ 2) × (writer.new ≡ writer.old) }
-    ensures ends { IfSome (asked_times (option_map (λ w. w.now) times.entry)) (λ t. EndsRecordedTo (asked_limits is_large) t W.contents W.did_flush (R.remaining reader) writer.old writer.new (exit_status result)) }
+    ensures times { asked_times (option_map (λ w. w.now) times.entry) ≡ None → (exit_status result ≡ 2) × (writer.new ≡ writer.old) }
+    ensures erasure { asked_options is_large (option_map (λ w. w.now) erasure.entry) ≡ None → (exit_status result ≡ 2) × (writer.new ≡ writer.old) }
+    ensures ends { IfSome (asked_times (option_map (λ w. w.now) times.entry)) (λ t. IfSome (asked_options is_large (option_map (λ w. w.now) erasure.entry)) (λ o.
+        EndsRecordedTo o t W.contents W.did_flush (R.remaining reader) writer.old writer.new (exit_status result))) }
 {
     let Some(times) = asked_times(times) else {
         return stop(rt, USAGE, SetupFault::Times.cause());
     };
-    run_with(rt, limits(is_large), times, path, reader, writer)
+    let Some(options) = asked_options(is_large, erasure) else {
+        return stop(rt, USAGE, SetupFault::Erasure.cause());
+    };
+    run_with(rt, options, times, path, reader, writer)
 }

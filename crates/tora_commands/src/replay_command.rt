@@ -1,14 +1,17 @@
 //! `tora replay`: a replay of what a reader gives.
-ghost use Rattle.std.specs.Prelude.{false};
+ghost use Rattle.std.specs.Prelude.{◌≡◌, false, None, IfSome, option_map};
 ghost use Rattle.std.specs.Process.{exit_status};
 ghost use Rattle.tora_simulate.specs.Endings.{EndsBy};
-ghost use Rattle.tora_replay.specs.ReplayText.{replay_rules};
+ghost use Rattle.tora_replay.specs.ReplayText.{replay_rules_of};
+ghost use Rattle.tora_commands.specs.SetupWords.{asked_erasure};
 
 use crate::flushing::replay_and_flush;
-use crate::status;
+use crate::setup_words::asked_erasure;
+use crate::{SetupFault, USAGE, status, stop};
 use std::fmt::Display;
 use std::io::Read;
 use std::process::ExitCode;
+use tora_core::Erasure;
 use tora_lines::{Ended, Output, Recent, ReplayError};
 use tora_replay::cause_of;
 use tora_simulate::tell as tell_error;
@@ -42,20 +45,37 @@ fn tell<T: AllocGlobal + Eprint, R: Read>(
     }
 }
 
+/// Replays what a reader gives for a node that makes this of erased levels, and ends with the status of the replay.
+fn run_with<T: AllocGlobal + Eprint, R: Read + Drop, W: Output>(
+    rt: &T,
+    erasure: Erasure,
+    reader: R,
+    writer: &mut W,
+) -> ExitCode
+    ensures { EndsBy (replay_rules_of erasure) W.contents W.did_flush (R.remaining reader) writer.old writer.new false (exit_status result) }
+{
+    let alloc = rt.alloc();
+    let mut reader = Recent::new(alloc, reader);
+    let result = replay_and_flush(alloc, erasure, &mut reader, writer);
+    let code = status(rt, result);
+    tell(rt, &reader, result);
+    code
+}
+
 /// Replays what a reader gives, and ends with a status: 0 at its end, 1 where a line is a fault or reading or writing
-/// failed, 5 where memory was refused. It says why a line is a fault and what failed, with `-v` and without.
+/// failed, 2 where the word for its erasure is none, 5 where memory was refused. It says why a line is a fault and what failed.
 pub fn run<T: AllocGlobal + Eprint, R: Read + Drop, W: Output>(
     rt: &T,
+    erasure: Option<&str>,
     reader: R,
     _is_verbose: bool,
     writer: &mut W,
 ) -> ExitCode
-    ensures { EndsBy replay_rules W.contents W.did_flush (R.remaining reader) writer.old writer.new false (exit_status result) }
+    ensures usage { asked_erasure (option_map (λ w. w.now) erasure.entry) ≡ None → (exit_status result ≡ 2) × (writer.new ≡ writer.old) }
+    ensures ends { IfSome (asked_erasure (option_map (λ w. w.now) erasure.entry)) (λ e. EndsBy (replay_rules_of e) W.contents W.did_flush (R.remaining reader) writer.old writer.new false (exit_status result)) }
 {
-    let alloc = rt.alloc();
-    let mut reader = Recent::new(alloc, reader);
-    let result = replay_and_flush(alloc, &mut reader, writer);
-    let code = status(rt, result);
-    tell(rt, &reader, result);
-    code
+    let Some(erasure) = asked_erasure(erasure) else {
+        return stop(rt, USAGE, SetupFault::Erasure.cause());
+    };
+    run_with(rt, erasure, reader, writer)
 }

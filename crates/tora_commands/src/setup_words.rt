@@ -4,12 +4,13 @@ ghost use Rattle.std.specs.Result.{result_ok};
 ghost use Rattle.tora_arq.specs.Settings.{IsTimes};
 ghost use Rattle.tora_lines.specs.Words.{number_of};
 ghost use Rattle.tora_channel.specs.Parts.{no_parts, channel_by};
-ghost use Rattle.tora_commands.specs.SetupWords.{asked_seed, channel_asked, asked_channel, asked_limits, asked_until, asked_by};
+ghost use Rattle.tora_commands.specs.SetupWords.{asked_seed, channel_asked, asked_channel, asked_limits, asked_erasure, options_by, asked_options, asked_until, asked_by};
 
 use crate::times_word::asked_times;
 use tora_channel::{Channel, channel_parts};
+use tora_core::Erasure;
 use tora_lines::words;
-use tora_script::Setup;
+use tora_script::{Setup, WorldOptions, erasure_word};
 use tora_world::Limits;
 
 /// The words behind options of `tora sim`; nothing where the option is not there.
@@ -24,6 +25,8 @@ pub struct SetupWords<'a> {
     pub is_large: bool,
     /// The last round.
     pub until: Option<&'a str>,
+    /// What nodes make of erased levels.
+    pub erasure: Option<&'a str>,
     /// The path of the channel file.
     pub channel_file: Option<&'a str>,
 }
@@ -39,6 +42,8 @@ pub enum SetupFault<'a> {
     SeedAlone,
     /// The word behind `--until` is no number.
     Until,
+    /// The word behind `--erasure` is neither `plain` nor `remembered`.
+    Erasure,
     /// This is no part of a channel.
     Part(&'a [u8]),
 }
@@ -53,6 +58,7 @@ impl SetupFault<'_> {
             SetupFault::Seed => "behind `--seed` stands a number below 2^64",
             SetupFault::SeedAlone => "`--seed` is for a `--channel` or a `--channel-file`",
             SetupFault::Until => "behind `--until` stands a number of rounds, below 2^64",
+            SetupFault::Erasure => "behind `--erasure` stands `plain` or `remembered`",
             SetupFault::Part(_) => {
                 "no part of a channel: these are loss=SHARE and repeat=SHARE, from 0 to 1 with up to six digits behind the point, and delay=ROUNDS or delay=LEAST-MOST, up to 10000, each once"
             }
@@ -114,7 +120,7 @@ fn channel<'a>(
 }
 
 /// The limits of a world, which are the greatest where a large one is asked for.
-pub(crate) fn limits(is_large: bool) -> Limits
+fn limits(is_large: bool) -> Limits
     ensures { result ≡ asked_limits is_large }
 {
     if is_large {
@@ -122,6 +128,34 @@ pub(crate) fn limits(is_large: bool) -> Limits
     } else {
         Limits::STANDARD
     }
+}
+
+/// What a word asks that nodes make of erased levels, which is plain where there is no word; nothing where the word is none.
+pub(crate) fn asked_erasure(word: Option<&str>) -> Option<Erasure>
+    ensures { result ≡ asked_erasure (option_map (λ w. w.now) word.entry) }
+{
+    match word {
+        None => Some(Erasure::Plain),
+        Some(word) => erasure_word(word.as_bytes()),
+    }
+}
+
+/// The options of a world.
+fn options(is_large: bool, erasure: Erasure) -> WorldOptions
+    ensures { result ≡ options_by is_large erasure }
+{
+    WorldOptions {
+        limits: limits(is_large),
+        erasure,
+    }
+}
+
+/// The options of a world that words ask for; nothing where the word for its erasure is none.
+pub(crate) fn asked_options(is_large: bool, erasure: Option<&str>) -> Option<WorldOptions>
+    ensures { result ≡ asked_options is_large (option_map (λ w. w.now) erasure.entry) }
+{
+    let erasure = asked_erasure(erasure)?;
+    Some(options(is_large, erasure))
 }
 
 /// The last round that a word asks for.
@@ -137,7 +171,7 @@ fn until<'a>(word: Option<&str>) -> Result<Option<u64>, SetupFault<'a>>
     }
 }
 
-/// What the words ask for, or the first fault: of the times, then of the seed and the channel, then of the last round.
+/// What the words ask for, or the first fault: of the times, then of the seed and the channel, then of the last round, then of the erasure.
 #[tactic(auto, unfolding(crate::specs::SetupWords::asked_setup))]
 pub fn asked_setup<'a>(words: SetupWords<'a>) -> Result<Setup, SetupFault<'a>>
     ensures value { result_ok result ≡ asked_by words.entry }
@@ -148,11 +182,14 @@ pub fn asked_setup<'a>(words: SetupWords<'a>) -> Result<Setup, SetupFault<'a>>
     };
     let channel = channel(words.channel, words.seed, words.channel_file.is_some())?;
     let until = until(words.until)?;
+    let Some(erasure) = asked_erasure(words.erasure) else {
+        return Err(SetupFault::Erasure);
+    };
     Ok(Setup {
         times,
         channel,
         has_notice: words.has_notice,
-        limits: limits(words.is_large),
+        options: options(words.is_large, erasure),
         until,
     })
 }

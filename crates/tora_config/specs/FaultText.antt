@@ -9,6 +9,7 @@ place_text At.Node = codes "`node`"
 place_text At.Dests = codes "`dests`"
 place_text (At.Dest n) = codes "`dests`, number " ++ decimal n
 place_text At.LifeDir = codes "`life_dir`"
+place_text At.Erasure = codes "`erasure`"
 place_text At.Links = codes "`link`"
 place_text (At.Link n) = codes "`link`, number " ++ decimal n
 place_text (At.Peer n) = codes "`peer` of link " ++ decimal n

@@ -4,7 +4,9 @@ use Rattle.toml.specs.Data.{Data, Members, as_integer, as_str, as_array, get, ge
 use Rattle.toml.specs.View.{items_of}
 use Rattle.std.specs.Result.{result_ok}
 use Rattle.tora_values.specs.Addresses.{end_in, port_of_end}
+use Rattle.tora_core.specs.declared.erasure.Erasure.{Erasure}
 use Rattle.tora_core.specs.CoreRun.{core_refusal}
+use Rattle.tora_config.specs.Refusal.{erasure_at}
 use Rattle.tora_config.specs.declared.LinkConfig.{LinkConfig}
 use Rattle.tora_config.specs.declared.NodeConfig.{NodeConfig}
 
@@ -67,9 +69,14 @@ said_link link = (Some (pos link.peer), (Some link.local, Some link.remote))
 abbrev pub AreLinksOf : List Data → List LinkConfig → Type 0
 AreLinksOf values links = (written : List LinkConfig) × (map says_of_link values ≡ map said_link written) × IsPermutation written links
 
+-- what a table says that nodes make of erased levels
+abbrev pub erasure_in : Members → Option Erasure
+erasure_in table = result_ok (erasure_at (get_member (codes "erasure") table))
+
 -- The configuration is what the table of a text says, key by key.
 pub record IsWritten (table : Members) (c : NodeConfig) : Type 0 where
   pub node : number_at (codes "node") table ≡ Some (pos c.node)
   pub dests : (values : List Data) × IsListAt (codes "dests") table values × (map as_integer values ≡ map (λ d. Some (pos d)) c.dests.items)
   pub life_dir : text_at (codes "life_dir") table ≡ Some (string_bytes c.life_dir)
+  pub erasure : erasure_in table ≡ Some c.erasure
   pub links : (values : List Data) × IsListAt (codes "link") table values × AreLinksOf values c.links.items

@@ -2,6 +2,7 @@
 use Rattle.std.specs.Prelude.{codes, string_bytes, bytes_eq, ◌≡◌, ◌==◌, ◌+◌, ℕ, Bool, List, [], ◌∷◌, ◌++◌, length, if◌then◌else◌, Option, Some, None, Result, Ok, Err, IsPermutation}
 use Rattle.std.specs.List.{list_any}
 use Rattle.toml.specs.Data.{Data, Items, no_items, item, Members, no_members, member, as_table, as_integer, get_member}
+use Rattle.tora_core.specs.declared.erasure.Erasure.{Erasure}
 use Rattle.tora_core.specs.declared.errors.CoreError.{CoreError}
 use Rattle.tora_core.specs.CoreRun.{core_refusal}
 use Rattle.tora_core.specs.Numbers.{has_number}
@@ -13,7 +14,7 @@ use Rattle.tora_config.specs.declared.fault.Place.TheVariants as At
 use Rattle.tora_values.specs.declared.reason.Reason.TheVariants as Is
 use Rattle.tora_config.specs.NodeConfig.{peers_of}
 use Rattle.tora_values.specs.Numbers.{id_in}
-use Rattle.tora_config.specs.Refusal.{Fault, unknown_key, unknown_link_key, refused, no_core, id_at, port_at, text_at, list_at, ok_or, at_place}
+use Rattle.tora_config.specs.Refusal.{Fault, unknown_key, unknown_link_key, refused, no_core, id_at, port_at, text_at, list_at, erasure_at, ok_or, at_place}
 
 -- one step after the other, up to the first fault
 infixl 10 ◌>>=◌
@@ -37,7 +38,7 @@ only_known known fault [] = Ok tt
 only_known known fault (key ∷ keys) = if list_any (bytes_eq key) known then only_known known fault keys else Err (fault key)
 
 abbrev pub keys_of_configuration : List (List ℕ)
-keys_of_configuration = codes "node" ∷ codes "dests" ∷ codes "life_dir" ∷ codes "link" ∷ []
+keys_of_configuration = codes "node" ∷ codes "dests" ∷ codes "life_dir" ∷ codes "erasure" ∷ codes "link" ∷ []
 
 abbrev pub keys_of_link : List (List ℕ)
 keys_of_link = codes "peer" ∷ codes "local" ∷ codes "remote" ∷ codes "key_file" ∷ []
@@ -111,6 +112,7 @@ pub record Configuration : Type 0 where
   pub node : ℕ
   pub dests : List ℕ
   pub life_dir : List ℕ
+  pub erasure : Erasure
   pub links : List LinkConfig
 
 unfoldable pub configuration_in : Members → Result Configuration Fault
@@ -119,9 +121,10 @@ configuration_in table = do
   node ← at_place At.Node (id_at (get_member (codes "node") table))
   dests ← dests_in table
   life_dir ← at_place At.LifeDir (text_at (get_member (codes "life_dir") table))
+  erasure ← at_place At.Erasure (erasure_at (get_member (codes "erasure") table))
   links ← links_in node table
   _ ← has_core (core_refusal node (peers_of links) dests)
-  Ok (record { node = node; dests = dests; life_dir = life_dir; links = links })
+  Ok (record { node = node; dests = dests; life_dir = life_dir; erasure = erasure; links = links })
 
 -- ---- what the functions answer
 
@@ -144,6 +147,7 @@ pub record IsOf (c : NodeConfig) (read : Configuration) : Type 0 where
   pub node : c.node ≡ read.node
   pub dests : c.dests.items ≡ read.dests
   pub life_dir : string_bytes c.life_dir ≡ read.life_dir
+  pub erasure : c.erasure ≡ read.erasure
   pub links : IsPermutation read.links c.links.items
 
 -- The answer is what reading a table gives, unless memory ran out.

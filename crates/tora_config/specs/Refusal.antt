@@ -1,6 +1,8 @@
 -- What is wrong with a table that is no configuration, and with each value of it.
-use Rattle.std.specs.Prelude.{ℕ, List, Option, Some, None, Result, Ok, Err}
+use Rattle.std.specs.Prelude.{ℕ, codes, bytes_eq, if◌then◌else◌, List, Option, Some, None, Result, Ok, Err}
 use Rattle.toml.specs.Data.{Data, Items, as_integer, as_str, as_array}
+use Rattle.tora_core.specs.declared.erasure.Erasure.{Erasure}
+use Rattle.tora_core.specs.declared.erasure.Erasure.TheVariants.{Plain, Remembered}
 use Rattle.tora_core.specs.declared.errors.CoreError.{CoreError}
 use Rattle.tora_config.specs.declared.fault.Place.{Place}
 use Rattle.tora_values.specs.declared.reason.Reason.{Reason}
@@ -38,6 +40,22 @@ text_at stands = found (λ value. ok_or Is.NoText (as_str value)) stands
 
 abbrev pub list_at : Option Data → Result Items Reason
 list_at stands = found (λ value. ok_or Is.NoList (as_array value)) stands
+
+-- what a word says that nodes make of erased levels
+abbrev pub erasure_of : List ℕ → Option Erasure
+erasure_of word =
+    if bytes_eq word (codes "plain") then Some Plain
+    else if bytes_eq word (codes "remembered") then Some Remembered
+    else None
+
+abbrev pub erasure_said : Option (List ℕ) → Result Erasure Reason
+erasure_said None = Err Is.NoText
+erasure_said (Some word) = ok_or Is.NoErasure (erasure_of word)
+
+-- it is plain where nothing stands there
+abbrev pub erasure_at : Option Data → Result Erasure Reason
+erasure_at None = Ok Plain
+erasure_at (Some value) = erasure_said (as_str value)
 
 -- what was read at a place, or the fault that names it and says what is wrong
 abbrev pub at_place : {A : Type 0} → Place → Result A Reason → Result A Fault

@@ -17,6 +17,8 @@ pub enum Place {
     Dest(usize),
     /// `life_dir`.
     LifeDir,
+    /// `erasure`.
+    Erasure,
     /// `link`.
     Links,
     /// The link with this number.
@@ -44,6 +46,7 @@ impl Place {
             Place::Dests => ("`dests`", None),
             Place::Dest(n) => ("`dests`, number ", Some(n)),
             Place::LifeDir => ("`life_dir`", None),
+            Place::Erasure => ("`erasure`", None),
             Place::Links => ("`link`", None),
             Place::Link(n) => ("`link`, number ", Some(n)),
             Place::Peer(n) => ("`peer` of link ", Some(n)),

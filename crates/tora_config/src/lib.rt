@@ -11,7 +11,8 @@
 //! remote = 4021
 //! ```
 //!
-//! Each of these keys is required, `link` at least once, and every other key but `key_file` is a fault. `node`, `peer` and each of
+//! Each of these keys is required, `link` at least once, and every other key but `erasure` and `key_file` is a fault. `erasure` is
+//! "plain" or "remembered", and plain where it is not there. `node`, `peer` and each of
 //! `dests` are whole numbers from 1 to 2^32 - 1; ports are from 1 to 65535. No two links have one peer or one local port, and no
 //! peer is the node itself. What a core refuses is a fault: too many links or destinations, and a destination that stands
 //! twice. Own profile.
@@ -28,6 +29,7 @@ mod ways;
 
 pub use fault::{ConfigError, Place};
 pub use reading::read_config;
+use tora_core::Erasure;
 use tora_height::Id;
 pub use tora_values::Reason;
 pub use ways::{LinkWay, read_ways};
@@ -52,6 +54,8 @@ pub struct NodeConfig {
     pub dests: Vec<Id>,
     /// The folder of its life files, as it is given.
     pub life_dir: String,
+    /// What it makes of erased levels.
+    pub erasure: Erasure,
     /// Its links, at least one, by ascending peer.
     pub links: Vec<LinkConfig>,
 }

@@ -11,7 +11,7 @@ ghost use Rattle.tora_config.specs.Refusal.{unknown_key, unknown_link_key};
 ghost use Rattle.tora_config.specs.Reading.{Gives, has_core, Reads, IsNoToml, has_peer, has_local, dest_in, dests_in, link_in, link_beside, listed_links, links_in, configuration_in, keys_in, only_known, keys_of_configuration, keys_of_link};
 
 use crate::fault::{ConfigError, Place};
-use crate::values::{id_at, list_at, port_at, text_at};
+use crate::values::{erasure_at, id_at, list_at, port_at, text_at};
 use crate::{LinkConfig, NodeConfig};
 use std::alloc::{AllocError, Global};
 use toml::{Table, Value};
@@ -23,7 +23,7 @@ use tora_values::{Reason, id_of};
 fn is_key(key: &str) -> bool
     ensures { result ≡ list_any (bytes_eq key.now) keys_of_configuration }
 {
-    matches!(key, "node" | "dests" | "life_dir" | "link")
+    matches!(key, "node" | "dests" | "life_dir" | "erasure" | "link")
 }
 
 #[tactic(auto, using(crate::proofs::Keys::keys_in_view))]
@@ -231,12 +231,14 @@ fn config_of(alloc: Global, table: &Table) -> Result<NodeConfig, ConfigError>
     let node = id_at(table, "node", Place::Node)?;
     let dests = dests_in(alloc, table)?;
     let life_dir = text_at(alloc, table, "life_dir", Place::LifeDir)?;
+    let erasure = erasure_at(table)?;
     let links = links_in(alloc, table, node)?;
     check_core(alloc, node, dests.as_slice(), links.as_slice())?;
     Ok(NodeConfig {
         node,
         dests,
         life_dir,
+        erasure,
         links: in_order(links),
     })
 }
@@ -244,8 +246,8 @@ fn config_of(alloc: Global, table: &Table) -> Result<NodeConfig, ConfigError>
 /// Reads a configuration.
 ///
 /// # Errors
-/// The first of these: `Syntax` where the text is no TOML, `UnknownKey`, then what is wrong at `node`, `dests`, `life_dir`
-/// and `link`, in this order, and then `Core`. Of each destination in turn: what is wrong with its number, and then that it
+/// The first of these: `Syntax` where the text is no TOML, `UnknownKey`, then what is wrong at `node`, `dests`, `life_dir`,
+/// `erasure` and `link`, in this order, and then `Core`. Of each destination in turn: what is wrong with its number, and then that it
 /// stands before. Of each link in turn: that it is no table, `UnknownLinkKey`, what is wrong at `peer`, `local` and
 /// `remote`, that the peer is the node itself, that it is the peer of a link before, and that `local` is that of a link
 /// before. Of several unknown keys the first in the order of the table is told, in which keys ascend by their bytes.

@@ -1,15 +1,16 @@
 //! The values of keys.
-ghost use Rattle.std.specs.Prelude.{string_bytes, ◌≡◌, ◌<◌, pos, map, Some, None, IfOk, IfErr};
-ghost use Rattle.toml.specs.Data.{get_member};
+ghost use Rattle.std.specs.Prelude.{codes, string_bytes, ◌≡◌, ◌<◌, pos, map, Some, None, IfOk, IfErr};
+ghost use Rattle.toml.specs.Data.{as_str, get_member};
 ghost use Rattle.tora_config.specs.Reading.{Gives};
 ghost use Rattle.toml.specs.View.{view, items_view, table_view};
-ghost use Rattle.tora_config.specs.Refusal.{id_at, port_at, end_at, text_at as text_said, list_at, at_place};
+ghost use Rattle.tora_config.specs.Refusal.{id_at, port_at, end_at, text_at as text_said, list_at, erasure_of, erasure_said, erasure_at, at_place};
 ghost use Rattle.tora_config.specs.NodeConfig.{number_at, port_at as port_said_at, text_at, IsListAt};
 
 use crate::fault::{ConfigError, Place};
 use std::alloc::Global;
 use std::net::SocketAddr;
 use toml::{Table, Value};
+use tora_core::Erasure;
 use tora_height::Id;
 use tora_values::{Reason, end_of, id_of, port_of};
 
@@ -85,5 +86,39 @@ pub fn list_at<'a>(table: &'a Table, key: &str, place: Place) -> Result<&'a [Val
     match value.as_array() {
         Some(list) => Ok(list.as_slice()),
         None => Err(ConfigError::Value(place, Reason::NoList)),
+    }
+}
+
+/// What a word says that nodes make of erased levels.
+fn erasure_of(word: &str) -> Option<Erasure>
+    ensures { result ≡ erasure_of word.now }
+{
+    match word {
+        "plain" => Some(Erasure::Plain),
+        "remembered" => Some(Erasure::Remembered),
+        _ => None,
+    }
+}
+
+/// What a value says that nodes make of erased levels.
+fn erasure_in(value: &Value) -> Result<Erasure, ConfigError>
+    ensures { Gives (λ e. e) result (at_place Place.Erasure (erasure_said (as_str (view value.now)))) }
+{
+    let Some(word) = value.as_str() else {
+        return Err(ConfigError::Value(Place::Erasure, Reason::NoText));
+    };
+    match erasure_of(word) {
+        Some(erasure) => Ok(erasure),
+        None => Err(ConfigError::Value(Place::Erasure, Reason::NoErasure)),
+    }
+}
+
+/// What nodes make of erased levels, which is plain where the key is not there.
+pub fn erasure_at(table: &Table) -> Result<Erasure, ConfigError>
+    ensures { Gives (λ e. e) result (at_place Place.Erasure (erasure_at (get_member (codes "erasure") (table_view table.now)))) }
+{
+    match value_at(table, "erasure", Place::Erasure) {
+        Ok(value) => erasure_in(value),
+        Err(_) => Ok(Erasure::Plain),
     }
 }

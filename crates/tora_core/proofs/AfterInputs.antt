@@ -102,6 +102,9 @@ put-ascending n ns none asc = ascending-with_number n ns (all-other n ns none) a
 pub same-me : (c : CoreView) (input : Input) (now : ℕ) → (core_after c input now).me ≡ c.me
 same-me c input now = cond_both (is_some (refusal_of c input)) c (core_taking c input now) (λ (x : CoreView). x.me ≡ c.me) (λ _. refl) (λ _. refl)
 
+pub same-erasure : (c : CoreView) (input : Input) (now : ℕ) → (core_after c input now).erasure ≡ c.erasure
+same-erasure c input now = cond_both (is_some (refusal_of c input)) c (core_taking c input now) (λ (x : CoreView). x.erasure ≡ c.erasure) (λ _. refl) (λ _. refl)
+
 pub same-neighbours : (c : CoreView) (input : Input) (now : ℕ) → (core_after c input now).neighbours ≡ c.neighbours
 same-neighbours c input now = cond_both (is_some (refusal_of c input)) c (core_taking c input now) (λ (x : CoreView). x.neighbours ≡ c.neighbours) (λ _. refl) (λ _. refl)
 

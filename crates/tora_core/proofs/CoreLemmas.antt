@@ -8,6 +8,7 @@ use Rattle.tora_packet.specs.declared.Packet.{Packet}
 use Rattle.tora_packet.specs.declared.Packet.TheVariants.{Qry, Upd, Clr}
 use Rattle.tora_packet.specs.PacketParts.{IsId}
 use Rattle.tora_packet.specs.AnyPacket.{IsPacket}
+use Rattle.tora_core.specs.declared.erasure.Erasure.{Erasure}
 use Rattle.tora_core.specs.declared.rows.Row.{Row}
 use Rattle.tora_core.specs.declared.errors.StepError.{StepError}
 use Rattle.tora_core.specs.declared.errors.CoreError.{CoreError}
@@ -18,9 +19,9 @@ use Rattle.tora_core.specs.declared.TheConstants.{GREATEST_NEIGHBOURS, MOST_DEST
 use Rattle.tora_core.specs.declared.limits.CoreLimits.{CoreLimits}
 use Rattle.tora_core.specs.Limits.{at_most, most_destinations, most_neighbours}
 use Rattle.tora_core.specs.Numbers.{has_number, ascending, has_repeat, IsAscending}
-use Rattle.tora_core.specs.View.{View, first_view, neighbours_of}
+use Rattle.tora_core.specs.View.{View, first_view_of, neighbours_of}
 use Rattle.tora_core.specs.Rules.{view_after}
-use Rattle.tora_core.specs.CoreRun.{CoreView, core_refusal_within, first_core, is_from, refusal_of, concerns, next_view, up_after, core_taking, core_after, core_after_all}
+use Rattle.tora_core.specs.CoreRun.{CoreView, core_refusal_within, first_core_of, is_from, refusal_of, concerns, next_view, up_after, core_taking, core_after, core_after_all}
 use Rattle.tora_core.specs.Kept.{IsKept, IsPacketOf, CanTake, IsNeighbour, IsPart, IsViewOf, destinations_of, IsCore, IsInput, AreInputs}
 use Rattle.tora_core.proofs.RowLemmas.{all-weaker}
 use Rattle.tora_core.proofs.NumberLemmas.{or-false-left, or-false-right, same-number, all-has, all-other, all-ascending, length-ascending, ascending-ascending, part-shorter, part-with, part-without}
@@ -149,17 +150,17 @@ core-kept c input now core ok free =
 
 -- ---- a new core
 
-pub destinations_of-first : (me : ℕ) (ds : List ℕ) → destinations_of (map (first_view me) ds) ≡ ds
-destinations_of-first me [] = refl
-destinations_of-first me (d ∷ ds) = ap (λ (xs : List ℕ). d ∷ xs) (destinations_of-first me ds)
+pub destinations_of-first : (e : Erasure) (me : ℕ) (ds : List ℕ) → destinations_of (map (first_view_of e me) ds) ≡ ds
+destinations_of-first e me [] = refl
+destinations_of-first e me (d ∷ ds) = ap (λ (xs : List ℕ). d ∷ xs) (destinations_of-first e me ds)
 
-length-first : (me : ℕ) (ds : List ℕ) → length (map (first_view me) ds) ≡ length ds
-length-first me [] = refl
-length-first me (d ∷ ds) = ap suc (length-first me ds)
+length-first : (e : Erasure) (me : ℕ) (ds : List ℕ) → length (map (first_view_of e me) ds) ≡ length ds
+length-first e me [] = refl
+length-first e me (d ∷ ds) = ap suc (length-first e me ds)
 
-first-views : (me : ℕ) (ds : List ℕ) → IsId me → AllByRecursion IsId ds → AllByRecursion (IsViewOf me []) (map (first_view me) ds)
-first-views me [] id ids = tt
-first-views me (d ∷ ds) id ids = (record { owner = refl; neighbours = refl; kept = first-kept me d id ids.0 }, first-views me ds id ids.1)
+first-views : (e : Erasure) (me : ℕ) (ds : List ℕ) → IsId me → AllByRecursion IsId ds → AllByRecursion (IsViewOf me []) (map (first_view_of e me) ds)
+first-views e me [] id ids = tt
+first-views e me (d ∷ ds) id ids = (record { owner = refl; neighbours = refl; kept = first-kept e me d id ids.0 }, first-views e me ds id ids.1)
 
 both : (P Q : ℕ → Type 0) (ns : List ℕ) → AllByRecursion P ns → AllByRecursion Q ns → AllByRecursion (λ (n : ℕ). P n × Q n) ns
 both P Q [] p q = tt
@@ -191,9 +192,9 @@ few-destinations limits me neighbours destinations free =
     let one = not-refused (many || nat_lt (most_destinations limits) (length destinations)) Refusal.TooMany _ free in
     within-greatest MOST_DESTINATIONS limits.destinations (length destinations) (or-false-right many (nat_lt (most_destinations limits) (length destinations)) one.0)
 
-pub first_core-kept : (limits : CoreLimits) (me : ℕ) (neighbours destinations : List ℕ) → IsId me → AllByRecursion IsId neighbours → AllByRecursion IsId destinations
-    → core_refusal_within (most_neighbours limits) (most_destinations limits) me neighbours destinations ≡ None → IsCore (first_core me neighbours destinations)
-first_core-kept limits me neighbours destinations id ids tos free =
+pub first_core-kept : (e : Erasure) (limits : CoreLimits) (me : ℕ) (neighbours destinations : List ℕ) → IsId me → AllByRecursion IsId neighbours → AllByRecursion IsId destinations
+    → core_refusal_within (most_neighbours limits) (most_destinations limits) me neighbours destinations ≡ None → IsCore (first_core_of e me neighbours destinations)
+first_core-kept e limits me neighbours destinations id ids tos free =
     let one = not-refused (nat_lt (most_neighbours limits) (length neighbours) || nat_lt (most_destinations limits) (length destinations)) Refusal.TooMany _ free in
     let two = not-refused (has_repeat neighbours || has_repeat destinations) Refusal.Repeated _ one.1 in
     let three = not-refused (has_number me neighbours) Refusal.OwnId None two.1 in
@@ -202,12 +203,12 @@ first_core-kept limits me neighbours destinations id ids tos free =
     record {
       me = id;
       neighbours = all-ascending (IsNeighbour me) neighbours (both IsId (λ (k : ℕ). k ≢ me) neighbours ids (all-other me neighbours three.0));
-      few_neighbours = let e = length-ascending neighbours in omega arith;
+      few_neighbours = let n = length-ascending neighbours in omega arith;
       ascending_neighbours = ascending-ascending neighbours (or-false-left (has_repeat neighbours) (has_repeat destinations) two.0);
       up = tt;
-      views = first-views me (ascending destinations) id (all-ascending IsId destinations tos);
-      few_views = let e = length-ascending destinations in let f = length-first me (ascending destinations) in omega arith;
-      ascending_destinations = subst IsAscending (sym (destinations_of-first me (ascending destinations))) (ascending-ascending destinations (or-false-right (has_repeat neighbours) (has_repeat destinations) two.0));
+      views = first-views e me (ascending destinations) id (all-ascending IsId destinations tos);
+      few_views = let n = length-ascending destinations in let f = length-first e me (ascending destinations) in omega arith;
+      ascending_destinations = subst IsAscending (sym (destinations_of-first e me (ascending destinations))) (ascending-ascending destinations (or-false-right (has_repeat neighbours) (has_repeat destinations) two.0));
     }
 
 -- ---- runs

@@ -14,12 +14,14 @@ use Rattle.tora_height.proofs.Ranges.{no_fault_is_height}
 use Rattle.tora_packet.specs.declared.Packet.{Packet}
 use Rattle.tora_packet.specs.declared.Packet.TheVariants.{Qry, Upd, Clr}
 use Rattle.tora_packet.specs.PacketParts.{IsId, IsClear, clear_of}
+use Rattle.tora_core.specs.declared.erasure.Erasure.{Erasure}
+use Rattle.tora_core.specs.declared.erasure.Erasure.TheVariants.{Plain, Remembered}
 use Rattle.tora_core.specs.declared.rows.Row.{Row}
 use Rattle.tora_core.specs.declared.Input.{Input}
 use Rattle.tora_core.specs.declared.Input.TheVariants as In
-use Rattle.tora_core.specs.View.{View, first_view, heights_of, are_null, with_row, without_row, row_with_entry, with_entry, told_row, all_told, is_told, erased_row, is_entry_at, cleared_row, is_downstream, has_downstream, lacks_downstream, is_at, least_height, greatest_level, least_delta}
+use Rattle.tora_core.specs.View.{View, first_view_of, heights_of, are_null, untold_row, with_row, withdrawn_row, without_entry, without_row, row_with_entry, with_entry, told_row, all_told, is_told, erased_row, is_entry_at, cleared_row, is_downstream, has_downstream, lacks_downstream, is_at, least_height, greatest_level, least_delta}
 use Rattle.tora_core.specs.Heights.{time_after_all, fresh_time, fitted_by}
-use Rattle.tora_core.specs.Rules.{Outcome, silent, query_broadcast, update_broadcast_of, update_broadcast, joined_above, after_join, new_level_at, new_level, after_erase, after_link_loss, below_delta, propagated_level, reflected_level, after_update_loss_at, after_update_loss, on_need, link_row, on_link_up, on_link_down, on_query, on_update, on_clear, on_packet, cleared_level, outcome_at_destination, outcome_elsewhere, outcome_of}
+use Rattle.tora_core.specs.Rules.{Outcome, silent, query_broadcast, update_broadcast_of, update_broadcast, joined_above, after_join, new_level_at, new_level, after_erase, after_link_loss, below_delta, propagated_level, reflected_level, after_update_loss_at, after_update_loss, on_need, link_row, on_link_up, on_link_down, on_query, on_update, on_outdated, on_taken_update, on_clear, on_heard_clear, on_packet, cleared_level, erased_after, hearing_clear, is_outdated, rows_behind_clear, outcome_at_destination, outcome_elsewhere, outcome_of}
 use Rattle.tora_core.specs.Kept.{IsRow, AreAscending, IsKept, IsKeptOutcome, IsPacketOf, MayCome}
 use Rattle.tora_core.proofs.Order.{lt-tau, lt-level, lt-delta, level-below}
 use Rattle.tora_core.proofs.Fitted.{reflected-in_range}
@@ -176,7 +178,7 @@ after_erase-neighbour destination row = cond_both (row.neighbour == destination)
 after_erase-kept : (v : View) (tau oid : ℕ) → IsBase v → v.flag ≡ false → IsClear (clear_of v.destination tau oid) → IsKeptOutcome (after_erase v tau oid)
 unfolding after_erase
 after_erase-kept v tau oid b f level =
-    let w = record v { rows = map (erased_row v.destination) v.rows } in
+    let w = record v { rows = map (erased_row v.destination) v.rows; erased = erased_after v.erasure v.erased (cleared_level tau oid) } in
     record {
       view = null-kept w
           (record {
@@ -526,8 +528,68 @@ row_with_entry-is_row me destination k h row e ok apart r =
 row_with_entry-neighbour : (k : ℕ) (h : Quintuple) (row : Row) → (row_with_entry k h row).neighbour ≡ row.neighbour
 row_with_entry-neighbour k h row = cond_both (row.neighbour == k) (record row { entry = Some h }) row (λ (x : Row). x.neighbour ≡ row.neighbour) (λ _. refl) (λ _. refl)
 
-update-kept : (v : View) (k : ℕ) (h : Quintuple) (now : ℕ) → IsKept v → v.me ≢ v.destination → IsHeightOf k v.destination h → k ≢ v.destination → IsKeptOutcome (on_update v k h now)
-update-kept v k h now kept e ok apart =
+-- ---- entries that go
+
+withdrawn-is_row : (me destination k : ℕ) (row : Row) → me ≢ destination → IsRow me destination row → IsRow me destination (withdrawn_row destination k row)
+withdrawn-is_row me destination k row e r =
+    cond_both ((row.neighbour == k) && not (row.neighbour == destination)) (record row { entry = None }) row (IsRow me destination)
+    (λ (t : ((row.neighbour == k) && not (row.neighbour == destination)) ≡ true).
+    let apart : (row.neighbour == destination) ≡ false = not-true (row.neighbour == destination) (and-right (row.neighbour == k) (not (row.neighbour == destination)) t) in
+    record { other = r.other; entry = tt; zero = λ _ (d : row.neighbour ≡ destination). absurd (grind (arith, nat_tests)); at_destination = λ _. refl })
+    (λ _. r)
+
+withdrawn-neighbour : (destination k : ℕ) (row : Row) → (withdrawn_row destination k row).neighbour ≡ row.neighbour
+withdrawn-neighbour destination k row =
+    cond_both ((row.neighbour == k) && not (row.neighbour == destination)) (record row { entry = None }) row (λ (x : Row). x.neighbour ≡ row.neighbour) (λ _. refl) (λ _. refl)
+
+withdrawn-none : (destination k : ℕ) (row : Row) → row.entry ≡ None → (withdrawn_row destination k row).entry ≡ None
+withdrawn-none destination k row e =
+    cond_both ((row.neighbour == k) && not (row.neighbour == destination)) (record row { entry = None }) row (λ (x : Row). x.entry ≡ None) (λ _. refl) (λ _. e)
+
+untold-is_row : (me destination k : ℕ) (row : Row) → IsRow me destination row → IsRow me destination (untold_row k row)
+untold-is_row me destination k row r =
+    cond_both (row.neighbour == k) (record row { told = false }) row (IsRow me destination) (λ _. record { other = r.other; entry = r.entry; zero = r.zero; at_destination = r.at_destination }) (λ _. r)
+
+untold-neighbour : (k : ℕ) (row : Row) → (untold_row k row).neighbour ≡ row.neighbour
+untold-neighbour k row = cond_both (row.neighbour == k) (record row { told = false }) row (λ (x : Row). x.neighbour ≡ row.neighbour) (λ _. refl) (λ _. refl)
+
+untold-none : (k : ℕ) (row : Row) → row.entry ≡ None → (untold_row k row).entry ≡ None
+untold-none k row e = cond_both (row.neighbour == k) (record row { told = false }) row (λ (x : Row). x.entry ≡ None) (λ _. e) (λ _. e)
+
+-- no entry comes by a change that leaves NULL as it is
+heights_of-map_none : (f : Row → Row) → ((row : Row) → row.entry ≡ None → (f row).entry ≡ None) → (rows : List Row) → heights_of rows ≡ [] → heights_of (map f rows) ≡ []
+heights_of-map_none f keep [] e = refl
+heights_of-map_none f keep (row ∷ rows) e = at (heights_of-map_none f keep rows) row.entry refl e
+  where
+    at : (heights_of rows ≡ [] → heights_of (map f rows) ≡ []) → (o : Option Quintuple) → row.entry ≡ o → cons_option o (heights_of rows) ≡ [] → heights_of (map f (row ∷ rows)) ≡ []
+    at rest None is g = let P : Option Quintuple → Type 0 = λ o. cons_option o (heights_of (map f rows)) ≡ [] in subst P (sym (keep row is)) (rest g)
+    at rest (Some h) is g = absurd cc
+
+-- the rows are changed one by one
+mapped-base : (v : View) (f : Row → Row) → IsBase v → ((row : Row) → IsRow v.me v.destination row → IsRow v.me v.destination (f row)) → ((row : Row) → (f row).neighbour ≡ row.neighbour)
+    → IsBase (record v { rows = map f v.rows })
+mapped-base v f b keep same =
+    record {
+      me = b.me;
+      destination = b.destination;
+      elsewhere = b.elsewhere;
+      last = b.last;
+      rows = all-map (IsRow v.me v.destination) (IsRow v.me v.destination) f keep v.rows b.rows;
+      ascending = ascending-map f same v.rows b.ascending;
+    }
+
+withdrawn-base : (v : View) (k : ℕ) → IsBase v → IsBase (record v { rows = without_entry v.destination k v.rows })
+withdrawn-base v k b = mapped-base v (withdrawn_row v.destination k) b (λ row r. withdrawn-is_row v.me v.destination k row b.elsewhere r) (withdrawn-neighbour v.destination k)
+
+outdated-kept : (v : View) (k now : ℕ) → IsKept v → v.me ≢ v.destination → IsKeptOutcome (on_outdated v k now)
+outdated-kept v k now kept e =
+    let w = record v { rows = without_entry v.destination k v.rows } in
+    let wb : IsBase w = withdrawn-base v k (base v kept e) in
+    settled w (after_link_loss w now) wb kept.height
+    (λ (t : v.flag ≡ true). ((kept.flag t).0, heights_of-map_none (withdrawn_row v.destination k) (withdrawn-none v.destination k) v.rows (kept.flag t).1)) (λ f. after_link_loss-kept w now wb f)
+
+taken_update-kept : (v : View) (k : ℕ) (h : Quintuple) (now : ℕ) → IsKept v → v.me ≢ v.destination → IsHeightOf k v.destination h → k ≢ v.destination → IsKeptOutcome (on_taken_update v k h now)
+taken_update-kept v k h now kept e ok apart =
     let b = base v kept e in
     let w = record v { rows = with_entry k h v.rows } in
     let wb : IsBase w = record {
@@ -541,6 +603,10 @@ update-kept v k h now kept e ok apart =
     cond_both v.flag (after_join w) (if lacks_downstream w then after_update_loss w now else silent w) (λ (o : Outcome). IsKeptOutcome o) (λ _. after_join-kept w wb)
     (λ (f : v.flag ≡ false). settled w (after_update_loss w now) wb kept.height (λ (t : v.flag ≡ true). absurd cc) (λ g. after_update_loss-kept w now wb g))
 
+update-kept : (v : View) (k : ℕ) (h : Quintuple) (now : ℕ) → IsKept v → v.me ≢ v.destination → IsHeightOf k v.destination h → k ≢ v.destination → IsKeptOutcome (on_update v k h now)
+update-kept v k h now kept e ok apart =
+    cond_both (is_outdated v h) (on_outdated v k now) (on_taken_update v k h now) (λ (o : Outcome). IsKeptOutcome o) (λ _. outdated-kept v k now kept e) (λ _. taken_update-kept v k h now kept e ok apart)
+
 cleared-is_row : (me destination : ℕ) (l : Level) (row : Row) → me ≢ destination → IsRow me destination row → IsRow me destination (cleared_row destination l row)
 cleared-is_row me destination l row e r =
     cond_both (not (row.neighbour == destination) && is_entry_at l row.entry) (record row { entry = None }) row (IsRow me destination)
@@ -553,41 +619,57 @@ cleared-neighbour : (destination : ℕ) (l : Level) (row : Row) → (cleared_row
 cleared-neighbour destination l row =
     cond_both (not (row.neighbour == destination) && is_entry_at l row.entry) (record row { entry = None }) row (λ (x : Row). x.neighbour ≡ row.neighbour) (λ _. refl) (λ _. refl)
 
-heights_of-cleared_none : (destination : ℕ) (l : Level) (rows : List Row) → heights_of rows ≡ [] → heights_of (map (cleared_row destination l) rows) ≡ []
-heights_of-cleared_none destination l [] e = refl
-heights_of-cleared_none destination l (row ∷ rows) e = at (heights_of-cleared_none destination l rows) row.entry refl e
-  where
-    at : (heights_of rows ≡ [] → heights_of (map (cleared_row destination l) rows) ≡ []) → (o : Option Quintuple) → row.entry ≡ o → cons_option o (heights_of rows) ≡ [] → heights_of (map (cleared_row destination l) (row ∷ rows)) ≡ []
-    at rest None is f =
-        let none : (cleared_row destination l row).entry ≡ None =
-        cond_both (not (row.neighbour == destination) && is_entry_at l row.entry) (record row { entry = None }) row (λ (x : Row). x.entry ≡ None) (λ _. refl) (λ _. is) in
-        let P : Option Quintuple → Type 0 = λ o. cons_option o (heights_of (map (cleared_row destination l) rows)) ≡ [] in subst P (sym none) (rest f)
-    at rest (Some h) is f = absurd cc
+cleared-none : (destination : ℕ) (l : Level) (row : Row) → row.entry ≡ None → (cleared_row destination l row).entry ≡ None
+cleared-none destination l row e =
+    cond_both (not (row.neighbour == destination) && is_entry_at l row.entry) (record row { entry = None }) row (λ (x : Row). x.entry ≡ None) (λ _. refl) (λ _. e)
 
 at-some : (l : Level) (o : Option Quintuple) → is_entry_at l o ≡ true → IsSome o
 at-some l None e = absurd cc
 at-some l (Some h) e = refl
 
-clear-kept : (v : View) (l : Level) (now : ℕ) → IsKept v → v.me ≢ v.destination → IsClear (clear_of v.destination l.tau l.oid) → IsKeptOutcome (on_clear v l now)
-clear-kept v l now kept e level =
-    let b = base v kept e in
+-- what the flag says of a view, also of one that has lost entries
+abbrev IsQuiet : View → Type 0
+IsQuiet v = v.flag ≡ true → (v.height ≡ None) × (heights_of v.rows ≡ [])
+
+quiet-clear : (v : View) → IsQuiet v → IsSome v.height → v.flag ≡ false
+quiet-clear v quiet some = at v.flag refl
+  where
+    at : (b : Bool) → v.flag ≡ b → b ≡ false
+    at true e = let null = (quiet e).0 in let s : true ≡ false = cc in s
+    at false e = refl
+
+heard_clear-kept : (v : View) (l : Level) (now : ℕ) → IsBase v → IfSome v.height (IsHeightOf v.me v.destination) → IsQuiet v → IsClear (clear_of v.destination l.tau l.oid) → IsKeptOutcome (on_heard_clear v l now)
+heard_clear-kept v l now b height quiet level =
     let w = record v { rows = map (cleared_row v.destination l) v.rows } in
-    let wb : IsBase w = record {
-      me = b.me;
-      destination = b.destination;
-      elsewhere = b.elsewhere;
-      last = b.last;
-      rows = all-map (IsRow v.me v.destination) (IsRow v.me v.destination) (cleared_row v.destination l) (λ (row : Row) (r : IsRow v.me v.destination row). cleared-is_row v.me v.destination l row e r) v.rows b.rows;
-      ascending = ascending-map (cleared_row v.destination l) (cleared-neighbour v.destination l) v.rows b.ascending;
-    } in
+    let wb : IsBase w = mapped-base v (cleared_row v.destination l) b (λ row r. cleared-is_row v.me v.destination l row b.elsewhere r) (cleared-neighbour v.destination l) in
     cond_both (is_entry_at l v.height) (after_erase v l.tau l.oid) (if lacks_downstream w then after_link_loss w now else silent w) (λ (o : Outcome). IsKeptOutcome o)
-    (λ t. after_erase-kept v l.tau l.oid b (flag-clear v kept (at-some l v.height t)) level)
-    (λ _. settled w (after_link_loss w now) wb kept.height (λ (t : v.flag ≡ true). ((kept.flag t).0, heights_of-cleared_none v.destination l v.rows (kept.flag t).1)) (λ f. after_link_loss-kept w now wb f))
+    (λ t. after_erase-kept v l.tau l.oid b (quiet-clear v quiet (at-some l v.height t)) level)
+    (λ _. settled w (after_link_loss w now) wb height (λ (t : v.flag ≡ true). ((quiet t).0, heights_of-map_none (cleared_row v.destination l) (cleared-none v.destination l) v.rows (quiet t).1)) (λ f. after_link_loss-kept w now wb f))
+
+-- what a clear withdraws
+behind_clear-rows : (x : Erasure) (v : View) (k : ℕ) → IsBase v → AllByRecursion (IsRow v.me v.destination) (rows_behind_clear x v.destination k v.rows) × AreAscending (rows_behind_clear x v.destination k v.rows)
+behind_clear-rows Plain v k b = (b.rows, b.ascending)
+behind_clear-rows Remembered v k b =
+    let w = withdrawn-base v k b in
+    let u = mapped-base (record v { rows = without_entry v.destination k v.rows }) (untold_row k) w (λ row r. untold-is_row v.me v.destination k row r) (untold-neighbour k) in
+    (u.rows, u.ascending)
+
+behind_clear-none : (x : Erasure) (destination k : ℕ) (rows : List Row) → heights_of rows ≡ [] → heights_of (rows_behind_clear x destination k rows) ≡ []
+behind_clear-none Plain destination k rows e = e
+behind_clear-none Remembered destination k rows e =
+    heights_of-map_none (untold_row k) (untold-none k) (without_entry destination k rows) (heights_of-map_none (withdrawn_row destination k) (withdrawn-none destination k) rows e)
+
+clear-kept : (v : View) (k : ℕ) (l : Level) (now : ℕ) → IsKept v → v.me ≢ v.destination → IsClear (clear_of v.destination l.tau l.oid) → IsKeptOutcome (on_clear v k l now)
+clear-kept v k l now kept e level =
+    let b = base v kept e in
+    let rows = behind_clear-rows v.erasure v k b in
+    heard_clear-kept (hearing_clear v k l) l now (record { me = b.me; destination = b.destination; elsewhere = b.elsewhere; last = b.last; rows = rows.0; ascending = rows.1 }) kept.height
+    (λ (t : v.flag ≡ true). ((kept.flag t).0, behind_clear-none v.erasure v.destination k v.rows (kept.flag t).1)) level
 
 packet-kept : (v : View) (k : ℕ) (p : Packet) (now : ℕ) → IsKept v → v.me ≢ v.destination → IsPacketOf k v.destination p → IsKeptOutcome (on_packet v k p now)
 packet-kept v k (Qry d) now kept e may = query-kept v k kept e
 packet-kept v k (Upd t) now kept e may = update-kept v k t.height now kept e may.0 may.1
-packet-kept v k (Clr c) now kept e may = clear-kept v (cleared_level c.tau c.oid) now kept e (record { destination = kept.destination; tau = may.tau; oid = may.oid })
+packet-kept v k (Clr c) now kept e may = clear-kept v k (cleared_level c.tau c.oid) now kept e (record { destination = kept.destination; tau = may.tau; oid = may.oid })
 
 elsewhere-kept : (v : View) (input : Input) (now : ℕ) → IsKept v → v.me ≢ v.destination → MayCome v input → IsKeptOutcome (outcome_elsewhere v input now)
 elsewhere-kept v (In.Need d) now kept e may = need-kept v kept e
@@ -632,8 +714,8 @@ outcome_of-kept v input now kept may =
     (λ (t : (v.me == v.destination) ≡ true). destination-kept v input kept (grind (arith, nat_tests)) may)
     (λ (f : (v.me == v.destination) ≡ false). elsewhere-kept v input now kept (λ (z : v.me ≡ v.destination). grind (arith, nat_tests)) may)
 
-pub first-kept : (me destination : ℕ) → IsId me → IsId destination → IsKept (first_view me destination)
-first-kept me destination n d =
+pub first-kept : (e : Erasure) (me destination : ℕ) → IsId me → IsId destination → IsKept (first_view_of e me destination)
+first-kept e me destination n d =
     record {
       me = n;
       destination = d;

@@ -11,11 +11,13 @@ pub mod OwnViews
 pub mod CoreLemmas
 pub mod SendsSteps
 pub mod ReactsWords
+pub mod ReactsErasing
 pub mod ReactsOnly
 pub mod ReactsTotal
 pub mod ReactsCore
 pub mod ReactsHop
 pub mod Worked
+pub mod StormTurns
 pub mod LinkLemmas
 pub mod RowPlaces
 pub mod HintLemmas

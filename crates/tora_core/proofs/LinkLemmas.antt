@@ -470,33 +470,37 @@ pub or-none : (b : Bool) → (b || false) ≡ b
 or-none true = refl
 or-none false = refl
 
-pub directions-told : (own : Option Quintuple) (rows : List Row) → directions_of own rows ≡ directions_of own (all_told rows)
-directions-told own [] = refl
-directions-told own (row ∷ rows) = ap (λ (xs : List Direction). link_status own row.entry ∷ xs) (directions-told own rows)
+-- rows that are changed, and whose entries stay
+module _ (f : Row → Row) (keep : (row : Row) → (f row).entry ≡ row.entry) where
+  pub directions-mapped : (own : Option Quintuple) (rows : List Row) → directions_of own rows ≡ directions_of own (map f rows)
+  directions-mapped own [] = refl
+  directions-mapped own (row ∷ rows) =
+      ap (λ (o : Option Quintuple). link_status own o ∷ directions_of own rows) (sym (keep row)) ∙ ap (λ (xs : List Direction). link_status own (f row).entry ∷ xs) (directions-mapped own rows)
 
-pub downstream-told : (own : Option Quintuple) (rows : List Row) → downstream_in own rows ≡ downstream_in own (all_told rows)
-downstream-told own [] = refl
-downstream-told own (row ∷ rows) =
-    let a = count-more (is_downstream own row.entry) row (down_rows own rows) in
-    let b = count-more (is_downstream own row.entry) (told_row row) (down_rows own (all_told rows)) in
-    let rest = downstream-told own rows in omega arith
+  pub downstream-mapped : (own : Option Quintuple) (rows : List Row) → downstream_in own rows ≡ downstream_in own (map f rows)
+  downstream-mapped own [] = refl
+  downstream-mapped own (row ∷ rows) =
+      let P : Option Quintuple → Type 0 = λ o. downstream_in own (row ∷ rows) ≡ length (if is_downstream own o then f row ∷ down_rows own (map f rows) else down_rows own (map f rows)) in
+      let a = count-more (is_downstream own row.entry) row (down_rows own rows) in
+      let b = count-more (is_downstream own row.entry) (f row) (down_rows own (map f rows)) in
+      let rest = downstream-mapped own rows in subst P (sym (keep row)) (omega arith)
 
-null-told : (rows : List Row) → AllByRecursion IsNull rows → AllByRecursion IsNull (all_told rows)
-null-told [] all = tt
-null-told (row ∷ rows) all = (all.0, null-told rows all.1)
+  null-mapped : (rows : List Row) → AllByRecursion IsNull rows → AllByRecursion IsNull (map f rows)
+  null-mapped [] all = tt
+  null-mapped (row ∷ rows) all = (keep row ∙ all.0, null-mapped rows all.1)
 
-not_below-told : (h : Quintuple) (rows : List Row) → AllByRecursion (IsNotBelow h) rows → AllByRecursion (IsNotBelow h) (all_told rows)
-not_below-told h [] all = tt
-not_below-told h (row ∷ rows) all = (all.0, not_below-told h rows all.1)
+  not_below-mapped : (h : Quintuple) (rows : List Row) → AllByRecursion (IsNotBelow h) rows → AllByRecursion (IsNotBelow h) (map f rows)
+  not_below-mapped h [] all = tt
+  not_below-mapped h (row ∷ rows) all = (ap (is_downstream (Some h)) (keep row) ∙ all.0, not_below-mapped h rows all.1)
 
-least_at-told : (place : ℕ) (h : Quintuple) (rows : List Row) → IsLeastAt place h rows → IsLeastAt place h (all_told rows)
-least_at-told place h [] is = absurd is
-least_at-told zero h (row ∷ rows) is = (is.0, not_below-told h rows is.1)
-least_at-told (suc place) h (row ∷ rows) is = (is.0, least_at-told place h rows is.1)
+  least_at-mapped : (place : ℕ) (h : Quintuple) (rows : List Row) → IsLeastAt place h rows → IsLeastAt place h (map f rows)
+  least_at-mapped place h [] is = absurd is
+  least_at-mapped zero h (row ∷ rows) is = (keep row ∙ is.0, not_below-mapped h rows is.1)
+  least_at-mapped (suc place) h (row ∷ rows) is = (ap (is_above h) (keep row) ∙ is.0, least_at-mapped place h rows is.1)
 
-pub least-told : (least : Option ℕ) (rows : List Row) → IsLeastPlace least rows → IsLeastPlace least (all_told rows)
-least-told None rows is = null-told rows is
-least-told (Some place) rows is = (is.0, least_at-told place is.0 rows is.1)
+  pub least-mapped : (least : Option ℕ) (rows : List Row) → IsLeastPlace least rows → IsLeastPlace least (map f rows)
+  least-mapped None rows is = null-mapped rows is
+  least-mapped (Some place) rows is = (is.0, least_at-mapped place is.0 rows is.1)
 
 -- ---- one row more
 

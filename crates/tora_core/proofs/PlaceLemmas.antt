@@ -9,7 +9,7 @@ use Rattle.tora_height.specs.declared.level.Level.{Level}
 use Rattle.tora_height.specs.Height.{Quintuple}
 use Rattle.tora_core.specs.declared.rows.Row.{Row}
 use Rattle.tora_core.specs.Numbers.{IsAscending, has_number}
-use Rattle.tora_core.specs.View.{are_null, cleared_row, erased_row, heights_of, is_downstream, is_entry_at, is_told, lower_row_of, neighbours_of, row_with_entry, with_entry, with_row, without_row}
+use Rattle.tora_core.specs.View.{are_null, cleared_row, erased_row, heights_of, is_downstream, is_entry_at, is_told, lower_row_of, neighbours_of, row_with_entry, with_entry, with_row, withdrawn_row, without_row}
 use Rattle.tora_core.specs.Links.{AreMarked, IsOnlyPlace, downstream_in, empty_place, rows_up, with_entry_at}
 use Rattle.tora_core.proofs.NumberLemmas.{all-has, not-same, or-true-right}
 use Rattle.tora_core.proofs.LinkLemmas.{down_rows, hop_in, is-number, only-set, or-none, rest-kept, rest-told}
@@ -174,6 +174,10 @@ erased-null destination row e = cond_both (row.neighbour == destination) row (re
 pub cleared-null : (destination : ℕ) (level : Level) (row : Row) → row.entry ≡ None → (cleared_row destination level row).entry ≡ None
 cleared-null destination level row e =
     cond_both (not (row.neighbour == destination) && is_entry_at level row.entry) (record row { entry = None }) row (λ (r : Row). r.entry ≡ None) (λ _. refl) (λ _. e)
+
+pub withdrawn-null : (destination k : ℕ) (row : Row) → row.entry ≡ None → (withdrawn_row destination k row).entry ≡ None
+withdrawn-null destination k row e =
+    cond_both ((row.neighbour == k) && not (row.neighbour == destination)) (record row { entry = None }) row (λ (r : Row). r.entry ≡ None) (λ _. refl) (λ _. e)
 
 -- ---- an entry at a place
 

@@ -7,13 +7,15 @@ use Rattle.tora_height.specs.declared.level.Level.{Level}
 use Rattle.tora_height.specs.Height.{Quintuple, quintuple, destination_height}
 use Rattle.tora_packet.specs.declared.Packet.{Packet}
 use Rattle.tora_packet.specs.declared.Packet.TheVariants.{Qry, Upd, Clr}
+use Rattle.tora_core.specs.declared.erasure.Erasure.{Erasure}
+use Rattle.tora_core.specs.declared.erasure.Erasure.TheVariants.{Plain, Remembered}
 use Rattle.tora_core.specs.declared.rows.Row.{Row}
 use Rattle.tora_core.specs.declared.Input.{Input}
 use Rattle.tora_core.specs.declared.Input.TheVariants as In
 use Rattle.tora_core.specs.Numbers.{with_number, without_number}
-use Rattle.tora_core.specs.View.{View, neighbours_of, known_heights, told_row, row_with_entry, erased_row, are_null, with_row, without_row, with_entry, cleared_row, is_entry_at, is_told, has_downstream, lacks_downstream, is_at, greatest_level, least_delta}
+use Rattle.tora_core.specs.View.{View, neighbours_of, known_heights, told_row, row_with_entry, erased_row, are_null, untold_row, with_row, withdrawn_row, without_entry, without_row, without_told, with_entry, cleared_row, is_entry_at, is_told, has_downstream, lacks_downstream, is_at, greatest_level, least_delta}
 use Rattle.tora_core.specs.Heights.{fresh_time, fitted_height}
-use Rattle.tora_core.specs.Rules.{Outcome, silent, query_broadcast, update_broadcast_of, update_broadcast, joined_height, after_join, new_level_at, new_level, after_erase, after_link_loss, below_delta, propagated_level, reflected_level, after_update_loss_at, after_update_loss, link_row, on_update, on_packet, outcome_at_destination, outcome_elsewhere, outcome_of}
+use Rattle.tora_core.specs.Rules.{Outcome, silent, query_broadcast, update_broadcast_of, update_broadcast, joined_height, after_join, new_level_at, new_level, after_erase, after_link_loss, below_delta, propagated_level, reflected_level, after_update_loss_at, after_update_loss, cleared_level, hearing_clear, is_outdated, rows_behind_clear, link_row, on_update, on_outdated, on_taken_update, on_clear, on_heard_clear, on_packet, outcome_at_destination, outcome_elsewhere, outcome_of}
 use Rattle.tora_core.specs.CoreRun.{up_after}
 
 -- an outcome of a view of node n for destination d, over these up neighbours
@@ -98,23 +100,52 @@ cleared-same : (destination : ℕ) (l : Level) (row : Row) → (cleared_row dest
 cleared-same destination l row =
     cond_both (not (row.neighbour == destination) && is_entry_at l row.entry) (record row { entry = None }) row (λ (x : Row). x.neighbour ≡ row.neighbour) (λ _. refl) (λ _. refl)
 
+withdrawn-same : (destination k : ℕ) (row : Row) → (withdrawn_row destination k row).neighbour ≡ row.neighbour
+withdrawn-same destination k row =
+    cond_both ((row.neighbour == k) && not (row.neighbour == destination)) (record row { entry = None }) row (λ (x : Row). x.neighbour ≡ row.neighbour) (λ _. refl) (λ _. refl)
+
+untold-same : (k : ℕ) (row : Row) → (untold_row k row).neighbour ≡ row.neighbour
+untold-same k row = cond_both (row.neighbour == k) (record row { told = false }) row (λ (x : Row). x.neighbour ≡ row.neighbour) (λ _. refl) (λ _. refl)
+
+behind_clear-same : (x : Erasure) (destination k : ℕ) (rows : List Row) → neighbours_of (rows_behind_clear x destination k rows) ≡ neighbours_of rows
+behind_clear-same Plain destination k rows = refl
+behind_clear-same Remembered destination k rows =
+    neighbours_of-map (untold_row k) (untold-same k) (without_entry destination k rows) ∙ neighbours_of-map (withdrawn_row destination k) (withdrawn-same destination k) rows
+
+at-outdated : (v : View) (k now : ℕ) → Of v (on_outdated v k now)
+at-outdated v k now =
+    let w = record v { rows = without_entry v.destination k v.rows } in
+    along v.me v.destination (neighbours_of w.rows) (neighbours_of v.rows) (on_outdated v k now) (neighbours_of-map (withdrawn_row v.destination k) (withdrawn-same v.destination k) v.rows)
+    (at-settled w (after_link_loss w now) (at-after_link_loss w now))
+
+at-taken_update : (v : View) (k : ℕ) (h : Quintuple) (now : ℕ) → Of v (on_taken_update v k h now)
+at-taken_update v k h now =
+    let w = record v { rows = with_entry k h v.rows } in
+    along v.me v.destination (neighbours_of w.rows) (neighbours_of v.rows) (on_taken_update v k h now) (neighbours_of-map (row_with_entry k h) (told-same k h) v.rows)
+    (by-branch w v.flag (after_join w) (if lacks_downstream w then after_update_loss w now else silent w) (at-after_join w) (at-settled w (after_update_loss w now) (at-after_update_loss w now)))
+
+at-heard_clear : (v : View) (l : Level) (now : ℕ) → Of v (on_heard_clear v l now)
+at-heard_clear v l now =
+    let w = record v { rows = map (cleared_row v.destination l) v.rows } in
+    by-branch v (is_entry_at l v.height) (after_erase v l.tau l.oid) (if lacks_downstream w then after_link_loss w now else silent w)
+    (at-after_erase v l.tau l.oid)
+    (along v.me v.destination (neighbours_of w.rows) (neighbours_of v.rows) (if lacks_downstream w then after_link_loss w now else silent w)
+    (neighbours_of-map (cleared_row v.destination l) (cleared-same v.destination l) v.rows)
+    (at-settled w (after_link_loss w now) (at-after_link_loss w now)))
+
+at-clear : (v : View) (k : ℕ) (l : Level) (now : ℕ) → Of v (on_clear v k l now)
+at-clear v k l now =
+    let u = hearing_clear v k l in
+    along v.me v.destination (neighbours_of u.rows) (neighbours_of v.rows) (on_clear v k l now) (behind_clear-same v.erasure v.destination k v.rows) (at-heard_clear u l now)
+
 at-packet : (v : View) (k : ℕ) (p : Packet) (now : ℕ) → Of v (on_packet v k p now)
 at-packet v k (Qry d) now =
     by-branch v (not (has_downstream v)) (if not v.flag then query_broadcast v else silent v) (if is_none v.height then after_join v else if not (is_told k v.rows) then update_broadcast v else silent v)
     (by-branch v (not v.flag) (query_broadcast v) (silent v) (record { me = refl; destination = refl; rows = refl }) (still v))
     (by-branch v (is_none v.height) (after_join v) (if not (is_told k v.rows) then update_broadcast v else silent v) (at-after_join v)
     (by-branch v (not (is_told k v.rows)) (update_broadcast v) (silent v) (at-update_broadcast v) (still v)))
-at-packet v k (Upd t) now =
-    let w = record v { rows = with_entry k t.height v.rows } in
-    along v.me v.destination (neighbours_of w.rows) (neighbours_of v.rows) (on_update v k t.height now) (neighbours_of-map (row_with_entry k t.height) (told-same k t.height) v.rows)
-    (by-branch w v.flag (after_join w) (if lacks_downstream w then after_update_loss w now else silent w) (at-after_join w) (at-settled w (after_update_loss w now) (at-after_update_loss w now)))
-at-packet v k (Clr c) now =
-    let w = record v { rows = map (cleared_row v.destination (record { tau = c.tau; oid = c.oid; r = 1 })) v.rows } in
-    by-branch v (is_entry_at (record { tau = c.tau; oid = c.oid; r = 1 }) v.height) (after_erase v c.tau c.oid) (if lacks_downstream w then after_link_loss w now else silent w)
-    (at-after_erase v c.tau c.oid)
-    (along v.me v.destination (neighbours_of w.rows) (neighbours_of v.rows) (if lacks_downstream w then after_link_loss w now else silent w)
-    (neighbours_of-map (cleared_row v.destination (record { tau = c.tau; oid = c.oid; r = 1 })) (cleared-same v.destination (record { tau = c.tau; oid = c.oid; r = 1 })) v.rows)
-    (at-settled w (after_link_loss w now) (at-after_link_loss w now)))
+at-packet v k (Upd t) now = by-branch v (is_outdated v t.height) (on_outdated v k now) (on_taken_update v k t.height now) (at-outdated v k now) (at-taken_update v k t.height now)
+at-packet v k (Clr c) now = at-clear v k (cleared_level c.tau c.oid) now
 
 -- the rows after a link came up or went down
 neighbours_of-with_row : (new : Row) (rows : List Row) → neighbours_of (with_row new rows) ≡ with_number new.neighbour (neighbours_of rows)

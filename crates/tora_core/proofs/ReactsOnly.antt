@@ -13,11 +13,12 @@ use Rattle.tora_core.specs.declared.destination.Broadcast.{Broadcast}
 use Rattle.tora_core.specs.declared.destination.Broadcast.TheVariants as Tell
 use Rattle.tora_core.specs.View.{View, known_heights, are_null, row_with_entry, all_told, is_told, has_downstream, lacks_downstream, is_at, is_entry_at}
 use Rattle.tora_core.specs.Heights.{fitted_height}
-use Rattle.tora_core.specs.Rules.{Outcome, silent, query_broadcast, update_broadcast_of, update_broadcast, joined_above, after_join, new_level_at, new_level, after_erase, after_link_loss, below_delta, propagated_level, reflected_level, partition_detected, new_level_after_reflection, after_update_loss_at, after_update_loss, on_need, link_row, on_link_up, on_link_down, on_query, on_update, on_clear, cleared_level, outcome_at_destination, outcome_elsewhere, outcome_of}
+use Rattle.tora_core.specs.Rules.{Outcome, silent, query_broadcast, update_broadcast_of, update_broadcast, joined_above, after_join, new_level_at, new_level, after_erase, after_link_loss, below_delta, propagated_level, reflected_level, partition_detected, new_level_after_reflection, after_update_loss_at, after_update_loss, on_need, link_row, on_link_up, on_link_down, on_query, on_update, on_outdated, on_taken_update, on_clear, on_heard_clear, cleared_level, erased_after, is_outdated, outcome_at_destination, outcome_elsewhere, outcome_of}
 use Rattle.tora_core.specs.Kept.{IsRow, IsKept, MayCome}
-use Rattle.tora_core.specs.Reacts.{IsKnown, KnowsSome, HasDownstream, HasNoDownstream, IsOwnLevel, IsCommonLevel, IsGreatestLevel, Takes, fits, does_not_fit, TakesNewLevel, Joins, LinkLoss, UpdateLoss, Lost, no_height_left, new_level_after_failure, propagated_level as propagated, reflected_level as reflected, partition_detected as detected, new_level_after_reflection as after_reflection, linked_view, unlinked_view, updated_view, cleared_view, ReactsElsewhere, need_asked, need_quiet, link_up_quiet, link_up_asked, destination_up_quiet, destination_up_joined, link_down_quiet, link_down_lost, query_asked, query_pending, query_joined, query_answered, query_quiet, update_joined, update_lost, update_quiet, clear_erased, clear_lost, clear_quiet, ReactsAtDestination, own_need, own_link_up, own_link_down, own_packet, Reacts, elsewhere, at_destination}
+use Rattle.tora_core.specs.Reacts.{IsKnown, KnowsSome, HasDownstream, HasNoDownstream, IsOwnLevel, IsCommonLevel, IsGreatestLevel, Takes, fits, does_not_fit, TakesNewLevel, Joins, LinkLoss, UpdateLoss, Lost, no_height_left, new_level_after_failure, propagated_level as propagated, reflected_level as reflected, partition_detected as detected, new_level_after_reflection as after_reflection, linked_view, unlinked_view, updated_view, cleared_view, erased_view, withdrawn_view, HearsClear, IsOutdated, ReactsElsewhere, need_asked, need_quiet, link_up_quiet, link_up_asked, destination_up_quiet, destination_up_joined, link_down_quiet, link_down_lost, query_asked, query_pending, query_joined, query_answered, query_quiet, update_withdrawn, update_withdrawn_lost, update_joined, update_lost, update_quiet, clear_erased, clear_lost, clear_quiet, ReactsAtDestination, own_need, own_link_up, own_link_down, own_packet, Reacts, elsewhere, at_destination}
 use Rattle.tora_core.proofs.RowLemmas.{all-weaker, all-map, all-with_row}
 use Rattle.tora_core.proofs.Fitted.{fitted_height-in_range}
+use Rattle.tora_core.proofs.ReactsErasing.{hears-only, is-cleared, is-outdated, keeps-only, not-outdated}
 use Rattle.tora_core.proofs.ReactsWords.{all-among, among-Contains, known-least, known-greatest, delta-least, common-all, common-greatest, differ-all, time-fresh, fitted_height-out, none-are_null, some-are_null, some-downstream, none-downstream, downstream-lacks, lacks-not, level-own, own-not, told-is, told-not, is-zero, not-zero, is-same, is-other}
 
 -- this is what the outcome says
@@ -177,11 +178,11 @@ update_loss-only v now in_range (reflected level common zero) =
     gives-by (after_update_loss v now) (reflected_level v level) _ _
     (common-loss v now level common ∙ if-true (level.r == 0) (reflected_level v level) (if level.oid == v.me then partition_detected v level else new_level_after_reflection v now) (is-zero level.r zero))
     (refl, refl)
-update_loss-only v now in_range (detected level common one own) =
+update_loss-only v now in_range (detected level common one own keeps) =
     gives-by (after_update_loss v now) (partition_detected v level) _ _
     (common-loss v now level common ∙ if-false (level.r == 0) (reflected_level v level) (if level.oid == v.me then partition_detected v level else new_level_after_reflection v now) (not-zero level.r one)
     ∙ if-true (level.oid == v.me) (partition_detected v level) (new_level_after_reflection v now) (is-same level.oid v.me own))
-    (refl, refl)
+    (ap (erased_view v) (keeps-only v level keeps ∙ ap (erased_after v.erasure v.erased) (is-cleared level one)), refl)
 update_loss-only v now {after} {broadcast} in_range (after_reflection level common one other new) =
     gives-by (after_update_loss v now) (new_level_after_reflection v now) after broadcast
     (common-loss v now level common ∙ if-false (level.r == 0) (reflected_level v level) (if level.oid == v.me then partition_detected v level else new_level_after_reflection v now) (not-zero level.r one)
@@ -247,14 +248,28 @@ link-destination v k e = if-true (k == v.destination) (up_destination v k) (up_o
 abbrev update_unasked : View → ℕ → Quintuple → ℕ → Outcome
 update_unasked v k height now = let w = updated_view v k height in if lacks_downstream w then after_update_loss w now else silent w
 
-update-unasked : (v : View) (k : ℕ) (height : Quintuple) (now : ℕ) → v.flag ≡ false → on_update v k height now ≡ update_unasked v k height now
+update-unasked : (v : View) (k : ℕ) (height : Quintuple) (now : ℕ) → v.flag ≡ false → on_taken_update v k height now ≡ update_unasked v k height now
 update-unasked v k height now unset = if-false v.flag (after_join (updated_view v k height)) (update_unasked v k height now) unset
+
+-- the outcome of an update that is not older than the clear of its level, and of one that is
+update-fresh : (v : View) (k : ℕ) (height : Quintuple) (now : ℕ) → ¬ IsOutdated v height → on_update v k height now ≡ on_taken_update v k height now
+update-fresh v k height now fresh = if-false (is_outdated v height) (on_outdated v k now) (on_taken_update v k height now) (not-outdated v height fresh)
+
+update-old : (v : View) (k : ℕ) (height : Quintuple) (now : ℕ) → IsOutdated v height → on_update v k height now ≡ on_outdated v k now
+update-old v k height now old = if-true (is_outdated v height) (on_outdated v k now) (on_taken_update v k height now) (is-outdated v height old)
+
+-- the outcome of a clear that is heard
+clear-heard : (v : View) (k : ℕ) (level : Level) (now : ℕ) {u : View} → HearsClear v k level u → on_clear v k level now ≡ on_heard_clear u level now
+clear-heard v k level now heard = ap (λ (x : View). on_heard_clear x level now) (sym (hears-only v k level heard))
+
+heard-me : (v : View) (k : ℕ) (level : Level) {u : View} → HearsClear v k level u → IsId v.me → IsId u.me
+heard-me v k level heard me = subst (λ (x : View). IsId x.me) (sym (hears-only v k level heard)) me
 
 -- the outcome of a clear of another level
 abbrev clear_other : View → Level → ℕ → Outcome
 clear_other v level now = let w = cleared_view v level in if lacks_downstream w then after_link_loss w now else silent w
 
-clear-other : (v : View) (level : Level) (now : ℕ) → ¬ IsOwnLevel v level → on_clear v level now ≡ clear_other v level now
+clear-other : (v : View) (level : Level) (now : ℕ) → ¬ IsOwnLevel v level → on_heard_clear v level now ≡ clear_other v level now
 clear-other v level now n = if-false (is_entry_at level v.height) (after_erase v level.tau level.oid) (clear_other v level now) (own-not v level n)
 
 pub elsewhere-only : (v : View) (now : ℕ) → IsKept v → {input : Input} {after : View} {broadcast : Option Broadcast} → ReactsElsewhere v now input after broadcast → MayCome v input → Gives (outcome_elsewhere v input now) after broadcast
@@ -300,32 +315,43 @@ elsewhere-only v now kept (query_answered {k} own some is untold) may =
 elsewhere-only v now kept (query_quiet {k} some own told) may =
     gives-by (on_query v k) (silent v) _ _
     (with-height v k some own ∙ if-false (not (is_told k v.rows)) (update_broadcast v) (silent v) (ap not (told-is v k told))) (refl, refl)
-elsewhere-only v now kept {input} {after} {broadcast} (update_joined {k} {d} {height} set joins) may =
+elsewhere-only v now kept {input} {after} {broadcast} (update_joined {k} {d} {height} fresh set joins) may =
     let w = updated_view v k height in
     gives-by (on_update v k height now) (after_join w) after broadcast
-    (if-true v.flag (after_join w) (update_unasked v k height now) set) (join-only w after broadcast (updated-ranged v k height kept may.0.ranges) joins)
-elsewhere-only v now kept {input} {after} {broadcast} (update_lost {k} {d} {height} unset stuck lost) may =
+    (update-fresh v k height now fresh ∙ if-true v.flag (after_join w) (update_unasked v k height now) set) (join-only w after broadcast (updated-ranged v k height kept may.0.ranges) joins)
+elsewhere-only v now kept {input} {after} {broadcast} (update_lost {k} {d} {height} fresh unset stuck lost) may =
     let w = updated_view v k height in
     gives-by (on_update v k height now) (after_update_loss w now) after broadcast
-    (update-unasked v k height now unset ∙ if-true (lacks_downstream w) (after_update_loss w now) (silent w) (downstream-lacks w stuck))
+    (update-fresh v k height now fresh ∙ update-unasked v k height now unset ∙ if-true (lacks_downstream w) (after_update_loss w now) (silent w) (downstream-lacks w stuck))
     (update_loss-only w now (updated-ranged v k height kept may.0.ranges) lost)
-elsewhere-only v now kept (update_quiet {k} {d} {height} unset free) may =
+elsewhere-only v now kept (update_quiet {k} {d} {height} fresh unset free) may =
     let w = updated_view v k height in
     gives-by (on_update v k height now) (silent w) _ _
-    (update-unasked v k height now unset ∙ if-false (lacks_downstream w) (after_update_loss w now) (silent w) (lacks-not w free)) (refl, refl)
-elsewhere-only v now kept (clear_erased {k} {d} {tau} {oid} own) may =
+    (update-fresh v k height now fresh ∙ update-unasked v k height now unset ∙ if-false (lacks_downstream w) (after_update_loss w now) (silent w) (lacks-not w free)) (refl, refl)
+elsewhere-only v now kept (update_withdrawn {k} {d} {height} old free) may =
+    let w = withdrawn_view v k in
+    gives-by (on_update v k height now) (silent w) _ _
+    (update-old v k height now old ∙ if-false (lacks_downstream w) (after_link_loss w now) (silent w) (lacks-not w free)) (refl, refl)
+elsewhere-only v now kept {input} {after} {broadcast} (update_withdrawn_lost {k} {d} {height} old stuck lost) may =
+    let w = withdrawn_view v k in
+    gives-by (on_update v k height now) (after_link_loss w now) after broadcast
+    (update-old v k height now old ∙ if-true (lacks_downstream w) (after_link_loss w now) (silent w) (downstream-lacks w stuck)) (link_loss-only w now kept.me.1 lost)
+elsewhere-only v now kept (clear_erased {k} {d} {tau} {oid} {u} heard own keeps) may =
     let level = cleared_level tau oid in
-    gives-by (on_clear v level now) (after_erase v tau oid) _ _ (if-true (is_entry_at level v.height) (after_erase v tau oid) (clear_other v level now) (level-own v level own)) (refl, refl)
-elsewhere-only v now kept {input} {after} {broadcast} (clear_lost {k} {d} {tau} {oid} other stuck lost) may =
+    gives-by (on_clear v k level now) (after_erase u tau oid) _ _
+    (clear-heard v k level now heard ∙ if-true (is_entry_at level u.height) (after_erase u tau oid) (clear_other u level now) (level-own u level own))
+    (ap (erased_view u) (keeps-only u level keeps), refl)
+elsewhere-only v now kept {input} {after} {broadcast} (clear_lost {k} {d} {tau} {oid} {u} heard other stuck lost) may =
     let level = cleared_level tau oid in
-    let w = cleared_view v level in
-    gives-by (on_clear v level now) (after_link_loss w now) after broadcast
-    (clear-other v level now other ∙ if-true (lacks_downstream w) (after_link_loss w now) (silent w) (downstream-lacks w stuck)) (link_loss-only w now kept.me.1 lost)
-elsewhere-only v now kept (clear_quiet {k} {d} {tau} {oid} other free) may =
+    let w = cleared_view u level in
+    gives-by (on_clear v k level now) (after_link_loss w now) after broadcast
+    (clear-heard v k level now heard ∙ clear-other u level now other ∙ if-true (lacks_downstream w) (after_link_loss w now) (silent w) (downstream-lacks w stuck))
+    (link_loss-only w now (heard-me v k level heard kept.me).1 lost)
+elsewhere-only v now kept (clear_quiet {k} {d} {tau} {oid} {u} heard other free) may =
     let level = cleared_level tau oid in
-    let w = cleared_view v level in
-    gives-by (on_clear v level now) (silent w) _ _
-    (clear-other v level now other ∙ if-false (lacks_downstream w) (after_link_loss w now) (silent w) (lacks-not w free)) (refl, refl)
+    let w = cleared_view u level in
+    gives-by (on_clear v k level now) (silent w) _ _
+    (clear-heard v k level now heard ∙ clear-other u level now other ∙ if-false (lacks_downstream w) (after_link_loss w now) (silent w) (lacks-not w free)) (refl, refl)
 
 -- ---- at the destination, and all together
 

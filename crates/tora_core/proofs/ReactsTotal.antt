@@ -17,9 +17,10 @@ use Rattle.tora_core.specs.declared.destination.Broadcast.{Broadcast}
 use Rattle.tora_core.specs.declared.destination.Broadcast.TheVariants as Tell
 use Rattle.tora_core.specs.View.{View, known_heights, are_null, with_row, row_with_entry, is_told, has_downstream, lacks_downstream, is_at, is_entry_at, least_height, greatest_level, least_delta}
 use Rattle.tora_core.specs.Heights.{fresh_time, fitted_by, fitted_height}
-use Rattle.tora_core.specs.Rules.{Outcome, silent, query_broadcast, update_broadcast_of, update_broadcast, joined_above, after_join, new_level_at, new_level, after_erase, after_link_loss, below_delta, propagated_level, reflected_level, partition_detected, new_level_after_reflection, after_update_loss_at, after_update_loss, on_need, link_row, on_link_up, on_link_down, on_query, on_update, on_clear, on_packet, cleared_level, outcome_at_destination, outcome_elsewhere, outcome_of}
+use Rattle.tora_core.specs.Rules.{Outcome, silent, query_broadcast, update_broadcast_of, update_broadcast, joined_above, after_join, new_level_at, new_level, after_erase, after_link_loss, below_delta, propagated_level, reflected_level, partition_detected, new_level_after_reflection, after_update_loss_at, after_update_loss, on_need, link_row, on_link_up, on_link_down, on_query, on_update, on_outdated, on_taken_update, on_clear, on_packet, cleared_level, hearing_clear, is_outdated, outcome_at_destination, outcome_elsewhere, outcome_of}
 use Rattle.tora_core.specs.Kept.{IsKept, MayCome}
-use Rattle.tora_core.specs.Reacts.{IsUp, KnowsSome, HasDownstream, IsGreatestLevel, Takes, fits, does_not_fit, TakesNewLevel, Joins, LinkLoss, UpdateLoss, Lost, no_height_left, new_level_after_failure, propagated_level as propagated, reflected_level as reflected, partition_detected as detected, new_level_after_reflection as after_reflection, linked_view, unlinked_view, updated_view, cleared_view, ReactsElsewhere, need_asked, need_quiet, link_up_quiet, link_up_asked, destination_up_quiet, destination_up_joined, link_down_quiet, link_down_lost, query_asked, query_pending, query_joined, query_answered, query_quiet, update_joined, update_lost, update_quiet, clear_erased, clear_lost, clear_quiet, ReactsAtDestination, own_need, own_link_up, own_link_down, own_packet, Reacts, elsewhere, at_destination, IsFromUp}
+use Rattle.tora_core.specs.Reacts.{IsUp, KnowsSome, HasDownstream, IsGreatestLevel, Takes, fits, does_not_fit, TakesNewLevel, Joins, LinkLoss, UpdateLoss, Lost, no_height_left, new_level_after_failure, propagated_level as propagated, reflected_level as reflected, partition_detected as detected, new_level_after_reflection as after_reflection, linked_view, unlinked_view, updated_view, cleared_view, withdrawn_view, ReactsElsewhere, need_asked, need_quiet, link_up_quiet, link_up_asked, destination_up_quiet, destination_up_joined, link_down_quiet, link_down_lost, query_asked, query_pending, query_joined, query_answered, query_quiet, update_withdrawn, update_withdrawn_lost, update_joined, update_lost, update_quiet, clear_erased, clear_lost, clear_quiet, ReactsAtDestination, own_need, own_link_up, own_link_down, own_packet, Reacts, elsewhere, at_destination, IsFromUp}
+use Rattle.tora_core.proofs.ReactsErasing.{hears-some, keeps-reflected, keeps-some, outdated-is, outdated-not}
 use Rattle.tora_core.proofs.ReactsWords.{IsAmong, among-Contains, entry-among, among-known, known-among, least-none, least-known, greatest-none, greatest-known, least-delta, delta-some, all-common, all-differ, fresh-time, knows_none, knows_some, downstream-some, downstream-none, lacks-downstream, not-lacks, own-level, not-own, level-at, is-told, told-is, is-same, zero-is, one-is, same-is, other-is}
 use Rattle.tora_core.proofs.ReactsOnly.{IsRanged, kept-ranged, linked-ranged, updated-ranged, taken_of, taken-update, taken-new}
 
@@ -109,7 +110,7 @@ update_loss-some v now in_range some = at (greatest_level (known_heights v)) ref
         (λ z. reflected level common (zero-is level.r z))
         (λ z.
         cond_both (level.oid == v.me) (partition_detected v level) (new_level_after_reflection v now) R
-        (λ own. detected level common (one-is level.r ok.r z) (same-is level.oid v.me own))
+        (λ own. detected level common (one-is level.r ok.r z) (same-is level.oid v.me own) (keeps-reflected v level (one-is level.r ok.r z)))
         (λ foreign. after_reflection level common (one-is level.r ok.r z) (other-is level.oid v.me foreign) (new_level-some v now in_range.me))))
       where
         not-true : (b : Bool) → not b ≡ true → b ≡ false
@@ -236,28 +237,38 @@ query-some v k d now kept =
 update-some : (v : View) (k d : ℕ) (height : Quintuple) (now : ℕ) → IsKept v → IsHeight height → IsUp v k → AtOutcome (ReactsElsewhere v now (In.Packet k (Upd (update_of d height)))) (on_update v k height now)
 update-some v k d height now kept is up =
     let R = AtOutcome (ReactsElsewhere v now (In.Packet k (Upd (update_of d height)))) in
+    let u = withdrawn_view v k in
     let w = updated_view v k height in
     let in_range = updated-ranged v k height kept is in
     let some = knows-updated v k height up in
+    cond_both (is_outdated v height) (on_outdated v k now) (on_taken_update v k height now) R
+    (λ old.
+    cond_both (lacks_downstream u) (after_link_loss u now) (silent u) R
+    (λ t. update_withdrawn_lost (outdated-is v height old) (lacks-downstream u t) (link_loss-some u now kept.me.1))
+    (λ f. update_withdrawn (outdated-is v height old) (not-lacks u f)))
+    (λ new.
+    let fresh = outdated-not v height new in
     cond_both v.flag (after_join w) (if lacks_downstream w then after_update_loss w now else silent w) R
-    (λ set. update_joined set (join-some w in_range some))
+    (λ set. update_joined fresh set (join-some w in_range some))
     (λ unset.
     cond_both (lacks_downstream w) (after_update_loss w now) (silent w) R
-    (λ t. update_lost unset (lacks-downstream w t) (update_loss-some w now in_range some))
-    (λ f. update_quiet unset (not-lacks w f)))
+    (λ t. update_lost fresh unset (lacks-downstream w t) (update_loss-some w now in_range some))
+    (λ f. update_quiet fresh unset (not-lacks w f))))
 
-clear-some : (v : View) (k d tau oid now : ℕ) → IsKept v → AtOutcome (ReactsElsewhere v now (In.Packet k (Clr (clear_of d tau oid)))) (on_clear v (cleared_level tau oid) now)
+clear-some : (v : View) (k d tau oid now : ℕ) → IsKept v → AtOutcome (ReactsElsewhere v now (In.Packet k (Clr (clear_of d tau oid)))) (on_clear v k (cleared_level tau oid) now)
 unfolding after_erase
 clear-some v k d tau oid now kept =
     let level = cleared_level tau oid in
     let R = AtOutcome (ReactsElsewhere v now (In.Packet k (Clr (clear_of d tau oid)))) in
-    let w = cleared_view v level in
-    cond_both (is_entry_at level v.height) (after_erase v tau oid) (if lacks_downstream w then after_link_loss w now else silent w) R
-    (λ own. clear_erased (own-level v level own))
+    let u = hearing_clear v k level in
+    let heard = hears-some v k level in
+    let w = cleared_view u level in
+    cond_both (is_entry_at level u.height) (after_erase u tau oid) (if lacks_downstream w then after_link_loss w now else silent w) R
+    (λ own. clear_erased heard (own-level u level own) (keeps-some u level))
     (λ other.
     cond_both (lacks_downstream w) (after_link_loss w now) (silent w) R
-    (λ t. clear_lost (not-own v level other) (lacks-downstream w t) (link_loss-some w now kept.me.1))
-    (λ f. clear_quiet (not-own v level other) (not-lacks w f)))
+    (λ t. clear_lost heard (not-own u level other) (lacks-downstream w t) (link_loss-some w now kept.me.1))
+    (λ f. clear_quiet heard (not-own u level other) (not-lacks w f)))
 
 packet-some : (v : View) (k : ℕ) (packet : Packet) (now : ℕ) → IsKept v → MayCome v (In.Packet k packet) → IsUp v k → AtOutcome (ReactsElsewhere v now (In.Packet k packet)) (on_packet v k packet now)
 packet-some v k (Qry d) now kept may up = query-some v k d now kept

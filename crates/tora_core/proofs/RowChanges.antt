@@ -5,7 +5,7 @@ use Rattle.std.proofs.lemmas.Bool.{cond_both}
 use Rattle.tora_height.specs.declared.level.Level.{Level}
 use Rattle.tora_height.specs.Height.{Quintuple, level_of}
 use Rattle.tora_core.specs.declared.rows.Row.{Row}
-use Rattle.tora_core.specs.View.{View, all_cleared, all_erased, all_told, cleared_row, downstream_rows, erased_row, greatest_level, is_at, is_downstream, is_entry_at, known_heights, least_delta, lower_row_of, next_hop_of, row_with_entry, told_row, with_entry, with_row, without_row}
+use Rattle.tora_core.specs.View.{View, all_cleared, all_erased, all_told, cleared_row, downstream_rows, erased_row, greatest_level, is_at, is_downstream, is_entry_at, known_heights, least_delta, lower_row_of, next_hop_of, row_with_entry, told_row, untold_row, with_entry, with_row, withdrawn_row, without_entry, without_row, without_told}
 use Rattle.tora_core.specs.Reacts.{HasNoDownstream, IsDownstream, IsEntry, IsKnown, IsTold, IsUp, KnowsNone}
 use Rattle.tora_core.proofs.NumberLemmas.{same-number, other-number, not-same}
 use Rattle.tora_core.proofs.ReactsWords.{IsAmong, among-Contains, Contains-among, among-known, known-among, at-level, level-at, greatest-none, greatest-is_reached, delta-some, least-delta, is-same, lower-down}
@@ -319,6 +319,80 @@ clear-entry v d k level h = (
     back : (row : Row) → row.neighbour ≡ k → (k ≡ d) ⊎ (level_of h ≢ level) → (row.neighbour ≡ d) ⊎ (level_of h ≢ level)
     back row e (inl f) = inl (e ∙ f)
     back row e (inr f) = inr f
+
+-- ---- withdrawing
+
+pub withdrawn-number : (d j : ℕ) (row : Row) → (withdrawn_row d j row).neighbour ≡ row.neighbour
+withdrawn-number d j row = cond_both ((row.neighbour == j) && not (row.neighbour == d)) (record row { entry = None }) row (λ (r : Row). r.neighbour ≡ row.neighbour) (λ _. refl) (λ _. refl)
+
+pub withdrawn-mark : (d j : ℕ) (row : Row) → (withdrawn_row d j row).told ≡ row.told
+withdrawn-mark d j row = cond_both ((row.neighbour == j) && not (row.neighbour == d)) (record row { entry = None }) row (λ (r : Row). r.told ≡ row.told) (λ _. refl) (λ _. refl)
+
+abbrev Stays : ℕ → ℕ → Quintuple → Row → Type 0
+Stays d j h row = (row.entry ≡ Some h) × ((row.neighbour ≡ d) ⊎ (row.neighbour ≢ j))
+
+stays-from : (d j : ℕ) (h : Quintuple) (row : Row) → Tells h (withdrawn_row d j row) → Stays d j h row
+stays-from d j h row e =
+    cond_both ((row.neighbour == j) && not (row.neighbour == d)) (record row { entry = None }) row (λ (r : Row). r.entry ≡ Some h → Stays d j h row)
+    (λ t f. absurd cc) (λ t f. (f, at (row.neighbour == j) (row.neighbour == d) refl refl t)) e
+  where
+    at : (a b : Bool) → (row.neighbour == j) ≡ a → (row.neighbour == d) ≡ b → (a && not b) ≡ false → (row.neighbour ≡ d) ⊎ (row.neighbour ≢ j)
+    at a true x y t = inl (same-number row.neighbour d y)
+    at false false x y t = inr (other-number row.neighbour j x)
+    at true false x y t = absurd cc
+
+stays-to : (d j : ℕ) (h : Quintuple) (row : Row) → Stays d j h row → Tells h (withdrawn_row d j row)
+stays-to d j h row x = ap (λ b. (if b then record row { entry = None } else row).entry) (at x.1) ∙ x.0
+  where
+    none : (b : Bool) → (b && false) ≡ false
+    none true = refl
+    none false = refl
+
+    at : (row.neighbour ≡ d) ⊎ (row.neighbour ≢ j) → ((row.neighbour == j) && not (row.neighbour == d)) ≡ false
+    at (inl is) = ap (λ b. (row.neighbour == j) && not b) (is-same row.neighbour d is) ∙ none (row.neighbour == j)
+    at (inr apart) = ap (λ b. b && not (row.neighbour == d)) (not-same row.neighbour j apart)
+
+pub withdraw-entry : (v : View) (d j k : ℕ) (h : Quintuple) → IsEntry (record v { rows = without_entry d j v.rows }) k h ↔ (IsEntry v k h × ((k ≡ d) ⊎ (k ≢ j)))
+withdraw-entry v d j k h = (
+  λ i. let x = map-from (withdrawn_row d j) (withdrawn-number d j) (Tells h) (Stays d j h) (stays-from d j h) v.rows k (entry-has (record v { rows = without_entry d j v.rows }) k h i) in
+      (has-entry v k h (x.0, x.1, x.2, x.3.0), forth x.0 x.2 x.3.1),
+  λ i. let x = entry-has v k h i.0 in
+      has-entry (record v { rows = without_entry d j v.rows }) k h (map-to (withdrawn_row d j) (withdrawn-number d j) (Tells h) (Stays d j h) (stays-to d j h) v.rows k (x.0, x.1, x.2, (x.3, back x.0 x.2 i.1))),
+)
+  where
+    forth : (row : Row) → row.neighbour ≡ k → (row.neighbour ≡ d) ⊎ (row.neighbour ≢ j) → (k ≡ d) ⊎ (k ≢ j)
+    forth row e (inl f) = inl (sym e ∙ f)
+    forth row e (inr f) = inr (λ (q : k ≡ j). f (e ∙ q))
+
+    back : (row : Row) → row.neighbour ≡ k → (k ≡ d) ⊎ (k ≢ j) → (row.neighbour ≡ d) ⊎ (row.neighbour ≢ j)
+    back row e (inl f) = inl (e ∙ f)
+    back row e (inr f) = inr (λ (q : row.neighbour ≡ j). f (sym e ∙ q))
+
+-- ---- one that is not told
+
+pub untold-number : (j : ℕ) (row : Row) → (untold_row j row).neighbour ≡ row.neighbour
+untold-number j row = cond_both (row.neighbour == j) (record row { told = false }) row (λ (r : Row). r.neighbour ≡ row.neighbour) (λ _. refl) (λ _. refl)
+
+pub untold-entry : (j : ℕ) (row : Row) → (untold_row j row).entry ≡ row.entry
+untold-entry j row = cond_both (row.neighbour == j) (record row { told = false }) row (λ (r : Row). r.entry ≡ row.entry) (λ _. refl) (λ _. refl)
+
+abbrev StaysTold : ℕ → Row → Type 0
+StaysTold j row = (row.told ≡ true) × (row.neighbour ≢ j)
+
+told-from : (j : ℕ) (row : Row) → Told (untold_row j row) → StaysTold j row
+told-from j row e =
+    cond_both (row.neighbour == j) (record row { told = false }) row (λ (r : Row). r.told ≡ true → StaysTold j row) (λ t f. absurd cc) (λ t f. (f, other-number row.neighbour j t)) e
+
+told-to : (j : ℕ) (row : Row) → StaysTold j row → Told (untold_row j row)
+told-to j row x = ap (λ b. (if b then record row { told = false } else row).told) (not-same row.neighbour j x.1) ∙ x.0
+
+pub untell-told : (v : View) (j k : ℕ) → IsTold (record v { rows = without_told j v.rows }) k ↔ (IsTold v k × (k ≢ j))
+untell-told v j k = (
+  λ i. let x = map-from (untold_row j) (untold-number j) Told (StaysTold j) (told-from j) v.rows k (told-has (record v { rows = without_told j v.rows }) k i) in
+      (has-told v k (x.0, x.1, x.2, x.3.0), λ (q : k ≡ j). x.3.1 (x.2 ∙ q)),
+  λ i. let x = told-has v k i.0 in
+      has-told (record v { rows = without_told j v.rows }) k (map-to (untold_row j) (untold-number j) Told (StaysTold j) (told-to j) v.rows k (x.0, x.1, x.2, (x.3, λ (q : x.0.neighbour ≡ j). i.1 (sym x.2 ∙ q)))),
+)
 
 -- ---- nothing is found
 

@@ -4,8 +4,9 @@ use Rattle.std.specs.Prelude.{filter_map, find, option_map, slice_index_or, slic
 use Rattle.std.specs.List.{AllByRecursion, cons_option, flat_map}
 use Rattle.std.proofs.lemmas.Grind.{common_steps}
 use Rattle.tora_packet.specs.declared.Packet.{Packet}
+use Rattle.tora_core.specs.declared.erasure.Erasure.{Erasure}
 use Rattle.tora_core.specs.declared.Input.{Input}
-use Rattle.tora_core.specs.View.{View, first_view}
+use Rattle.tora_core.specs.View.{View, first_view_of}
 use Rattle.tora_core.specs.CoreRun.{is_of, next_packet, next_view}
 use Rattle.tora_core.specs.ShowText.{view_text}
 use Rattle.tora_core.specs.Table.{HavePlaces, TableView, first_in, next_in, views_in}
@@ -14,13 +15,13 @@ pub length-in : (table : List TableView) → length (views_in table) ≡ length 
 length-in [] = refl
 length-in (t ∷ table) = ap suc (length-in table)
 
-pub views_first : (neighbours : List ℕ) (me : ℕ) (destinations : List ℕ) → views_in (map (first_in neighbours me) destinations) ≡ map (first_view me) destinations
-views_first neighbours me [] = refl
-views_first neighbours me (d ∷ destinations) = ap (λ (views : List View). first_view me d ∷ views) (views_first neighbours me destinations)
+pub views_first : (neighbours : List ℕ) (e : Erasure) (me : ℕ) (destinations : List ℕ) → views_in (map (first_in neighbours e me) destinations) ≡ map (first_view_of e me) destinations
+views_first neighbours e me [] = refl
+views_first neighbours e me (d ∷ destinations) = ap (λ (views : List View). first_view_of e me d ∷ views) (views_first neighbours e me destinations)
 
-pub places-first : (neighbours : List ℕ) (me : ℕ) (destinations : List ℕ) → HavePlaces neighbours (map (first_in neighbours me) destinations)
-places-first neighbours me [] = tt
-places-first neighbours me (d ∷ destinations) = (refl, places-first neighbours me destinations)
+pub places-first : (neighbours : List ℕ) (e : Erasure) (me : ℕ) (destinations : List ℕ) → HavePlaces neighbours (map (first_in neighbours e me) destinations)
+places-first neighbours e me [] = tt
+places-first neighbours e me (d ∷ destinations) = (refl, places-first neighbours e me destinations)
 
 pub views_next : (input : Input) (now : ℕ) (table : List TableView) → views_in (map (next_in input now) table) ≡ map (next_view input now) (views_in table)
 views_next input now [] = refl

@@ -6,6 +6,8 @@ use Rattle.tora_height.specs.Height.{Quintuple}
 use Rattle.tora_packet.specs.declared.Packet.{Packet}
 use Rattle.tora_packet.specs.declared.Packet.TheVariants.{Qry, Upd, Clr}
 use Rattle.tora_packet.specs.AnyPacket.{destination_of}
+use Rattle.tora_core.specs.declared.erasure.Erasure.{Erasure}
+use Rattle.tora_core.specs.declared.erasure.Erasure.TheVariants.{Plain}
 use Rattle.tora_core.specs.declared.Input.{Input}
 use Rattle.tora_core.specs.declared.Input.TheVariants as In
 use Rattle.tora_core.specs.declared.errors.StepError.{StepError}
@@ -14,11 +16,12 @@ use Rattle.tora_core.specs.declared.errors.CoreError.{CoreError}
 use Rattle.tora_core.specs.declared.errors.CoreError.TheVariants as Refusal
 use Rattle.tora_core.specs.declared.TheConstants.{MOST_DESTINATIONS, MOST_NEIGHBOURS}
 use Rattle.tora_core.specs.Numbers.{has_number, with_number, without_number, ascending, has_repeat}
-use Rattle.tora_core.specs.View.{View, downstream_count, first_view, next_hop_of}
+use Rattle.tora_core.specs.View.{View, downstream_count, first_view_of, next_hop_of}
 use Rattle.tora_core.specs.Rules.{view_after, packet_sent}
 
 pub record CoreView : Type 0 where
   pub me : ℕ  -- the node
+  pub erasure : Erasure  -- what it makes of erased levels
   pub neighbours : List ℕ  -- the configured neighbours, ascending
   pub up : List ℕ  -- those whose link is up, ascending
   pub views : List View  -- one for each destination, ascending
@@ -37,13 +40,18 @@ core_refusal_within most_neighbours most_destinations me neighbours destinations
 abbrev pub core_refusal : ℕ → List ℕ → List ℕ → Option CoreError
 core_refusal me neighbours destinations = core_refusal_within MOST_NEIGHBOURS MOST_DESTINATIONS me neighbours destinations
 
-abbrev pub first_core : ℕ → List ℕ → List ℕ → CoreView
-first_core me neighbours destinations = record {
+abbrev pub first_core_of : Erasure → ℕ → List ℕ → List ℕ → CoreView
+first_core_of erasure me neighbours destinations = record {
   me = me;
+  erasure = erasure;
   neighbours = ascending neighbours;
   up = [];
-  views = map (first_view me) (ascending destinations);
+  views = map (first_view_of erasure me) (ascending destinations);
 }
+
+-- that of a node that remembers no erased level
+abbrev pub first_core : ℕ → List ℕ → List ℕ → CoreView
+first_core me neighbours destinations = first_core_of Plain me neighbours destinations
 
 -- ---- refused inputs
 

@@ -11,4 +11,5 @@ pub mod Table
 pub mod InputText
 pub mod ShowText
 pub mod Reacts
+pub mod Storms
 pub mod Worked

@@ -6,12 +6,13 @@ use Rattle.tora_height.specs.HeightOrder.{IsLower, IsLowerLevel}
 use Rattle.tora_packet.specs.declared.Packet.{Packet}
 use Rattle.tora_packet.specs.declared.Packet.TheVariants.{Qry, Upd, Clr}
 use Rattle.tora_packet.specs.PacketParts.{update_of, clear_of}
+use Rattle.tora_core.specs.declared.erasure.Erasure.TheVariants.{Plain, Remembered}
 use Rattle.tora_core.specs.declared.Input.{Input}
 use Rattle.tora_core.specs.declared.Input.TheVariants as In
 use Rattle.tora_core.specs.declared.rows.Row.{Row}
 use Rattle.tora_core.specs.declared.destination.Broadcast.{Broadcast}
 use Rattle.tora_core.specs.declared.destination.Broadcast.TheVariants as Tell
-use Rattle.tora_core.specs.View.{View, with_row, without_row, with_entry, all_told, all_erased, all_cleared}
+use Rattle.tora_core.specs.View.{View, with_row, without_row, with_entry, without_entry, without_told, all_told, all_erased, all_cleared}
 use Rattle.tora_core.specs.Rules.{link_row, cleared_level}
 
 -- ---- up neighbours and their entries
@@ -119,9 +120,29 @@ pub record Joins (v : View) (after : View) (broadcast : Option Broadcast) : Type
   pub least : IsLeastKnown v low
   pub taken : Takes (record v { flag = false }) (quintuple low.tau low.oid low.r (low.delta +ℤ pos 1) v.me) v.last after broadcast
 
+-- ---- erased levels
+
+-- the level that is kept as the one that was erased last, once this one is
+pub data Keeps (v : View) (level : Level) : Option Level → Type 0 where
+  kept_plain : v.erasure ≡ Plain → Keeps v level v.erased
+  kept_remembered : v.erasure ≡ Remembered → Keeps v level (Some level)
+
+-- the height is at the level that was erased last
+abbrev pub IsOutdated : View → Quintuple → Type 0
+IsOutdated v height = (v.erasure ≡ Remembered) × (v.erased ≡ Some (level_of height))
+
+-- the neighbour's entry becomes NULL, unless it is the destination
+abbrev pub withdrawn_view : View → ℕ → View
+withdrawn_view v k = record v { rows = without_entry v.destination k v.rows }
+
+-- a clear of this level is heard from k, which has no height and no entries then
+pub data HearsClear (v : View) (k : ℕ) (level : Level) : View → Type 0 where
+  heard_plain : v.erasure ≡ Plain → HearsClear v k level v
+  heard_remembered : v.erasure ≡ Remembered → HearsClear v k level (record v { rows = without_told k (without_entry v.destination k v.rows); erased = Some level })
+
 -- the height and the entries become NULL, that of the destination excepted
-abbrev pub erased_view : View → View
-erased_view v = record v { height = None; rows = all_erased v.destination v.rows }
+abbrev pub erased_view : View → Option Level → View
+erased_view v kept = record v { height = None; rows = all_erased v.destination v.rows; erased = kept }
 
 -- ---- the last downstream link is lost
 
@@ -146,8 +167,8 @@ pub data Lost (v : View) (now : ℕ) : LossCause → View → Option Broadcast �
   reflected_level : (level : Level) → IsCommonLevel v level → level.r ≡ 0
       → Lost v now UpdateLoss (record v { height = Some (reflected_height v.me level); rows = all_told v.rows }) (Some (Tell.Update (reflected_height v.me level)))
   -- by an update, and all are at one reflected level, which the node defined itself
-  partition_detected : (level : Level) → IsCommonLevel v level → level.r ≡ 1 → level.oid ≡ v.me
-      → Lost v now UpdateLoss (erased_view v) (Some (Tell.Clear level.tau level.oid))
+  partition_detected : {kept : Option Level} (level : Level) → IsCommonLevel v level → level.r ≡ 1 → level.oid ≡ v.me → Keeps v level kept
+      → Lost v now UpdateLoss (erased_view v kept) (Some (Tell.Clear level.tau level.oid))
   -- by an update, and all are at one reflected level, which another node defined
   new_level_after_reflection : {after : View} {broadcast : Option Broadcast} (level : Level)
       → IsCommonLevel v level → level.r ≡ 1 → level.oid ≢ v.me → TakesNewLevel v now after broadcast → Lost v now UpdateLoss after broadcast
@@ -192,22 +213,28 @@ pub data ReactsElsewhere (v : View) (now : ℕ) : Input → View → Option Broa
   query_answered : {k d : ℕ} (own : Quintuple) → HasDownstream v → v.height ≡ Some own → ¬ IsTold v k
       → ReactsElsewhere v now (In.Packet k (Qry d)) (record v { rows = all_told v.rows }) (Some (Tell.Update own))
   query_quiet : {k d : ℕ} → HasDownstream v → IsSome v.height → IsTold v k → ReactsElsewhere v now (In.Packet k (Qry d)) v None
-  -- an update, where a route is required and where none is
-  update_joined : {k d : ℕ} {height : Quintuple} {after : View} {broadcast : Option Broadcast}
-      → v.flag ≡ true → Joins (updated_view v k height) after broadcast → ReactsElsewhere v now (In.Packet k (Upd (update_of d height))) after broadcast
-  update_lost : {k d : ℕ} {height : Quintuple} {after : View} {broadcast : Option Broadcast}
-      → v.flag ≡ false → LacksDownstream (updated_view v k height) → Lost (updated_view v k height) now UpdateLoss after broadcast
+  -- an update of the level that was erased last
+  update_withdrawn : {k d : ℕ} {height : Quintuple} → IsOutdated v height → ¬ LacksDownstream (withdrawn_view v k)
+      → ReactsElsewhere v now (In.Packet k (Upd (update_of d height))) (withdrawn_view v k) None
+  update_withdrawn_lost : {k d : ℕ} {height : Quintuple} {after : View} {broadcast : Option Broadcast} → IsOutdated v height
+      → LacksDownstream (withdrawn_view v k) → Lost (withdrawn_view v k) now LinkLoss after broadcast
       → ReactsElsewhere v now (In.Packet k (Upd (update_of d height))) after broadcast
-  update_quiet : {k d : ℕ} {height : Quintuple} → v.flag ≡ false → ¬ LacksDownstream (updated_view v k height)
+  -- any other update, where a route is required and where none is
+  update_joined : {k d : ℕ} {height : Quintuple} {after : View} {broadcast : Option Broadcast}
+      → ¬ IsOutdated v height → v.flag ≡ true → Joins (updated_view v k height) after broadcast → ReactsElsewhere v now (In.Packet k (Upd (update_of d height))) after broadcast
+  update_lost : {k d : ℕ} {height : Quintuple} {after : View} {broadcast : Option Broadcast}
+      → ¬ IsOutdated v height → v.flag ≡ false → LacksDownstream (updated_view v k height) → Lost (updated_view v k height) now UpdateLoss after broadcast
+      → ReactsElsewhere v now (In.Packet k (Upd (update_of d height))) after broadcast
+  update_quiet : {k d : ℕ} {height : Quintuple} → ¬ IsOutdated v height → v.flag ≡ false → ¬ LacksDownstream (updated_view v k height)
       → ReactsElsewhere v now (In.Packet k (Upd (update_of d height))) (updated_view v k height) None
   -- a clear, of the own level and of another one
-  clear_erased : {k d tau oid : ℕ} → IsOwnLevel v (cleared_level tau oid)
-      → ReactsElsewhere v now (In.Packet k (Clr (clear_of d tau oid))) (erased_view v) (Some (Tell.Clear tau oid))
-  clear_lost : {k d tau oid : ℕ} {after : View} {broadcast : Option Broadcast} → ¬ IsOwnLevel v (cleared_level tau oid)
-      → LacksDownstream (cleared_view v (cleared_level tau oid)) → Lost (cleared_view v (cleared_level tau oid)) now LinkLoss after broadcast
+  clear_erased : {k d tau oid : ℕ} {u : View} {kept : Option Level} → HearsClear v k (cleared_level tau oid) u → IsOwnLevel u (cleared_level tau oid)
+      → Keeps u (cleared_level tau oid) kept → ReactsElsewhere v now (In.Packet k (Clr (clear_of d tau oid))) (erased_view u kept) (Some (Tell.Clear tau oid))
+  clear_lost : {k d tau oid : ℕ} {u after : View} {broadcast : Option Broadcast} → HearsClear v k (cleared_level tau oid) u → ¬ IsOwnLevel u (cleared_level tau oid)
+      → LacksDownstream (cleared_view u (cleared_level tau oid)) → Lost (cleared_view u (cleared_level tau oid)) now LinkLoss after broadcast
       → ReactsElsewhere v now (In.Packet k (Clr (clear_of d tau oid))) after broadcast
-  clear_quiet : {k d tau oid : ℕ} → ¬ IsOwnLevel v (cleared_level tau oid) → ¬ LacksDownstream (cleared_view v (cleared_level tau oid))
-      → ReactsElsewhere v now (In.Packet k (Clr (clear_of d tau oid))) (cleared_view v (cleared_level tau oid)) None
+  clear_quiet : {k d tau oid : ℕ} {u : View} → HearsClear v k (cleared_level tau oid) u → ¬ IsOwnLevel u (cleared_level tau oid)
+      → ¬ LacksDownstream (cleared_view u (cleared_level tau oid)) → ReactsElsewhere v now (In.Packet k (Clr (clear_of d tau oid))) (cleared_view u (cleared_level tau oid)) None
 
 -- ---- the inputs, at the destination itself: only the set of up neighbours changes, and their entries are NULL
 

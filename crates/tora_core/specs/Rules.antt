@@ -1,17 +1,19 @@
 -- TORA's rules for one destination: what an input makes of a view, and what is broadcast.
-use Rattle.std.specs.Prelude.{ℕ, ◌==◌, true, false, not, ◌&&◌, if◌then◌else◌, Option, None, Some, is_none, option_map, ℤ, pos, ◌+ℤ◌, ◌-ℤ◌}
+use Rattle.std.specs.Prelude.{ℕ, ◌==◌, Bool, true, false, List, not, ◌&&◌, if◌then◌else◌, Option, None, Some, is_none, option_map, ℤ, pos, ◌+ℤ◌, ◌-ℤ◌}
 use Rattle.std.specs.List.{list_all}
 use Rattle.tora_height.specs.declared.level.Level.{Level}
 use Rattle.tora_height.specs.Height.{Quintuple, quintuple, destination_height}
 use Rattle.tora_packet.specs.declared.Packet.{Packet}
 use Rattle.tora_packet.specs.declared.Packet.TheVariants.{Qry, Upd, Clr}
 use Rattle.tora_packet.specs.PacketParts.{update_of, clear_of}
+use Rattle.tora_core.specs.declared.erasure.Erasure.{Erasure}
+use Rattle.tora_core.specs.declared.erasure.Erasure.TheVariants.{Plain, Remembered}
 use Rattle.tora_core.specs.declared.Input.{Input}
 use Rattle.tora_core.specs.declared.Input.TheVariants as In
 use Rattle.tora_core.specs.declared.rows.Row.{Row}
 use Rattle.tora_core.specs.declared.destination.Broadcast.{Broadcast}
 use Rattle.tora_core.specs.declared.destination.Broadcast.TheVariants as Tell
-use Rattle.tora_core.specs.View.{View, known_heights, are_null, with_row, without_row, with_entry, all_told, is_told, all_erased, is_entry_at, all_cleared, has_downstream, lacks_downstream, is_at, least_height, greatest_level, least_delta}
+use Rattle.tora_core.specs.View.{View, known_heights, are_null, with_row, without_row, with_entry, without_entry, without_told, all_told, is_told, all_erased, is_entry_at, all_cleared, has_downstream, lacks_downstream, is_at, least_height, greatest_level, least_delta}
 use Rattle.tora_core.specs.Heights.{fresh_time, fitted_height}
 
 -- what an input leads to: the next view, and what is broadcast
@@ -48,6 +50,35 @@ joined_height v = joined_above v.me (least_height (known_heights v))
 unfoldable pub after_join : View → Outcome
 after_join v = update_broadcast (record v { height = joined_height v; flag = false })
 
+-- ---- erased levels
+
+-- a clear erases a reflected level
+abbrev pub cleared_level : ℕ → ℕ → Level
+cleared_level tau oid = record { tau = tau; oid = oid; r = 1 }
+
+-- the level that was erased last, after this one was
+abbrev pub erased_after : Erasure → Option Level → Level → Option Level
+erased_after Plain old level = old
+erased_after Remembered old level = Some level
+
+-- an update is older than the clear of its level
+abbrev pub is_outdated_by : Erasure → Option Level → Quintuple → Bool
+is_outdated_by Plain erased height = false
+is_outdated_by Remembered None height = false
+is_outdated_by Remembered (Some level) height = is_at level height
+
+abbrev pub is_outdated : View → Quintuple → Bool
+is_outdated v height = is_outdated_by v.erasure v.erased height
+
+-- a node that sends a clear has no height and no entries: what it told is withdrawn, and it has not been told
+abbrev pub rows_behind_clear : Erasure → ℕ → ℕ → List Row → List Row
+rows_behind_clear Plain destination k rows = rows
+rows_behind_clear Remembered destination k rows = without_told k (without_entry destination k rows)
+
+-- a clear of a level is heard from a neighbour
+abbrev pub hearing_clear : View → ℕ → Level → View
+hearing_clear v k level = record v { rows = rows_behind_clear v.erasure v.destination k v.rows; erased = erased_after v.erasure v.erased level }
+
 -- ---- the last downstream link is lost
 
 -- a new reference level of the node's own
@@ -62,7 +93,7 @@ new_level v now = new_level_at v (fresh_time v now) (fitted_height (quintuple (f
 unfoldable pub after_erase : View → ℕ → ℕ → Outcome
 after_erase v tau oid =
     record {
-      view = record v { height = None; rows = all_erased v.destination v.rows };
+      view = record v { height = None; rows = all_erased v.destination v.rows; erased = erased_after v.erasure v.erased (cleared_level tau oid) };
       broadcast = Some (Tell.Clear tau oid);
     }
 
@@ -133,28 +164,36 @@ on_query v k =
     else if not (is_told k v.rows) then update_broadcast v
     else silent v
 
-abbrev pub on_update : View → ℕ → Quintuple → ℕ → Outcome
-on_update v k height now =
+-- an update that is older than the clear of its level only withdraws what its sender told
+abbrev pub on_outdated : View → ℕ → ℕ → Outcome
+on_outdated v k now =
+    let w = record v { rows = without_entry v.destination k v.rows } in
+    if lacks_downstream w then after_link_loss w now else silent w
+
+abbrev pub on_taken_update : View → ℕ → Quintuple → ℕ → Outcome
+on_taken_update v k height now =
     let w = record v { rows = with_entry k height v.rows } in
     if v.flag then after_join w
     else if lacks_downstream w then after_update_loss w now
     else silent w
 
-abbrev pub on_clear : View → Level → ℕ → Outcome
-on_clear v level now =
+abbrev pub on_update : View → ℕ → Quintuple → ℕ → Outcome
+on_update v k height now = if is_outdated v height then on_outdated v k now else on_taken_update v k height now
+
+abbrev pub on_heard_clear : View → Level → ℕ → Outcome
+on_heard_clear v level now =
     if is_entry_at level v.height then after_erase v level.tau level.oid
     else
     (let w = record v { rows = all_cleared v.destination level v.rows } in
     if lacks_downstream w then after_link_loss w now else silent w)
 
--- a clear erases a reflected level
-abbrev pub cleared_level : ℕ → ℕ → Level
-cleared_level tau oid = record { tau = tau; oid = oid; r = 1 }
+abbrev pub on_clear : View → ℕ → Level → ℕ → Outcome
+on_clear v k level now = on_heard_clear (hearing_clear v k level) level now
 
 abbrev pub on_packet : View → ℕ → Packet → ℕ → Outcome
 on_packet v k (Qry d) now = on_query v k
 on_packet v k (Upd u) now = on_update v k u.height now
-on_packet v k (Clr c) now = on_clear v (cleared_level c.tau c.oid) now
+on_packet v k (Clr c) now = on_clear v k (cleared_level c.tau c.oid) now
 
 abbrev pub outcome_elsewhere : View → Input → ℕ → Outcome
 outcome_elsewhere v (In.Need d) now = on_need v

@@ -1,8 +1,9 @@
 -- The views of a core's table, each with the neighbours that there is a place for.
 use Rattle.std.specs.Prelude.{◌≡◌, ℕ, List, map}
 use Rattle.std.specs.List.{AllByRecursion}
+use Rattle.tora_core.specs.declared.erasure.Erasure.{Erasure}
 use Rattle.tora_core.specs.declared.Input.{Input}
-use Rattle.tora_core.specs.View.{View, first_view}
+use Rattle.tora_core.specs.View.{View, first_view_of}
 use Rattle.tora_core.specs.CoreRun.{next_view}
 
 pub record TableView : Type 0 where
@@ -12,8 +13,8 @@ pub record TableView : Type 0 where
 abbrev pub views_in : List TableView → List View
 views_in table = map (λ t. t.view) table
 
-abbrev pub first_in : List ℕ → ℕ → ℕ → TableView
-first_in neighbours me destination = record { view = first_view me destination; neighbours = neighbours }
+abbrev pub first_in : List ℕ → Erasure → ℕ → ℕ → TableView
+first_in neighbours erasure me destination = record { view = first_view_of erasure me destination; neighbours = neighbours }
 
 abbrev pub next_in : Input → ℕ → TableView → TableView
 next_in input now t = record t { view = next_view input now t.view }

@@ -5,6 +5,8 @@ use Rattle.std.specs.Ordering.{is_lt, is_eq}
 use Rattle.tora_height.specs.declared.level.Level.{Level}
 use Rattle.tora_height.specs.Height.{Quintuple, destination_height, level_of}
 use Rattle.tora_height.specs.HeightOrder.{level_cmp, height_cmp}
+use Rattle.tora_core.specs.declared.erasure.Erasure.{Erasure}
+use Rattle.tora_core.specs.declared.erasure.Erasure.TheVariants.{Plain}
 use Rattle.tora_core.specs.declared.rows.Row.{Row}
 
 -- a node's view of one destination
@@ -15,17 +17,25 @@ pub record View : Type 0 where
   pub flag : Bool  -- a route is required
   pub rows : List Row  -- a row for each neighbour whose link is up, by ascending number
   pub last : ℕ  -- the last time tag that the node generated
+  pub erasure : Erasure  -- what the node makes of erased levels
+  pub erased : Option Level  -- the reflected level that was erased last, where the node remembers it
 
 -- at first no link is up, and only the destination has a height
-abbrev pub first_view : ℕ → ℕ → View
-first_view me destination = record {
+abbrev pub first_view_of : Erasure → ℕ → ℕ → View
+first_view_of erasure me destination = record {
   me = me;
   destination = destination;
   height = if me == destination then Some (destination_height destination) else None;
   flag = false;
   rows = [];
   last = 0;
+  erasure = erasure;
+  erased = None;
 }
+
+-- that of a node that remembers no erased level
+abbrev pub first_view : ℕ → ℕ → View
+first_view me destination = first_view_of Plain me destination
 
 -- ---- neighbours and their entries
 
@@ -140,6 +150,20 @@ erased_row destination row = if row.neighbour == destination then row else recor
 
 abbrev pub all_erased : ℕ → List Row → List Row
 all_erased destination rows = map (erased_row destination) rows
+
+-- no entry of a neighbour, unless it is the destination
+abbrev pub withdrawn_row : ℕ → ℕ → Row → Row
+withdrawn_row destination k row = if (row.neighbour == k) && not (row.neighbour == destination) then record row { entry = None } else row
+
+abbrev pub without_entry : ℕ → ℕ → List Row → List Row
+without_entry destination k rows = map (withdrawn_row destination k) rows
+
+-- a neighbour has not been told the own height
+abbrev pub untold_row : ℕ → Row → Row
+untold_row k row = if row.neighbour == k then record row { told = false } else row
+
+abbrev pub without_told : ℕ → List Row → List Row
+without_told k rows = map (untold_row k) rows
 
 -- no entry at this level but that of the destination
 abbrev pub is_entry_at : Level → Option Quintuple → Bool

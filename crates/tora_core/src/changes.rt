@@ -4,7 +4,7 @@ ghost use Rattle.std.specs.Prelude.{◌≡◌, ◌≢◌, ◌↔◌, ◌⊎◌, 
 ghost use Rattle.tora_height.specs.Height.{Quintuple, level_of};
 ghost use Rattle.tora_height.specs.declared.level.Level.{Level};
 ghost use Rattle.tora_core.specs.declared.rows.Row.{Row};
-ghost use Rattle.tora_core.specs.View.{View, all_cleared, all_erased, all_told, greatest_level, known_heights, least_delta, next_hop_of, with_entry, with_row, without_row};
+ghost use Rattle.tora_core.specs.View.{View, all_cleared, all_erased, all_told, greatest_level, known_heights, least_delta, next_hop_of, with_entry, with_row, without_entry, without_row, without_told};
 ghost use Rattle.tora_core.specs.Reacts.{HasNoDownstream, IsEntry, IsKnown, IsTold, IsUp, KnowsNone};
 
 /// A row that comes is that of one neighbour more, with the height and the mark that it has.
@@ -54,6 +54,21 @@ pub fn all_are_cleared()
     ensures entry { (v : View) (d k : ℕ) (level : Level) (h : Quintuple) → IsEntry (record v { rows = all_cleared d level v.rows }) k h
         ↔ (IsEntry v k h × ((k ≡ d) ⊎ (level_of h ≢ level))) }
     ensures told { (v : View) (d k : ℕ) (level : Level) → IsTold (record v { rows = all_cleared d level v.rows }) k ↔ IsTold v k }
+{}
+
+/// Withdrawing what a neighbour told takes its entry, unless it is the destination, and changes no link and no mark.
+pub fn entries_are_withdrawn()
+    ensures up { (v : View) (d j k : ℕ) → IsUp (record v { rows = without_entry d j v.rows }) k ↔ IsUp v k }
+    ensures entry { (v : View) (d j k : ℕ) (h : Quintuple)
+        → IsEntry (record v { rows = without_entry d j v.rows }) k h ↔ (IsEntry v k h × ((k ≡ d) ⊎ (k ≢ j))) }
+    ensures told { (v : View) (d j k : ℕ) → IsTold (record v { rows = without_entry d j v.rows }) k ↔ IsTold v k }
+{}
+
+/// A neighbour that is no longer told loses its mark, and nothing else changes.
+pub fn marks_are_withdrawn()
+    ensures up { (v : View) (j k : ℕ) → IsUp (record v { rows = without_told j v.rows }) k ↔ IsUp v k }
+    ensures entry { (v : View) (j k : ℕ) (h : Quintuple) → IsEntry (record v { rows = without_told j v.rows }) k h ↔ IsEntry v k h }
+    ensures told { (v : View) (j k : ℕ) → IsTold (record v { rows = without_told j v.rows }) k ↔ (IsTold v k × (k ≢ j)) }
 {}
 
 /// When nothing is found: no next hop where no neighbour is downstream, no greatest level where every entry is NULL, and

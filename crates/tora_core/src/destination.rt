@@ -12,11 +12,12 @@ ghost use Rattle.tora_core.specs.Kept.{IsKept, MakesPacket, MayCome};
 ghost use Rattle.tora_core.specs.Rules.{packet_of, packet_sent, view_after};
 
 use crate::GREATEST_NEIGHBOURS;
+use crate::erasure::Erasure;
 use crate::links::Links;
 use crate::rows::Row;
 use std::alloc::{AllocError, Global};
 use std::marker::Model;
-use tora_height::{Entry, Height, Id};
+use tora_height::{Entry, Height, Id, Level};
 use tora_packet::{Clear, Packet, Query, Update};
 
 /// What is broadcast of a destination.
@@ -38,6 +39,8 @@ pub struct Destination {
     pub(crate) flag: bool,
     pub(crate) links: Links,
     pub(crate) last: u64,
+    pub(crate) erasure: Erasure,
+    pub(crate) erased: Option<Level>,
 }
 
 impl Model for Destination {
@@ -48,7 +51,7 @@ impl Model for Destination {
     ghost Value = { TableView };
 
     ghost view = { λ d. record {
-      view = record { me = d.me; destination = d.destination; height = d.links.own; flag = d.flag; rows = d.links.rows; last = d.last };
+      view = record { me = d.me; destination = d.destination; height = d.links.own; flag = d.flag; rows = d.links.rows; last = d.last; erasure = d.erasure; erased = d.erased };
       neighbours = d.links.neighbours;
     } };
 
@@ -62,6 +65,7 @@ impl Destination {
     /// Want of memory.
     pub fn new(
         alloc: Global,
+        erasure: Erasure,
         me: Id,
         destination: Id,
         neighbours: &[Id],
@@ -70,7 +74,7 @@ impl Destination {
         requires destination { 0 < destination }
         requires few { length neighbours.now ≤ GREATEST_NEIGHBOURS }
         requires ascending { IsAscending neighbours.now }
-        ensures { IfOk result (λ first. first ≡ first_in neighbours.now me destination) }
+        ensures { IfOk result (λ first. first ≡ first_in neighbours.now erasure me destination) }
     {
         let own = if me == destination {
             Some(Height::zero(destination))
@@ -83,6 +87,8 @@ impl Destination {
             flag: false,
             links: Links::new(alloc, own, neighbours)?,
             last: 0,
+            erasure,
+            erased: None,
         })
     }
 

@@ -12,6 +12,7 @@ ghost use Rattle.tora_core.specs.Kept.{IsCore, destinations_of};
 /// The node, its configured neighbours and the destinations of its table stay, whatever comes in.
 pub fn tables_stay()
     ensures node { (c : CoreView) (input : Input) (now : ℕ) → (core_after c input now).me ≡ c.me }
+    ensures erasure { (c : CoreView) (input : Input) (now : ℕ) → (core_after c input now).erasure ≡ c.erasure }
     ensures neighbours { (c : CoreView) (input : Input) (now : ℕ) → (core_after c input now).neighbours ≡ c.neighbours }
     ensures destinations { (c : CoreView) (input : Input) (now : ℕ) → destinations_of (core_after c input now).views ≡ destinations_of c.views }
 {}

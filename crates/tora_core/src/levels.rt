@@ -6,6 +6,7 @@ ghost use Rattle.tora_core.specs.Heights.{fitted_height, fresh_time};
 ghost use Rattle.tora_core.specs.Rules.{query_broadcast, update_broadcast, joined_height, after_join, new_level, after_erase, after_link_loss, after_update_loss, propagated_level, reflected_level};
 
 use crate::destination::{Broadcast, Destination};
+use crate::erasure::erased_after;
 use crate::rows::{all_at, greatest_level, least_delta, time_after_all};
 use tora_height::{Entry, Height, Id, Level};
 
@@ -159,6 +160,12 @@ impl Destination {
     {
         self.links.set_own(None);
         self.links.erase_all(self.destination);
+        let erased = Level {
+            tau: level.tau,
+            oid: level.oid,
+            r: 1,
+        };
+        self.erased = erased_after(self.erasure, self.erased, erased);
         Some(Broadcast::Clear(level.tau, level.oid))
     }
 }

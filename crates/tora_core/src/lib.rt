@@ -19,6 +19,7 @@
 
 mod changes;
 mod destination;
+mod erasure;
 mod errors;
 mod facts;
 mod laws;
@@ -30,17 +31,21 @@ mod node;
 pub mod numbers;
 mod place_hints;
 mod reactions;
+mod refusals;
 mod relation;
 mod rows;
 mod show;
 mod sorted_lists;
+mod storms;
 mod table;
+mod withdrawal;
 
 use arrayvec::ArrayVec;
 pub use changes::{
-    all_are_cleared, all_are_erased, all_are_told, entries_are_taken, nothing_is_found, rows_come,
-    rows_go,
+    all_are_cleared, all_are_erased, all_are_told, entries_are_taken, entries_are_withdrawn,
+    marks_are_withdrawn, nothing_is_found, rows_come, rows_go,
 };
+pub use erasure::Erasure;
 pub use errors::{CoreError, StepError};
 pub use facts::{
     inputs_are_accepted, links_follow_inputs, numbers_are_put_in_order, numbers_come_and_go,
@@ -53,6 +58,7 @@ pub use relation::{
     accepted_inputs_react, rules_are_the_relation, words_are_computed, worked_rows_hold,
 };
 use std::fmt;
+pub use storms::plain_nodes_may_never_rest;
 use tora_height::Id;
 use tora_packet::Packet;
 

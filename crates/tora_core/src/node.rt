@@ -1,26 +1,25 @@
 //! The core of a node.
 ghost use Rattle.std.specs.Prelude.{◌≡◌, ◌==◌, ◌<◌, ◌≤◌, length, ℕ, All, find, IfErr, IfNone, IfOk, MatchOption, None, OnErr, [], OnOk, option_copied, option_map, IsOk, string_bytes};
-ghost use Rattle.tora_core.specs.CoreRun.{downstream_of, link_fault, core_after, core_refusal, core_refusal_within, entry_of, first_core, flag_of, has_destination, height_of, hop_of, refusal_of, sends_of, view_of};
+ghost use Rattle.tora_core.specs.CoreRun.{downstream_of, link_fault, core_after, core_refusal, core_refusal_within, entry_of, first_core, first_core_of, flag_of, has_destination, height_of, hop_of, refusal_of, sends_of, view_of};
 ghost use Rattle.tora_core.specs.Limits.{most_destinations, most_neighbours};
 ghost use Rattle.tora_core.specs.Numbers.{has_number};
 ghost use Rattle.tora_core.specs.Kept.{IsCore, IsInput, destinations_of};
 ghost use Rattle.tora_core.specs.ShowText.{show_text};
-ghost use Rattle.tora_core.specs.CoreRun.{is_from};
-ghost use Rattle.tora_packet.specs.AnyPacket.{IsPacket};
 
 use crate::destination::Destination;
+use crate::erasure::Erasure;
 use crate::errors::{CoreError, StepError};
-use crate::numbers::{ascending, has_number, has_number_near, has_repeat};
+use crate::numbers::{ascending, has_number, has_number_near};
 use crate::place_hints::PlaceHints;
+use crate::refusals::{core_refusal, is_from};
 use crate::show::text_of;
 use crate::sorted_lists::{note, sorted};
 use crate::table::{TableHints, first_views, step};
-use crate::{CoreLimits, GREATEST_NEIGHBOURS, Input, MOST_DESTINATIONS, Sends};
+use crate::{CoreLimits, Input, MOST_DESTINATIONS, Sends};
 use arrayvec::ArrayVec;
 use std::alloc::Global;
 use std::marker::Model;
 use tora_height::{Entry, Id};
-use tora_packet::Packet;
 
 /// The core of a node: its links, and its view of each destination of its table.
 ///
@@ -30,6 +29,7 @@ use tora_packet::Packet;
 #[derive(Debug, Drop)]
 pub struct Core {
     me: Id,
+    erasure: Erasure,
     neighbours: Vec<Id>,
     up: Vec<Id>,
     destinations: ArrayVec<Id, MOST_DESTINATIONS>,
@@ -46,9 +46,9 @@ impl Model for Core {
 
     ghost Value = { CoreView };
 
-    ghost view = { λ c. record { me = c.me; neighbours = c.neighbours.items; up = c.up.items; views = views_in c.views.items } };
+    ghost view = { λ c. record { me = c.me; erasure = c.erasure; neighbours = c.neighbours.items; up = c.up.items; views = views_in c.views.items } };
 
-    ghost invariant = { λ c. IsCore (record { me = c.me; neighbours = c.neighbours.items; up = c.up.items; views = views_in c.views.items })
+    ghost invariant = { λ c. IsCore (record { me = c.me; erasure = c.erasure; neighbours = c.neighbours.items; up = c.up.items; views = views_in c.views.items })
         × ((c.destinations.items ≡ destinations_of (views_in c.views.items)) × (length c.neighbours.items ≤ vec_capacity c.up)) × HavePlaces c.neighbours.items c.views.items };
 }
 
@@ -101,6 +101,31 @@ impl Core {
         ensures memory { result ≡ Err CoreError.Memory
             → core_refusal_within (most_neighbours limits) (most_destinations limits) me neighbours.now destinations.now ≡ None }
     {
+        Core::with_erasure(alloc, Erasure::Plain, limits, me, neighbours, destinations)
+    }
+
+    /// The core of a node, as `with_limits` makes it, with this choice of what becomes of erased levels.
+    ///
+    /// # Errors
+    /// Those of `with_limits`, in its order.
+    pub fn with_erasure(
+        alloc: Global,
+        erasure: Erasure,
+        limits: CoreLimits,
+        me: Id,
+        neighbours: &[Id],
+        destinations: &[Id],
+    ) -> Result<Core, CoreError>
+        requires me { 0 < me }
+        requires neighbours { All (λ k. 0 < k) neighbours.now }
+        requires destinations { All (λ d. 0 < d) destinations.now }
+        ensures value { IfOk result (λ core. core ≡ first_core_of erasure me neighbours.now destinations.now) }
+        ensures accepted { OnOk result (core_refusal_within (most_neighbours limits) (most_destinations limits) me neighbours.now destinations.now ≡ None) }
+        ensures refused { MatchOption (core_refusal_within (most_neighbours limits) (most_destinations limits) me neighbours.now destinations.now)
+            (IfErr result (λ e. e ≡ CoreError.Memory)) (λ e. result ≡ Err e) }
+        ensures memory { result ≡ Err CoreError.Memory
+            → core_refusal_within (most_neighbours limits) (most_destinations limits) me neighbours.now destinations.now ≡ None }
+    {
         if let Some(error) = core_refusal(limits, me, neighbours, destinations) {
             return Err(error);
         }
@@ -108,7 +133,7 @@ impl Core {
         let Ok(peers) = sorted(alloc, neighbours) else {
             return Err(CoreError::Memory);
         };
-        let Ok(views) = first_views(alloc, me, table.as_slice(), peers.as_slice()) else {
+        let Ok(views) = first_views(alloc, erasure, me, table.as_slice(), peers.as_slice()) else {
             return Err(CoreError::Memory);
         };
         let Ok(up) = Vec::with_capacity(alloc, neighbours.len()) else {
@@ -120,6 +145,7 @@ impl Core {
         };
         Ok(Core {
             me,
+            erasure,
             neighbours: peers,
             up,
             destinations: table,
@@ -152,6 +178,13 @@ impl Core {
         ensures kept { IsCore self.now }
     {
         self.me
+    }
+
+    /// What the node makes of erased levels.
+    pub fn erasure(&self) -> Erasure
+        ensures { result ≡ self.now.erasure }
+    {
+        self.erasure
     }
 
     /// The configured neighbours, in ascending order.
@@ -360,44 +393,6 @@ fn view_of(d: Id, views: &[Destination]) -> Option<&Destination>
     ensures { option_copied result ≡ find (λ t. t.view.destination == d) views.now }
 {
     views.iter().find(|view| view.destination() == d)
-}
-
-/// Why there is no core of these within the limits, but for want of memory.
-fn core_refusal(
-    limits: CoreLimits,
-    me: Id,
-    neighbours: &[Id],
-    destinations: &[Id],
-) -> Option<CoreError>
-    ensures value { result ≡ core_refusal_within (most_neighbours limits) (most_destinations limits) me neighbours.now destinations.now }
-    ensures few_neighbours { IfNone result (length neighbours.now ≤ GREATEST_NEIGHBOURS) }
-    ensures few_destinations { IfNone result (length destinations.now ≤ MOST_DESTINATIONS) }
-{
-    if neighbours.len() > limits.most_neighbours()
-        || destinations.len() > limits.most_destinations()
-    {
-        return Some(CoreError::TooMany);
-    }
-    if has_repeat(neighbours) || has_repeat(destinations) {
-        return Some(CoreError::Repeated);
-    }
-    if has_number(me, neighbours) {
-        return Some(CoreError::OwnId);
-    }
-    None
-}
-
-/// Whether an update is of the height of the neighbour that sent it.
-fn is_from(k: Id, packet: &Packet) -> bool
-    ensures value { result ≡ is_from k packet.now }
-    ensures valid { IsPacket packet.now }
-{
-    let _destination = packet.destination();
-    match packet {
-        Packet::Qry(_) => true,
-        Packet::Upd(update) => update.height().id() == k,
-        Packet::Clr(_) => true,
-    }
 }
 
 /// Reads the number at a place, if there is one.

@@ -8,7 +8,7 @@ ghost use Rattle.tora_core.specs.declared.rows.Row.{Row};
 ghost use Rattle.tora_core.specs.Numbers.{has_number};
 ghost use Rattle.tora_core.specs.Links.{IsOnlyPlace};
 ghost use Rattle.tora_core.specs.View.{up_neighbours};
-ghost use Rattle.tora_core.specs.Rules.{on_need, on_query, on_update, on_clear, on_packet, cleared_level, outcome_of};
+ghost use Rattle.tora_core.specs.Rules.{on_need, on_query, on_update, on_outdated, on_taken_update, on_clear, on_heard_clear, on_packet, cleared_level, outcome_of};
 
 use crate::destination::{Broadcast, Destination};
 use crate::rows::is_entry_at;
@@ -91,7 +91,7 @@ impl Destination {
         match packet {
             Packet::Qry(_) => self.on_query(k, place),
             Packet::Upd(update) => self.on_update(k, place, update.height(), now),
-            Packet::Clr(clear) => self.on_clear(cleared_level(clear), now),
+            Packet::Clr(clear) => self.on_clear(k, cleared_level(clear), now),
         }
     }
 
@@ -136,6 +136,40 @@ impl Destination {
         ensures broadcast { result ≡ (on_update self.old.view k height now).broadcast }
         ensures neighbours { self.new.neighbours ≡ self.old.neighbours }
     {
+        if self.is_outdated(height) {
+            self.on_outdated(k, now)
+        } else {
+            self.on_taken_update(k, place, height, now)
+        }
+    }
+
+    /// An update that is older than the clear of its level only withdraws what its sender told.
+    fn on_outdated(&mut self, k: Id, now: u64) -> Option<Broadcast>
+        ensures view { self.new.view ≡ (on_outdated self.old.view k now).view }
+        ensures broadcast { result ≡ (on_outdated self.old.view k now).broadcast }
+        ensures neighbours { self.new.neighbours ≡ self.old.neighbours }
+    {
+        self.links.withdraw(self.destination, k);
+        if self.lacks_downstream() {
+            self.after_link_loss(now)
+        } else {
+            None
+        }
+    }
+
+    fn on_taken_update(
+        &mut self,
+        k: Id,
+        place: usize,
+        height: Height,
+        now: u64,
+    ) -> Option<Broadcast>
+        requires place { IsOnlyPlace k place self.old.neighbours }
+        requires up { has_number k (up_neighbours self.old.view) ≡ true }
+        ensures view { self.new.view ≡ (on_taken_update self.old.view k height now).view }
+        ensures broadcast { result ≡ (on_taken_update self.old.view k height now).broadcast }
+        ensures neighbours { self.new.neighbours ≡ self.old.neighbours }
+    {
         self.links.set_entry(k, place, height);
         if self.flag {
             self.join()
@@ -146,9 +180,18 @@ impl Destination {
         }
     }
 
-    fn on_clear(&mut self, level: Level, now: u64) -> Option<Broadcast>
-        ensures view { self.new.view ≡ (on_clear self.old.view level now).view }
-        ensures broadcast { result ≡ (on_clear self.old.view level now).broadcast }
+    fn on_clear(&mut self, k: Id, level: Level, now: u64) -> Option<Broadcast>
+        ensures view { self.new.view ≡ (on_clear self.old.view k level now).view }
+        ensures broadcast { result ≡ (on_clear self.old.view k level now).broadcast }
+        ensures neighbours { self.new.neighbours ≡ self.old.neighbours }
+    {
+        self.hear_clear(k, level);
+        self.on_heard_clear(level, now)
+    }
+
+    fn on_heard_clear(&mut self, level: Level, now: u64) -> Option<Broadcast>
+        ensures view { self.new.view ≡ (on_heard_clear self.old.view level now).view }
+        ensures broadcast { result ≡ (on_heard_clear self.old.view level now).broadcast }
         ensures neighbours { self.new.neighbours ≡ self.old.neighbours }
     {
         if is_entry_at(level, self.links.own()) {

@@ -11,6 +11,7 @@ ghost use Rattle.tora_core.specs.Kept.{CanTake, IsLinked, IsOfOne, destinations_
 ghost use Rattle.tora_packet.specs.PacketParts.{IsId};
 
 use crate::destination::Destination;
+use crate::erasure::Erasure;
 use crate::numbers::place_near;
 use crate::place_hints::PlaceHints;
 use crate::{GREATEST_NEIGHBOURS, Input, MOST_DESTINATIONS, Sends};
@@ -21,6 +22,7 @@ use tora_packet::Packet;
 /// The first views of the destinations, each with a place for each of these neighbours, which stand in ascending order.
 pub fn first_views(
     alloc: Global,
+    erasure: Erasure,
     me: Id,
     destinations: &[Id],
     neighbours: &[Id],
@@ -29,11 +31,11 @@ pub fn first_views(
     requires destinations { All (λ d. 0 < d) destinations.now }
     requires few { length neighbours.now ≤ GREATEST_NEIGHBOURS }
     requires ascending { IsAscending neighbours.now }
-    ensures { IfOk result (λ views. views.items ≡ map (first_in neighbours.now me) destinations.now) }
+    ensures { IfOk result (λ views. views.items ≡ map (first_in neighbours.now erasure me) destinations.now) }
 {
     let mut views = Vec::with_capacity(alloc, destinations.len())?;
     for destination in destinations {
-        views.push(Destination::new(alloc, me, *destination, neighbours)?)?;
+        views.push(Destination::new(alloc, erasure, me, *destination, neighbours)?)?;
     }
     Ok(views)
 }

@@ -3,7 +3,8 @@ use Rattle.std.proofs.Common.{◌≡◌, ℕ, eqb, false, List, [], ◌∷◌, l
 use Rattle.std.specs.Option.{option_and_then}
 use Rattle.tora_arq.specs.declared.times.Times.{Times}
 use Rattle.tora_frame.specs.FrameParts.{FrameParts}
-use Rattle.tora_world.specs.declared.limits.Limits.{Limits}
+use Rattle.tora_script.specs.declared.node_marks.Mark.{Mark}
+use Rattle.tora_script.specs.declared.setup.WorldOptions.{WorldOptions}
 use Rattle.tora_world.specs.World.{World}
 use Rattle.tora_script.specs.Simulator.{started}
 use Rattle.tora_script.specs.Setup.{plain}
@@ -19,11 +20,11 @@ begins : (dests : List ℕ) (times : Times) (o : OwnView) (line : List ℕ) (s :
 begins dests times o line s None e = absurd cc
 begins dests times o line s (Some w) e = ap (λ (r : RunningView). answer_to (whole_run [] r) o line) (this (begun_in dests (plain times) w) s e)
 
-behind_links : (limits : Limits) (times : Times) (o : OwnView) (dests : List ℕ) (links : List (ℕ × ℕ)) (olds line : List ℕ) (s : RunningView) → eqb (length links) 0 ≡ false
-    → option_map (begun_in dests (plain times)) (started limits links dests olds times) ≡ Some s → first_answer limits times o dests links olds line ≡ answer_to (whole_run [] s) o line
-behind_links limits times o dests [] olds line s some e = absurd cc
-behind_links limits times o dests (link ∷ links) olds line s some e = begins dests times o line s (started limits (link ∷ links) dests olds times) e
+behind_links : (options : WorldOptions) (times : Times) (o : OwnView) (dests : List ℕ) (links : List (ℕ × ℕ)) (marks : List Mark) (line : List ℕ) (s : RunningView) → eqb (length links) 0 ≡ false
+    → option_map (begun_in dests (plain times)) (started options links dests marks times) ≡ Some s → first_answer options times o dests links marks line ≡ answer_to (whole_run [] s) o line
+behind_links options times o dests [] marks line s some e = absurd cc
+behind_links options times o dests (link ∷ links) marks line s some e = begins dests times o line s (started options (link ∷ links) dests marks times) e
 
-pub begun_so : (gone : List FrameParts) (limits : Limits) (times : Times) (o : OwnView) (dests : List ℕ) (links : List (ℕ × ℕ)) (olds line : List ℕ) (s : RunningView) → gone ≡ [] → eqb (length links) 0 ≡ false
-    → option_map (begun_in dests (plain times)) (started limits links dests olds times) ≡ Some s → first_answer limits times o dests links olds line ≡ answer_to (whole_run gone s) o line
-begun_so gone limits times o dests links olds line s none some e = behind_links limits times o dests links olds line s some e ∙ sym (ap (λ (g : List FrameParts). answer_to (whole_run g s) o line) none)
+pub begun_so : (gone : List FrameParts) (options : WorldOptions) (times : Times) (o : OwnView) (dests : List ℕ) (links : List (ℕ × ℕ)) (marks : List Mark) (line : List ℕ) (s : RunningView) → gone ≡ [] → eqb (length links) 0 ≡ false
+    → option_map (begun_in dests (plain times)) (started options links dests marks times) ≡ Some s → first_answer options times o dests links marks line ≡ answer_to (whole_run gone s) o line
+begun_so gone options times o dests links marks line s none some e = behind_links options times o dests links marks line s some e ∙ sym (ap (λ (g : List FrameParts). answer_to (whole_run g s) o line) none)

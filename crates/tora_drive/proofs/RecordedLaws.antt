@@ -6,11 +6,12 @@ use Rattle.std.specs.Option.{option_and_then}
 use Rattle.tora_arq.specs.declared.times.Times.{Times}
 use Rattle.tora_lines.specs.Fronts.{after}
 use Rattle.tora_lines.specs.LineText.{reply, state_behind}
-use Rattle.tora_world.specs.declared.limits.Limits.{Limits}
+use Rattle.tora_script.specs.declared.node_marks.Mark.{Mark}
+use Rattle.tora_script.specs.declared.setup.WorldOptions.{WorldOptions}
 use Rattle.tora_world.specs.World.{World}
 use Rattle.tora_script.specs.Setup.{plain}
 use Rattle.tora_script.specs.Simulator.{started}
-use Rattle.tora_script.specs.SimulationLines.{is_word, dests_of, link_of, old_of, end_event_of, node_event_of, walk_line_of, order_line_of, simulation_line_of}
+use Rattle.tora_script.specs.SimulationLines.{is_word, dests_of, link_of, mark_of, end_event_of, node_event_of, walk_line_of, order_line_of, simulation_line_of}
 use Rattle.tora_script.specs.SimulationText.{RunningView, Progress, begun_in}
 use Rattle.tora_drive.specs.DriveLines.{own_line_of, drive_line_of}
 use Rattle.tora_drive.specs.DriveText.{OwnView, DriveView, answer_to, first_answer, place_reply, drive_reply, drive_rules, running_at}
@@ -30,51 +31,51 @@ no_answer : (s : RunningView) (o : OwnView) → answer_to s o [] ≡ None
 unfolding answer_to line_in after
 no_answer s o = rw no_line refl
 
-no_begin : (limits : Limits) (times : Times) (o : OwnView) (dests : List ℕ) (first : Option World) → option_map running_at (option_and_then (λ w. answer_to (begun_in dests (plain times) w) o []) first) ≡ None
-no_begin limits times o dests None = refl
-no_begin limits times o dests (Some w) = rw (no_answer (begun_in dests (plain times) w) o) refl
+no_begin : (options : WorldOptions) (times : Times) (o : OwnView) (dests : List ℕ) (first : Option World) → option_map running_at (option_and_then (λ w. answer_to (begun_in dests (plain times) w) o []) first) ≡ None
+no_begin options times o dests None = refl
+no_begin options times o dests (Some w) = rw (no_answer (begun_in dests (plain times) w) o) refl
 
-no_first : (limits : Limits) (times : Times) (o : OwnView) (dests : List ℕ) (links : List (ℕ × ℕ)) (olds : List ℕ) → option_map running_at (first_answer limits times o dests links olds []) ≡ None
-no_first limits times o dests [] olds = refl
-no_first limits times o dests (link ∷ links) olds = no_begin limits times o dests (started limits (link ∷ links) dests olds times)
+no_first : (options : WorldOptions) (times : Times) (o : OwnView) (dests : List ℕ) (links : List (ℕ × ℕ)) (marks : List Mark) → option_map running_at (first_answer options times o dests links marks []) ≡ None
+no_first options times o dests [] marks = refl
+no_first options times o dests (link ∷ links) marks = no_begin options times o dests (started options (link ∷ links) dests marks times)
 
-no_place : (limits : Limits) (times : Times) (o : OwnView) (progress : Progress) → place_reply limits times o progress [] ≡ None
-unfolding place_reply dests_of link_of old_of after
-no_place limits times o Progress.First = refl
-no_place limits times o (Progress.Links dests links olds) = no_first limits times o dests links olds
-no_place limits times o (Progress.Runs s) = rw (no_answer s o) refl
+no_place : (options : WorldOptions) (times : Times) (o : OwnView) (progress : Progress) → place_reply options times o progress [] ≡ None
+unfolding place_reply dests_of link_of mark_of after
+no_place options times o Progress.First = refl
+no_place options times o (Progress.Links dests links marks) = no_first options times o dests links marks
+no_place options times o (Progress.Runs s) = rw (no_answer s o) refl
 
 -- ---- a line that is too long is like an empty one
 
 pub long_is_fault : LongLinesAreFaults drive_reply
-long_is_fault limits times v line long =
+long_is_fault options times v line long =
     let over : nat_lt 4096 (length line) ≡ true = lt-ltb _ _ long in
-    rw (over, no_place limits times v.place.own v.place.progress) refl
+    rw (over, no_place options times v.place.own v.place.progress) refl
 
 pub long_is_recorded_fault : LongLinesAreFaults recorded_reply
-long_is_recorded_fault limits times v line long =
+long_is_recorded_fault options times v line long =
     let over : nat_lt 4096 (length line) ≡ true = lt-ltb _ _ long in
-    rw (over, no_line, no_place limits times v.place.own v.place.progress) refl
+    rw (over, no_line, no_place options times v.place.own v.place.progress) refl
 
 -- ---- a line that says `notice N K` is like an empty one
 
-module _ (limits : Limits) (times : Times) (last : DriveView) (line : List ℕ) (lines : List (List ℕ)) where
+module _ (options : WorldOptions) (times : Times) (last : DriveView) (line : List ℕ) (lines : List (List ℕ)) where
   on : (v : DriveView) (b c : Bool) → says_notice line ≡ b → nat_lt 4096 (length line) ≡ c
-      → ((w : DriveView) → state_behind (recorded_rules limits times) w lines ≡ Some last → state_behind (drive_rules limits times) w (map unnoticed lines) ≡ Some last)
-      → option_and_then (λ r. state_behind (recorded_rules limits times) r.0 lines) (if c then None else Some (if b then unrecorded v else drive_reply limits times v line)) ≡ Some last
-      → option_and_then (λ r. state_behind (drive_rules limits times) r.0 (map unnoticed lines)) (reply (drive_rules limits times) v (if b then [] else line)) ≡ Some last
+      → ((w : DriveView) → state_behind (recorded_rules options times) w lines ≡ Some last → state_behind (drive_rules options times) w (map unnoticed lines) ≡ Some last)
+      → option_and_then (λ r. state_behind (recorded_rules options times) r.0 lines) (if c then None else Some (if b then unrecorded v else drive_reply options times v line)) ≡ Some last
+      → option_and_then (λ r. state_behind (drive_rules options times) r.0 (map unnoticed lines)) (reply (drive_rules options times) v (if b then [] else line)) ≡ Some last
   unfolding reply
   on v b true says long others e = absurd cc
-  on v true false says long others e = rw (no_place limits times v.place.own v.place.progress) (others (record v { lines = v.lines + 1 }) e)
-  on v false false says long others e = rw long (others (drive_reply limits times v line).0 e)
+  on v true false says long others e = rw (no_place options times v.place.own v.place.progress) (others (record v { lines = v.lines + 1 }) e)
+  on v false false says long others e = rw long (others (drive_reply options times v line).0 e)
 
-behind : (limits : Limits) (times : Times) (lines : List (List ℕ)) (v last : DriveView) → state_behind (recorded_rules limits times) v lines ≡ Some last → state_behind (drive_rules limits times) v (map unnoticed lines) ≡ Some last
+behind : (options : WorldOptions) (times : Times) (lines : List (List ℕ)) (v last : DriveView) → state_behind (recorded_rules options times) v lines ≡ Some last → state_behind (drive_rules options times) v (map unnoticed lines) ≡ Some last
 unfolding state_behind reply
-behind limits times [] v last e = e
-behind limits times (line ∷ lines) v last e = on limits times last line lines v (says_notice line) (nat_lt 4096 (length line)) refl refl (λ w is. behind limits times lines w last is) e
+behind options times [] v last e = e
+behind options times (line ∷ lines) v last e = on options times last line lines v (says_notice line) (nat_lt 4096 (length line)) refl refl (λ w is. behind options times lines w last is) e
 
 pub recorded_are_drives : RecordedAreDrives
-recorded_are_drives limits times lines v e = behind limits times lines (recorded_rules limits times).start v e
+recorded_are_drives options times lines v e = behind options times lines (recorded_rules options times).start v e
 
 pub not_notice : (line : List ℕ) (b : Bool) → says_notice line ≡ b → IsNotice (if b then [] else line) → ⊥
 not_notice line true says h = let e : drive_line_of [] ≡ None = no_line in absurd cc
@@ -86,13 +87,13 @@ no_notice (line ∷ lines) = (not_notice line (says_notice line) refl, no_notice
 
 -- ---- the world of a recorded drive
 
-of_happened : (limits : Limits) (times : Times) (lines : List (List ℕ)) (w : World) → IsOfEvents limits times (SaysNoNotice (map unnoticed lines)) w → IsOfHappened limits times w
-of_happened limits times lines w h =
+of_happened : (options : WorldOptions) (times : Times) (lines : List (List ℕ)) (w : World) → IsOfEvents options times (SaysNoNotice (map unnoticed lines)) w → IsOfHappened options times w
+of_happened options times lines w h =
     let plain = h.plain (no_notice lines) in
     record {
       links = h.links;
       dests = h.dests;
-      olds = h.olds;
+      marks = h.marks;
       ids = h.ids;
       first = h.first;
       begins = h.begins;
@@ -100,6 +101,6 @@ of_happened limits times lines w h =
       world_is = h.world_is ∙ ap (after_all_driven h.first) plain.1 ∙ happened_all h.first plain.0;
     }
 
-pub recorded_are_runs : EveryRecordedDrive (λ limits times w. IsOfHappened limits times w)
-recorded_are_runs limits times lines v s e is =
-    of_happened limits times lines s.world (drives_are_runs limits times (map unnoticed lines) v s (recorded_are_drives limits times lines v e) is)
+pub recorded_are_runs : EveryRecordedDrive (λ options times w. IsOfHappened options times w)
+recorded_are_runs options times lines v s e is =
+    of_happened options times lines s.world (drives_are_runs options times (map unnoticed lines) v s (recorded_are_drives options times lines v e) is)

@@ -23,9 +23,10 @@ use Rattle.tora_script.specs.declared.script_line.SimulationLine.TheVariants.{Ha
 use Rattle.tora_channel.specs.Table.{Channels, alone}
 use Rattle.tora_script.specs.Rounds.{Sky, moment_of, round, after_round, rounds}
 use Rattle.tora_script.specs.Setup.{plain}
-use Rattle.tora_world.specs.declared.limits.Limits.{Limits}
+use Rattle.tora_script.specs.declared.node_marks.Mark.{Mark}
+use Rattle.tora_script.specs.declared.setup.WorldOptions.{WorldOptions}
 use Rattle.tora_script.specs.Simulator.{started}
-use Rattle.tora_script.specs.SimulationLines.{dests_of, link_of, old_of}
+use Rattle.tora_script.specs.SimulationLines.{dests_of, link_of, mark_of}
 use Rattle.tora_script.specs.SimulationText.{RunningView, Progress, Reply, begun_in, event_reply, after_rounds, has_end, part_of, without_parted, heights_text, count_text, exact_text, walk_text, at_rest_reply, running_reply, with_link}
 use Rattle.tora_script.proofs.RoundLaws.{after_append}
 use Rattle.tora_script.proofs.SimulationFound.{dests_found, link_found}
@@ -171,10 +172,10 @@ answer_leads s o text r h e = said_leads (IsNotice text) s o (line_in s.world o.
 -- ---- where a drive is
 
 -- its world, where there is one, is of events
-abbrev Holds : Limits → Times → Type 0 → Progress → Type 0
-Holds limits times CutsNothing Progress.First = Unit {0}
-Holds limits times CutsNothing (Progress.Links dests links olds) = AreIds (topology_of links dests)
-Holds limits times CutsNothing (Progress.Runs s) = (s.has_notice ≡ false) × IsOfEvents limits times CutsNothing s.world
+abbrev Holds : WorldOptions → Times → Type 0 → Progress → Type 0
+Holds options times CutsNothing Progress.First = Unit {0}
+Holds options times CutsNothing (Progress.Links dests links marks) = AreIds (topology_of links dests)
+Holds options times CutsNothing (Progress.Runs s) = (s.has_notice ≡ false) × IsOfEvents options times CutsNothing s.world
 
 driven_append : (w : World) (xs ys : List DriveEvent) → after_all_driven w (xs ++ ys) ≡ after_all_driven (after_all_driven w xs) ys
 driven_append w [] ys = refl
@@ -192,13 +193,13 @@ one_more : (links : List (ℕ × ℕ)) (link : ℕ × ℕ) → AllByRecursion (�
 one_more [] link h p = (p, tt)
 one_more (l ∷ links) link h p = (h.0, one_more links link h.1 p)
 
-module _ (limits : Limits) (times : Times) (CutsNothing : Type 0) where
+module _ (options : WorldOptions) (times : Times) (CutsNothing : Type 0) where
   -- events more
-  onward : (MayCut : Type 0) → (CutsNothing → MayCut → ⊥) → (before after : RunningView) → IsOfEvents limits times CutsNothing before.world → Leads MayCut before after → IsOfEvents limits times CutsNothing after.world
+  onward : (MayCut : Type 0) → (CutsNothing → MayCut → ⊥) → (before after : RunningView) → IsOfEvents options times CutsNothing before.world → Leads MayCut before after → IsOfEvents options times CutsNothing after.world
   onward MayCut none before after h led = record {
     links = h.links;
     dests = h.dests;
-    olds = h.olds;
+    marks = h.marks;
     ids = h.ids;
     first = h.first;
     begins = h.begins;
@@ -207,79 +208,79 @@ module _ (limits : Limits) (times : Times) (CutsNothing : Type 0) where
     plain = λ nothing. both_plain h.events led.events (h.plain nothing) (led.plain (none nothing));
   }
 
-  at_place : (r q : Placed) → r ≡ q → Holds limits times CutsNothing r.0.progress → Holds limits times CutsNothing q.0.progress
-  at_place r q e h = subst (λ (x : Placed). Holds limits times CutsNothing x.0.progress) e h
+  at_place : (r q : Placed) → r ≡ q → Holds options times CutsNothing r.0.progress → Holds options times CutsNothing q.0.progress
+  at_place r q e h = subst (λ (x : Placed). Holds options times CutsNothing x.0.progress) e h
 
   some_placed : (r q : Placed) → Some r ≡ Some q → r ≡ q
   some_placed r q e = cc
 
   -- a reply of a running simulation
-  runs : (MayCut : Type 0) → (CutsNothing → MayCut → ⊥) → (before : RunningView) (found : Option DriveReply) (q : Placed) → (before.has_notice ≡ false) × IsOfEvents limits times CutsNothing before.world → ((r : DriveReply) → found ≡ Some r → Leads MayCut before r.0) → option_map running_at found ≡ Some q → Holds limits times CutsNothing q.0.progress
+  runs : (MayCut : Type 0) → (CutsNothing → MayCut → ⊥) → (before : RunningView) (found : Option DriveReply) (q : Placed) → (before.has_notice ≡ false) × IsOfEvents options times CutsNothing before.world → ((r : DriveReply) → found ≡ Some r → Leads MayCut before r.0) → option_map running_at found ≡ Some q → Holds options times CutsNothing q.0.progress
   runs MayCut none before None q h led e = absurd cc
   runs MayCut none before (Some r) q h led e = at_place (running_at r) q (some_placed _ q e) ((led r refl).notice ∙ h.0, onward MayCut none before r.0 h.1 (led r refl))
 
-  begins : (o : OwnView) (dests : List ℕ) (links : List (ℕ × ℕ)) (olds line : List ℕ) (first : Option World) (q : Placed) → (CutsNothing → IsNotice line → ⊥) → AreIds (topology_of links dests) → started limits links dests olds times ≡ first
-      → option_map running_at (option_and_then (λ w. answer_to (begun_in dests (plain times) w) o line) first) ≡ Some q → Holds limits times CutsNothing q.0.progress
-  begins o dests links olds line None q none ids is e = absurd cc
-  begins o dests links olds line (Some w) q none ids is e =
-      let new : IsOfEvents limits times CutsNothing w = record { links = links; dests = dests; olds = olds; ids = ids; first = w; begins = is; events = []; world_is = refl; plain = λ nothing. ([], refl) } in
+  begins : (o : OwnView) (dests : List ℕ) (links : List (ℕ × ℕ)) (marks : List Mark) (line : List ℕ) (first : Option World) (q : Placed) → (CutsNothing → IsNotice line → ⊥) → AreIds (topology_of links dests) → started options links dests marks times ≡ first
+      → option_map running_at (option_and_then (λ w. answer_to (begun_in dests (plain times) w) o line) first) ≡ Some q → Holds options times CutsNothing q.0.progress
+  begins o dests links marks line None q none ids is e = absurd cc
+  begins o dests links marks line (Some w) q none ids is e =
+      let new : IsOfEvents options times CutsNothing w = record { links = links; dests = dests; marks = marks; ids = ids; first = w; begins = is; events = []; world_is = refl; plain = λ nothing. ([], refl) } in
       runs (IsNotice line) none (begun_in dests (plain times) w) (answer_to (begun_in dests (plain times) w) o line) q (refl, new) (λ r h. answer_leads (begun_in dests (plain times) w) o line r refl h) e
 
-  first_line : (o : OwnView) (line : List ℕ) (dests : Option (List ℕ)) (q : Placed) → dests_of line ≡ dests → option_map (acknowledged o) (option_map (λ dests. Progress.Links dests [] []) dests) ≡ Some q → Holds limits times CutsNothing q.0.progress
+  first_line : (o : OwnView) (line : List ℕ) (dests : Option (List ℕ)) (q : Placed) → dests_of line ≡ dests → option_map (acknowledged o) (option_map (λ dests. Progress.Links dests [] []) dests) ≡ Some q → Holds options times CutsNothing q.0.progress
   first_line o line None q is e = absurd cc
   first_line o line (Some dests) q is e =
       at_place (acknowledged o (Progress.Links dests [] [])) q (some_placed _ q e) (record { links = tt; destinations = recursion_from_All IsId dests (dests_found line dests is).ids })
 
-  one_link : (o : OwnView) (dests : List ℕ) (links : List (ℕ × ℕ)) (olds line : List ℕ) (link : ℕ × ℕ) (q : Placed) → AreIds (topology_of links dests) → link_of line ≡ Some link → option_map (acknowledged o) (with_link dests links olds link) ≡ Some q → Holds limits times CutsNothing q.0.progress
+  one_link : (o : OwnView) (dests : List ℕ) (links : List (ℕ × ℕ)) (marks : List Mark) (line : List ℕ) (link : ℕ × ℕ) (q : Placed) → AreIds (topology_of links dests) → link_of line ≡ Some link → option_map (acknowledged o) (with_link dests links marks link) ≡ Some q → Holds options times CutsNothing q.0.progress
   one_link o dests links [] line link q ids is e =
       let named = link_found line link is in
       at_place (acknowledged o (Progress.Links dests (links ++ link ∷ []) [])) q (some_placed _ q e) (record { links = one_more links link ids.links (named.first, named.second); destinations = ids.destinations })
-  one_link o dests links (n ∷ olds) line link q ids is e = absurd cc
+  one_link o dests links (mark ∷ marks) line link q ids is e = absurd cc
 
-  one_old : (o : OwnView) (dests : List ℕ) (links : List (ℕ × ℕ)) (olds : List ℕ) (b : Bool) (q : Placed) → AreIds (topology_of links dests) → option_map (acknowledged o) (if b then Some (Progress.Links dests links olds) else None) ≡ Some q → Holds limits times CutsNothing q.0.progress
-  one_old o dests links olds true q ids e = at_place (acknowledged o (Progress.Links dests links olds)) q (some_placed _ q e) ids
-  one_old o dests links olds false q ids e = absurd cc
+  one_mark : (o : OwnView) (dests : List ℕ) (links : List (ℕ × ℕ)) (marks : List Mark) (b : Bool) (q : Placed) → AreIds (topology_of links dests) → option_map (acknowledged o) (if b then Some (Progress.Links dests links marks) else None) ≡ Some q → Holds options times CutsNothing q.0.progress
+  one_mark o dests links marks true q ids e = at_place (acknowledged o (Progress.Links dests links marks)) q (some_placed _ q e) ids
+  one_mark o dests links marks false q ids e = absurd cc
 
-  behind : (o : OwnView) (dests : List ℕ) (links : List (ℕ × ℕ)) (olds line : List ℕ) (q : Placed) → (CutsNothing → IsNotice line → ⊥) → AreIds (topology_of links dests) → option_map running_at (first_answer limits times o dests links olds line) ≡ Some q → Holds limits times CutsNothing q.0.progress
-  behind o dests [] olds line q none ids e = absurd cc
-  behind o dests (link ∷ links) olds line q none ids e = begins o dests (link ∷ links) olds line (started limits (link ∷ links) dests olds times) q none ids refl e
+  behind : (o : OwnView) (dests : List ℕ) (links : List (ℕ × ℕ)) (marks : List Mark) (line : List ℕ) (q : Placed) → (CutsNothing → IsNotice line → ⊥) → AreIds (topology_of links dests) → option_map running_at (first_answer options times o dests links marks line) ≡ Some q → Holds options times CutsNothing q.0.progress
+  behind o dests [] marks line q none ids e = absurd cc
+  behind o dests (link ∷ links) marks line q none ids e = begins o dests (link ∷ links) marks line (started options (link ∷ links) dests marks times) q none ids refl e
 
-  linked : (o : OwnView) (dests : List ℕ) (links : List (ℕ × ℕ)) (olds line : List ℕ) (link : Option (ℕ × ℕ)) (old : Option ℕ) (q : Placed) → (CutsNothing → IsNotice line → ⊥) → AreIds (topology_of links dests) → link_of line ≡ link → link_answer limits times o dests links olds line link old ≡ Some q → Holds limits times CutsNothing q.0.progress
-  linked o dests links olds line (Some link) old q none ids is e = one_link o dests links olds line link q ids is e
-  linked o dests links olds line None (Some n) q none ids is e = one_old o dests links _ _ q ids e
-  linked o dests links olds line None None q none ids is e = behind o dests links olds line q none ids e
+  linked : (o : OwnView) (dests : List ℕ) (links : List (ℕ × ℕ)) (marks : List Mark) (line : List ℕ) (link : Option (ℕ × ℕ)) (mark : Option Mark) (q : Placed) → (CutsNothing → IsNotice line → ⊥) → AreIds (topology_of links dests) → link_of line ≡ link → link_answer options times o dests links marks line link mark ≡ Some q → Holds options times CutsNothing q.0.progress
+  linked o dests links marks line (Some link) mark q none ids is e = one_link o dests links marks line link q ids is e
+  linked o dests links marks line None (Some mark) q none ids is e = one_mark o dests links _ _ q ids e
+  linked o dests links marks line None None q none ids is e = behind o dests links marks line q none ids e
 
-  placed_on : (o : OwnView) (progress : Progress) (line : List ℕ) (q : Placed) → (CutsNothing → IsNotice line → ⊥) → Holds limits times CutsNothing progress → place_reply limits times o progress line ≡ Some q → Holds limits times CutsNothing q.0.progress
+  placed_on : (o : OwnView) (progress : Progress) (line : List ℕ) (q : Placed) → (CutsNothing → IsNotice line → ⊥) → Holds options times CutsNothing progress → place_reply options times o progress line ≡ Some q → Holds options times CutsNothing q.0.progress
   unfolding place_reply
   placed_on o Progress.First line q none h e = first_line o line (dests_of line) q refl e
-  placed_on o (Progress.Links dests links olds) line q none h e = linked o dests links olds line (link_of line) (old_of line) q none h refl e
+  placed_on o (Progress.Links dests links marks) line q none h e = linked o dests links marks line (link_of line) (mark_of line) q none h refl e
   placed_on o (Progress.Runs s) line q none h e = runs (IsNotice line) none s (answer_to s o line) q h (λ r is. answer_leads s o line r h.0 is) e
 
   -- ---- all lines
 
-  answered : (v : DriveView) (line : List ℕ) (found : Option Placed) → (CutsNothing → IsNotice line → ⊥) → place_reply limits times v.place.own v.place.progress line ≡ found → Holds limits times CutsNothing v.place.progress → Holds limits times CutsNothing (drive_reply limits times v line).0.place.progress
+  answered : (v : DriveView) (line : List ℕ) (found : Option Placed) → (CutsNothing → IsNotice line → ⊥) → place_reply options times v.place.own v.place.progress line ≡ found → Holds options times CutsNothing v.place.progress → Holds options times CutsNothing (drive_reply options times v line).0.place.progress
   answered v line None none is h = rw is h
   answered v line (Some q) none is h = rw is (placed_on v.place.own v.place.progress line q none h is)
 
-  longer : (v next : DriveView) (out line : List ℕ) (too_long : Bool) → (CutsNothing → IsNotice line → ⊥) → (if too_long then None else Some (drive_reply limits times v line)) ≡ Some (next, out) → Holds limits times CutsNothing v.place.progress → Holds limits times CutsNothing next.place.progress
+  longer : (v next : DriveView) (out line : List ℕ) (too_long : Bool) → (CutsNothing → IsNotice line → ⊥) → (if too_long then None else Some (drive_reply options times v line)) ≡ Some (next, out) → Holds options times CutsNothing v.place.progress → Holds options times CutsNothing next.place.progress
   longer v next out line true none e h = absurd cc
   longer v next out line false none e h =
-      let is : drive_reply limits times v line ≡ (next, out) = cc in
-      subst (λ (x : DriveView × List ℕ). Holds limits times CutsNothing x.0.place.progress) is (answered v line (place_reply limits times v.place.own v.place.progress line) none refl h)
+      let is : drive_reply options times v line ≡ (next, out) = cc in
+      subst (λ (x : DriveView × List ℕ). Holds options times CutsNothing x.0.place.progress) is (answered v line (place_reply options times v.place.own v.place.progress line) none refl h)
 
   one_line : (v last : DriveView) (line : List ℕ) (lines : List (List ℕ)) (found : Option (DriveView × List ℕ)) → (CutsNothing → IsNotice line → ⊥)
-      → ((next : DriveView) → state_behind (drive_rules limits times) next lines ≡ Some last → Holds limits times CutsNothing next.place.progress → Holds limits times CutsNothing last.place.progress) → reply (drive_rules limits times) v line ≡ found → Holds limits times CutsNothing v.place.progress
-      → option_and_then (λ r. state_behind (drive_rules limits times) r.0 lines) found ≡ Some last → Holds limits times CutsNothing last.place.progress
+      → ((next : DriveView) → state_behind (drive_rules options times) next lines ≡ Some last → Holds options times CutsNothing next.place.progress → Holds options times CutsNothing last.place.progress) → reply (drive_rules options times) v line ≡ found → Holds options times CutsNothing v.place.progress
+      → option_and_then (λ r. state_behind (drive_rules options times) r.0 lines) found ≡ Some last → Holds options times CutsNothing last.place.progress
   unfolding reply
   one_line v last line lines None none others is h e = absurd cc
   one_line v last line lines (Some r) none others is h e = others r.0 e (longer v r.0 r.1 line (nat_lt 4096 (length line)) none is h)
 
-  behind_lines : (lines : List (List ℕ)) (v last : DriveView) → (CutsNothing → SaysNoNotice lines) → state_behind (drive_rules limits times) v lines ≡ Some last → Holds limits times CutsNothing v.place.progress → Holds limits times CutsNothing last.place.progress
+  behind_lines : (lines : List (List ℕ)) (v last : DriveView) → (CutsNothing → SaysNoNotice lines) → state_behind (drive_rules options times) v lines ≡ Some last → Holds options times CutsNothing v.place.progress → Holds options times CutsNothing last.place.progress
   unfolding state_behind
-  behind_lines [] v last none e h = let same : v ≡ last = cc in subst (λ (x : DriveView). Holds limits times CutsNothing x.place.progress) same h
-  behind_lines (line ∷ lines) v last none e h = one_line v last line lines (reply (drive_rules limits times) v line) (λ nothing. (none nothing).0) (λ next is holds. behind_lines lines next last (λ nothing. (none nothing).1) is holds) refl h e
+  behind_lines [] v last none e h = let same : v ≡ last = cc in subst (λ (x : DriveView). Holds options times CutsNothing x.place.progress) same h
+  behind_lines (line ∷ lines) v last none e h = one_line v last line lines (reply (drive_rules options times) v line) (λ nothing. (none nothing).0) (λ next is holds. behind_lines lines next last (λ nothing. (none nothing).1) is holds) refl h e
 
 pub drives_are_runs : DrivesAreRuns
-drives_are_runs limits times lines v s e is =
-    let h : Holds limits times (SaysNoNotice lines) v.place.progress = behind_lines limits times (SaysNoNotice lines) lines (drive_rules limits times).start v (λ nothing. nothing) e tt in
+drives_are_runs options times lines v s e is =
+    let h : Holds options times (SaysNoNotice lines) v.place.progress = behind_lines options times (SaysNoNotice lines) lines (drive_rules options times).start v (λ nothing. nothing) e tt in
     (rw is at h).1

@@ -3,7 +3,11 @@ use Rattle.std.proofs.Common.{◌≡◌, ℕ, Bool, true, false, List, [], ◌�
 use Rattle.tora_arq.specs.declared.times.Times.{Times}
 use Rattle.tora_core.specs.declared.errors.CoreError.{CoreError}
 use Rattle.tora_world.specs.declared.event.Event.TheVariants.{Tick}
+use Rattle.tora_script.specs.declared.node_marks.Mark.{Mark}
+use Rattle.tora_script.specs.declared.setup.WorldOptions.{WorldOptions}
+use Rattle.tora_core.specs.declared.erasure.Erasure.{Erasure}
 use Rattle.tora_world.specs.declared.limits.Limits.{Limits}
+use Rattle.tora_script.specs.declared.node_marks.Mark.TheVariants.{Old, Erases}
 use Rattle.tora_world.specs.Topology.{Topology, IsWithinLimits, is_link, is_node, topology_fault_within}
 use Rattle.tora_world.specs.World.{World, own_choice, first_world}
 use Rattle.tora_world.specs.FreeWorld.{Schedule, free_by, after_schedule}
@@ -11,8 +15,9 @@ use Rattle.tora_world.specs.FreeWorld.FreeEvent.{CutsBound}
 use Rattle.tora_world.specs.Law.{EveryRun, TakenBeginsSent}
 use Rattle.tora_world.specs.Gaps.{EveryEnd, IsWithoutGap}
 use Rattle.tora_world.specs.Walks.{AreIds, EveryWorld}
-use Rattle.tora_sim.specs.Topologies.{topology_of, with_olds, with_old}
-use Rattle.tora_script.specs.Simulator.{with_old_node, mixed_topology, started}
+use Rattle.tora_sim.specs.Topologies.{topology_of, with_choices, with_olds, with_old}
+use Rattle.tora_script.specs.Marks.{with_mark, with_marks}
+use Rattle.tora_script.specs.Simulator.{mixed_topology, started}
 use Rattle.tora_drive.specs.Runs.{DriveEvent, after_driven, schedule_of_one, schedule_of, SaysNoNotice, IsOfEvents, EveryDrive, AreSchedules, HasNoGaps}
 use Rattle.tora_drive.proofs.RunLaws.{drives_are_runs}
 
@@ -46,25 +51,42 @@ begun_by : (fault : Option CoreError) (w first : World) → (if is_some fault th
 begun_by None w first e = (refl, cc)
 begun_by (Some cause) w first e = absurd cc
 
-begun : (limits : Limits) (links : List (ℕ × ℕ)) (dests olds : List ℕ) (times : Times) (first : World) → started limits links dests olds times ≡ Some first → (topology_fault_within limits (topology_of links dests) ≡ None) × (first ≡ first_world (mixed_topology links dests olds) times)
+begun : (options : WorldOptions) (links : List (ℕ × ℕ)) (dests : List ℕ) (marks : List Mark) (times : Times) (first : World) → started options links dests marks times ≡ Some first → (topology_fault_within options.limits (topology_of links dests) ≡ None) × (first ≡ first_world (mixed_topology options.erasure links dests marks) times)
 unfolding started
-begun limits links dests olds times first e = begun_by (topology_fault_within limits (topology_of links dests)) (first_world (mixed_topology links dests olds) times) first e
+begun options links dests marks times first e = begun_by (topology_fault_within options.limits (topology_of links dests)) (first_world (mixed_topology options.erasure links dests marks) times) first e
 
-one_mixed : (limits : Limits) (b : Bool) (t : Topology) (olds : List ℕ) → topology_fault_within limits t ≡ None → topology_fault_within limits (if b then with_olds t olds else t) ≡ None
-one_mixed limits true t olds h = h
-one_mixed limits false t olds h = h
+-- what is said of a node refuses nothing, and names no number
+one_old : (limits : Limits) (b : Bool) (t : Topology) (olds : List ℕ) → topology_fault_within limits t ≡ None → topology_fault_within limits (if b then with_olds t olds else t) ≡ None
+one_old limits true t olds h = h
+one_old limits false t olds h = h
 
-mixed : (limits : Limits) (t : Topology) (olds : List ℕ) → topology_fault_within limits t ≡ None → topology_fault_within limits (fold with_old_node t olds) ≡ None
+one_choice : (limits : Limits) (b : Bool) (t : Topology) (choices : List (ℕ × Erasure)) → topology_fault_within limits t ≡ None → topology_fault_within limits (if b then record t { choices = choices } else t) ≡ None
+one_choice limits true t choices h = h
+one_choice limits false t choices h = h
+
+one_mixed : (limits : Limits) (t : Topology) (mark : Mark) → topology_fault_within limits t ≡ None → topology_fault_within limits (with_mark t mark) ≡ None
+one_mixed limits t (Old n) h = one_old limits (is_node t n) t (with_old n t.olds) h
+one_mixed limits t (Erases n erasure) h = one_choice limits (is_node t n) t (t.choices ++ (n, erasure) ∷ []) h
+
+mixed : (limits : Limits) (t : Topology) (marks : List Mark) → topology_fault_within limits t ≡ None → topology_fault_within limits (with_marks t marks) ≡ None
 mixed limits t [] h = h
-mixed limits t (n ∷ olds) h = mixed limits (with_old_node t n) olds (one_mixed limits (is_node t n) t (with_old n t.olds) h)
+mixed limits t (mark ∷ marks) h = mixed limits (with_mark t mark) marks (one_mixed limits t mark h)
 
-one_mixed_ids : (b : Bool) (t : Topology) (olds : List ℕ) → AreIds t → AreIds (if b then with_olds t olds else t)
-one_mixed_ids true t olds h = record { links = h.links; destinations = h.destinations }
-one_mixed_ids false t olds h = h
+old_ids : (b : Bool) (t : Topology) (olds : List ℕ) → AreIds t → AreIds (if b then with_olds t olds else t)
+old_ids true t olds h = record { links = h.links; destinations = h.destinations }
+old_ids false t olds h = h
 
-mixed_ids : (t : Topology) (olds : List ℕ) → AreIds t → AreIds (fold with_old_node t olds)
+choice_ids : (b : Bool) (t : Topology) (choices : List (ℕ × Erasure)) → AreIds t → AreIds (if b then record t { choices = choices } else t)
+choice_ids true t choices h = record { links = h.links; destinations = h.destinations }
+choice_ids false t choices h = h
+
+one_mixed_ids : (t : Topology) (mark : Mark) → AreIds t → AreIds (with_mark t mark)
+one_mixed_ids t (Old n) h = old_ids (is_node t n) t (with_old n t.olds) h
+one_mixed_ids t (Erases n erasure) h = choice_ids (is_node t n) t (t.choices ++ (n, erasure) ∷ []) h
+
+mixed_ids : (t : Topology) (marks : List Mark) → AreIds t → AreIds (with_marks t marks)
 mixed_ids t [] h = h
-mixed_ids t (n ∷ olds) h = mixed_ids (with_old_node t n) olds (one_mixed_ids (is_node t n) t (with_old n t.olds) h)
+mixed_ids t (mark ∷ marks) h = mixed_ids (with_mark t mark) marks (one_mixed_ids t mark h)
 
 -- ---- the laws
 
@@ -76,25 +98,25 @@ record IsOfRun (times : Times) (w : World) : Type 0 where
   schedule : Schedule
   world_is : w ≡ after_schedule schedule (first_world topology times)
 
-of_run : (limits : Limits) (times : Times) (CutsNothing : Type 0) (w : World) → IsOfEvents limits times CutsNothing w → IsOfRun times w
-of_run limits times CutsNothing w h =
-    let first = begun limits h.links h.dests h.olds times h.first h.begins in
+of_run : (options : WorldOptions) (times : Times) (CutsNothing : Type 0) (w : World) → IsOfEvents options times CutsNothing w → IsOfRun times w
+of_run options times CutsNothing w h =
+    let first = begun options h.links h.dests h.marks times h.first h.begins in
     record {
-      topology = mixed_topology h.links h.dests h.olds;
-      sound = (limits, mixed limits (topology_of h.links h.dests) h.olds first.0);
-      ids = mixed_ids (topology_of h.links h.dests) h.olds h.ids;
+      topology = mixed_topology options.erasure h.links h.dests h.marks;
+      sound = (options.limits, mixed options.limits (with_choices (topology_of h.links h.dests) options.erasure []) h.marks first.0);
+      ids = mixed_ids (with_choices (topology_of h.links h.dests) options.erasure []) h.marks (record { links = h.ids.links; destinations = h.ids.destinations });
       schedule = schedule_of h.first h.events;
       world_is = h.world_is ∙ are_schedules h.first h.events ∙ ap (λ (x : World). after_schedule (schedule_of h.first h.events) x) first.1;
     }
 
-pub drives_keep_the_prefix_law : EveryRun (λ first es w. TakenBeginsSent w) → EveryDrive (λ limits times lines w. TakenBeginsSent w)
-drives_keep_the_prefix_law law limits times lines v s e is =
-    let run : IsOfRun times s.world = of_run limits times (SaysNoNotice lines) s.world (drives_are_runs limits times lines v s e is) in
+pub drives_keep_the_prefix_law : EveryRun (λ first es w. TakenBeginsSent w) → EveryDrive (λ options times lines w. TakenBeginsSent w)
+drives_keep_the_prefix_law law options times lines v s e is =
+    let run : IsOfRun times s.world = of_run options times (SaysNoNotice lines) s.world (drives_are_runs options times lines v s e is) in
     subst (λ (x : World). TakenBeginsSent x) (sym run.world_is) (law run.topology times run.schedule)
 
-pub drives_keep_the_no_gap_law : EveryEnd (λ t first es w n k. IsWithoutGap t first es w n k) → EveryDrive (λ limits times lines w. HasNoGaps times w)
-drives_keep_the_no_gap_law law limits times lines v s e is =
-    let run : IsOfRun times s.world = of_run limits times (SaysNoNotice lines) s.world (drives_are_runs limits times lines v s e is) in
+pub drives_keep_the_no_gap_law : EveryEnd (λ t first es w n k. IsWithoutGap t first es w n k) → EveryDrive (λ options times lines w. HasNoGaps times w)
+drives_keep_the_no_gap_law law options times lines v s e is =
+    let run : IsOfRun times s.world = of_run options times (SaysNoNotice lines) s.world (drives_are_runs options times lines v s e is) in
     record {
       topology = run.topology;
       sound = run.sound;
@@ -103,7 +125,7 @@ drives_keep_the_no_gap_law law limits times lines v s e is =
       gapless = λ n k linked. subst (λ (x : World). IsWithoutGap run.topology (first_world run.topology times) run.schedule x n k) (sym run.world_is) (law run.topology times run.schedule n k run.sound linked);
     }
 
-pub drives_keep_laws_of_worlds : (Holds : World → Type 0) → EveryWorld Holds → EveryDrive (λ limits times lines w. Holds w)
-drives_keep_laws_of_worlds Holds law limits times lines v s e is =
-    let run : IsOfRun times s.world = of_run limits times (SaysNoNotice lines) s.world (drives_are_runs limits times lines v s e is) in
+pub drives_keep_laws_of_worlds : (Holds : World → Type 0) → EveryWorld Holds → EveryDrive (λ options times lines w. Holds w)
+drives_keep_laws_of_worlds Holds law options times lines v s e is =
+    let run : IsOfRun times s.world = of_run options times (SaysNoNotice lines) s.world (drives_are_runs options times lines v s e is) in
     subst Holds (sym run.world_is) (law run.topology times run.schedule run.sound run.ids)

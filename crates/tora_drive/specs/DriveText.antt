@@ -22,10 +22,12 @@ use Rattle.tora_sim.specs.Readers.{flag_at}
 use Rattle.tora_script.specs.declared.script_line.SimulationLine.{SimulationLine}
 use Rattle.tora_script.specs.declared.script_line.SimulationLine.TheVariants.{Happens, Rounds, Part, Mend, Heights, Sent, Taken, Exact, Walk, Rest}
 use Rattle.tora_world.specs.declared.limits.Limits.{Limits}
+use Rattle.tora_script.specs.declared.node_marks.Mark.{Mark}
+use Rattle.tora_script.specs.declared.setup.WorldOptions.{WorldOptions}
 use Rattle.tora_script.specs.Simulator.{has_topology, started}
 use Rattle.tora_script.specs.Setup.{plain}
-use Rattle.tora_script.specs.SimulationLines.{link_of, old_of}
-use Rattle.tora_script.specs.SimulationText.{RunningView, Progress, Reply, begun_in, has_end, refusal_text, event_reply, running_reply, first_progress, with_link, with_old_line}
+use Rattle.tora_script.specs.SimulationLines.{link_of, mark_of}
+use Rattle.tora_script.specs.SimulationText.{RunningView, Progress, Reply, begun_in, has_end, refusal_text, event_reply, running_reply, first_progress, with_link, with_mark_line}
 use Rattle.tora_drive.specs.declared.cause.Cause.{Cause}
 use Rattle.tora_drive.specs.declared.cause.Cause.TheVariants.{Dests, NoLink, Topology, Name, Word, Recorded}
 use Rattle.tora_drive.specs.declared.line.DriveLine.{DriveLine}
@@ -212,28 +214,28 @@ running_at r = (record { progress = Progress.Runs r.0; own = r.1 }, r.2)
 abbrev pub acknowledged : OwnView → Progress → Placed
 acknowledged o progress = (record { progress = progress; own = o }, closing false)
 
--- the line behind the last link and the last old node, which makes the world: at least one link is required
-abbrev pub first_answer : Limits → Times → OwnView → List ℕ → List (ℕ × ℕ) → List ℕ → List ℕ → Option DriveReply
-first_answer limits times o dests [] olds line = None
-first_answer limits times o dests (link ∷ links) olds line = option_and_then (λ w. answer_to (begun_in dests (plain times) w) o line) (started limits (link ∷ links) dests olds times)
+-- the line behind the last link and what is said of single nodes, which makes the world: at least one link is required
+abbrev pub first_answer : WorldOptions → Times → OwnView → List ℕ → List (ℕ × ℕ) → List Mark → List ℕ → Option DriveReply
+first_answer options times o dests [] marks line = None
+first_answer options times o dests (link ∷ links) marks line = option_and_then (λ w. answer_to (begun_in dests (plain times) w) o line) (started options (link ∷ links) dests marks times)
 
--- a line behind the first, which may say a link or an old node
-abbrev pub link_answer : Limits → Times → OwnView → List ℕ → List (ℕ × ℕ) → List ℕ → List ℕ → Option (ℕ × ℕ) → Option ℕ → Option Placed
-link_answer limits times o dests links olds line (Some link) old = option_map (acknowledged o) (with_link dests links olds link)
-link_answer limits times o dests links olds line None (Some n) = option_map (acknowledged o) (with_old_line limits dests links olds n)
-link_answer limits times o dests links olds line None None = option_map running_at (first_answer limits times o dests links olds line)
+-- a line behind the first, which may say a link, or something of a node
+abbrev pub link_answer : WorldOptions → Times → OwnView → List ℕ → List (ℕ × ℕ) → List Mark → List ℕ → Option (ℕ × ℕ) → Option Mark → Option Placed
+link_answer options times o dests links marks line (Some link) mark = option_map (acknowledged o) (with_link dests links marks link)
+link_answer options times o dests links marks line None (Some mark) = option_map (acknowledged o) (with_mark_line options.limits dests links marks mark)
+link_answer options times o dests links marks line None None = option_map running_at (first_answer options times o dests links marks line)
 
 -- the same at any place: only links can have such a line behind them
-abbrev pub run_begun : Limits → Times → OwnView → Progress → List ℕ → Option Placed
-run_begun limits times o Progress.First line = None
-run_begun limits times o (Progress.Links dests links olds) line = option_map running_at (first_answer limits times o dests links olds line)
-run_begun limits times o (Progress.Runs s) line = None
+abbrev pub run_begun : WorldOptions → Times → OwnView → Progress → List ℕ → Option Placed
+run_begun options times o Progress.First line = None
+run_begun options times o (Progress.Links dests links marks) line = option_map running_at (first_answer options times o dests links marks line)
+run_begun options times o (Progress.Runs s) line = None
 
 -- what a line leaves, and what is printed for it; None for a fault
-unfoldable pub place_reply : Limits → Times → OwnView → Progress → List ℕ → Option Placed
-place_reply limits times o Progress.First line = option_map (acknowledged o) (first_progress line)
-place_reply limits times o (Progress.Links dests links olds) line = link_answer limits times o dests links olds line (link_of line) (old_of line)
-place_reply limits times o (Progress.Runs s) line = option_map running_at (answer_to s o line)
+unfoldable pub place_reply : WorldOptions → Times → OwnView → Progress → List ℕ → Option Placed
+place_reply options times o Progress.First line = option_map (acknowledged o) (first_progress line)
+place_reply options times o (Progress.Links dests links marks) line = link_answer options times o dests links marks line (link_of line) (mark_of line)
+place_reply options times o (Progress.Runs s) line = option_map running_at (answer_to s o line)
 
 -- ---- faults
 
@@ -247,7 +249,7 @@ cause_behind_links limits dests (link ∷ links) line = if has_topology limits (
 
 unfoldable pub cause_of : Limits → Progress → List ℕ → Cause
 cause_of limits Progress.First line = Dests
-cause_of limits (Progress.Links dests links olds) line = cause_behind_links limits dests links line
+cause_of limits (Progress.Links dests links marks) line = cause_behind_links limits dests links line
 cause_of limits (Progress.Runs s) line = cause_of_line line
 
 unfoldable pub cause_words : Cause → List ℕ
@@ -274,13 +276,13 @@ abbrev pub taken : ℕ → Placed → DriveView × List ℕ
 taken n r = (record { lines = n; place = r.0 }, r.1)
 
 -- a line that is a fault leaves everything as it was
-abbrev pub drive_reply : Limits → Times → DriveView → List ℕ → DriveView × List ℕ
-drive_reply limits times v line =
-    option_map_or (taken (v.lines + 1)) (place_reply limits times v.place.own v.place.progress line) (record v { lines = v.lines + 1 }, fault_line (v.lines + 1) (cause_of limits v.place.progress line))
+abbrev pub drive_reply : WorldOptions → Times → DriveView → List ℕ → DriveView × List ℕ
+drive_reply options times v line =
+    option_map_or (taken (v.lines + 1)) (place_reply options times v.place.own v.place.progress line) (record v { lines = v.lines + 1 }, fault_line (v.lines + 1) (cause_of options.limits v.place.progress line))
 
--- a drive within these limits whose link ends have these times; no end of its input is a fault
-abbrev pub drive_rules : Limits → Times → Rules DriveView
-drive_rules limits times = record { start = record { lines = 0; place = record { progress = Progress.First; own = first_own } }; reply = λ v line. Some (drive_reply limits times v line); at_end = λ v n. None }
+-- a drive of a world with these options whose link ends have these times; no end of its input is a fault
+abbrev pub drive_rules : WorldOptions → Times → Rules DriveView
+drive_rules options times = record { start = record { lines = 0; place = record { progress = Progress.First; own = first_own } }; reply = λ v line. Some (drive_reply options times v line); at_end = λ v n. None }
 
 -- `tora drive 1`
 abbrev pub greeting : List ℕ
@@ -293,9 +295,9 @@ abbrev pub shortened_text : Rules DriveView → List ℕ → Text
 shortened_text rules bytes = text_from rules rules.start 1 (map shortened (pieces_of bytes))
 
 -- Known bytes grew by the answers to the lines of the input, and the input ends so.
-abbrev pub Drives : Limits → Times → List ℕ → Option (List ℕ) → Option (List ℕ) → Ended → Type 0
-Drives limits times input old new ended = IsWholeText (shortened_text (drive_rules limits times)) input old new ended
+abbrev pub Drives : WorldOptions → Times → List ℕ → Option (List ℕ) → Option (List ℕ) → Ended → Type 0
+Drives options times input old new ended = IsWholeText (shortened_text (drive_rules options times)) input old new ended
 
 -- The reader gave some bytes, and the writer got a front of the answers to them.
-abbrev pub IsDriveBegun : Limits → Times → Option (List ℕ) → Option (List ℕ) → Option (List ℕ) → Option (List ℕ) → Type 0
-IsDriveBegun limits times old_reader new_reader old_writer new_writer = IsFrontOfText (shortened_text (drive_rules limits times)) old_reader new_reader old_writer new_writer
+abbrev pub IsDriveBegun : WorldOptions → Times → Option (List ℕ) → Option (List ℕ) → Option (List ℕ) → Option (List ℕ) → Type 0
+IsDriveBegun options times old_reader new_reader old_writer new_writer = IsFrontOfText (shortened_text (drive_rules options times)) old_reader new_reader old_writer new_writer

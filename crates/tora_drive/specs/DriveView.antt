@@ -26,13 +26,13 @@ view_of world d = record { lines = d.lines; place = whole_place d.gone (progress
 
 abbrev pub drive_kind : {S : Type 0} → (S → World) → Kind (Drive S)
 drive_kind world = record {
-  text = λ d. text_from (drive_rules d.limits d.times) (view_of world d);
-  long = λ d line h. long_lines_are_faults (drive_rules d.limits d.times) (view_of world d) line h;
+  text = λ d. text_from (drive_rules d.options d.times) (view_of world d);
+  long = λ d line h. long_lines_are_faults (drive_rules d.options d.times) (view_of world d) line h;
 }
 
 -- the same where it is recorded
 abbrev pub recording_kind : {S W : Type 0} → (S → World) → Kind (Recording S W)
 recording_kind world = record {
-  text = λ r. text_from (recorded_rules r.drive.limits r.drive.times) (view_of world r.drive);
-  long = λ r line h. long_lines_are_faults (recorded_rules r.drive.limits r.drive.times) (view_of world r.drive) line h;
+  text = λ r. text_from (recorded_rules r.drive.options r.drive.times) (view_of world r.drive);
+  long = λ r line h. long_lines_are_faults (recorded_rules r.drive.options r.drive.times) (view_of world r.drive) line h;
 }

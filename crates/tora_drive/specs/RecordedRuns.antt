@@ -4,7 +4,8 @@ use Rattle.tora_arq.specs.declared.times.Times.{Times}
 use Rattle.tora_lines.specs.LineText.{state_behind}
 use Rattle.tora_lines.specs.Shortened.{shortened}
 use Rattle.tora_world.specs.declared.event.Event.{Event}
-use Rattle.tora_world.specs.declared.limits.Limits.{Limits}
+use Rattle.tora_script.specs.declared.node_marks.Mark.{Mark}
+use Rattle.tora_script.specs.declared.setup.WorldOptions.{WorldOptions}
 use Rattle.tora_world.specs.World.{World, world_after_all}
 use Rattle.tora_world.specs.Walks.{AreIds}
 use Rattle.tora_sim.specs.Topologies.{topology_of}
@@ -21,31 +22,31 @@ unnoticed line = if says_notice line then [] else line
 -- what lines leave in a recorded drive they leave in a drive, where no line says `notice N K`
 abbrev pub RecordedAreDrives : Type 0
 RecordedAreDrives =
-    (limits : Limits) (times : Times) (lines : List (List ℕ)) (v : DriveView)
-    → state_behind (recorded_rules limits times) (recorded_rules limits times).start lines ≡ Some v → state_behind (drive_rules limits times) (drive_rules limits times).start (map unnoticed lines) ≡ Some v
+    (options : WorldOptions) (times : Times) (lines : List (List ℕ)) (v : DriveView)
+    → state_behind (recorded_rules options times) (recorded_rules options times).start lines ≡ Some v → state_behind (drive_rules options times) (drive_rules options times).start (map unnoticed lines) ≡ Some v
 
 abbrev pub RecordedSaysNoNotice : Type 0
 RecordedSaysNoNotice = (lines : List (List ℕ)) → SaysNoNotice (map unnoticed lines)
 
--- a world is the one behind some events, from the first world of some links, destinations and old nodes within the limits
-pub record IsOfHappened (limits : Limits) (times : Times) (w : World) : Type 0 where
+-- a world is the one behind some events, from the first world with these options of some links and destinations, and of what is said of single nodes
+pub record IsOfHappened (options : WorldOptions) (times : Times) (w : World) : Type 0 where
   pub links : List (ℕ × ℕ)
   pub dests : List ℕ
-  pub olds : List ℕ
+  pub marks : List Mark
   pub ids : AreIds (topology_of links dests)
   pub first : World
-  pub begins : started limits links dests olds times ≡ Some first
+  pub begins : started options links dests marks times ≡ Some first
   pub events : List Event
   pub world_is : w ≡ world_after_all first events
 
 -- this holds of the world behind any lines of a recorded drive, once it has one
-abbrev pub EveryRecordedDrive : (Limits → Times → World → Type 0) → Type 0
+abbrev pub EveryRecordedDrive : (WorldOptions → Times → World → Type 0) → Type 0
 EveryRecordedDrive Holds =
-    (limits : Limits) (times : Times) (lines : List (List ℕ)) (v : DriveView) (s : RunningView)
-    → state_behind (recorded_rules limits times) (recorded_rules limits times).start lines ≡ Some v → v.place.progress ≡ Progress.Runs s → Holds limits times s.world
+    (options : WorldOptions) (times : Times) (lines : List (List ℕ)) (v : DriveView) (s : RunningView)
+    → state_behind (recorded_rules options times) (recorded_rules options times).start lines ≡ Some v → v.place.progress ≡ Progress.Runs s → Holds options times s.world
 
 -- a line of more than 4,096 bytes, which is taken as an empty one, is a fault wherever it stands, and changes nothing
-abbrev pub LongLinesAreFaults : (Limits → Times → DriveView → List ℕ → DriveView × List ℕ) → Type 0
+abbrev pub LongLinesAreFaults : (WorldOptions → Times → DriveView → List ℕ → DriveView × List ℕ) → Type 0
 LongLinesAreFaults reply =
-    (limits : Limits) (times : Times) (v : DriveView) (line : List ℕ)
-    → 4096 < length line → reply limits times v (shortened line) ≡ (record v { lines = v.lines + 1 }, fault_line (v.lines + 1) (cause_of limits v.place.progress []))
+    (options : WorldOptions) (times : Times) (v : DriveView) (line : List ℕ)
+    → 4096 < length line → reply options times v (shortened line) ≡ (record v { lines = v.lines + 1 }, fault_line (v.lines + 1) (cause_of options.limits v.place.progress []))

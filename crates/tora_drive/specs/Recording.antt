@@ -10,7 +10,8 @@ use Rattle.tora_lines.specs.LineText.{Rules}
 use Rattle.tora_lines.specs.Engine.{IsWholeText, IsFrontOfText}
 use Rattle.tora_world.specs.declared.event.Event.{Event}
 use Rattle.tora_world.specs.declared.event.Event.TheVariants as Happen
-use Rattle.tora_world.specs.declared.limits.Limits.{Limits}
+use Rattle.tora_script.specs.declared.node_marks.Mark.{Mark}
+use Rattle.tora_script.specs.declared.setup.WorldOptions.{WorldOptions}
 use Rattle.tora_world.specs.World.{World, world_after_all}
 use Rattle.tora_script.specs.declared.script_line.SimulationLine.TheVariants.{Happens, Rounds, Part, Mend, Heights, Sent, Taken, Exact, Walk, Rest}
 use Rattle.tora_script.specs.declared.turns.EndTurn.{EndTurn}
@@ -18,7 +19,7 @@ use Rattle.tora_script.specs.Rounds.{Plan, repeats, end_event, Happened}
 use Rattle.tora_script.specs.Setup.{plain}
 use Rattle.tora_script.specs.Simulator.{started}
 use Rattle.tora_script.specs.SimulationGrammar.{call_text}
-use Rattle.tora_script.specs.SimulationLines.{link_of, old_of}
+use Rattle.tora_script.specs.SimulationLines.{link_of, mark_of}
 use Rattle.tora_script.specs.SimulationText.{RunningView, Progress, begun_in}
 use Rattle.tora_drive.specs.declared.cause.Cause.TheVariants.{Recorded}
 use Rattle.tora_drive.specs.declared.line.DriveLine.{DriveLine}
@@ -119,26 +120,26 @@ unfoldable pub answer_recorded : Record → RunningView → OwnView → List ℕ
 answer_recorded r s o text =
     option_map_or (λ line. option_map_or (λ q. line_recorded (step_recorded r s o line) line text q.refused) (outcome_of s o line) r) (line_in s.world o.forgotten text) r
 
--- of the line behind the last link and the last old node
-abbrev pub first_recorded : Record → Limits → Times → OwnView → List ℕ → List (ℕ × ℕ) → List ℕ → List ℕ → Record
-first_recorded r limits times o dests links olds line = option_map_or (λ w. answer_recorded r (begun_in dests (plain times) w) o line) (started limits links dests olds times) r
+-- of the line behind the last link and what is said of single nodes
+abbrev pub first_recorded : Record → WorldOptions → Times → OwnView → List ℕ → List (ℕ × ℕ) → List Mark → List ℕ → Record
+first_recorded r options times o dests links marks line = option_map_or (λ w. answer_recorded r (begun_in dests (plain times) w) o line) (started options links dests marks times) r
 
-abbrev pub link_recorded : Record → Limits → Times → OwnView → List ℕ → List (ℕ × ℕ) → List ℕ → List ℕ → Option (ℕ × ℕ) → Option ℕ → Record
-link_recorded r limits times o dests links olds line (Some link) old = with_line r line
-link_recorded r limits times o dests links olds line None (Some n) = with_line r line
-link_recorded r limits times o dests links olds line None None = first_recorded r limits times o dests links olds line
+abbrev pub link_recorded : Record → WorldOptions → Times → OwnView → List ℕ → List (ℕ × ℕ) → List Mark → List ℕ → Option (ℕ × ℕ) → Option Mark → Record
+link_recorded r options times o dests links marks line (Some link) mark = with_line r line
+link_recorded r options times o dests links marks line None (Some mark) = with_line r line
+link_recorded r options times o dests links marks line None None = first_recorded r options times o dests links marks line
 
 -- the same at any place: only links can have such a line behind them
-abbrev pub run_recorded : Record → Limits → Times → OwnView → Progress → List ℕ → Record
-run_recorded r limits times o Progress.First line = r
-run_recorded r limits times o (Progress.Links dests links olds) line = first_recorded r limits times o dests links olds line
-run_recorded r limits times o (Progress.Runs s) line = r
+abbrev pub run_recorded : Record → WorldOptions → Times → OwnView → Progress → List ℕ → Record
+run_recorded r options times o Progress.First line = r
+run_recorded r options times o (Progress.Links dests links marks) line = first_recorded r options times o dests links marks line
+run_recorded r options times o (Progress.Runs s) line = r
 
 -- of any line
-unfoldable pub place_recorded : Record → Limits → Times → OwnView → Progress → List ℕ → Record
-place_recorded r limits times o Progress.First line = with_line r line
-place_recorded r limits times o (Progress.Links dests links olds) line = link_recorded r limits times o dests links olds line (link_of line) (old_of line)
-place_recorded r limits times o (Progress.Runs s) line = answer_recorded r s o line
+unfoldable pub place_recorded : Record → WorldOptions → Times → OwnView → Progress → List ℕ → Record
+place_recorded r options times o Progress.First line = with_line r line
+place_recorded r options times o (Progress.Links dests links marks) line = link_recorded r options times o dests links marks line (link_of line) (mark_of line)
+place_recorded r options times o (Progress.Runs s) line = answer_recorded r s o line
 
 -- a record that has nothing yet, if there is one
 abbrev pub cleared : Record → Record
@@ -146,9 +147,9 @@ cleared None = None
 cleared (Some text) = Some []
 
 -- what a line has in a record; a fault has nothing
-abbrev pub drive_recorded : Record → Limits → Times → DriveView → List ℕ → Record
-drive_recorded r limits times v line =
-    option_map_or (λ q. place_recorded (cleared r) limits times v.place.own v.place.progress line) (place_reply limits times v.place.own v.place.progress line) (cleared r)
+abbrev pub drive_recorded : Record → WorldOptions → Times → DriveView → List ℕ → Record
+drive_recorded r options times v line =
+    option_map_or (λ q. place_recorded (cleared r) options times v.place.own v.place.progress line) (place_reply options times v.place.own v.place.progress line) (cleared r)
 
 -- ---- a drive that is recorded
 
@@ -172,18 +173,18 @@ abbrev pub unrecorded : DriveView → DriveView × List ℕ
 unrecorded v = (record v { lines = v.lines + 1 }, fault_line (v.lines + 1) Recorded)
 
 -- each line is answered as in any drive, but for `notice`
-abbrev pub recorded_reply : Limits → Times → DriveView → List ℕ → DriveView × List ℕ
-recorded_reply limits times v line = if says_notice line then unrecorded v else drive_reply limits times v line
+abbrev pub recorded_reply : WorldOptions → Times → DriveView → List ℕ → DriveView × List ℕ
+recorded_reply options times v line = if says_notice line then unrecorded v else drive_reply options times v line
 
-abbrev pub recorded_rules : Limits → Times → Rules DriveView
-recorded_rules limits times = record { start = (drive_rules limits times).start; reply = λ v line. Some (recorded_reply limits times v line); at_end = λ v n. None }
+abbrev pub recorded_rules : WorldOptions → Times → Rules DriveView
+recorded_rules options times = record { start = (drive_rules options times).start; reply = λ v line. Some (recorded_reply options times v line); at_end = λ v n. None }
 
 -- ---- what drive_recorded promises
 
 -- Known bytes grew by the answers to the lines of the input, and the input ends so.
-abbrev pub DrivesRecorded : Limits → Times → List ℕ → Option (List ℕ) → Option (List ℕ) → Ended → Type 0
-DrivesRecorded limits times input old new ended = IsWholeText (shortened_text (recorded_rules limits times)) input old new ended
+abbrev pub DrivesRecorded : WorldOptions → Times → List ℕ → Option (List ℕ) → Option (List ℕ) → Ended → Type 0
+DrivesRecorded options times input old new ended = IsWholeText (shortened_text (recorded_rules options times)) input old new ended
 
 -- The reader gave some bytes, and the writer got a front of the answers to them.
-abbrev pub IsRecordedBegun : Limits → Times → Option (List ℕ) → Option (List ℕ) → Option (List ℕ) → Option (List ℕ) → Type 0
-IsRecordedBegun limits times old_reader new_reader old_writer new_writer = IsFrontOfText (shortened_text (recorded_rules limits times)) old_reader new_reader old_writer new_writer
+abbrev pub IsRecordedBegun : WorldOptions → Times → Option (List ℕ) → Option (List ℕ) → Option (List ℕ) → Option (List ℕ) → Type 0
+IsRecordedBegun options times old_reader new_reader old_writer new_writer = IsFrontOfText (shortened_text (recorded_rules options times)) old_reader new_reader old_writer new_writer

@@ -5,7 +5,8 @@ use Rattle.tora_arq.specs.declared.times.Times.{Times}
 use Rattle.tora_lines.specs.LineText.{state_behind}
 use Rattle.tora_world.specs.declared.event.Event.{Event}
 use Rattle.tora_world.specs.declared.event.Event.TheVariants.{Tick}
-use Rattle.tora_world.specs.declared.limits.Limits.{Limits}
+use Rattle.tora_script.specs.declared.node_marks.Mark.{Mark}
+use Rattle.tora_script.specs.declared.setup.WorldOptions.{WorldOptions}
 use Rattle.tora_world.specs.Topology.{Topology, IsWithinLimits, is_link}
 use Rattle.tora_world.specs.World.{World, own_choice, first_world, world_after}
 use Rattle.tora_world.specs.FreeWorld.{Schedule, after_schedule, FreeEvent as Free}
@@ -57,28 +58,28 @@ IsNotice line = (n : ℕ) × (k : ℕ) × (drive_line_of line ≡ Some (Notice n
 abbrev pub SaysNoNotice : List (List ℕ) → Type 0
 SaysNoNotice lines = AllByRecursion (λ line. IsNotice line → ⊥) lines
 
--- A world is the one behind some events, from the first world of some links, destinations and old nodes within the limits; where no line cuts a life,
+-- A world is the one behind some events, from the first world with these options of some links and destinations, and of what is said of single nodes; where no line cuts a life,
 -- they are events of the simulator alone.
-pub record IsOfEvents (limits : Limits) (times : Times) (CutsNothing : Type 0) (w : World) : Type 0 where
+pub record IsOfEvents (options : WorldOptions) (times : Times) (CutsNothing : Type 0) (w : World) : Type 0 where
   pub links : List (ℕ × ℕ)
   pub dests : List ℕ
-  pub olds : List ℕ
+  pub marks : List Mark
   pub ids : AreIds (topology_of links dests)
   pub first : World
-  pub begins : started limits links dests olds times ≡ Some first
+  pub begins : started options links dests marks times ≡ Some first
   pub events : List DriveEvent
   pub world_is : w ≡ after_all_driven first events
   pub plain : CutsNothing → (happened : List Event) × (events ≡ happening happened)
 
 -- this holds of the world behind any lines of a drive, once it has one
-abbrev pub EveryDrive : (Limits → Times → List (List ℕ) → World → Type 0) → Type 0
+abbrev pub EveryDrive : (WorldOptions → Times → List (List ℕ) → World → Type 0) → Type 0
 EveryDrive Holds =
-    (limits : Limits) (times : Times) (lines : List (List ℕ)) (v : DriveView) (s : RunningView)
-    → state_behind (drive_rules limits times) (drive_rules limits times).start lines ≡ Some v → v.place.progress ≡ Progress.Runs s → Holds limits times lines s.world
+    (options : WorldOptions) (times : Times) (lines : List (List ℕ)) (v : DriveView) (s : RunningView)
+    → state_behind (drive_rules options times) (drive_rules options times).start lines ≡ Some v → v.place.progress ≡ Progress.Runs s → Holds options times lines s.world
 
 -- the world behind any lines of a drive is of events
 abbrev pub DrivesAreRuns : Type 0
-DrivesAreRuns = EveryDrive (λ limits times lines w. IsOfEvents limits times (SaysNoNotice lines) w)
+DrivesAreRuns = EveryDrive (λ options times lines w. IsOfEvents options times (SaysNoNotice lines) w)
 
 -- such events are a schedule
 abbrev pub AreSchedules : Type 0

@@ -8,13 +8,14 @@ use Rattle.tora_lines.specs.LineText.{state_behind}
 use Rattle.tora_packet.specs.PacketParts.{IsId}
 use Rattle.tora_world.specs.declared.event.Event.{Event}
 use Rattle.tora_world.specs.declared.event.Event.TheVariants as Happen
-use Rattle.tora_world.specs.declared.limits.Limits.{Limits}
+use Rattle.tora_script.specs.declared.node_marks.Mark.{Mark}
+use Rattle.tora_script.specs.declared.setup.WorldOptions.{WorldOptions}
 use Rattle.tora_world.specs.World.{World}
 use Rattle.tora_script.specs.declared.script_line.SimulationLine.{SimulationLine}
 use Rattle.tora_script.specs.declared.script_line.SimulationLine.TheVariants.{Happens, Rounds, Part, Mend, Heights, Sent, Taken, Exact, Walk, Rest}
 use Rattle.tora_script.specs.Setup.{plain}
 use Rattle.tora_script.specs.Simulator.{started}
-use Rattle.tora_script.specs.SimulationLines.{link_of, old_of, simulation_line_of}
+use Rattle.tora_script.specs.SimulationLines.{link_of, mark_of, simulation_line_of}
 use Rattle.tora_script.specs.SimulationText.{RunningView, Progress, begun_in, running_reply}
 use Rattle.tora_drive.specs.declared.line.DriveLine.{DriveLine}
 use Rattle.tora_drive.specs.declared.line.DriveLine.TheVariants.{Script, Step, Needs, Near, Far, Notice, Bytes, Forget}
@@ -103,42 +104,42 @@ StepsHaveNumbers =
 abbrev pub script_in : RunningView → OwnView → List ℕ → List SimulationLine
 script_in s o text = option_map_or (λ line. option_map_or (λ q. script_of s o line q.refused) (outcome_of s o line) []) (line_in s.world o.forgotten text) []
 
-abbrev pub first_script : Limits → Times → OwnView → List ℕ → List (ℕ × ℕ) → List ℕ → List ℕ → List SimulationLine
-first_script limits times o dests links olds line = option_map_or (λ w. script_in (begun_in dests (plain times) w) o line) (started limits links dests olds times) []
+abbrev pub first_script : WorldOptions → Times → OwnView → List ℕ → List (ℕ × ℕ) → List Mark → List ℕ → List SimulationLine
+first_script options times o dests links marks line = option_map_or (λ w. script_in (begun_in dests (plain times) w) o line) (started options links dests marks times) []
 
 -- the lines in front of the world have none
-abbrev pub link_script : Limits → Times → OwnView → List ℕ → List (ℕ × ℕ) → List ℕ → List ℕ → Option (ℕ × ℕ) → Option ℕ → List SimulationLine
-link_script limits times o dests links olds line (Some link) old = []
-link_script limits times o dests links olds line None (Some n) = []
-link_script limits times o dests links olds line None None = first_script limits times o dests links olds line
+abbrev pub link_script : WorldOptions → Times → OwnView → List ℕ → List (ℕ × ℕ) → List Mark → List ℕ → Option (ℕ × ℕ) → Option Mark → List SimulationLine
+link_script options times o dests links marks line (Some link) mark = []
+link_script options times o dests links marks line None (Some mark) = []
+link_script options times o dests links marks line None None = first_script options times o dests links marks line
 
-unfoldable pub place_script : Limits → Times → OwnView → Progress → List ℕ → List SimulationLine
-place_script limits times o Progress.First line = []
-place_script limits times o (Progress.Links dests links olds) line = link_script limits times o dests links olds line (link_of line) (old_of line)
-place_script limits times o (Progress.Runs s) line = script_in s o line
+unfoldable pub place_script : WorldOptions → Times → OwnView → Progress → List ℕ → List SimulationLine
+place_script options times o Progress.First line = []
+place_script options times o (Progress.Links dests links marks) line = link_script options times o dests links marks line (link_of line) (mark_of line)
+place_script options times o (Progress.Runs s) line = script_in s o line
 
 -- a fault has none
-abbrev pub line_script : Limits → Times → DriveView → List ℕ → List SimulationLine
-line_script limits times v line =
-    if says_notice line then [] else option_map_or (λ q. place_script limits times v.place.own v.place.progress line) (place_reply limits times v.place.own v.place.progress line) []
+abbrev pub line_script : WorldOptions → Times → DriveView → List ℕ → List SimulationLine
+line_script options times v line =
+    if says_notice line then [] else option_map_or (λ q. place_script options times v.place.own v.place.progress line) (place_reply options times v.place.own v.place.progress line) []
 
 -- the lines behind the links that stand for the lines of a recorded drive, from one on
-unfoldable pub scripts : Limits → Times → DriveView → List (List ℕ) → List SimulationLine
-scripts limits times v [] = []
-scripts limits times v (line ∷ lines) = line_script limits times v line ++ scripts limits times (recorded_reply limits times v line).0 lines
+unfoldable pub scripts : WorldOptions → Times → DriveView → List (List ℕ) → List SimulationLine
+scripts options times v [] = []
+scripts options times v (line ∷ lines) = line_script options times v line ++ scripts options times (recorded_reply options times v line).0 lines
 
--- A simulation is what lines leave of one that begins in the first world of some links, destinations and old nodes within the limits.
-pub record IsSimulated (limits : Limits) (times : Times) (script : List SimulationLine) (s : RunningView) : Type 0 where
+-- A simulation is what lines leave of one that begins in the first world with these options of some links and destinations, and of what is said of single nodes.
+pub record IsSimulated (options : WorldOptions) (times : Times) (script : List SimulationLine) (s : RunningView) : Type 0 where
   pub links : List (ℕ × ℕ)
   pub dests : List ℕ
-  pub olds : List ℕ
+  pub marks : List Mark
   pub first : World
-  pub begins : started limits links dests olds times ≡ Some first
+  pub begins : started options links dests marks times ≡ Some first
   pub leads : simulated (begun_in dests (plain times) first) script ≡ Some s
 
 -- behind any lines of a recorded drive, its simulation is what the lines that stand for them leave
 abbrev pub RecordsAreSimulated : Type 0
 RecordsAreSimulated =
-    (limits : Limits) (times : Times) (lines : List (List ℕ)) (v : DriveView) (s : RunningView)
-    → state_behind (recorded_rules limits times) (recorded_rules limits times).start lines ≡ Some v → v.place.progress ≡ Progress.Runs s
-    → IsSimulated limits times (scripts limits times (recorded_rules limits times).start lines) s
+    (options : WorldOptions) (times : Times) (lines : List (List ℕ)) (v : DriveView) (s : RunningView)
+    → state_behind (recorded_rules options times) (recorded_rules options times).start lines ≡ Some v → v.place.progress ≡ Progress.Runs s
+    → IsSimulated options times (scripts options times (recorded_rules options times).start lines) s

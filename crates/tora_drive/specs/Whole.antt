@@ -36,7 +36,7 @@ whole_run gone s = record s { air = whole_air (length gone) s.air; world = whole
 
 abbrev pub whole_progress : List FrameParts → Progress → Progress
 whole_progress gone Progress.First = Progress.First
-whole_progress gone (Progress.Links dests links olds) = Progress.Links dests links olds
+whole_progress gone (Progress.Links dests links marks) = Progress.Links dests links marks
 whole_progress gone (Progress.Runs s) = Progress.Runs (whole_run gone s)
 
 -- those that are gone can't be named any more either

@@ -4,15 +4,14 @@ ghost use Rattle.tora_arq.specs.Settings.{IsTimes};
 use crate::gone::Gone;
 use crate::own::Own;
 use tora_arq::Times;
-use tora_script::Stage;
-use tora_world::Limits;
+use tora_script::{Stage, WorldOptions};
 
-/// A drive, by how many lines came, how large its world may be, the times of its link ends, none of which is 0, the simulation that
+/// A drive, by how many lines came, the options of its world, the times of its link ends, none of which is 0, the simulation that
 /// the lines made, what is kept beside it, and the datagrams that it let go.
 #[derive(Drop)]
 pub struct Drive<S> {
     pub lines: u64,
-    pub limits: Limits,
+    pub options: WorldOptions,
     pub times: Times,
     pub stage: Stage<S>,
     pub own: Own,

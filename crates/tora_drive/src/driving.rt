@@ -13,8 +13,7 @@ use std::io;
 use std::io::{Read, Write};
 use tora_arq::Times;
 use tora_lines::{Ended, Output, ReplayError, read_shortened_lines};
-use tora_script::Stage;
-use tora_world::Limits;
+use tora_script::{Stage, WorldOptions};
 
 /// Greets who drives: writes `tora drive 1`, and hands it on.
 pub fn greet<W: Output>(writer: &mut W) -> io::Result<()>
@@ -25,7 +24,7 @@ pub fn greet<W: Output>(writer: &mut W) -> io::Result<()>
 }
 
 /// Reads lines to the end of the input, and writes the answer to each of them by one call of the
-/// writer's `write_all`, before it reads on. The world is within the limits, and its link ends have these times, none of which is 0.
+/// writer's `write_all`, before it reads on. The world has these options, and its link ends have these times, none of which is 0.
 ///
 /// A line of more than 4,096 bytes is taken as an empty one, which is a fault wherever it stands: the world stays as it stood, and
 /// the drive goes on.
@@ -35,7 +34,7 @@ pub fn greet<W: Output>(writer: &mut W) -> io::Result<()>
 #[tactic(auto, unfolding(tora_lines::specs::Shortened::shortened_text_of))]
 pub fn drive_in<S: Driven, R: Read, W: Write>(
     alloc: Global,
-    limits: Limits,
+    options: WorldOptions,
     times: Times,
     reader: &mut R,
     writer: &mut W,
@@ -43,15 +42,15 @@ pub fn drive_in<S: Driven, R: Read, W: Write>(
     requires { IsTimes times }
     // What was written is the answers to all lines, and the input ends so.
     ensures whole { IfOk result (λ ended. IfSome (R.remaining reader.old) (λ input.
-        Drives limits times input (W.contents writer.old) (W.contents writer.new) ended)) }
+        Drives options times input (W.contents writer.old) (W.contents writer.new) ended)) }
     ensures at_end { result ≡ Ok Ended.Whole → IsAtEnd (R.remaining reader.new) }
     // What was written begins the answers to what was read.
     ensures begun { IfErr result (λ e. e ≢ ReplayError.Write →
-        IsDriveBegun limits times (R.remaining reader.old) (R.remaining reader.new) (W.contents writer.old) (W.contents writer.new)) }
+        IsDriveBegun options times (R.remaining reader.old) (R.remaining reader.new) (W.contents writer.old) (W.contents writer.new)) }
 {
     let state: Drive<S> = Drive {
         lines: 0,
-        limits,
+        options,
         times,
         stage: Stage::First,
         own: Own::new(alloc),

@@ -12,7 +12,7 @@ ghost use Rattle.tora_drive.specs.RecordedRuns.{IsOfHappened, LongLinesAreFaults
 use tora_world::{exact_entries_give_walks, no_gap_law, prefix_law};
 
 /// Behind any lines of a drive, its world, once it has one, is the world behind some events and cuts of lives, from the first world of
-/// some links, destinations and old nodes within its limits. Those are a schedule of the world of all schedules, so its laws hold of
+/// some links and destinations, and of what is said of single nodes, with its options. Those are a schedule of the world of all schedules, so its laws hold of
 /// every drive.
 pub fn drives_are_runs_of_events()
     // Where no line says `notice N K`, no life is cut, and the events are those of the simulator alone.
@@ -20,11 +20,11 @@ pub fn drives_are_runs_of_events()
     // Events and cuts are a schedule of the free world.
     ensures schedules { AreSchedules }
     // The prefix law: what a core took from a neighbour in a life begins what the neighbour's core sent in it.
-    ensures prefix { EveryDrive (λ limits times lines w. TakenBeginsSent w) }
+    ensures prefix { EveryDrive (λ options times lines w. TakenBeginsSent w) }
     // The no-gap law: while a life is current at a core, all that the core broadcasts is sent in it.
-    ensures gapless { EveryDrive (λ limits times lines w. HasNoGaps times w) }
+    ensures gapless { EveryDrive (λ options times lines w. HasNoGaps times w) }
     // Exact entries give walks: where each entry that is not NULL is the neighbour's height, next hops lead to the destination.
-    ensures walks { EveryDrive (λ limits times lines w. (d n : ℕ) (height : Quintuple) → IsExact w d → height_at w n d ≡ Some (Some height) → Arrives w n d) }
+    ensures walks { EveryDrive (λ options times lines w. (d n : ℕ) (height : Quintuple) → IsExact w d → height_at w n d ≡ Some (Some height) → Arrives w n d) }
 {
     prefix_law();
     no_gap_law();
@@ -36,7 +36,7 @@ pub fn drives_are_runs_of_events()
 pub fn recorded_drives_are_drives()
     ensures drives { RecordedAreDrives }
     ensures silent { RecordedSaysNoNotice }
-    ensures events { EveryRecordedDrive (λ limits times w. IsOfHappened limits times w) }
+    ensures events { EveryRecordedDrive (λ options times w. IsOfHappened options times w) }
 {}
 
 /// The lines of a simulation file that a record has for a line of a drive leave of the simulation what that line leaves of it; and they

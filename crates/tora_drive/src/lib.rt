@@ -4,7 +4,7 @@
 //! The engine asks for a simulator (`Driven`), which `tora_sim::Sim` is. `docs/formats.md`, "Driving", says what the lines are.
 //!
 //! ```rust
-//! let ended = drive_in::<Sim, R, W>(alloc, Limits::STANDARD, Times::STANDARD, &mut reader, &mut writer)?;
+//! let ended = drive_in::<Sim, R, W>(alloc, WorldOptions::within(Limits::STANDARD), Times::STANDARD, &mut reader, &mut writer)?;
 //! ```
 #![tactic(auto)]
 

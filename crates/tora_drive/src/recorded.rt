@@ -16,9 +16,8 @@ use std::io::{Read, Write};
 use tora_arq::Times;
 use tora_lines::words::LineError;
 use tora_lines::{Ended, FileKind, Output, ReplayError, read_shortened_lines};
-use tora_script::Stage;
+use tora_script::{Stage, WorldOptions};
 use tora_traced::TraceOut;
-use tora_world::Limits;
 
 /// A drive whose record is written line by line.
 #[derive(Drop)]
@@ -64,7 +63,7 @@ impl<S: Driven, W: Output> FileKind for Recording<'_, S, W> {
 #[tactic(auto, unfolding(tora_lines::specs::Shortened::shortened_text_of))]
 pub fn drive_recorded<S: Driven, R: Read, W: Write, V: Output>(
     alloc: Global,
-    limits: Limits,
+    options: WorldOptions,
     times: Times,
     reader: &mut R,
     writer: &mut W,
@@ -73,16 +72,16 @@ pub fn drive_recorded<S: Driven, R: Read, W: Write, V: Output>(
     requires { IsTimes times }
     // What was written is the answers to all lines, and the input ends so.
     ensures whole { IfOk result (λ ended. IfSome (R.remaining reader.old) (λ input.
-        DrivesRecorded limits times input (W.contents writer.old) (W.contents writer.new) ended)) }
+        DrivesRecorded options times input (W.contents writer.old) (W.contents writer.new) ended)) }
     ensures at_end { result ≡ Ok Ended.Whole → IsAtEnd (R.remaining reader.new) }
     // What was written begins the answers to what was read.
     ensures begun { IfErr result (λ e. e ≢ ReplayError.Write →
-        IsRecordedBegun limits times (R.remaining reader.old) (R.remaining reader.new) (W.contents writer.old) (W.contents writer.new)) }
+        IsRecordedBegun options times (R.remaining reader.old) (R.remaining reader.new) (W.contents writer.old) (W.contents writer.new)) }
 {
     let state: Recording<'_, S, V> = Recording {
         drive: Drive {
             lines: 0,
-            limits,
+            options,
             times,
             stage: Stage::First,
             own: Own::recorded(alloc),

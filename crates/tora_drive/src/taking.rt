@@ -21,14 +21,15 @@ use std::alloc::{AllocError, Global};
 use tora_arq::Times;
 use tora_lines::FileKind;
 use tora_lines::words::LineError;
-use tora_script::{LinkLines, Running, Setup, Stage, first_line, link, old, take_link, take_old};
-use tora_world::Limits;
+use tora_script::{
+    LinkLines, Running, Setup, Stage, WorldOptions, first_line, link, mark, take_link, take_mark,
+};
 
-/// Takes a line behind the last link and the last old node, which makes the world; at least one link is required. A line that is a
+/// Takes a line behind the last link and what is said of single nodes, which makes the world; at least one link is required. A line that is a
 /// fault changes nothing.
 fn begin<S: Driven>(
     alloc: Global,
-    limits: Limits,
+    options: WorldOptions,
     times: Times,
     lines: &LinkLines,
     own: &mut Own,
@@ -39,18 +40,18 @@ fn begin<S: Driven>(
     requires times { IsTimes times }
     requires empty { string_bytes text.old ≡ [] }
     requires none { gone.now ≡ [] }
-    ensures gives { Gives (λ s. (whole_run gone.now (running_view S.world s), whole_own (length gone.now) (own_view own.new), string_bytes text.new)) result (first_answer limits times (whole_own (length gone.now) (own_view own.old)) lines.now.dests.items lines.now.links.items lines.now.olds.items line.now) }
+    ensures gives { Gives (λ s. (whole_run gone.now (running_view S.world s), whole_own (length gone.now) (own_view own.new), string_bytes text.new)) result (first_answer options times (whole_own (length gone.now) (own_view own.old)) lines.now.dests.items lines.now.links.items lines.now.marks.items line.now) }
     ensures own { result ≡ Err LineError.Fault → own_view own.new ≡ own_view own.old }
-    ensures record { IfOk result (λ _. record_view own.new ≡ first_recorded (record_view own.old) limits times (whole_own (length gone.now) (own_view own.old)) lines.now.dests.items lines.now.links.items lines.now.olds.items line.now) }
+    ensures record { IfOk result (λ _. record_view own.new ≡ first_recorded (record_view own.old) options times (whole_own (length gone.now) (own_view own.old)) lines.now.dests.items lines.now.links.items lines.now.marks.items line.now) }
 {
     if lines.links.is_empty() {
         return Err(LineError::Fault);
     }
     let setup = Setup {
-        limits,
+        options,
         ..Setup::plain(times)
     };
-    let mut running = Running::new(alloc, &lines.dests, &lines.links, &lines.olds, setup)?;
+    let mut running = Running::new(alloc, &lines.dests, &lines.links, &lines.marks, setup)?;
     answer(alloc, &mut running, own, gone, line, text)?;
     Ok(running)
 }
@@ -90,14 +91,14 @@ fn begin_links<S: Driven>(
     Ok(())
 }
 
-/// Takes a line behind the links that is none of them and no old node; the simulation runs behind it. At any other place there is no such
+/// Takes a line behind the links that is none of them and says nothing of a node; the simulation runs behind it. At any other place there is no such
 /// line, and nothing changes. Before the simulation runs no datagram is gone.
 #[inline(never)]
 fn begin_run<S: Driven>(
     stage: &mut Stage<S>,
     own: &mut Own,
     gone: &Gone,
-    limits: Limits,
+    options: WorldOptions,
     times: Times,
     alloc: Global,
     line: &[u8],
@@ -105,10 +106,10 @@ fn begin_run<S: Driven>(
 ) -> Result<(), LineError>
     requires times { IsTimes times }
     requires empty { string_bytes text.old ≡ [] }
-    ensures gives { Gives (λ _. placed (whole_progress gone.now (progress_of S.world stage.new)) (whole_own (length gone.now) (own_view own.new)) (string_bytes text.new)) result (run_begun limits times (whole_own (length gone.now) (own_view own.old)) (whole_progress gone.now (progress_of S.world stage.old)) line.now) }
+    ensures gives { Gives (λ _. placed (whole_progress gone.now (progress_of S.world stage.new)) (whole_own (length gone.now) (own_view own.new)) (string_bytes text.new)) result (run_begun options times (whole_own (length gone.now) (own_view own.old)) (whole_progress gone.now (progress_of S.world stage.old)) line.now) }
     ensures kept { result ≡ Err LineError.Fault → progress_of S.world stage.new ≡ progress_of S.world stage.old }
     ensures own { result ≡ Err LineError.Fault → own_view own.new ≡ own_view own.old }
-    ensures record { OnOk result (record_view own.new ≡ run_recorded (record_view own.old) limits times (whole_own (length gone.now) (own_view own.old)) (whole_progress gone.now (progress_of S.world stage.old)) line.now) }
+    ensures record { OnOk result (record_view own.new ≡ run_recorded (record_view own.old) options times (whole_own (length gone.now) (own_view own.old)) (whole_progress gone.now (progress_of S.world stage.old)) line.now) }
 {
     let Stage::Links(lines) = stage else {
         return Err(LineError::Fault);
@@ -116,7 +117,7 @@ fn begin_run<S: Driven>(
     if gone.count() > 0 {
         return Err(LineError::Memory);
     }
-    let running = begin(alloc, limits, times, lines, own, gone, line, text)?;
+    let running = begin(alloc, options, times, lines, own, gone, line, text)?;
     *stage = Stage::Runs(running);
     Ok(())
 }
@@ -128,7 +129,7 @@ fn take_line<S: Driven>(
     stage: &mut Stage<S>,
     own: &mut Own,
     gone: &Gone,
-    limits: Limits,
+    options: WorldOptions,
     times: Times,
     alloc: Global,
     line: &[u8],
@@ -136,10 +137,10 @@ fn take_line<S: Driven>(
 ) -> Result<(), LineError>
     requires times { IsTimes times }
     requires empty { string_bytes text.old ≡ [] }
-    ensures gives { Gives (λ _. placed (whole_progress gone.now (progress_of S.world stage.new)) (whole_own (length gone.now) (own_view own.new)) (string_bytes text.new)) result (place_reply limits times (whole_own (length gone.now) (own_view own.old)) (whole_progress gone.now (progress_of S.world stage.old)) line.now) }
+    ensures gives { Gives (λ _. placed (whole_progress gone.now (progress_of S.world stage.new)) (whole_own (length gone.now) (own_view own.new)) (string_bytes text.new)) result (place_reply options times (whole_own (length gone.now) (own_view own.old)) (whole_progress gone.now (progress_of S.world stage.old)) line.now) }
     ensures kept { result ≡ Err LineError.Fault → progress_of S.world stage.new ≡ progress_of S.world stage.old }
     ensures own { result ≡ Err LineError.Fault → own_view own.new ≡ own_view own.old }
-    ensures record { OnOk result (record_view own.new ≡ place_recorded (record_view own.old) limits times (whole_own (length gone.now) (own_view own.old)) (whole_progress gone.now (progress_of S.world stage.old)) line.now) }
+    ensures record { OnOk result (record_view own.new ≡ place_recorded (record_view own.old) options times (whole_own (length gone.now) (own_view own.old)) (whole_progress gone.now (progress_of S.world stage.old)) line.now) }
 {
     match stage {
         Stage::First => {
@@ -153,12 +154,12 @@ fn take_line<S: Driven>(
                 take_in(own, line, text)?;
                 return Ok(());
             }
-            if let Some(n) = old(line) {
-                take_old(limits, lines, n)?;
+            if let Some(mark) = mark(line) {
+                take_mark(options.limits, lines, mark)?;
                 take_in(own, line, text)?;
                 return Ok(());
             }
-            begin_run(stage, own, gone, limits, times, alloc, line, text)
+            begin_run(stage, own, gone, options, times, alloc, line, text)
         }
         Stage::Runs(running) => answer(alloc, running, own, gone, line, text),
     }
@@ -169,7 +170,7 @@ fn take_and_give_back<S: Driven>(
     stage: &mut Stage<S>,
     own: &mut Own,
     gone: &mut Gone,
-    limits: Limits,
+    options: WorldOptions,
     times: Times,
     alloc: Global,
     line: &[u8],
@@ -177,11 +178,11 @@ fn take_and_give_back<S: Driven>(
 ) -> Result<(), LineError>
     requires times { IsTimes times }
     requires empty { string_bytes text.old ≡ [] }
-    ensures gives { Gives (λ _. placed (whole_progress gone.new (progress_of S.world stage.new)) (whole_own (length gone.new) (own_view own.new)) (string_bytes text.new)) result (place_reply limits times (whole_own (length gone.old) (own_view own.old)) (whole_progress gone.old (progress_of S.world stage.old)) line.now) }
+    ensures gives { Gives (λ _. placed (whole_progress gone.new (progress_of S.world stage.new)) (whole_own (length gone.new) (own_view own.new)) (string_bytes text.new)) result (place_reply options times (whole_own (length gone.old) (own_view own.old)) (whole_progress gone.old (progress_of S.world stage.old)) line.now) }
     ensures kept { result ≡ Err LineError.Fault → whole_place gone.new (progress_of S.world stage.new) (own_view own.new) ≡ whole_place gone.old (progress_of S.world stage.old) (own_view own.old) }
-    ensures record { OnOk result (record_view own.new ≡ place_recorded (record_view own.old) limits times (whole_own (length gone.old) (own_view own.old)) (whole_progress gone.old (progress_of S.world stage.old)) line.now) }
+    ensures record { OnOk result (record_view own.new ≡ place_recorded (record_view own.old) options times (whole_own (length gone.old) (own_view own.old)) (whole_progress gone.old (progress_of S.world stage.old)) line.now) }
 {
-    take_line(stage, own, gone, limits, times, alloc, line, text)?;
+    take_line(stage, own, gone, options, times, alloc, line, text)?;
     give_back(stage, own, gone);
     Ok(())
 }
@@ -190,22 +191,22 @@ impl<S: Driven> Drive<S> {
     /// Takes a line, and puts the answer behind an empty text; the record, if there is one, is then that of this line alone.
     pub fn reply(&mut self, alloc: Global, line: &[u8], text: &mut String) -> Result<(), AllocError>
         requires { string_bytes text.old ≡ [] }
-        ensures answer { OnOk result ((view_of S.world self.new, string_bytes text.new) ≡ drive_reply self.old.limits self.old.times (view_of S.world self.old) line.now) }
-        ensures record { OnOk result (record_view self.new.own ≡ drive_recorded (record_view self.old.own) self.old.limits self.old.times (view_of S.world self.old) line.now) }
-        ensures limits { self.new.limits ≡ self.old.limits }
+        ensures answer { OnOk result ((view_of S.world self.new, string_bytes text.new) ≡ drive_reply self.old.options self.old.times (view_of S.world self.old) line.now) }
+        ensures record { OnOk result (record_view self.new.own ≡ drive_recorded (record_view self.old.own) self.old.options self.old.times (view_of S.world self.old) line.now) }
+        ensures options { self.new.options ≡ self.old.options }
         ensures times { self.new.times ≡ self.old.times }
     {
         let Some(number) = self.lines.checked_add(1) else {
             return Err(AllocError);
         };
-        let (limits, times) = (self.limits, self.times);
+        let (options, times) = (self.options, self.times);
         let is_recorded = self.own.recorded.is_some();
         self.own.clear_record();
         let taken = take_and_give_back(
             &mut self.stage,
             &mut self.own,
             &mut self.gone,
-            limits,
+            options,
             times,
             alloc,
             line,
@@ -219,7 +220,7 @@ impl<S: Driven> Drive<S> {
                 LineError::Fault => {
                     self.own.renew_record(alloc, is_recorded);
                     text.clear();
-                    let cause = fault_cause(limits, &self.stage, &self.gone, line);
+                    let cause = fault_cause(options.limits, &self.stage, &self.gone, line);
                     write_fault(text, number, cause)?;
                     Ok(())
                 }
@@ -231,7 +232,7 @@ impl<S: Driven> Drive<S> {
     pub fn refuse(&mut self, text: &mut String) -> Result<(), AllocError>
         requires { string_bytes text.old ≡ [] }
         ensures answer { OnOk result ((view_of S.world self.new, string_bytes text.new) ≡ unrecorded (view_of S.world self.old)) }
-        ensures limits { self.new.limits ≡ self.old.limits }
+        ensures options { self.new.options ≡ self.old.options }
         ensures times { self.new.times ≡ self.old.times }
     {
         let Some(number) = self.lines.checked_add(1) else {

@@ -129,3 +129,7 @@ came_one size coming rest count buffer room h = record {
   coming_is = h.1;
   readings_are = ap (λ reading. reading ∷ []) (ap frame_reading h.2.bytes ∙ reading_of_cut size h.0 room);
 }
+
+-- none is
+pub came_none : (coming rest : List (List ℕ)) → rest ≡ coming → Came coming [] rest
+came_none coming rest same = record { given = []; coming_is = sym same; readings_are = refl }

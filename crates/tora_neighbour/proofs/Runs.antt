@@ -8,7 +8,7 @@ use Rattle.tora_frame.specs.FrameGrammar.{frame_spelling, frame_reading}
 use Rattle.tora_arq.specs.Settings.{Settings}
 use Rattle.tora_arq.specs.LinkEnd.{EndState}
 use Rattle.tora_arq.specs.LinkFacts.{list_of}
-use Rattle.tora_neighbour.specs.Turns.{Turn, IsTurn, AreTurns, AreBeats, AreTold, AreRead, is_beat_due, beat_after, tally_after}
+use Rattle.tora_neighbour.specs.Turns.{Turn, came_of, IsTurn, AreTurns, AreBeats, AreRead, is_beat_due, beat_after, tally_after}
 use Rattle.tora_neighbour.specs.Traffic.{Outside, Traffic, Came, AreDrawn, entries_of, numbers_opened, frames_sent, readings_come}
 use Rattle.tora_neighbour.specs.declared.tally.Tally.{Tally}
 use Rattle.tora_neighbour.specs.Intake.{Reading}
@@ -46,7 +46,7 @@ traffic_more a b c ts us first second = record {
       ∙ ap (λ xs. xs ++ map frame_spelling (frames_sent us)) (first.tries (second.tells yes))
       ∙ append_assoc a.tries (map frame_spelling (frames_sent ts)) (map frame_spelling (frames_sent us))
       ∙ ap (λ xs. a.tries ++ xs) (sym (map-append frame_spelling (frames_sent ts) (frames_sent us)) ∙ ap (map frame_spelling) (sym (flat_map-append (λ t. t.sent) ts us)));
-  came = λ yes. subst (λ (rs : List Reading). Came a.coming rs c.coming) (sym (flat_map-append (λ t. list_of t.came) ts us))
+  came = λ yes. subst (λ (rs : List Reading). Came a.coming rs c.coming) (sym (flat_map-append (λ t. list_of (came_of t)) ts us))
       (came_more a.coming b.coming c.coming (readings_come ts) (readings_come us) (first.came (second.tells yes)) (second.came yes));
 }
 
@@ -69,15 +69,6 @@ pub tally_more : (first : Tally) (ts : List Turn) (mid : Tally) (t : Turn) (afte
 tally_more first [] mid t after so one = one ∙ ap (counted_in t.intake) so
 tally_more first (u ∷ ts) mid t after so one = tally_more (counted_in u.intake first) ts mid t after so one
 
-pub told_more : (told : ℕ → Type 0) (ts : List Turn) (t : Turn) → AreTold told ts → told t.now → AreTold told (ts ++ t ∷ [])
-told_more told [] t so one = (one, tt)
-told_more told (u ∷ ts) t so one = (so.0, told_more told ts t so.1 one)
-
 pub read_more : {T : Type 0} (read : T → ℕ → T → Type 0) (first : T) (ts : List Turn) (mid : T) (t : Turn) (after : T) → AreRead read first ts mid → read mid t.now after → AreRead read first (ts ++ t ∷ []) after
 read_more read first [] mid t after so one = (after, subst (λ x. read x t.now after) so one, refl)
 read_more read first (u ∷ ts) mid t after so one = (so.0, so.1, read_more read so.0 ts mid t after so.2 one)
-
--- a source whose readings are those of a clock that stays
-pub read_told : {T : Type 0} (told : T → ℕ → Type 0) (ticks : T) (ts : List Turn) (after : T) → AreRead (λ before now next. told before now × (next ≡ before)) ticks ts after → AreTold (told ticks) ts
-read_told told ticks [] after so = tt
-read_told told ticks (t ∷ ts) after so = (so.1.0, read_told told ticks ts after (subst (λ x. AreRead (λ before now next. told before now × (next ≡ before)) x ts after) so.1.1 so.2))

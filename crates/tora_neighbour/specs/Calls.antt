@@ -32,10 +32,10 @@ SendsSome send w [] (answer ∷ answers) after = ⊥
 SendsSome send w (frame ∷ frames) [] after = ⊥
 SendsSome {W = W} send w (frame ∷ frames) (answer ∷ answers) after = (between : W) × send w (frame_spelling frame) answer between × SendsSome send between frames answers after
 
--- one receive, with this answer
-abbrev pub ReceivesOnce : {W : Type 0} → (W → Result (Option ℕ) WireError → List ℕ → W → Type 0) → W → Option (Result (Option ℕ) WireError) → W → Type 0
-ReceivesOnce receive w None after = ⊥
-ReceivesOnce receive w (Some answer) after = (buffer : List ℕ) × receive w answer buffer after
+-- one receive, with this answer and this in its buffer then: what came in is what these say (`came_in`)
+abbrev pub ReceivesOnce : {W : Type 0} → (W → Result (Option ℕ) WireError → List ℕ → W → Type 0) → W → Option (Result (Option ℕ) WireError) → List ℕ → W → Type 0
+ReceivesOnce receive w None buffer after = ⊥
+ReceivesOnce receive w (Some answer) buffer after = receive w answer buffer after
 
 -- these events are put, one after another
 abbrev pub PutsSome : {H : Type 0} → (H → ℕ → What → Result (Unit {0}) Gone → H → Type 0) → ℕ → H → List LinkEvent → H → Type 0
@@ -52,7 +52,7 @@ pub record TurnCalls {H W : Type 0} (take : H → Option Cargo → H → Type 0)
   pub told : H
   pub takes : TakesAll take h t.cargoes taken
   pub sends : SendsSome send w t.sent t.answers sent
-  pub receives : ReceivesOnce receive sent t.answer w_after
+  pub receives : ReceivesOnce receive sent t.answer t.buffer w_after
   pub puts : PutsSome put t.now taken t.told told
   pub beat : PutsBeat put t.now t.beat told h_after
 
@@ -74,14 +74,14 @@ PutsNoMore {H = H} put now h told None after = (between : H) × PutsSome put now
 PutsNoMore put now h told (Some event) after = PutsUpTo put now h told (Some event) after
 
 -- the calls of a wire up to the one that breaks it
-abbrev pub ExchangesUpTo : {W : Type 0} → (W → List ℕ → Result (Unit {0}) WireError → W → Type 0) → (W → Result (Option ℕ) WireError → List ℕ → W → Type 0) → W → List FrameParts → List (Result (Unit {0}) WireError) → Option (Result (Option ℕ) WireError) → BrokenAt → W → Type 0
-ExchangesUpTo send receive w frames answers answer Send after = SendsSome send w frames answers after × (answer ≡ None)
-ExchangesUpTo {W = W} send receive w frames answers answer Receive after = (sent : W) × SendsSome send w frames answers sent × ReceivesOnce receive sent answer after
+abbrev pub ExchangesUpTo : {W : Type 0} → (W → List ℕ → Result (Unit {0}) WireError → W → Type 0) → (W → Result (Option ℕ) WireError → List ℕ → W → Type 0) → W → List FrameParts → List (Result (Unit {0}) WireError) → Option (Result (Option ℕ) WireError) → List ℕ → BrokenAt → W → Type 0
+ExchangesUpTo send receive w frames answers answer buffer Send after = SendsSome send w frames answers after × (answer ≡ None)
+ExchangesUpTo {W = W} send receive w frames answers answer buffer Receive after = (sent : W) × SendsSome send w frames answers sent × ReceivesOnce receive sent answer buffer after
 
 -- the calls of the last turn, by how it ends
 abbrev pub LastCalls : {H W : Type 0} → (H → Option Cargo → H → Type 0) → (H → ℕ → What → Result (Unit {0}) Gone → H → Type 0) → (W → List ℕ → Result (Unit {0}) WireError → W → Type 0) → (W → Result (Option ℕ) WireError → List ℕ → W → Type 0) → H → W → Turn → Ending → H → W → Type 0
 LastCalls take put send receive h w t (NoNumber error) h_after w_after = (h_after ≡ h) × (w_after ≡ w)
 LastCalls {H = H} take put send receive h w t (Broken at) h_after w_after =
-    (taken : H) × TakesAll take h t.cargoes taken × ExchangesUpTo send receive w t.sent t.answers t.answer at w_after × PutsUpTo put t.now taken t.told t.refused h_after
+    (taken : H) × TakesAll take h t.cargoes taken × ExchangesUpTo send receive w t.sent t.answers t.answer t.buffer at w_after × PutsUpTo put t.now taken t.told t.refused h_after
 LastCalls {H = H} {W = W} take put send receive h w t Refused h_after w_after =
-    (taken : H) × (sent : W) × TakesAll take h t.cargoes taken × SendsSome send w t.sent t.answers sent × ReceivesOnce receive sent t.answer w_after × PutsNoMore put t.now taken t.told t.refused h_after
+    (taken : H) × (sent : W) × TakesAll take h t.cargoes taken × SendsSome send w t.sent t.answers sent × ReceivesOnce receive sent t.answer t.buffer w_after × PutsNoMore put t.now taken t.told t.refused h_after

@@ -1,11 +1,13 @@
 -- What a link end makes of a datagram. Its reading is the frame that it spells, or why it spells none.
-use Rattle.std.specs.Prelude.{ℕ, Option, Some, None, Result, Ok, Err}
+use Rattle.std.specs.Prelude.{ℕ, List, take, Option, Some, None, Result, Ok, Err}
 use Rattle.tora_frame.specs.declared.FrameError.{FrameError}
 use Rattle.tora_frame.specs.FrameParts.{FrameParts}
+use Rattle.tora_frame.specs.FrameGrammar.{frame_reading}
 use Rattle.tora_arq.specs.Settings.{Settings}
 use Rattle.tora_arq.specs.LinkEnd.{EndState, verdict_of, after_frame}
 use Rattle.tora_neighbour.specs.declared.intake.Intake.{Intake}
 use Rattle.tora_neighbour.specs.declared.intake.Intake.TheVariants.{Bad, Seen}
+use Rattle.tora_neighbour.specs.declared.wire.WireError.{WireError}
 
 abbrev pub Reading : Type 0
 Reading = Result FrameParts FrameError
@@ -27,3 +29,10 @@ intake_in s e now (Some reading) = Some (intake_of s e now reading)
 abbrev pub after_came : Settings → EndState → ℕ → Option Reading → EndState
 after_came s e now None = e
 after_came s e now (Some reading) = after_reading s e now reading
+
+-- what came in by a receive, if one was made: what the bytes spell that it has put at the front of its buffer, as many as it answered, or nothing
+abbrev pub came_in : Option (Result (Option ℕ) WireError) → List ℕ → Option Reading
+came_in None buffer = None
+came_in (Some (Ok (Some n))) buffer = Some (frame_reading (take n buffer))
+came_in (Some (Ok None)) buffer = None
+came_in (Some (Err error)) buffer = None

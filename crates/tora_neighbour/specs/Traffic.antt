@@ -12,7 +12,7 @@ use Rattle.tora_neighbour.specs.declared.hub.Put.{Put as Entry}
 use Rattle.tora_neighbour.specs.declared.link.Link.{Link}
 use Rattle.tora_neighbour.specs.Puts.{put_of}
 use Rattle.tora_neighbour.specs.Intake.{Reading}
-use Rattle.tora_neighbour.specs.Turns.{Turn}
+use Rattle.tora_neighbour.specs.Turns.{Turn, came_of}
 
 -- what the file, the hub and the wire tell of themselves
 pub record Outside : Type 0 where
@@ -55,7 +55,7 @@ frames_sent turns = flat_map (λ t. t.sent) turns
 
 -- what the datagrams that came spell
 abbrev pub readings_come : List Turn → List Reading
-readings_come turns = flat_map (λ t. list_of t.came) turns
+readings_come turns = flat_map (λ t. list_of (came_of t)) turns
 
 -- ---- what they have to do with what is told
 

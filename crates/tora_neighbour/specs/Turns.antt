@@ -9,7 +9,7 @@ use Rattle.tora_arq.specs.LinkFacts.{list_of}
 use Rattle.tora_neighbour.specs.declared.intake.Intake.{Intake}
 use Rattle.tora_neighbour.specs.declared.tally.Tally.{Tally}
 use Rattle.tora_neighbour.specs.declared.wire.WireError.{WireError}
-use Rattle.tora_neighbour.specs.Intake.{Reading, intake_in, after_came}
+use Rattle.tora_neighbour.specs.Intake.{Reading, came_in, intake_in, after_came}
 use Rattle.tora_neighbour.specs.Tally.{counted_in}
 use Rattle.tora_neighbour.specs.declared.ending.Ending.{Ending}
 use Rattle.tora_neighbour.specs.declared.ending.Ending.TheVariants.{NoNumber, Broken, Refused}
@@ -26,11 +26,15 @@ pub record Turn : Type 0 where
   pub sent : List FrameParts  -- the frames that the end gave to be sent
   pub answers : List (Result (Unit {0}) WireError)  -- what the wire answered to each of them
   pub answer : Option (Result (Option ℕ) WireError)  -- and to the receive, if one was made
-  pub came : Option Reading  -- what the datagram that came spells, if one came
+  pub buffer : List ℕ  -- and what its buffer held then
   pub intake : Option Intake  -- what the end made of it
   pub told : List LinkEvent  -- the events that the end gave and that were put
   pub refused : Option LinkEvent  -- the event that the end gave and that was not put
   pub beat : Bool  -- whether a beat was put
+
+-- what came in it
+abbrev pub came_of : Turn → Option Reading
+came_of t = came_in t.answer t.buffer
 
 -- ---- what each part of a turn makes of the end
 
@@ -65,7 +69,7 @@ when_none_due s e t = after_transmit s (when_sent s e t) t.now
 
 -- once a datagram came, if one did
 abbrev pub when_heard : Settings → EndState → Turn → EndState
-when_heard s e t = after_came s (when_none_due s e t) t.now t.came
+when_heard s e t = after_came s (when_none_due s e t) t.now (came_of t)
 
 -- ---- what has to hold
 
@@ -96,7 +100,7 @@ pub record Tells (e : EndState) (told : List LinkEvent) (refused : Option LinkEv
 pub record IsTurn (s : Settings) (e : EndState) (t : Turn) (after : EndState) : Type 0 where
   pub begins : Begins s e t
   pub none_due : frame_due s (when_sent s e t) t.now ≡ None
-  pub heard : t.intake ≡ intake_in s (when_none_due s e t) t.now t.came
+  pub heard : t.intake ≡ intake_in s (when_none_due s e t) t.now (came_of t)
   pub tells : Tells (when_heard s e t) t.told t.refused after
   pub accepted : t.refused ≡ None
 
@@ -117,11 +121,6 @@ AreBeats last (t ∷ turns) after = (t.beat ≡ is_beat_due last t.now) × AreBe
 
 -- ---- ticks
 
--- the tick of each turn is one that was told
-abbrev pub AreTold : (ℕ → Type 0) → List Turn → Type 0
-AreTold told [] = Unit {0}
-AreTold told (t ∷ turns) = told t.now × AreTold told turns
-
 -- each turn has read its own tick, one after another
 abbrev pub AreRead : {T : Type 0} → (T → ℕ → T → Type 0) → T → List Turn → T → Type 0
 AreRead read ticks [] after = after ≡ ticks
@@ -138,7 +137,7 @@ tally_after tally (t ∷ turns) = tally_after (counted_in t.intake tally) turns
 
 -- nothing came to the end, and it gave nothing
 abbrev pub idle_turn : ℕ → Turn
-idle_turn now = record { now = now; opened = None; cargoes = []; sent = []; answers = []; answer = None; came = None; intake = None; told = []; refused = None; beat = false }
+idle_turn now = record { now = now; opened = None; cargoes = []; sent = []; answers = []; answer = None; buffer = []; intake = None; told = []; refused = None; beat = false }
 
 -- no number: nothing else is done
 pub record EndsWithNoNumber (e : EndState) (t : Turn) (after : EndState) : Type 0 where
@@ -148,7 +147,7 @@ pub record EndsWithNoNumber (e : EndState) (t : Turn) (after : EndState) : Type 
 
 -- the wire is broken: the bound life is cut, and the events that are left are told
 pub record EndsBroken (e : EndState) (t : Turn) (after : EndState) : Type 0 where
-  pub nothing_came : t.came ≡ None
+  pub nothing_came : came_of t ≡ None
   pub nothing_heard : t.intake ≡ None
   pub tells : Tells (after_cut_of_bound e (bound_life e)) t.told t.refused after
   pub no_beat : IsFalse t.beat
@@ -166,7 +165,7 @@ pub record EndsBrokenAtSend (s : Settings) (e : EndState) (t : Turn) (after : En
 pub record EndsRefused (s : Settings) (last_beat : Option ℕ) (e : EndState) (t : Turn) (after : EndState) : Type 0 where
   pub begins : Begins s e t
   pub none_due : frame_due s (when_sent s e t) t.now ≡ None
-  pub heard : t.intake ≡ intake_in s (when_none_due s e t) t.now t.came
+  pub heard : t.intake ≡ intake_in s (when_none_due s e t) t.now (came_of t)
   pub tells : Tells (when_heard s e t) t.told t.refused after
   pub no_beat : IsFalse t.beat
   pub due : t.refused ≡ None → IsTrue (is_beat_due last_beat t.now)

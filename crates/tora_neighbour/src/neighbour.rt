@@ -2,19 +2,18 @@
 ghost use Rattle.std.specs.Prelude.{◌≡◌, [], ◌∷◌, ◌++◌, ℕ, List};
 ghost use Rattle.tora_arq.specs.LinkEnd.{first_end};
 ghost use Rattle.tora_neighbour.specs.Tally.{first_tally};
-ghost use Rattle.tora_neighbour.specs.Turns.{Turn, IsTurnRun, AreRead, AreTold, tally_after};
+ghost use Rattle.tora_neighbour.specs.Turns.{Turn, IsTurnRun, AreRead, tally_after};
 ghost use Rattle.tora_neighbour.specs.Traffic.{Traffic, outside};
 ghost use Rattle.tora_neighbour.specs.Calls.{AreCalls, LastCalls};
 ghost use Rattle.tora_neighbour.specs.Causes.{fault_of, IsEndOf};
 ghost use Rattle.tora_neighbour.specs.declared.ending.Ending.{Ending};
 
-use crate::clock::Clock;
 use crate::ending::Ending;
 use crate::fault::LinkFault;
 use crate::hub::Hub;
 use crate::link::{Finished, Link};
 use crate::tally::Tally;
-use crate::ticks::{Readings, Ticks};
+use crate::ticks::Ticks;
 use crate::turn::{Course, turn};
 use crate::wire::Wire;
 use std::sync::Wait;
@@ -47,7 +46,7 @@ fn fault_of(ending: Ending) -> Option<LinkFault>
 /// It ends where the life file draws no number (`Life`), where a hundred calls of the wire in a row have failed (`Wire`;
 /// it makes no further call of the wire, cuts the bound life, if there is one, and puts the events that are left), and
 /// where the hub answers `Gone` (no fault). A failed send counts as a try of its frame; a failed receive gives nothing.
-pub fn run_turns<R: Wait, D: Disk, W: Wire, T: Ticks, H: Hub>(
+pub fn run_neighbour<R: Wait, D: Disk, W: Wire, T: Ticks, H: Hub>(
     rt: &R,
     link: Link<D, W>,
     ticks: &mut T,
@@ -80,20 +79,4 @@ pub fn run_turns<R: Wait, D: Disk, W: Wire, T: Ticks, H: Hub>(
         }
     }
     unreachable!()
-}
-
-/// Runs the link to a neighbour, whose end was never opened, by the turns of `run_turns`, each at a tick that this clock
-/// told. It may wait, and no clause says that it returns.
-pub fn run_neighbour<R: Wait, D: Disk, W: Wire, C: Clock, H: Hub>(
-    rt: &R,
-    link: Link<D, W>,
-    clock: &C,
-    hub: H,
-) -> Finished<D, W, H>
-    requires new { link.end.state ≡ first_end }
-    ensures turns { (turns : List Turn) × (last : Turn) × (ending : Ending) × (result.fault ≡ fault_of ending) × IsTurnRun link.end.settings link.end.state turns last ending result.link.end.state × Traffic (outside H.puts H.takes W.tells W.coming W.tries link hub) (turns ++ last ∷ []) (outside H.puts H.takes W.tells W.coming W.tries result.link result.hub) × (result.tally ≡ tally_after first_tally (turns ++ last ∷ [])) × AreTold (C.did_tell clock.now) (turns ++ last ∷ []) × ((before : H) × (wire : W) × AreCalls H.did_take H.did_put W.did_send W.did_receive hub link.wire turns before wire × LastCalls H.did_take H.did_put W.did_send W.did_receive before wire last ending result.hub result.link.wire) }
-    ensures cause { IsEndOf result.fault link.file.numbers result.link.file.numbers (D.failures link.file.disk) (D.failures result.link.file.disk) (W.failures link.wire) (W.failures result.link.wire) (H.gone result.hub) }
-{
-    let mut ticks = Readings { clock };
-    run_turns(rt, link, &mut ticks, hub)
 }

@@ -7,7 +7,7 @@ ghost use Rattle.tora_arq.specs.LinkEnd.{is_closed, frame_due, after_transmit};
 ghost use Rattle.tora_arq.specs.LinkFacts.{list_of};
 ghost use Rattle.tora_seat.specs.declared.cargo.Cargo.{Cargo};
 ghost use Rattle.tora_neighbour.specs.Datagrams.{RoseBy};
-ghost use Rattle.tora_neighbour.specs.Intake.{Reading, intake_in, after_came};
+ghost use Rattle.tora_neighbour.specs.Intake.{came_in, intake_in, after_came};
 ghost use Rattle.tora_neighbour.specs.Tally.{counted_in};
 ghost use Rattle.tora_neighbour.specs.Turns.{after_opening, after_cargoes, after_frames, IsOpening, AreDue, Tells, row_after, IsRow};
 ghost use Rattle.tora_neighbour.specs.Traffic.{AreDrawn, Came, entry_of};
@@ -176,9 +176,7 @@ pub fn receive<W: Wire>(
     ensures row { OnOk result (row.new < 100) }
     ensures broken { OnErr result (row.new ≡ 100) }
     ensures failures { (base : ℕ) → RoseBy row.old base (W.failures wire.old) → RoseBy row.new base (W.failures wire.new) }
-    ensures asked { (answer : Result (Option ℕ) WireError) × ReceivesOnce W.did_receive wire.old (Some answer) wire.new × (row.new ≡ row_after (is_err answer) row.old) }
-    ensures came { OnOk result ((came : Option Reading) × (end.new ≡ record end.old { state = after_came end.old.settings end.old.state now came }) × (tally.new ≡ counted_in (intake_in end.old.settings end.old.state now came) tally.old) × (IsTrue (W.tells wire.new) → Came (W.coming wire.old) (list_of came) (W.coming wire.new))) }
-    ensures none { OnErr result ((end.new ≡ end.old) × (tally.new ≡ tally.old) × (IsTrue (W.tells wire.new) → W.coming wire.new ≡ W.coming wire.old)) }
+    ensures came { (answer : Result (Option ℕ) WireError) × (buffer : List ℕ) × ReceivesOnce W.did_receive wire.old (Some answer) buffer wire.new × (row.new ≡ row_after (is_err answer) row.old) × (end.new ≡ record end.old { state = after_came end.old.settings end.old.state now (came_in (Some answer) buffer) }) × (tally.new ≡ counted_in (intake_in end.old.settings end.old.state now (came_in (Some answer) buffer)) tally.old) × (IsTrue (W.tells wire.new) → Came (W.coming wire.old) (list_of (came_in (Some answer) buffer)) (W.coming wire.new)) × OnErr result (came_in (Some answer) buffer ≡ None) }
 {
     let mut buffer = [0; MOST_BYTES];
     match wire.receive(&mut buffer) {

@@ -12,7 +12,7 @@ ghost use Rattle.tora_lane.specs.declared.ports.Gone.{Gone as AnyGone};
 ghost use Rattle.tora_neighbour.specs.Datagrams.{RoseBy};
 ghost use Rattle.tora_neighbour.specs.declared.wire.WireError.{WireError};
 ghost use Rattle.tora_neighbour.specs.declared.intake.Intake.{Intake};
-ghost use Rattle.tora_neighbour.specs.Intake.{Reading};
+ghost use Rattle.tora_neighbour.specs.Intake.{came_in};
 ghost use Rattle.tora_neighbour.specs.Tally.{counted_in};
 ghost use Rattle.tora_seat.specs.Between.{after_cut_of_bound};
 ghost use Rattle.tora_neighbour.specs.Turns.{after_opening, after_cargoes, IsOpening, Tells, is_beat_due, failed_calls, IsRow};
@@ -74,7 +74,7 @@ pub fn exchange<R: Wait, W: Wire>(
     ensures broken { OnErr result (row.new ≡ 100) }
     ensures failures { (base : ℕ) → RoseBy row.old base (W.failures wire.old) → RoseBy row.new base (W.failures wire.new) }
     ensures last { OnOk result (end.new.state.last_life ≡ end.old.state.last_life) }
-    ensures exchange { (frames : List FrameParts) × (came : Option Reading) × (intake : Option Intake) × (answers : List (Result (Unit {0}) WireError)) × (answer : Option (Result (Option ℕ) WireError)) × IsExchange end.old.settings end.old.state now frames came intake result end.new.state × (end.new.settings ≡ end.old.settings) × (tally.new ≡ counted_in intake tally.old) × (IsTrue (W.tells wire.new) → W.tries wire.new ≡ W.tries wire.old ++ map frame_spelling frames) × (IsTrue (W.tells wire.new) → Came (W.coming wire.old) (list_of came) (W.coming wire.new)) × OnOk result ((sent : W) × SendsSome W.did_send wire.old frames answers sent × ReceivesOnce W.did_receive sent answer wire.new) × IfErr result (λ at. ExchangesUpTo W.did_send W.did_receive wire.old frames answers answer at wire.new) × IsRow row.old (failed_calls answers answer) row.new }
+    ensures exchange { (frames : List FrameParts) × (intake : Option Intake) × (answers : List (Result (Unit {0}) WireError)) × (answer : Option (Result (Option ℕ) WireError)) × (buffer : List ℕ) × IsExchange end.old.settings end.old.state now frames (came_in answer buffer) intake result end.new.state × (end.new.settings ≡ end.old.settings) × (tally.new ≡ counted_in intake tally.old) × (IsTrue (W.tells wire.new) → W.tries wire.new ≡ W.tries wire.old ++ map frame_spelling frames) × (IsTrue (W.tells wire.new) → Came (W.coming wire.old) (list_of (came_in answer buffer)) (W.coming wire.new)) × OnOk result ((sent : W) × SendsSome W.did_send wire.old frames answers sent × ReceivesOnce W.did_receive sent answer buffer wire.new) × IfErr result (λ at. ExchangesUpTo W.did_send W.did_receive wire.old frames answers answer buffer at wire.new) × IsRow row.old (failed_calls answers answer) row.new }
 {
     lives_are_bound_once();
     if let Err(_) = send_frames(rt, end, wire, row, now) {

@@ -75,9 +75,9 @@ pub did_not_start : (first : CoreView) (links : List LinkName) (e : NodeError) �
 did_not_start first links e same h = opening_start first e (subst (λ (l : List LinkName). IsOpening l e) same h) (opening_fault first.me first.neighbours links e same h)
 
 -- so a node answers whose threads were not started
-pub not_started : {W D : Type 0} (send : W → List ℕ → Result (Unit {0}) WireError → W → Type 0) (receive : W → Result (Option ℕ) WireError → List ℕ → W → Type 0) (told : ℕ → Type 0) (opened : ℕ → ℕ → D → ℕ → Type 0) (first : CoreView) (wires : List W) (disks : List D)
-    (input : Option (List ℕ)) (links : List LinkName) (e : NodeError) → links ≡ links_of first → IsOpening links e → NodeAnswers send receive told opened first wires disks input (Err e)
-not_started send receive told opened first wires disks input links e same h =
+pub not_started : {W D T : Type 0} (send : W → List ℕ → Result (Unit {0}) WireError → W → Type 0) (receive : W → Result (Option ℕ) WireError → List ℕ → W → Type 0) (told : ℕ → Type 0) (read : T → ℕ → T → Type 0) (opened : ℕ → ℕ → D → ℕ → Type 0) (first : CoreView) (wires : List W) (disks : List D) (ticks : List T)
+    (input : Option (List ℕ)) (links : List LinkName) (e : NodeError) → links ≡ links_of first → IsOpening links e → NodeAnswers send receive told read opened first wires disks ticks input (Err e)
+not_started send receive told read opened first wires disks ticks input links e same h =
     let start = did_not_start first links e same h in
     record { core = tt; links = tt; fault = opening_fault first.me first.neighbours links e same h; cause = inl start; count = tt; ran = tt; failed = inl start }
 

@@ -5,6 +5,8 @@ use Rattle.std.specs.Fmt.{decimal, signed_decimal}
 use Rattle.tora_height.specs.Height.{Quintuple}
 use Rattle.tora_height.specs.HeightOrder.{link_status}
 use Rattle.tora_arq.specs.declared.life.Life.{Life}
+use Rattle.tora_core.specs.declared.erasure.Erasure.{Erasure}
+use Rattle.tora_core.specs.declared.erasure.Erasure.TheVariants.{Plain, Remembered}
 use Rattle.tora_core.specs.ShowText.{direction_text}
 use Rattle.tora_core.specs.CoreRun.{CoreView, height_of, entry_of, flag_of, hop_of}
 use Rattle.tora_core.specs.Kept.{destinations_of}
@@ -71,10 +73,15 @@ unfoldable pub link_json : SeatState → ℕ → List ℕ
 link_json s k =
     codes "{\"peer\":" ++ decimal k ++ codes ",\"life\":" ++ life_json (s.current k) ++ codes ",\"cut\":" ++ life_json (s.pending k) ++ codes "}"
 
+-- what the node makes of erased levels, where that is not plain
+abbrev pub erasure_json : Erasure → List ℕ
+erasure_json Plain = []
+erasure_json Remembered = codes ",\"erasure\":\"remembered\""
+
 -- the whole line, at a tick
 unfoldable pub json_text : ℕ → SeatState → List ℕ
 json_text now s =
     codes "{\"node\":" ++ decimal s.core.me
-    ++ codes ",\"tick\":" ++ decimal now
+    ++ codes ",\"tick\":" ++ decimal now ++ erasure_json s.core.erasure
     ++ codes ",\"destinations\":" ++ array_json (destination_json s.core) (destinations_of s.core.views)
     ++ codes ",\"links\":" ++ array_json (link_json s) s.core.neighbours ++ codes "}\n"

@@ -41,32 +41,35 @@ begun_by handle = handle.promise.0.value
 
 -- ---- the thread of a link
 
--- its link, its wire, its clock, and the last number of its life file
-pub record LinkStart (W C : Type 0) : Type 0 where
+-- its link, its wire, and the last number of its life file
+pub record LinkStart (W : Type 0) : Type 0 where
   pub link : LinkName
   pub wire : W
   pub drawn : ℕ
-  pub clock : C
 
 -- the two ends of the lanes of a link, as its hub
 abbrev pub hub_of : InEnd × ReceiveEnd → LaneHub
 hub_of ends = record { port = ends.0; outs = ends.1 }
 
-module _ {D W C : Type 0} {disk : Disk.Ghosts D} {wire : Wire.Ghosts W} where
-  abbrev pub link_to_start : C → NewLink D W disk wire → LinkStart W C
-  link_to_start clock new = record { link = link_made new; wire = new.link.wire; drawn = new.link.file.numbers.drawn; clock = clock }
+module _ {D W : Type 0} {disk : Disk.Ghosts D} {wire : Wire.Ghosts W} where
+  abbrev pub link_to_start : NewLink D W disk wire → LinkStart W
+  link_to_start new = record { link = link_made new; wire = new.link.wire; drawn = new.link.file.numbers.drawn }
 
-  abbrev pub started : Start D W C disk wire → LinkStart W C
-  started start = record { link = link_made start.new; wire = start.new.link.wire; drawn = start.new.link.file.numbers.drawn; clock = start.clock.now }
+module _ {D W T : Type 0} {disk : Disk.Ghosts D} {wire : Wire.Ghosts W} where
+  abbrev pub started : Start D W T disk wire → LinkStart W
+  started start = link_to_start start.new
 
-  abbrev pub hub_started : Start D W C disk wire → LaneHub
+  abbrev pub hub_started : Start D W T disk wire → LaneHub
   hub_started start = start.hub
 
--- It has run this link with this wire, at ticks that the clock told, under the numbers behind this one. What it has put and taken is what its turns did, by the same
+  abbrev pub ticks_started : Start D W T disk wire → T
+  ticks_started start = start.ticks
+
+-- It has run this link with this wire, each turn at a tick that it has read itself, under the numbers behind this one. What it has put and taken is what its turns did, by the same
 -- port and out of the same lane
-pub record LinkLeaves {W : Type 0} (send : W → List ℕ → Result (Unit {0}) WireError → W → Type 0) (receive : W → Result (Option ℕ) WireError → List ℕ → W → Type 0) (told : ℕ → Type 0) (link : LinkName) (wire : W) (drawn : ℕ) (hub : LaneHub) (rest : LinkRest) : Type 0 where
+pub record LinkLeaves {W T : Type 0} (send : W → List ℕ → Result (Unit {0}) WireError → W → Type 0) (receive : W → Result (Option ℕ) WireError → List ℕ → W → Type 0) (read : T → ℕ → T → Type 0) (link : LinkName) (wire : W) (ticks : T) (drawn : ℕ) (hub : LaneHub) (rest : LinkRest) : Type 0 where
   pub run : IsLinkRun link.me link.peer rest.outcome.fault rest.outcome.tally
-  pub called : HasCalled send receive told wire run.turns run.last run.ending
+  pub called : HasCalled send receive read wire ticks run.turns run.last run.ending
   pub last_drawn : ℕ
   pub numbers : AreDrawn drawn (numbers_opened (run.turns ++ run.last ∷ [])) last_drawn
   pub puts : map put_in rest.hub.port.put ≡ map put_in hub.port.put ++ entries_put (run.turns ++ run.last ∷ [])

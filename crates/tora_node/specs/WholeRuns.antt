@@ -30,10 +30,10 @@ pub record LinkExchanged (me : ℕ) (xs : List ServedItem) (place peer : ℕ) (o
   pub waiting : List Cargo
   pub cargoes : cargoes_taken (run.turns ++ run.last ∷ []) ++ waiting ≡ put_to peer (offers_made xs)
 
--- and it has run it with this wire, at ticks that the clock told, under the numbers behind the last one of its life file, each the next
-pub record LinkRan {W : Type 0} (send : W → List ℕ → Result (Unit {0}) WireError → W → Type 0) (receive : W → Result (Option ℕ) WireError → List ℕ → W → Type 0) (told opened : ℕ → Type 0) (me : ℕ) (xs : List ServedItem) (place peer : ℕ) (wire : W) (outcome : Outcome) : Type 0 where
+-- and it has run it with this wire, each turn at a tick that it has read itself from this source on, under the numbers behind the last one of its life file, each the next
+pub record LinkRan {W T : Type 0} (send : W → List ℕ → Result (Unit {0}) WireError → W → Type 0) (receive : W → Result (Option ℕ) WireError → List ℕ → W → Type 0) (read : T → ℕ → T → Type 0) (opened : ℕ → Type 0) (me : ℕ) (xs : List ServedItem) (place peer : ℕ) (wire : W) (ticks : T) (outcome : Outcome) : Type 0 where
   pub exchanged : LinkExchanged me xs place peer outcome
-  pub called : HasCalled send receive told wire exchanged.run.turns exchanged.run.last exchanged.run.ending
+  pub called : HasCalled send receive read wire ticks exchanged.run.turns exchanged.run.last exchanged.run.ending
   pub drawn : ℕ
   pub file : opened drawn
   pub last_drawn : ℕ
@@ -52,9 +52,9 @@ pub record CommandsRan (told : ℕ → Type 0) (input : Option (List ℕ)) (seat
   pub ends : EndsAt end given put rest gone
   pub items : items_of seat served ++ left ≡ put
 
--- The threads of a node that began with this core, these wires, these disks and this input. Items were served one after another, the core is the run
+-- The threads of a node that began with this core, these wires, these disks, these sources of ticks and this input. Items were served one after another, the core is the run
 -- of the inputs that serving made of them, and each link and the commands had a thread that put them. The first of their faults is the answer
-pub record NodeRan {W D : Type 0} (send : W → List ℕ → Result (Unit {0}) WireError → W → Type 0) (receive : W → Result (Option ℕ) WireError → List ℕ → W → Type 0) (told : ℕ → Type 0) (opened : ℕ → ℕ → D → ℕ → Type 0) (first : CoreView) (wires : List W) (disks : List D) (input : Option (List ℕ))
+pub record NodeRan {W D T : Type 0} (send : W → List ℕ → Result (Unit {0}) WireError → W → Type 0) (receive : W → Result (Option ℕ) WireError → List ℕ → W → Type 0) (told : ℕ → Type 0) (read : T → ℕ → T → Type 0) (opened : ℕ → ℕ → D → ℕ → Type 0) (first : CoreView) (wires : List W) (disks : List D) (ticks : List T) (input : Option (List ℕ))
     (answer : Option NodeError) (core : CoreView) (tallies : List Tally) (taken : List Item) (gone : Bool) : Type 0 where
   pub xs : List ServedItem
   pub after : SeatState
@@ -65,20 +65,20 @@ pub record NodeRan {W D : Type 0} (send : W → List ℕ → Result (Unit {0}) W
   pub core_is : core ≡ core_after_all first (inputs_stepped first.neighbours (state_of (first_seat first)) xs)
   pub ends : EndsSo fault xs gone
   pub count : length outcomes ≡ length first.neighbours
-  pub links : (place peer : ℕ) (wire : W) (disk : D) (outcome : Outcome) → slice_get first.neighbours place ≡ Some peer → slice_get wires place ≡ Some wire → slice_get disks place ≡ Some disk → slice_get outcomes place ≡ Some outcome
-      → LinkRan send receive told (opened first.me peer disk) first.me xs place peer wire outcome
+  pub links : (place peer : ℕ) (wire : W) (disk : D) (source : T) (outcome : Outcome) → slice_get first.neighbours place ≡ Some peer → slice_get wires place ≡ Some wire → slice_get disks place ≡ Some disk → slice_get ticks place ≡ Some source → slice_get outcomes place ≡ Some outcome
+      → LinkRan send receive read (opened first.me peer disk) first.me xs place peer wire source outcome
   pub commands : CommandsRan told input (length first.neighbours) taken
   pub answer_is : first_fault fault first.neighbours outcomes ≡ answer
   pub tallies_are : tallies ≡ map (λ o. o.tally) outcomes
 
 -- a node that ends with a fault: one of its start, or the first one of its threads
-abbrev pub EndsWithFault : {W D : Type 0} → (W → List ℕ → Result (Unit {0}) WireError → W → Type 0) → (W → Result (Option ℕ) WireError → List ℕ → W → Type 0) → (ℕ → Type 0) → (ℕ → ℕ → D → ℕ → Type 0) → CoreView → List W → List D → Option (List ℕ) → NodeError → Type 0
-EndsWithFault send receive told opened first wires disks input e =
+abbrev pub EndsWithFault : {W D T : Type 0} → (W → List ℕ → Result (Unit {0}) WireError → W → Type 0) → (W → Result (Option ℕ) WireError → List ℕ → W → Type 0) → (ℕ → Type 0) → (T → ℕ → T → Type 0) → (ℕ → ℕ → D → ℕ → Type 0) → CoreView → List W → List D → List T → Option (List ℕ) → NodeError → Type 0
+EndsWithFault send receive told read opened first wires disks ticks input e =
     IsStartFault first e
-    ⊎ ((core : CoreView) × (tallies : List Tally) × (taken : List Item) × (gone : Bool) × NodeRan send receive told opened first wires disks input (Some e) core tallies taken gone)
+    ⊎ ((core : CoreView) × (tallies : List Tally) × (taken : List Item) × (gone : Bool) × NodeRan send receive told read opened first wires disks ticks input (Some e) core tallies taken gone)
 
--- What a node answers that began with this core, these wires, these disks and this input
-pub record NodeAnswers {W D : Type 0} (send : W → List ℕ → Result (Unit {0}) WireError → W → Type 0) (receive : W → Result (Option ℕ) WireError → List ℕ → W → Type 0) (told : ℕ → Type 0) (opened : ℕ → ℕ → D → ℕ → Type 0) (first : CoreView) (wires : List W) (disks : List D) (input : Option (List ℕ))
+-- What a node answers that began with this core, these wires, these disks, these sources of ticks and this input
+pub record NodeAnswers {W D T : Type 0} (send : W → List ℕ → Result (Unit {0}) WireError → W → Type 0) (receive : W → Result (Option ℕ) WireError → List ℕ → W → Type 0) (told : ℕ → Type 0) (read : T → ℕ → T → Type 0) (opened : ℕ → ℕ → D → ℕ → Type 0) (first : CoreView) (wires : List W) (disks : List D) (ticks : List T) (input : Option (List ℕ))
     (answer : Result EndedView NodeError) : Type 0 where
   -- where it ends without a fault, the core is the run of what serving makes of some items from the first core on
   pub core : IfOk answer (λ ended. IsRunOf first ended.core)
@@ -92,5 +92,5 @@ pub record NodeAnswers {W D : Type 0} (send : W → List ℕ → Result (Unit {0
   pub count : IfOk answer (λ ended. (0 < length first.neighbours) × (length first.neighbours ≤ MOST_LINKS))
   -- what its threads did: the runs of its links with their wires and life files, the commands that were read, and the items that the core
   -- served, which are what these have put, as the lanes carry it
-  pub ran : IfOk answer (λ ended. NodeRan send receive told opened first wires disks input None ended.core ended.tallies ended.taken ended.gone)
-  pub failed : IfErr answer (EndsWithFault send receive told opened first wires disks input)
+  pub ran : IfOk answer (λ ended. NodeRan send receive told read opened first wires disks ticks input None ended.core ended.tallies ended.taken ended.gone)
+  pub failed : IfErr answer (EndsWithFault send receive told read opened first wires disks ticks input)

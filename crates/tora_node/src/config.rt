@@ -1,11 +1,11 @@
 //! What a node is to be.
 ghost use Rattle.std.specs.Prelude.{◌≡◌, ◌<◌, All, Err, IfErr, IfOk, MatchOption, None, OnOk};
-ghost use Rattle.tora_core.specs.CoreRun.{core_refusal, first_core};
+ghost use Rattle.tora_core.specs.CoreRun.{core_refusal, first_core, first_core_of};
 ghost use Rattle.tora_core.specs.Numbers.{IsAscending};
 
 use std::alloc::Global;
 use std::marker::Model;
-use tora_core::{Core, CoreError, numbers_are_put_in_order};
+use tora_core::{Core, CoreError, CoreLimits, Erasure, numbers_are_put_in_order};
 use tora_height::Id;
 
 /// A node with its neighbours and the destinations of its table.
@@ -39,8 +39,31 @@ impl Config {
         ensures refused { MatchOption (core_refusal me peers.now dests.now)
             (IfErr result (λ e. e ≡ CoreError.Memory)) (λ e. result ≡ Err e) }
     {
+        Config::with_erasure(alloc, Erasure::Plain, me, peers, dests)
+    }
+
+    /// Node `me` as `new` makes it, with this choice of what becomes of erased levels.
+    ///
+    /// # Errors
+    /// Those of `Core::new`, in its order.
+    pub fn with_erasure(
+        alloc: Global,
+        erasure: Erasure,
+        me: Id,
+        peers: &[Id],
+        dests: &[Id],
+    ) -> Result<Config, CoreError>
+        requires me { 0 < me }
+        requires peers { All (λ n. 0 < n) peers.now }
+        requires dests { All (λ n. 0 < n) dests.now }
+        ensures value { IfOk result (λ config. config ≡ first_core_of erasure me peers.now dests.now) }
+        ensures accepted { OnOk result (core_refusal me peers.now dests.now ≡ None) }
+        ensures refused { MatchOption (core_refusal me peers.now dests.now)
+            (IfErr result (λ e. e ≡ CoreError.Memory)) (λ e. result ≡ Err e) }
+    {
         numbers_are_put_in_order();
-        let core = Core::new(alloc, me, peers, dests)?;
+        let limits = CoreLimits::STANDARD;
+        let core = Core::with_erasure(alloc, erasure, limits, me, peers, dests)?;
         Ok(Config { core })
     }
 

@@ -25,7 +25,7 @@ use tora_core::Core;
 use tora_height::Id;
 use tora_lane::{Lanes, OutPuts, Settling, what_was_offered_was_sent};
 use tora_life::Disk;
-use tora_neighbour::{Clock, LinkFault, Tally, Wire};
+use tora_neighbour::{Clock, LinkFault, Tally, Ticks, Wire};
 use tora_seat::CoreSeat;
 
 /// What a node has ended with. Contracts see its core, the tally of each neighbour in ascending order, the items that the
@@ -148,7 +148,8 @@ fn settled(rests: Rests<CoreRest, LinkRest>, outcomes: Vec<Outcome>) -> Result<E
 
 /// Runs a node until its commands or a fault of its core end it.
 ///
-/// It takes one wire and one disk for each link, by ascending neighbour. First it makes the core, the link ends and
+/// It takes one wire, one disk and one source of ticks for each link, by ascending neighbour; the commands have the ticks of
+/// `clock`. First it makes the core, the link ends and
 /// the lanes, then it opens the life files by ascending neighbour; the first fault there is answered, and no thread
 /// starts. Then the core and each neighbour have a thread, and the commands are read by this one: `need D`, `show` and
 /// `quit`, one a line; any other line is logged and passed over, and the end of the input is a `quit`. The core's thread
@@ -163,7 +164,8 @@ pub fn run_node<
     R: Threads + Wait + Log + Sync,
     D: Disk + Send + Drop,
     W: Wire + Send + Drop,
-    C: Clock + Sync,
+    T: Ticks + Send + Drop,
+    C: Clock,
     Rd: Read,
     Wr: Write + Send,
 >(
@@ -172,13 +174,15 @@ pub fn run_node<
     config: Config,
     wires: Vec<W>,
     disks: Vec<D>,
+    ticks: Vec<T>,
     clock: &C,
     reader: &mut Rd,
     writer: &mut Wr,
 ) -> Result<Ended, NodeError>
     requires wires { length wires.items ≡ length config.neighbours }
     requires disks { length disks.items ≡ length config.neighbours }
-    ensures { NodeAnswers W.did_send W.did_receive (C.did_tell clock.now) (IsOpened D.syncs D.reads D.writes) config wires.items disks.items (Rd.remaining reader.old) result }
+    requires ticks { length ticks.items ≡ length config.neighbours }
+    ensures { NodeAnswers W.did_send W.did_receive (C.did_tell clock.now) T.did_read (IsOpened D.syncs D.reads D.writes) config wires.items disks.items ticks.items (Rd.remaining reader.old) result }
 {
     run_node_with_wakers(
         rt,
@@ -187,6 +191,7 @@ pub fn run_node<
         wires,
         disks,
         Vec::<NoWake>::new(alloc),
+        ticks,
         clock,
         reader,
         writer,
@@ -203,7 +208,8 @@ pub fn run_node_with_wakers<
     D: Disk + Send + Drop,
     W: Wire + Send + Drop,
     K: Wake + Send + Drop,
-    C: Clock + Sync,
+    T: Ticks + Send + Drop,
+    C: Clock,
     Rd: Read,
     Wr: Write + Send,
 >(
@@ -213,13 +219,15 @@ pub fn run_node_with_wakers<
     wires: Vec<W>,
     disks: Vec<D>,
     wakers: Vec<K>,
+    ticks: Vec<T>,
     clock: &C,
     reader: &mut Rd,
     writer: &mut Wr,
 ) -> Result<Ended, NodeError>
     requires wires { length wires.items ≡ length config.neighbours }
     requires disks { length disks.items ≡ length config.neighbours }
-    ensures { NodeAnswers W.did_send W.did_receive (C.did_tell clock.now) (IsOpened D.syncs D.reads D.writes) config wires.items disks.items (Rd.remaining reader.old) result }
+    requires ticks { length ticks.items ≡ length config.neighbours }
+    ensures { NodeAnswers W.did_send W.did_receive (C.did_tell clock.now) T.did_read (IsOpened D.syncs D.reads D.writes) config wires.items disks.items ticks.items (Rd.remaining reader.old) result }
 {
     what_was_offered_was_sent();
     let core = config.into_core();
@@ -233,7 +241,7 @@ pub fn run_node_with_wakers<
         outs,
     } = new_lanes(rt, alloc, core.neighbours().len())?;
     let new = new_links(alloc, ends, disks, wires)?;
-    let Some(starts) = new_starts(alloc, new, links, clock) else {
+    let Some(starts) = new_starts(alloc, new, links, ticks) else {
         return Err(NodeError::Memory);
     };
     let mut outcomes = Vec::new(alloc);

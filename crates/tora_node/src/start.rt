@@ -21,10 +21,10 @@ pub(crate) struct NewLink<D: Disk, W: Wire> {
     pub ghost owner: { link.file.owner ≡ owner_of link.end.settings.me link.end.settings.peer },
 }
 
-/// The work of a neighbour's thread: a new link, and its lanes.
+/// The work of a neighbour's thread: a new link, its lanes, and where its ticks come from.
 #[derive(Drop)]
-pub(crate) struct Start<'a, D: Disk, W: Wire, C> {
+pub(crate) struct Start<D: Disk, W: Wire, T> {
     pub(crate) new: NewLink<D, W>,
     pub(crate) hub: LaneHub,
-    pub(crate) clock: &'a C,
+    pub(crate) ticks: T,
 }

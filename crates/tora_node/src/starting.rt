@@ -4,7 +4,7 @@ ghost use Rattle.tora_lane.specs.NodeLanes.{AreLanes};
 ghost use Rattle.tora_node.specs.declared.fault.NodeError.{NodeError};
 ghost use Rattle.tora_node.specs.NewLinks.{IsOpened};
 ghost use Rattle.tora_node.specs.LinkRuns.{name_of, link_ended, link_made, wire_made, OpenedOn, IsOpening};
-ghost use Rattle.tora_node.specs.Threads.{Each, started, link_to_start, hub_started, hub_of};
+ghost use Rattle.tora_node.specs.Threads.{Each, started, link_to_start, hub_started, hub_of, ticks_started};
 
 use crate::fault::NodeError;
 use crate::start::{NewEnd, NewLink, Start};
@@ -100,24 +100,35 @@ fn new_link<D: Disk + Drop, W: Wire + Drop>(
 }
 
 /// Puts the work of each neighbour's thread together.
-pub(crate) fn new_starts<'a, D: Disk + Drop, W: Wire + Drop, C>(
+pub(crate) fn new_starts<D: Disk + Drop, W: Wire + Drop, T: Drop>(
     alloc: Global,
     links: Vec<NewLink<D, W>>,
     hubs: Vec<(InPort, OutTake)>,
-    clock: &'a C,
-) -> Option<Vec<Start<'a, D, W, C>>>
-    requires { length hubs.items ≡ length links.items }
-    ensures links { IfSome result (λ starts. map started starts.items ≡ map (link_to_start clock.now) links.items) }
+    ticks: Vec<T>,
+) -> Option<Vec<Start<D, W, T>>>
+    requires hubs { length hubs.items ≡ length links.items }
+    requires ticks { length ticks.items ≡ length links.items }
+    ensures links { IfSome result (λ starts. map started starts.items ≡ map link_to_start links.items) }
     ensures hubs { IfSome result (λ starts. map hub_started starts.items ≡ map hub_of hubs.items) }
+    ensures ticks { IfSome result (λ starts. map ticks_started starts.items ≡ ticks.items) }
 {
     let mut starts = Vec::new(alloc);
     let mut hubs = hubs.into_iter();
+    let mut ticks = ticks.into_iter();
     for new in links {
         let Some((port, outs)) = hubs.next() else {
             unreachable!()
         };
+        let Some(own) = ticks.next() else {
+            unreachable!()
+        };
         let hub = LaneHub { port, outs };
-        let Ok(()) = starts.push(Start { new, hub, clock }) else {
+        let start = Start {
+            new,
+            hub,
+            ticks: own,
+        };
+        let Ok(()) = starts.push(start) else {
             return None;
         };
     }

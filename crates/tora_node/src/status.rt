@@ -4,11 +4,11 @@ ghost use Rattle.tora_height.specs.HeightOrder.{link_status};
 ghost use Rattle.tora_core.specs.Kept.{destinations_of};
 ghost use Rattle.tora_core.specs.ShowText.{direction_text};
 ghost use Rattle.tora_seat.specs.Rows.{state_of};
-ghost use Rattle.tora_node.specs.StatusJson.{array_json, number_json, truth_json, height_json, life_json, or_null, own_height, entry_height, via_json, destination_json, link_json, json_text, own_json, route_json};
+ghost use Rattle.tora_node.specs.StatusJson.{array_json, erasure_json, number_json, truth_json, height_json, life_json, or_null, own_height, entry_height, via_json, destination_json, link_json, json_text, own_json, route_json};
 
 use std::alloc::{AllocError, Global};
 use tora_arq::Life;
-use tora_core::Core;
+use tora_core::{Core, Erasure};
 use tora_height::{Direction, Entry, Id, status};
 use tora_seat::CoreSeat;
 
@@ -204,6 +204,16 @@ fn write_links(out: &mut String, seat: &CoreSeat) -> Result<(), AllocError>
     }
 }
 
+/// Puts what the node makes of erased levels behind a text, where that is not plain.
+fn write_erasure(out: &mut String, erasure: Erasure) -> Result<(), AllocError>
+    ensures { OnOk result (string_bytes out.new ≡ string_bytes out.old ++ erasure_json erasure) }
+{
+    match erasure {
+        Erasure::Plain => Ok(()),
+        Erasure::Remembered => out.push_str(",\"erasure\":\"remembered\""),
+    }
+}
+
 /// The state of a node at a tick, as a line of JSON.
 #[tactic(auto, unfolding(crate::specs::StatusJson::json_text))]
 pub fn json(alloc: Global, seat: &CoreSeat, now: u64) -> Result<String, AllocError>
@@ -212,7 +222,9 @@ pub fn json(alloc: Global, seat: &CoreSeat, now: u64) -> Result<String, AllocErr
     let me = seat.core().me();
     let mut out = String::new(alloc);
     out.push_str("{\"node\":")?;
-    write!(&mut out, "{me},\"tick\":{now},\"destinations\":")?;
+    write!(&mut out, "{me},\"tick\":{now}")?;
+    write_erasure(&mut out, seat.core().erasure())?;
+    out.push_str(",\"destinations\":")?;
     write_destinations(&mut out, seat.core())?;
     out.push_str(",\"links\":")?;
     write_links(&mut out, seat)?;

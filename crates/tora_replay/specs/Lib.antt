@@ -2,3 +2,4 @@ pub mod Answers
 pub mod LineGrammar
 pub mod Lines
 pub mod ReplayText
+pub mod ReplayView

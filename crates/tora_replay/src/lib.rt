@@ -14,4 +14,4 @@ mod replaying;
 
 pub use cause::{Cause, cause_of};
 pub use parse::{first_lines_are_read_as_written, lines_are_read_as_written};
-pub use replaying::{ReplayFile, fault_is_the_first, replay};
+pub use replaying::{ReplayFile, fault_is_the_first, replay, replay_with};

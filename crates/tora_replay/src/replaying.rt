@@ -6,25 +6,34 @@ ghost use Rattle.tora_lines.specs.Gives.{Gives};
 ghost use Rattle.tora_replay.specs.Lines.{header_of};
 ghost use Rattle.tora_lines.specs.Pieces.{pieces_of};
 ghost use Rattle.tora_lines.specs.LineText.{fault_of};
-ghost use Rattle.tora_lines.specs.Kinds.{kind_of};
-ghost use Rattle.tora_replay.specs.ReplayText.{core_of, next_reply, replay_rules, first_fault, IsFirstFault, Replays, IsBegun};
+ghost use Rattle.tora_core.specs.declared.erasure.Erasure.{Erasure as AnyErasure};
+ghost use Rattle.tora_replay.specs.ReplayText.{core_of, next_reply, replay_reply, first_fault, Replays, IsBegun, first_fault_with, IsFirstFaultWith, ReplaysWith, IsBegunWith};
+ghost use Rattle.tora_replay.specs.ReplayView.{replay_kind};
 
 use crate::answer::answer;
 use crate::parse;
 use std::alloc::{AllocError, Global};
 use std::io::{Read, Write};
 use std::marker::Model;
-use tora_core::{Core, CoreError, Sends};
+use tora_core::{Core, CoreError, CoreLimits, Erasure, Sends};
 use tora_lines::words::LineError;
 use tora_lines::{Ended, FileKind, ReplayError, read_lines};
 
-/// The core that the first line makes.
+/// The core that the first line makes, which makes this of erased levels.
 #[tactic(auto, unfolding(crate::specs::ReplayText::core_of))]
-fn first(alloc: Global, line: &[u8]) -> Result<Replaying, LineError>
-    ensures { Gives (λ core. core) result (option_and_then core_of (header_of line.now)) }
+fn first(alloc: Global, erasure: Erasure, line: &[u8]) -> Result<Replaying, LineError>
+    ensures { Gives (λ core. core) result (option_and_then (core_of erasure) (header_of line.now)) }
 {
     let header = parse::header(alloc, line)?;
-    match Core::new(alloc, header.node, &header.links, &header.dests) {
+    let limits = CoreLimits::STANDARD;
+    match Core::with_erasure(
+        alloc,
+        erasure,
+        limits,
+        header.node,
+        &header.links,
+        &header.dests,
+    ) {
         Ok(core) => Ok(Replaying {
             core,
             sends: Sends::new(),
@@ -63,33 +72,42 @@ impl Replaying {
     }
 }
 
-/// A replay file: what is kept, once the first line is taken. A contract sees the core alone.
+/// A replay file: what its node makes of erased levels, and what is kept, once the first line is taken.
 #[derive(Drop)]
 pub struct ReplayFile {
+    erasure: Erasure,
     replaying: Option<Replaying>,
 }
 
-impl Model for ReplayFile {
-    ghost use Rattle.std.specs.Prelude.{Option};
-    ghost use Rattle.tora_core.specs.CoreRun.{CoreView};
-
-    ghost Value = { Option CoreView };
-
-    ghost view = { λ f. f.replaying };
+/// Takes a line, and puts what is printed for it behind an empty text.
+#[tactic(auto, unfolding(crate::specs::ReplayText::replay_reply))]
+fn take_line(
+    replaying: &mut Option<Replaying>,
+    alloc: Global,
+    erasure: Erasure,
+    line: &[u8],
+    text: &mut String,
+) -> Result<(), LineError>
+    requires short { length line.now ≤ 4096 }
+    requires empty { string_bytes text.old ≡ [] }
+    ensures { Gives (λ _. (replaying.new, string_bytes text.new)) result (replay_reply erasure replaying.old line.now) }
+{
+    match replaying {
+        Some(replaying) => replaying.next(line, text),
+        None => {
+            *replaying = Some(first(alloc, erasure, line)?);
+            Ok(())
+        }
+    }
 }
 
 impl FileKind for ReplayFile {
-    ghost kind = { kind_of replay_rules };
+    ghost kind = { replay_kind };
 
-    #[tactic(auto, unfolding(crate::specs::ReplayText::replay_reply), using(tora_lines::proofs::KindLaws::goes_on, tora_lines::proofs::KindLaws::is_fault))]
+    #[tactic(auto, using(crate::proofs::ReplayLaws::takes))]
     fn take(&mut self, alloc: Global, line: &[u8], text: &mut String) -> Result<(), LineError> {
-        match &mut self.replaying {
-            Some(replaying) => replaying.next(line, text),
-            None => {
-                self.replaying = Some(first(alloc, line)?);
-                Ok(())
-            }
-        }
+        let erasure = self.erasure;
+        take_line(&mut self.replaying, alloc, erasure, line, text)
     }
 
     #[tactic(auto, unfolding(tora_lines::specs::LineText::text_from))]
@@ -102,7 +120,7 @@ impl FileKind for ReplayFile {
 }
 
 /// Reads the lines of a replay file to the end of the input or to the first line that is a fault, and writes what is
-/// printed for each. Own profile.
+/// printed for each, for a node that remembers no erased level. Own profile.
 ///
 /// The first line is `node I links LIST dests LIST`, and each further one `NOW up K`, `NOW down K`, `NOW need D`,
 /// `NOW from K HEX` or `NOW show`. A line has at most 4,096 bytes without its LF. What is printed for a line is written
@@ -114,7 +132,6 @@ impl FileKind for ReplayFile {
 /// `Memory` where memory was refused; `Read` where a read failed, or 2^32 reads came to no end (a read that was
 /// interrupted is made again, and counts); `Write` where a write failed. No line is taken in part: at `Memory` and `Read`
 /// whole lines' answers were written.
-#[tactic(auto, unfolding(tora_lines::specs::Engine::text_of))]
 pub fn replay<R: Read, W: Write>(
     alloc: Global,
     reader: &mut R,
@@ -129,12 +146,36 @@ pub fn replay<R: Read, W: Write>(
     ensures begun { IfErr result (λ e. e ≢ ReplayError.Write →
         IsBegun (R.remaining reader.old) (R.remaining reader.new) (W.contents writer.old) (W.contents writer.new)) }
 {
-    let state = ReplayFile { replaying: None };
+    replay_with(alloc, Erasure::Plain, reader, writer)
+}
+
+/// Replays as `replay` does, for a node that makes this of erased levels.
+///
+/// # Errors
+/// Those of `replay`.
+#[tactic(auto, unfolding(tora_lines::specs::Engine::text_of))]
+pub fn replay_with<R: Read, W: Write>(
+    alloc: Global,
+    erasure: Erasure,
+    reader: &mut R,
+    writer: &mut W,
+) -> Result<Ended, ReplayError>
+    ensures whole { IfOk result (λ ended. IfSome (R.remaining reader.old) (λ input.
+        ReplaysWith erasure input (W.contents writer.old) (W.contents writer.new) ended)) }
+    ensures at_end { result ≡ Ok Ended.Whole → IsAtEnd (R.remaining reader.new) }
+    ensures fault { IfOk result (λ ended. IfSome (R.remaining reader.old) (λ input. fault_of ended ≡ first_fault_with erasure input)) }
+    ensures begun { IfErr result (λ e. e ≢ ReplayError.Write →
+        IsBegunWith erasure (R.remaining reader.old) (R.remaining reader.new) (W.contents writer.old) (W.contents writer.new)) }
+{
+    let state = ReplayFile {
+        erasure,
+        replaying: None,
+    };
     read_lines(alloc, state, reader, writer)
 }
 
 /// The line whose number a fault gives is the first that is none: all lines before it are taken, and it is not.
 pub fn fault_is_the_first()
-    ensures found { (bytes : List ℕ) (n : ℕ) → first_fault bytes ≡ Some n → IsFirstFault None 1 (pieces_of bytes) n }
-    ensures only { (bytes : List ℕ) (n : ℕ) → IsFirstFault None 1 (pieces_of bytes) n → first_fault bytes ≡ Some n }
+    ensures found { (erasure : AnyErasure) (bytes : List ℕ) (n : ℕ) → first_fault_with erasure bytes ≡ Some n → IsFirstFaultWith erasure None 1 (pieces_of bytes) n }
+    ensures only { (erasure : AnyErasure) (bytes : List ℕ) (n : ℕ) → IsFirstFaultWith erasure None 1 (pieces_of bytes) n → first_fault_with erasure bytes ≡ Some n }
 {}

@@ -1,8 +1,9 @@
 -- A part of the thread of a link is an event of the free world, or two.
-use Rattle.std.proofs.Common.{◌≡◌, ℕ, zero, suc, ◌<◌, ◌≤◌, ◌^◌, true, false, ◌⊎◌, inl, inr, ⊎_elim, List, [], ◌∷◌, ◌++◌, Some, None, nat_eq, if◌then◌else◌, refl, sym, ap, ap₂, ◌∙◌, subst, arith}
+use Rattle.std.proofs.Common.{◌≡◌, ℕ, zero, suc, ◌<◌, ◌≤◌, ◌^◌, true, false, ◌⊎◌, inl, inr, ⊎_elim, List, [], ◌∷◌, ◌++◌, Some, None, Ok, Err, nat_eq, if◌then◌else◌, refl, sym, ap, ap₂, ◌∙◌, subst, arith}
 use Rattle.std.proofs.lemmas.Bool.{cond_both}
 use Rattle.std.specs.Prelude.{is_some, not, drop, slice_get, IsTrue}
 use Rattle.tora_frame.specs.FrameParts.{FrameParts}
+use Rattle.tora_frame.specs.declared.FrameError.{FrameError}
 use Rattle.tora_arq.specs.declared.link_event.LinkEvent.{LinkEvent}
 use Rattle.tora_arq.specs.declared.phase.Phase.{Phase}
 use Rattle.tora_arq.specs.declared.phase.Phase.TheVariants.{Closed, Unbound, Bound}
@@ -162,7 +163,7 @@ module _ (w : World) (numbers : ℕ → ℕ → ℕ) (frames : ℕ → ℕ → L
       went IsLost f i = more n k f (b.went_out n k f i)
       went IsGone f i = pushed f i
 
-  hear_leads : (now : ℕ) (frame : FrameParts) → IsIn frame (frames k n) → Leads (Hears now frame)
+  hear_leads : (now : ℕ) (frame : FrameParts) → IsIn frame (frames k n) → Leads (Hears now (Ok frame))
   unfolding effect_by
   hear_leads now frame i =
       by_one w (Happens (Deliver (suc place))) c (with_end w n k (after_frame (settings w n k) (w.ends n k) frame now)) numbers frames
@@ -189,11 +190,16 @@ module _ (w : World) (numbers : ℕ → ℕ → ℕ) (frames : ℕ → ℕ → L
       heard a j = with_end w a j (after_frame (settings w a j) (w.ends a j) frame now)
 
   -- no event
-  refuse_leads : FrameLaws → (now : ℕ) (frame : FrameParts) → net.IsRefusal (verdict_of (settings w n k) (w.ends n k) frame now) → Leads (Hears now frame)
+  refuse_leads : FrameLaws → (now : ℕ) (frame : FrameParts) → net.IsRefusal (verdict_of (settings w n k) (w.ends n k) frame now) → Leads (Hears now (Ok frame))
   unfolding after_schedule
   refuse_leads laws now frame refused =
       subst (λ e. Reaches w (record (network_of w numbers frames) { ends = put_at w.ends n k e })) (sym (refused_changes_nothing laws (settings w n k) (w.ends n k) frame now (verdict_of (settings w n k) (w.ends n k) frame now) refl refused))
       (subst (λ ends. Reaches w (record (network_of w numbers frames) { ends = ends })) (sym (put_same w.ends n k)) (record { es = []; numbers = numbers; frames = frames; shows = refl; other = b }))
+
+  bad_leads : (now : ℕ) (error : FrameError) → Leads (Hears now (Err error))
+  unfolding after_schedule
+  bad_leads now error =
+      subst (λ ends. Reaches w (record (network_of w numbers frames) { ends = ends })) (sym (put_same w.ends n k)) (record { es = []; numbers = numbers; frames = frames; shows = refl; other = b })
 
   open_leads : FileLaws → (number now : ℕ) → IsTrue (is_closed (w.ends n k)) → numbers n k < number → number ≤ 2 ^ 62 → Leads (Opens number now)
   unfolding effect_by
@@ -240,8 +246,9 @@ module _ (w : World) (numbers : ℕ → ℕ → ℕ) (frames : ℕ → ℕ → L
   link_leads files law (Ticks now) p g = tick_leads now
   link_leads files law (Takes cargo) p g = take_leads cargo g
   link_leads files law (Sends now frame sending) p g = send_leads law now frame sending p
-  link_leads files law (Hears now frame) p (inl i) = hear_leads now frame i
-  link_leads files law (Hears now frame) p (inr refused) = refuse_leads law now frame refused
+  link_leads files law (Hears now (Ok frame)) p (inl i) = hear_leads now frame i
+  link_leads files law (Hears now (Ok frame)) p (inr refused) = refuse_leads law now frame refused
+  link_leads files law (Hears now (Err error)) p g = bad_leads now error
   link_leads files law (Tells now event) p g = tell_leads now event p
   link_leads files law (Beats now) p g = beat_leads now
   link_leads files law Breaks p g = break_leads

@@ -1,5 +1,5 @@
 -- What `run_node` says of the threads of its links are histories of parts.
-use Rattle.std.proofs.Common.{◌∙◌, sym, ap, ℕ, List, [], ◌∷◌, ◌++◌, map, None}
+use Rattle.std.proofs.Common.{◌∙◌, refl, sym, ap, ℕ, List, [], ◌∷◌, ◌++◌, map, None}
 use Rattle.tora_arq.specs.LinkEnd.{first_end}
 use Rattle.tora_arq.specs.Settings.{settings_of}
 use Rattle.tora_arq.specs.declared.times.TheConstants.Times.{STANDARD}
@@ -9,7 +9,7 @@ use Rattle.tora_node.specs.LinkRuns.{name_of, IsLinkRun, AreLinkRuns, AreFaultle
 use Rattle.tora_running.specs.Histories.{parts_of_turns, parts_of_last}
 use Rattle.tora_node.specs.WholeRuns.{LinkExchanged}
 use Rattle.tora_seat.specs.declared.cargo.Cargo.{Cargo}
-use Rattle.tora_running.specs.Nodes.{HasHistory, HasExchanged, HaveHistories}
+use Rattle.tora_running.specs.Nodes.{HasHistory, HasExchanged, HaveHistories, HearsItsWire}
 use Rattle.tora_running.proofs.ThreadHistories.{run_is}
 use Rattle.tora_running.proofs.ThreadExchanges.{run_exchanges}
 
@@ -25,6 +25,12 @@ module _ (me : ℕ) where
         exchange = run_exchanges (settings_of Two me k STANDARD) first_end h.turns h.last h.ending h.after h.runs;
         tally_is = h.tally_is;
       }
+
+  -- what its parts hear
+  pub hears : (k : ℕ) (fault : _) (tally : Tally) → (h : IsLinkRun me k fault tally) → HearsItsWire me k tally (h.turns ++ h.last ∷ [])
+  hears k fault tally h =
+      let past = history_of k fault tally h in
+      record { history = past; turns_are = refl; heard = past.exchange.heard }
 
   -- of a node that ended without a fault
   pub faultless_have : (ks : List ℕ) (tallies : List Tally) → AreFaultless (map (name_of me) ks) tallies → HaveHistories me ks tallies

@@ -1,5 +1,5 @@
 -- What the threads are proved to do is a list of parts.
-use Rattle.std.proofs.Common.{◌≡◌, ℕ, Bool, true, false, List, [], ◌∷◌, ◌++◌, Option, Some, None, Result, Ok, Err, refl, sym, ap, ◌∙◌, subst, append-nil, append_assoc}
+use Rattle.std.proofs.Common.{◌≡◌, ℕ, Bool, true, false, List, [], ◌∷◌, ◌++◌, Option, Some, None, Result, refl, sym, ap, ◌∙◌, subst, append-nil, append_assoc}
 use Rattle.std.proofs.lemmas.Bool.{cond_both}
 use Rattle.std.specs.Prelude.{slice_get, drop}
 use Rattle.tora_frame.specs.FrameParts.{FrameParts}
@@ -9,7 +9,7 @@ use Rattle.tora_arq.specs.declared.phase.Phase.{Phase}
 use Rattle.tora_arq.specs.declared.phase.Phase.TheVariants.{Closed, Unbound, Bound}
 use Rattle.tora_arq.specs.Settings.{Settings}
 use Rattle.tora_arq.specs.SendQueue.{DueBatch}
-use Rattle.tora_arq.specs.LinkEnd.{EndState, bound_life, frame_due, after_transmit, after_poll_event, is_old_hello_due, is_hello_due, due_of, on_transmit_due, on_hello, on_transmit_in, on_transmit}
+use Rattle.tora_arq.specs.LinkEnd.{EndState, frame_due, after_transmit, after_poll_event, is_old_hello_due, is_hello_due, due_of, on_transmit_due, on_hello, on_transmit_in, on_transmit}
 use Rattle.tora_seat.specs.declared.cargo.Cargo.{Cargo}
 use Rattle.tora_seat.specs.declared.cargo.Cargo.TheVariants.{Packet, Cut}
 use Rattle.tora_neighbour.specs.declared.wire.WireError.{WireError}
@@ -18,12 +18,11 @@ use Rattle.tora_neighbour.specs.declared.ending.Ending.TheVariants.{NoNumber, Br
 use Rattle.tora_neighbour.specs.declared.ending.BrokenAt.TheVariants.{Send, Receive}
 use Rattle.tora_neighbour.specs.Intake.{Reading, after_came}
 use Rattle.tora_neighbour.specs.Turns as turns
-use Rattle.tora_neighbour.specs.Turns.{Turn, IsOpening, AreDue, Begins, IsTurn, AreTurns, IsLastTurn, IsTurnRun, after_opening, after_cargoes, after_frames, when_ticked, when_served, when_sent, when_none_due, when_heard}
+use Rattle.tora_neighbour.specs.Turns.{Turn, came_of, IsOpening, AreDue, Begins, IsTurn, AreTurns, IsLastTurn, IsTurnRun, after_opening, after_cargoes, after_frames, when_ticked, when_served, when_sent, when_none_due, when_heard}
 use Rattle.tora_seat.specs.declared.item.Item.{Item}
 use Rattle.tora_seat.specs.Serving.{SeatState}
 use Rattle.tora_node.specs.CoreRuns.{ServedItem, serving_told, AreServed, items_served}
 use Rattle.tora_world.specs.Topology.{is_node}
-use Rattle.tora_seat.specs.Between.{after_cut_of_bound}
 use Rattle.tora_world.proofs.Events.{put_one_here}
 use Rattle.tora_running.specs.Network.{Network, neighbours_at, IsFront, after_part, after_parts, IsRun}
 use Rattle.tora_running.specs.Network.Part.{Serves}
@@ -53,8 +52,7 @@ module _ (s : Settings) where
 
   heard : (e : EndState) (now : ℕ) (came : Option Reading) → AreLinkParts s e (parts_heard now came) (after_came s e now came)
   heard e now None = refl
-  heard e now (Some (Ok frame)) = (tt, refl)
-  heard e now (Some (Err error)) = refl
+  heard e now (Some reading) = (tt, refl)
 
   told : (e : EndState) (now : ℕ) (events left : List LinkEvent) → e.events ≡ events ++ left → AreLinkParts s e (parts_told now events) (record e { events = left })
   told e now [] left q = ap (λ (xs : List LinkEvent). record e { events = xs }) (sym q)
@@ -105,9 +103,9 @@ module _ (s : Settings) where
   turn_parts e t after begins none tells =
       let x = events_told (when_heard s e t) t.now t.told t.refused after tells in (
         x.0,
-        both (parts_begun t) (parts_heard t.now t.came ++ (parts_told t.now t.told ++ parts_of_beat t.now t.beat)) e (when_sent s e t) x.0 (begun e t begins)
-            (both (parts_heard t.now t.came) (parts_told t.now t.told ++ parts_of_beat t.now t.beat) (when_sent s e t) (when_heard s e t) x.0
-            (subst (λ y. AreLinkParts s y (parts_heard t.now t.came) (when_heard s e t)) (stays (when_sent s e t) t.now none) (heard (when_none_due s e t) t.now t.came))
+        both (parts_begun t) (parts_heard t.now (came_of t) ++ (parts_told t.now t.told ++ parts_of_beat t.now t.beat)) e (when_sent s e t) x.0 (begun e t begins)
+            (both (parts_heard t.now (came_of t)) (parts_told t.now t.told ++ parts_of_beat t.now t.beat) (when_sent s e t) (when_heard s e t) x.0
+            (subst (λ y. AreLinkParts s y (parts_heard t.now (came_of t)) (when_heard s e t)) (stays (when_sent s e t) t.now none) (heard (when_none_due s e t) t.now (came_of t)))
             (both (parts_told t.now t.told) (parts_of_beat t.now t.beat) (when_heard s e t) x.0 x.0 x.1 (beaten x.0 t.now t.beat))),
         x.2,
       )

@@ -1,5 +1,5 @@
 -- The laws of the free world, read of a network.
-use Rattle.std.proofs.Common.{◌≡◌, ℕ, true, List, [], Some, None, sym, ap, ap₂, ◌∙◌, subst}
+use Rattle.std.proofs.Common.{◌≡◌, ℕ, true, List, [], Some, sym, ap, ap₂, ◌∙◌, subst}
 use Rattle.tora_arq.specs.declared.life.Life.{Life}
 use Rattle.tora_arq.specs.declared.times.Times.{Times}
 use Rattle.tora_core.specs.declared.Input.{Input}

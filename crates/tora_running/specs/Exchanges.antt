@@ -1,5 +1,5 @@
 -- What the parts of a link's thread exchange with its file, its lanes and its wire.
-use Rattle.std.specs.Prelude.{◌≡◌, ℕ, List, [], ◌∷◌, Ok, Err}
+use Rattle.std.specs.Prelude.{◌≡◌, ℕ, List, [], ◌∷◌}
 use Rattle.std.specs.List.{flat_map}
 use Rattle.tora_frame.specs.FrameParts.{FrameParts}
 use Rattle.tora_seat.specs.declared.cargo.Cargo.{Cargo}
@@ -18,7 +18,7 @@ number_in (Opens number now) = number ∷ []
 number_in (Ticks now) = []
 number_in (Takes cargo) = []
 number_in (Sends now frame sending) = []
-number_in (Hears now frame) = []
+number_in (Hears now reading) = []
 number_in (Tells now event) = []
 number_in (Beats now) = []
 number_in Breaks = []
@@ -29,7 +29,7 @@ cargo_in (Takes cargo) = cargo ∷ []
 cargo_in (Opens number now) = []
 cargo_in (Ticks now) = []
 cargo_in (Sends now frame sending) = []
-cargo_in (Hears now frame) = []
+cargo_in (Hears now reading) = []
 cargo_in (Tells now event) = []
 cargo_in (Beats now) = []
 cargo_in Breaks = []
@@ -40,14 +40,14 @@ sent_in (Sends now frame sending) = frame ∷ []
 sent_in (Opens number now) = []
 sent_in (Ticks now) = []
 sent_in (Takes cargo) = []
-sent_in (Hears now frame) = []
+sent_in (Hears now reading) = []
 sent_in (Tells now event) = []
 sent_in (Beats now) = []
 sent_in Breaks = []
 
--- the frame that a datagram spells
-abbrev pub heard_in : LinkPart → List FrameParts
-heard_in (Hears now frame) = frame ∷ []
+-- what a datagram reads that a receive gave
+abbrev pub heard_in : LinkPart → List Reading
+heard_in (Hears now reading) = reading ∷ []
 heard_in (Opens number now) = []
 heard_in (Ticks now) = []
 heard_in (Takes cargo) = []
@@ -64,18 +64,13 @@ put_in (Opens number now) = []
 put_in (Ticks now) = []
 put_in (Takes cargo) = []
 put_in (Sends now frame sending) = []
-put_in (Hears now frame) = []
+put_in (Hears now reading) = []
 put_in Breaks = []
-
--- bytes that spell no frame are no part
-abbrev pub frame_read : Reading → List FrameParts
-frame_read (Ok frame) = frame ∷ []
-frame_read (Err error) = []
 
 -- parts exchange what turns do, each in its order
 pub record ExchangeTheSame (parts : List LinkPart) (turns : List Turn) : Type 0 where
   pub numbers : flat_map number_in parts ≡ numbers_opened turns
   pub cargoes : flat_map cargo_in parts ≡ cargoes_taken turns
   pub sent : flat_map sent_in parts ≡ frames_sent turns
-  pub heard : flat_map heard_in parts ≡ flat_map frame_read (readings_come turns)
+  pub heard : flat_map heard_in parts ≡ readings_come turns
   pub put : flat_map put_in parts ≡ entries_put turns

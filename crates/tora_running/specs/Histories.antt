@@ -10,7 +10,7 @@ use Rattle.tora_neighbour.specs.declared.wire.WireError.{WireError}
 use Rattle.tora_neighbour.specs.declared.ending.Ending.{Ending}
 use Rattle.tora_neighbour.specs.declared.ending.Ending.TheVariants.{NoNumber, Broken, Refused}
 use Rattle.tora_neighbour.specs.Intake.{Reading}
-use Rattle.tora_neighbour.specs.Turns.{Turn}
+use Rattle.tora_neighbour.specs.Turns.{Turn, came_of}
 use Rattle.tora_node.specs.CoreRuns.{ServedItem}
 use Rattle.tora_running.specs.Parts.{LinkPart}
 use Rattle.tora_running.specs.Parts.LinkPart.{Opens, Ticks, Takes, Sends, Hears, Tells, Beats, Breaks}
@@ -37,11 +37,10 @@ parts_sent now [] answers = []
 parts_sent now (frame ∷ frames) [] = Sends now frame IsGone ∷ parts_sent now frames []
 parts_sent now (frame ∷ frames) (answer ∷ answers) = Sends now frame (sending_of answer) ∷ parts_sent now frames answers
 
--- bytes that spell no frame are no part
+-- what the receive gave, if it gave something
 abbrev pub parts_heard : ℕ → Option Reading → List LinkPart
 parts_heard now None = []
-parts_heard now (Some (Ok frame)) = Hears now frame ∷ []
-parts_heard now (Some (Err error)) = []
+parts_heard now (Some reading) = Hears now reading ∷ []
 
 abbrev pub parts_told : ℕ → List LinkEvent → List LinkPart
 parts_told now [] = []
@@ -55,7 +54,7 @@ abbrev pub parts_begun : Turn → List LinkPart
 parts_begun t = parts_opened t.now t.opened ++ Ticks t.now ∷ (parts_taken t.cargoes ++ parts_sent t.now t.sent t.answers)
 
 abbrev pub parts_of : Turn → List LinkPart
-parts_of t = parts_begun t ++ (parts_heard t.now t.came ++ (parts_told t.now t.told ++ parts_of_beat t.now t.beat))
+parts_of t = parts_begun t ++ (parts_heard t.now (came_of t) ++ (parts_told t.now t.told ++ parts_of_beat t.now t.beat))
 
 abbrev pub parts_of_turns : List Turn → List LinkPart
 parts_of_turns [] = []

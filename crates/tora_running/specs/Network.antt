@@ -1,5 +1,5 @@
 -- A network of running nodes, and what the parts of their threads make of it, in one order of all of them.
-use Rattle.std.specs.Prelude.{◌≡◌, ◌⊎◌, ℕ, suc, ◌<◌, ◌≤◌, ◌^◌, ◌==◌, IsTrue, if◌then◌else◌, List, [], ◌∷◌, ◌++◌, length, drop}
+use Rattle.std.specs.Prelude.{◌≡◌, ◌⊎◌, ℕ, suc, ◌<◌, ◌≤◌, ◌^◌, ◌==◌, IsTrue, if◌then◌else◌, List, [], ◌∷◌, ◌++◌, length, drop, Ok, Err}
 use Rattle.tora_packet.specs.declared.Packet.{Packet}
 use Rattle.tora_frame.specs.FrameParts.{FrameParts}
 use Rattle.tora_arq.specs.declared.life.Life.{Life}
@@ -22,6 +22,7 @@ use Rattle.tora_world.specs.World.{first_seat, with_datagram}
 use Rattle.tora_seat.specs.Offers.{place_of}
 use Rattle.tora_world.specs.FreeWorld.{TellsNoLife}
 use Rattle.tora_node.specs.CoreRuns.{serving_told}
+use Rattle.tora_neighbour.specs.Intake.{Reading}
 use Rattle.tora_running.specs.Parts.{LinkPart, end_after, IsPossible}
 use Rattle.tora_running.specs.Parts.LinkPart.{Opens, Ticks, Takes, Sends, Hears, Tells, Beats, Breaks}
 
@@ -112,7 +113,7 @@ beside w n k (Opens number now) = record w { numbers = put_at w.numbers n k numb
 beside w n k (Ticks now) = w
 beside w n k (Takes cargo) = record w { cargoes = put_at w.cargoes n k (drop 1 (w.cargoes n k)) }
 beside w n k (Sends now frame sending) = record w { frames = put_at w.frames n k (with_datagram sending (w.frames n k) frame) }
-beside w n k (Hears now frame) = w
+beside w n k (Hears now reading) = w
 beside w n k (Tells now event) = with_item w n (seat_of w n k) now (what_of event)
 beside w n k (Beats now) = with_item w n (seat_of w n k) now Told.Beat
 beside w n k Breaks = w
@@ -161,11 +162,16 @@ IsRefusal Accepted = ⊥
 IsRefusal Repeated = ⊥
 IsRefusal Ahead = ⊥
 
--- numbers rise over all starts of a node, lanes keep their order, and no datagram is forged that the end does not refuse
+-- what a receive gives is a frame that the peer's end gave to a send, or one that this end refuses, or no frame
+abbrev pub IsNotForged : Network → ℕ → ℕ → ℕ → Reading → Type 0
+IsNotForged w n k now (Ok frame) = IsIn frame (w.frames k n) ⊎ IsRefusal (verdict_of (settings_at w n k) (w.ends n k) frame now)
+IsNotForged w n k now (Err error) = Unit {0}
+
+-- numbers rise over all starts of a node, lanes keep their order, and no wire gives a datagram that is forged and that the end does not refuse
 abbrev pub IsGiven : Network → ℕ → ℕ → LinkPart → Type 0
 IsGiven w n k (Opens number now) = (w.numbers n k < number) × (number ≤ 2 ^ 62)
 IsGiven w n k (Takes cargo) = IsFront cargo (w.cargoes n k)
-IsGiven w n k (Hears now frame) = IsIn frame (w.frames k n) ⊎ IsRefusal (verdict_of (settings_at w n k) (w.ends n k) frame now)
+IsGiven w n k (Hears now reading) = IsNotForged w n k now reading
 IsGiven w n k (Ticks now) = Unit {0}
 IsGiven w n k (Sends now frame sending) = Unit {0}
 IsGiven w n k (Tells now event) = Unit {0}

@@ -8,6 +8,7 @@ use Rattle.tora_frame.specs.declared.parts.Version.TheVariants.{Two}
 use Rattle.tora_lane.specs.LaneRule.{items_of}
 use Rattle.tora_neighbour.specs.Puts.{put_in as put_of_item}
 use Rattle.tora_neighbour.specs.Tally.{first_tally}
+use Rattle.tora_neighbour.specs.Traffic.{readings_come}
 use Rattle.tora_neighbour.specs.Turns.{Turn, tally_after}
 use Rattle.tora_neighbour.specs.declared.tally.Tally.{Tally}
 use Rattle.tora_node.specs.CoreRuns.{ServedItem, items_served, offers_made}
@@ -15,7 +16,7 @@ use Rattle.tora_seat.specs.Serving.{put_to}
 use Rattle.tora_seat.specs.declared.cargo.Cargo.{Cargo}
 use Rattle.tora_seat.specs.declared.item.Item.{Item}
 use Rattle.tora_running.specs.Parts.{LinkPart, AreLinkParts}
-use Rattle.tora_running.specs.Exchanges.{ExchangeTheSame, cargo_in, put_in}
+use Rattle.tora_running.specs.Exchanges.{ExchangeTheSame, cargo_in, heard_in, put_in}
 
 -- The thread of the link from one node to another has made these parts of a new end, one after another; they exchange what turns do whose
 -- tally this is
@@ -33,6 +34,13 @@ HaveHistories me [] [] = Unit {0}
 HaveHistories me [] (tally ∷ tallies) = ⊥
 HaveHistories me (k ∷ ks) [] = ⊥
 HaveHistories me (k ∷ ks) (tally ∷ tallies) = HasHistory me k tally × HaveHistories me ks tallies
+
+-- Its parts hear what came in by the receives of these turns, one after another, and nothing else: what each of them has answered and put into
+-- its buffer
+pub record HearsItsWire (me peer : ℕ) (tally : Tally) (turns : List Turn) : Type 0 where
+  pub history : HasHistory me peer tally
+  pub turns_are : history.turns ≡ turns
+  pub heard : flat_map heard_in history.parts ≡ readings_come turns
 
 -- And the parts of the link at a place are those whose items the core served, and whose cargoes serving put: what they put is the items of
 -- their seat that were served, and then some that were left, and what they take, and then some that waited, is what was put for the peer

@@ -3,10 +3,11 @@ use Rattle.std.specs.Prelude.{◌≡◌, ℕ, ◌<◌, IsTrue, List, [], ◌∷�
 use Rattle.tora_frame.specs.FrameParts.{FrameParts}
 use Rattle.tora_arq.specs.declared.link_event.LinkEvent.{LinkEvent}
 use Rattle.tora_arq.specs.Settings.{Settings}
-use Rattle.tora_arq.specs.LinkEnd.{EndState, is_closed, bound_life, after_open, after_tick, after_frame, frame_due, after_transmit, first_event, after_poll_event}
+use Rattle.tora_arq.specs.LinkEnd.{EndState, is_closed, bound_life, after_open, after_tick, frame_due, after_transmit, first_event, after_poll_event}
 use Rattle.tora_seat.specs.declared.cargo.Cargo.{Cargo}
 use Rattle.tora_seat.specs.Between.{after_cargo}
 use Rattle.tora_world.specs.World.{Sending}
+use Rattle.tora_neighbour.specs.Intake.{Reading, after_reading}
 use Rattle.tora_seat.specs.Between.{after_cut_of_bound}
 
 -- each part is handed the tick that its thread has read
@@ -18,8 +19,8 @@ pub data LinkPart : Type 0 where
   Takes : (cargo : Cargo) → LinkPart
   -- the first frame that is due is given to a send, and so it goes with it
   Sends : (now : ℕ) (frame : FrameParts) (sending : Sending) → LinkPart
-  -- a datagram comes that spells this frame
-  Hears : (now : ℕ) (frame : FrameParts) → LinkPart
+  -- a receive of the wire gives a datagram whose bytes read so: the frame that they spell, or why they spell none
+  Hears : (now : ℕ) (reading : Reading) → LinkPart
   -- the first event of the end is put into the lane into the core
   Tells : (now : ℕ) (event : LinkEvent) → LinkPart
   -- a beat is put there
@@ -33,7 +34,7 @@ end_after s e (Opens number now) = after_open e number now
 end_after s e (Ticks now) = after_tick s e now
 end_after s e (Takes cargo) = after_cargo e cargo
 end_after s e (Sends now frame sending) = after_transmit s e now
-end_after s e (Hears now frame) = after_frame s e frame now
+end_after s e (Hears now reading) = after_reading s e now reading
 end_after s e (Tells now event) = after_poll_event e
 end_after s e (Beats now) = e
 end_after s e Breaks = after_cut_of_bound e (bound_life e)
@@ -45,7 +46,7 @@ IsPossible s e (Sends now frame sending) = frame_due s e now ≡ Some frame
 IsPossible s e (Tells now event) = first_event e ≡ Some event
 IsPossible s e (Ticks now) = Unit {0}
 IsPossible s e (Takes cargo) = Unit {0}
-IsPossible s e (Hears now frame) = Unit {0}
+IsPossible s e (Hears now reading) = Unit {0}
 IsPossible s e (Beats now) = Unit {0}
 IsPossible s e Breaks = Unit {0}
 

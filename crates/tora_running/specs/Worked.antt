@@ -1,6 +1,6 @@
 -- Two running nodes, computed: a run in which a datagram is lost, a packet is handed back, both nodes are killed, a route is found in a
 -- second life of their link, and is lost with it: a wire breaks, and the other end hears nothing any more.
-use Rattle.std.specs.Prelude.{◌≡◌, ℕ, Bool, true, false, List, [], ◌∷◌, length, slice_get, Option, Some, None}
+use Rattle.std.specs.Prelude.{◌≡◌, ℕ, Bool, true, false, List, [], ◌∷◌, length, slice_get, Option, Some, None, Ok}
 use Rattle.tora_frame.specs.FrameParts.{FrameParts, frame_of}
 use Rattle.tora_frame.specs.declared.parts.Version.TheVariants.{One}
 use Rattle.tora_frame.specs.declared.parts.Body.TheVariants.{Hello}
@@ -36,7 +36,7 @@ sends n k sending w = part_sent n k sending (frame_due (settings_at w n k) (w.en
 
 abbrev pub part_heard : ℕ → ℕ → Option FrameParts → Part
 part_heard n k None = OfLink n k (Beats 0)
-part_heard n k (Some frame) = OfLink n k (Hears 0 frame)
+part_heard n k (Some frame) = OfLink n k (Hears 0 (Ok frame))
 
 -- the frame at this place of all that went out to n from k
 abbrev pub hears : ℕ → ℕ → ℕ → Reads
@@ -90,7 +90,7 @@ abbrev pub strange : FrameParts
 strange = frame_of (record { version = One; sender = 9; receiver = 1; life = 1; heard = 0 }) Hello
 
 abbrev pub hears_strange : ℕ → ℕ → Reads
-hears_strange n k w = OfLink n k (Hears 0 strange)
+hears_strange n k w = OfLink n k (Hears 0 (Ok strange))
 
 abbrev pub read_from : Network → List Reads → List Part
 read_from w [] = []

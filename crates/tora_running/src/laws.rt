@@ -10,7 +10,8 @@ ghost use Rattle.tora_node.specs.declared.fault.NodeError.{NodeError};
 ghost use Rattle.tora_neighbour.specs.declared.tally.Tally.{Tally};
 ghost use Rattle.tora_node.specs.declared.link_task.Outcome.{Outcome};
 ghost use Rattle.tora_node.specs.WholeRuns.{LinkExchanged};
-ghost use Rattle.tora_node.specs.LinkRuns.{AreFaultless, IsThreadsFault, links_of};
+ghost use Rattle.tora_node.specs.LinkRuns.{AreFaultless, IsLinkRun, IsThreadsFault, links_of};
+ghost use Rattle.tora_neighbour.specs.declared.fault.LinkFault.{LinkFault};
 ghost use Rattle.tora_node.specs.CoreRuns.{ServedItem, AreServed, items_served};
 ghost use Rattle.tora_seat.specs.Serving.{SeatState};
 ghost use Rattle.tora_seat.specs.declared.item.Item.{Item};
@@ -19,7 +20,7 @@ ghost use Rattle.tora_running.specs.Exchanges.{ExchangeTheSame};
 ghost use Rattle.tora_running.specs.Histories.{IsAfterRefused, IsNotStarted, parts_of_last, parts_of_link, parts_of_turns, parts_served, served_in};
 ghost use Rattle.tora_running.specs.Network.{IsRun, Network, Part, after_parts, neighbours_at, settings_at};
 ghost use Rattle.tora_running.specs.Orders.{AreHistories, IsOrder};
-ghost use Rattle.tora_running.specs.Nodes.{HasExchanged, HaveHistories};
+ghost use Rattle.tora_running.specs.Nodes.{HasExchanged, HaveHistories, HearsItsWire};
 ghost use Rattle.tora_running.specs.Parts.{AreLinkParts};
 ghost use Rattle.tora_running.specs.Worked.{start, first_parts, parted, second_parts, met, last_parts, left, HandsBack, HasMet, HasLeft, drawn_again, TakesTwice};
 
@@ -33,8 +34,8 @@ use tora_world::{
 /// Running nodes are a world: whatever the parts that their threads make, some schedule of the free world leaves a world with
 /// the same cores, link ends and lanes, in which the same was sent, taken and accepted.
 ///
-/// A part may be made where the thread's own definition allows it, lanes keep their order, no datagram is forged that its end
-/// does not refuse, and the numbers drawn for a link end rise. That is all that is asked of a run of parts; ticks, answers of
+/// A part may be made where the thread's own definition allows it, lanes keep their order, no wire gives a datagram that is forged and
+/// that its end does not refuse, and the numbers drawn for a link end rise. That is all that is asked of a run of parts; ticks, answers of
 /// lanes, losses, repeated datagrams and the moments of starts are any.
 pub fn running_nodes_are_a_world()
     ensures { EveryNetwork (λ t times w. IsOfWorld t times w) }
@@ -51,6 +52,9 @@ pub fn running_nodes_keep_the_prefix_law()
     ensures prefix { EveryNetwork (λ t times w. TakenBeginsSent w) }
     // Each end binds each pair of life numbers at most once.
     ensures once { BindsOnce }
+    // What is asked of what is heard is asked of the wires alone, and of no thread: the parts of a link's thread hear what the receives of
+    // its turns have answered and written, and nothing else. Those are calls of its wire, as `run_node` has it (`LinkRan`).
+    ensures heard { (me peer : ℕ) (fault : Option LinkFault) (tally : Tally) (run : IsLinkRun me peer fault tally) → HearsItsWire me peer tally (run.turns ++ run.last ∷ []) }
 {
     running_nodes_are_a_world();
     data_frames_are_what_was_submitted();
@@ -125,7 +129,7 @@ pub fn histories_are_of_the_threads()
     ensures run { (s : Settings) (e : EndState) (turns : List Turn) (last : Turn) (ending : Ending) (after : EndState) → IsTurnRun s e turns last ending after
         → (between : EndState) × AreLinkParts s e (parts_of_turns turns ++ parts_of_last ending last) between × IsAfterRefused between last.refused after }
     // These parts exchange with the thread's file, lanes and wire what `Traffic` says of its turns: the numbers drawn, the cargoes taken,
-    // the frames sent, the frames that came, and what was put.
+    // the frames sent, what came in by the receives, and what was put.
     ensures exchanges { (s : Settings) (e : EndState) (turns : List Turn) (last : Turn) (ending : Ending) (after : EndState) → IsTurnRun s e turns last ending after
         → ExchangeTheSame (parts_of_turns turns ++ parts_of_last ending last) (turns ++ last ∷ []) }
     // Items that a core's thread has served one after another, as the contract of `run_core` tells them, are a run of parts

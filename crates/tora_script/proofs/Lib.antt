@@ -3,6 +3,7 @@ pub mod ClearLaws
 pub mod DatagramsStay
 pub mod KnownTopology
 pub mod LinkPairs
+pub mod MarkWords
 pub mod PairBitLaws
 pub mod PairOrder
 pub mod PartedLaws

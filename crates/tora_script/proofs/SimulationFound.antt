@@ -18,15 +18,15 @@ use Rattle.tora_script.specs.declared.script_line.SimulationLine.TheVariants.{Ha
 use Rattle.tora_lines.specs.Words.{cut, number_of, id_of, list_of, is_dash}
 use Rattle.tora_lines.specs.Fronts.{after, or_else, ◌>>=◌}
 use Rattle.tora_lines.specs.WordGrammar.{SpellsId}
-use Rattle.tora_script.specs.SimulationLines.{is_word, pair_of, life_number_from, life_number_of, life_of, lane_of, call_of, torn_of, rounds_from, rounds_of, for_pair, for_lane, for_id, deliver_of, arm_of, restart_of, end_event_of, node_event_of, walk_line_of, order_line_of, first_of_two, simulation_line_of, dests_of, link_of, old_of}
-use Rattle.tora_script.specs.SimulationGrammar.{SpellsPair, IsLifeNumber, SpellsLane, call_text, SpellsTorn, SpellsEvent, SpellsSimulationLine, SpellsDests, SpellsLink, SpellsOld}
+use Rattle.tora_script.specs.SimulationLines.{is_word, pair_of, life_number_from, life_number_of, life_of, lane_of, call_of, torn_of, rounds_from, rounds_of, for_pair, for_lane, for_id, deliver_of, arm_of, restart_of, end_event_of, node_event_of, walk_line_of, order_line_of, first_of_two, simulation_line_of, dests_of, link_of}
+use Rattle.tora_script.specs.SimulationGrammar.{SpellsPair, IsLifeNumber, SpellsLane, call_text, SpellsTorn, SpellsEvent, SpellsSimulationLine, SpellsDests, SpellsLink}
 use Rattle.tora_lines.proofs.Grammar.{number_prints}
 use Rattle.tora_lines.proofs.WordLaws.{some_is, bind_some, id_found, after_found, cut_found, dash_found, or_else_some}
 use Rattle.tora_lines.proofs.ListLaws.{list_found}
 
 -- ---- words
 
-word_found : (word text : List ℕ) → is_word word text ≡ true → text ≡ word
+pub word_found : (word text : List ℕ) → is_word word text ≡ true → text ≡ word
 unfolding is_word
 word_found word text h =
     let p = and_parts (length text == length word) (is_some (after word text)) h in
@@ -51,7 +51,7 @@ word_found word text h =
 pub record IsCut (text a b : List ℕ) : Type 0 where
   pub text_is : text ≡ a ++ 32 ∷ b
 
-at_blank : (text a b a' b' : List ℕ) → cut 32 text ≡ Some (a, b) → a ≡ a' → b ≡ b' → text ≡ a' ++ 32 ∷ b'
+pub at_blank : (text a b a' b' : List ℕ) → cut 32 text ≡ Some (a, b) → a ≡ a' → b ≡ b' → text ≡ a' ++ 32 ∷ b'
 at_blank text a b a' b' h e f = cut_found text a b h ∙ ap (λ (t : List ℕ). t ++ 32 ∷ b) e ∙ ap (λ (t : List ℕ). a' ++ 32 ∷ t) f
 
 pair_found : (text : List ℕ) (p : ℕ × ℕ) → pair_of text ≡ Some p → (text ≡ decimal p.0 ++ 32 ∷ decimal p.1) × IsId p.0 × IsId p.1
@@ -71,7 +71,7 @@ pair_spelled {A} make word text rest o t h =
     let q = pair_found rest p.0 p.1 in
     (p.0, record { first = q.1; second = q.2; text_is = t ∙ ap (λ (x : List ℕ). word ++ x) q.0 }, some_is (make p.0.0 p.0.1) o p.2)
 
-id_spelled : {A : Type 0} (make : ℕ → A) (word text rest : List ℕ) (o : A) → text ≡ word ++ rest → for_id make rest ≡ Some o → (n : ℕ) × SpellsId word text n × (make n ≡ o)
+pub id_spelled : {A : Type 0} (make : ℕ → A) (word text rest : List ℕ) (o : A) → text ≡ word ++ rest → for_id make rest ≡ Some o → (n : ℕ) × SpellsId word text n × (make n ≡ o)
 unfolding for_id
 id_spelled make word text rest o t h =
     let n = bind_some (id_of rest) (λ n. Some (make n)) o h in
@@ -419,10 +419,3 @@ link_found text p h =
     let rest = bind_some (after (codes "link ") text) pair_of p h in
     let q = pair_found rest.0 p rest.2 in
     record { first = q.1; second = q.2; text_is = after_found (codes "link ") text rest.0 rest.1 ∙ ap (λ (x : List ℕ). codes "link " ++ x) q.0 }
-
-pub old_found : (text : List ℕ) (n : ℕ) → old_of text ≡ Some n → SpellsOld text n
-unfolding old_of
-old_found text n h =
-    let rest = bind_some (after (codes "old ") text) id_of n h in
-    let q = id_found rest.0 n rest.2 in
-    record { id = q.1; text_is = after_found (codes "old ") text rest.0 rest.1 ∙ ap (λ (x : List ℕ). codes "old " ++ x) q.0 }

@@ -12,13 +12,13 @@ use Rattle.tora_world.specs.declared.call.Call.TheVariants as Fails
 use Rattle.tora_script.specs.declared.script_line.SimulationLine.{SimulationLine}
 use Rattle.tora_script.specs.declared.script_line.SimulationLine.TheVariants.{Happens, Rounds, Part, Mend, Heights, Sent, Taken, Exact, Walk, Rest}
 use Rattle.tora_lines.specs.Fronts.{after}
-use Rattle.tora_script.specs.SimulationLines.{is_word, pair_of, life_number_of, life_of, lane_of, call_of, torn_of, rounds_of, for_pair, for_lane, for_id, deliver_of, arm_of, restart_of, end_event_of, node_event_of, walk_line_of, order_line_of, simulation_line_of, dests_of, link_of, old_of}
-use Rattle.tora_script.specs.SimulationGrammar.{IsLifeNumber, call_text, SpellsTorn, SpellsEvent, SpellsSimulationLine, SpellsDests, SpellsLink, SpellsOld}
+use Rattle.tora_script.specs.SimulationLines.{is_word, pair_of, life_number_of, life_of, lane_of, call_of, torn_of, rounds_of, for_pair, for_lane, for_id, deliver_of, arm_of, restart_of, end_event_of, node_event_of, walk_line_of, order_line_of, simulation_line_of, dests_of, link_of}
+use Rattle.tora_script.specs.SimulationGrammar.{IsLifeNumber, call_text, SpellsTorn, SpellsEvent, SpellsSimulationLine, SpellsDests, SpellsLink}
 use Rattle.tora_lines.proofs.Grammar.{number_again}
 use Rattle.tora_lines.proofs.WordLaws.{id_here, after_here, no_blank, cut_here}
 use Rattle.tora_lines.proofs.ListLaws.{list_here}
 
-small : (n : ℕ) → IsId n → n < 2 ^ 64
+pub small : (n : ℕ) → IsId n → n < 2 ^ 64
 small n h = omega (arith, h.1)
 
 pair_here : (n k : ℕ) → IsId n → IsId k → pair_of (decimal n ++ 32 ∷ decimal k) ≡ Some (n, k)
@@ -176,7 +176,7 @@ for_pair_here : {A : Type 0} (make : ℕ → ℕ → A) (n k : ℕ) → IsId n �
 unfolding for_pair
 for_pair_here make n k p q = rw (pair_here n k p q) refl
 
-for_id_here : {A : Type 0} (make : ℕ → A) (n : ℕ) → IsId n → for_id make (decimal n) ≡ Some (make n)
+pub for_id_here : {A : Type 0} (make : ℕ → A) (n : ℕ) → IsId n → for_id make (decimal n) ≡ Some (make n)
 unfolding for_id
 for_id_here make n h = rw (id_here n h) refl
 
@@ -234,7 +234,3 @@ dests_here text dests s = ap dests_of s.text_is ∙ rw (after_here (codes "dests
 pub link_here : (text : List ℕ) (p : ℕ × ℕ) → SpellsLink text p → link_of text ≡ Some p
 unfolding link_of
 link_here text p s = ap link_of s.text_is ∙ rw (after_here (codes "link ") _) (pair_here p.0 p.1 s.first s.second)
-
-pub old_here : (text : List ℕ) (n : ℕ) → SpellsOld text n → old_of text ≡ Some n
-unfolding old_of
-old_here text n s = ap old_of s.text_is ∙ rw (after_here (codes "old ") _) (id_here n s.id)

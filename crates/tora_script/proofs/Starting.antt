@@ -1,15 +1,19 @@
 -- What the simulator's own clauses say, as the engine asks for it.
-use Rattle.std.proofs.Common.{◌≡◌, ◌∙◌, inl, inr, refl, ap, arith, ℕ, ◌<◌, List, Option, Some, None, is_some, if◌then◌else◌}
+use Rattle.std.proofs.Common.{◌≡◌, ◌∙◌, inl, inr, refl, ap, arith, ℕ, ◌<◌, MatchBool, Bool, true, false, List, [], ◌∷◌, ◌++◌, Option, Some, None, is_some, if◌then◌else◌}
 use Rattle.std.proofs.lemmas.List.Elements.{All-map}
 use Rattle.tora_arq.specs.declared.times.Times.{Times}
 use Rattle.tora_world.specs.declared.event.Event.{Event}
+use Rattle.tora_core.specs.declared.erasure.Erasure.{Erasure}
 use Rattle.tora_world.specs.declared.sim_error.SimError.{SimError}
+use Rattle.tora_world.specs.declared.sim_error.SimError.TheVariants as Refused
 use Rattle.tora_world.specs.Errors.{sim_error_number}
-use Rattle.tora_world.specs.declared.limits.Limits.{Limits}
-use Rattle.tora_world.specs.Topology.{Link, topology_fault_within}
+use Rattle.tora_script.specs.declared.node_marks.Mark.{Mark}
+use Rattle.tora_script.specs.declared.setup.WorldOptions.{WorldOptions}
+use Rattle.tora_world.specs.Topology.{Link, Topology, is_node, topology_fault_within}
 use Rattle.tora_world.specs.World.{World, first_world, effect_by, own_choice, refusal_of, world_after, world_by}
 use Rattle.tora_sim.specs.Topologies.{link_in, topology_of, AreNumbers}
 use Rattle.tora_sim.specs.Steps.{IsRefused}
+use Rattle.tora_script.specs.Marks.{with_choice}
 use Rattle.tora_script.specs.Simulator.{ArePairs, AreIds, mixed_topology, started}
 
 -- no number of the topology is 0
@@ -20,9 +24,17 @@ numbers_of links dests pairs ids = record {
 }
 
 -- a topology without a fault has a first world
-pub started_as : (limits : Limits) (links : List (ℕ × ℕ)) (dests olds : List ℕ) (times : Times) (w : World) → topology_fault_within limits (topology_of links dests) ≡ None → w ≡ first_world (mixed_topology links dests olds) times → started limits links dests olds times ≡ Some w
+pub started_as : (options : WorldOptions) (links : List (ℕ × ℕ)) (dests : List ℕ) (marks : List Mark) (times : Times) (w : World) → topology_fault_within options.limits (topology_of links dests) ≡ None → w ≡ first_world (mixed_topology options.erasure links dests marks) times → started options links dests marks times ≡ Some w
 unfolding started
-started_as limits links dests olds times w sound made = rw (sound, made) refl
+started_as options links dests marks times w sound made = rw (sound, made) refl
+
+-- where there is no such node, nothing is chosen
+unmade : (b : Bool) (t made : Topology) → MatchBool b (Refused.NoNode ≡ Refused.Memory) (Refused.NoNode ≡ Refused.NoNode) → t ≡ (if b then made else t)
+unmade true t made h = absurd cc
+unmade false t made h = refl
+
+pub not_chosen : (t new : Topology) (n : ℕ) (erasure : Erasure) → new ≡ t → MatchBool (is_node t n) (Refused.NoNode ≡ Refused.Memory) (Refused.NoNode ≡ Refused.NoNode) → new ≡ with_choice t n erasure
+not_chosen t new n erasure same h = same ∙ unmade (is_node t n) t (record t { choices = t.choices ++ (n, erasure) ∷ [] }) h
 
 -- what a refusal leaves
 left_by : {A : Type 0} (r : Option SimError) (e : SimError) (w x : A) → r ≡ Some e → w ≡ (if is_some r then w else x)

@@ -1,6 +1,7 @@
 pub mod Air
 pub mod Done
 pub mod KnownLimits
+pub mod Marks
 pub mod PairBits
 pub mod Pairs
 pub mod Parted

@@ -8,6 +8,10 @@ use Rattle.tora_world.specs.declared.event.Event.{Event}
 use Rattle.tora_world.specs.declared.event.Event.TheVariants.{Need, Tick, Open, Pull, Transmit, Deliver, Pump, CoreTurn, Arm, Restart}
 use Rattle.tora_world.specs.declared.call.Call.{Call}
 use Rattle.tora_world.specs.declared.call.Call.TheVariants as Fails
+use Rattle.tora_core.specs.declared.erasure.Erasure.{Erasure}
+use Rattle.tora_core.specs.declared.erasure.Erasure.TheVariants.{Plain, Remembered}
+use Rattle.tora_script.specs.declared.node_marks.Mark.{Mark}
+use Rattle.tora_script.specs.declared.node_marks.Mark.TheVariants.{Old, Erases}
 use Rattle.tora_script.specs.declared.script_line.SimulationLine.{SimulationLine}
 use Rattle.tora_script.specs.declared.script_line.SimulationLine.TheVariants.{Happens, Rounds, Part, Mend, Heights, Sent, Taken, Exact, Walk, Rest}
 use Rattle.tora_lines.specs.WordGrammar.{SpellsId, list_text}
@@ -92,6 +96,16 @@ pub record SpellsDests (text dests : List ℕ) : Type 0 where
 abbrev pub SpellsLink : List ℕ → ℕ × ℕ → Type 0
 SpellsLink text p = SpellsPair (codes "link ") text p.0 p.1
 
--- `old N`
-abbrev pub SpellsOld : List ℕ → ℕ → Type 0
-SpellsOld text n = SpellsId (codes "old ") text n
+abbrev pub erasure_text : Erasure → List ℕ
+erasure_text Plain = codes "plain"
+erasure_text Remembered = codes "remembered"
+
+-- `erasure N WORD`
+pub record SpellsErasure (text : List ℕ) (n : ℕ) (erasure : Erasure) : Type 0 where
+  pub id : IsId n
+  pub text_is : text ≡ codes "erasure " ++ (decimal n ++ 32 ∷ erasure_text erasure)
+
+-- `old N` or `erasure N WORD`
+abbrev pub SpellsMark : List ℕ → Mark → Type 0
+SpellsMark text (Old n) = SpellsId (codes "old ") text n
+SpellsMark text (Erases n erasure) = SpellsErasure text n erasure

@@ -7,6 +7,10 @@ use Rattle.tora_world.specs.declared.event.Event.{Event}
 use Rattle.tora_world.specs.declared.event.Event.TheVariants.{Need, Tick, Open, Pull, Transmit, Deliver, Pump, CoreTurn, Arm, Restart}
 use Rattle.tora_world.specs.declared.call.Call.{Call}
 use Rattle.tora_world.specs.declared.call.Call.TheVariants as Fails
+use Rattle.tora_core.specs.declared.erasure.Erasure.{Erasure}
+use Rattle.tora_core.specs.declared.erasure.Erasure.TheVariants.{Plain, Remembered}
+use Rattle.tora_script.specs.declared.node_marks.Mark.{Mark}
+use Rattle.tora_script.specs.declared.node_marks.Mark.TheVariants.{Old, Erases}
 use Rattle.tora_script.specs.declared.script_line.SimulationLine.{SimulationLine}
 use Rattle.tora_script.specs.declared.script_line.SimulationLine.TheVariants.{Happens, Rounds, Part, Mend, Heights, Sent, Taken, Exact, Walk, Rest}
 use Rattle.tora_lines.specs.Words.{cut, number_of, id_of, list_of, is_dash}
@@ -165,6 +169,20 @@ dests_of text = after (codes "dests ") text >>= list_of
 unfoldable pub link_of : List ℕ → Option (ℕ × ℕ)
 link_of text = after (codes "link ") text >>= pair_of
 
--- `old N`
-unfoldable pub old_of : List ℕ → Option ℕ
-old_of text = after (codes "old ") text >>= id_of
+-- `plain` or `remembered`
+unfoldable pub erasure_of : List ℕ → Option Erasure
+erasure_of text =
+    if is_word (codes "plain") text then Some Plain
+    else if is_word (codes "remembered") text then Some Remembered
+    else None
+
+unfoldable pub erases_of : List ℕ → Option Mark
+erases_of text = do
+  a ← cut 32 text
+  n ← id_of a.0
+  erasure ← erasure_of a.1
+  Some (Erases n erasure)
+
+-- `old N` or `erasure N WORD`
+unfoldable pub mark_of : List ℕ → Option Mark
+mark_of text = or_else (after (codes "old ") text) (for_id Old) (or_else (after (codes "erasure ") text) erases_of None)

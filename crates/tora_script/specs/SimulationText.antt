@@ -13,7 +13,7 @@ use Rattle.tora_world.specs.Errors.{sim_error_number}
 use Rattle.tora_world.specs.World.{World, refusal_of, world_after, sent_packets, taken_packets}
 use Rattle.tora_lines.specs.LineText.{Rules, numbered, whole_text, fault_of, IsFirstFaultBy}
 use Rattle.tora_lines.specs.Engine.{IsWholeText, IsFrontOfText}
-use Rattle.tora_script.specs.SimulationLines.{dests_of, link_of, old_of, simulation_line_of}
+use Rattle.tora_script.specs.SimulationLines.{dests_of, link_of, mark_of, simulation_line_of}
 use Rattle.tora_script.specs.Rounds.{Sky, is_same_pair, is_parted, rounds}
 use Rattle.tora_script.specs.Air.{AirView, first_air}
 use Rattle.tora_channel.specs.declared.channel.Channel.{Channel}
@@ -26,7 +26,8 @@ use Rattle.tora_world.specs.Walks.{height_at, hop_at, exact_in, walk_of}
 use Rattle.tora_world.specs.Rest.{rests}
 use Rattle.tora_sim.specs.Cuts.{after_cut_at}
 use Rattle.tora_sim.specs.Readers.{ends_in}
-use Rattle.tora_sim.specs.Topologies.{with_old}
+use Rattle.tora_script.specs.declared.node_marks.Mark.{Mark}
+use Rattle.tora_script.specs.Marks.{marked}
 use Rattle.tora_script.specs.Simulator.{has_topology, started, nodes_of}
 use Rattle.tora_lines.specs.declared.ended.Ended.{Ended}
 use Rattle.tora_script.specs.declared.script_line.SimulationLine.{SimulationLine}
@@ -47,7 +48,7 @@ pub record RunningView : Type 0 where
 
 pub data Progress : Type 0 where
   First : Progress  -- before the first line
-  Links : (dests : List ℕ) (links : List (ℕ × ℕ)) (olds : List ℕ) → Progress  -- the destinations, the links so far, and behind these the old nodes so far
+  Links : (dests : List ℕ) (links : List (ℕ × ℕ)) (marks : List Mark) → Progress  -- the destinations, the links so far, and behind these what is said so far of single nodes
   Runs : RunningView → Progress
 
 -- a simulation of these destinations that is made with this, and begins in a world
@@ -197,18 +198,18 @@ script_line_reply until table s line = if is_done until s.air.round then Some (s
 
 -- ---- a line of the links
 
--- one link more, unless a node is old already
-abbrev pub with_link : List ℕ → List (ℕ × ℕ) → List ℕ → ℕ × ℕ → Option Progress
+-- one link more, unless something is said of a node already
+abbrev pub with_link : List ℕ → List (ℕ × ℕ) → List Mark → ℕ × ℕ → Option Progress
 with_link dests links [] link = Some (Links dests (links ++ link ∷ []) [])
-with_link dests links (n ∷ olds) link = None
+with_link dests links (mark ∷ marks) link = None
 
 -- a link names the node
 abbrev pub is_linked : ℕ → List (ℕ × ℕ) → Bool
 is_linked n links = list_any (λ p. (p.0 == n) || (p.1 == n)) links
 
--- one old node more, where a link names it, and there is a topology of the links within the limits
-abbrev pub with_old_line : Limits → List ℕ → List (ℕ × ℕ) → List ℕ → ℕ → Option Progress
-with_old_line limits dests links olds n = if is_linked n links && has_topology limits links dests then Some (Links dests links (with_old n olds)) else None
+-- what is said of one node more, where a link names it, and there is a topology of the links within the limits
+abbrev pub with_mark_line : Limits → List ℕ → List (ℕ × ℕ) → List Mark → Mark → Option Progress
+with_mark_line limits dests links marks mark = if is_linked (marked mark) links && has_topology limits links dests then Some (Links dests links (marks ++ mark ∷ [])) else None
 
 -- ---- any line
 
@@ -220,25 +221,25 @@ abbrev pub silent : Progress → Progress × List ℕ
 silent progress = (progress, [])
 
 -- behind the links: the world is made, and the line is one of its simulation
-abbrev pub first_run : Setup → List ChannelLine → List ℕ → List (ℕ × ℕ) → List ℕ → List ℕ → Option Reply
-first_run setup table dests links olds line = option_and_then (λ w. script_line_reply setup.until table (begun_in dests setup w) line) (started setup.limits links dests olds setup.times)
+abbrev pub first_run : Setup → List ChannelLine → List ℕ → List (ℕ × ℕ) → List Mark → List ℕ → Option Reply
+first_run setup table dests links marks line = option_and_then (λ w. script_line_reply setup.until table (begun_in dests setup w) line) (started setup.options links dests marks setup.times)
 
--- the line behind the last link and the last old node: at least one link is required
-abbrev pub behind_links : Setup → List ChannelLine → List ℕ → List (ℕ × ℕ) → List ℕ → List ℕ → Option (Progress × List ℕ)
-behind_links setup table dests [] olds line = None
-behind_links setup table dests (link ∷ links) olds line = option_map left_by (first_run setup table dests (link ∷ links) olds line)
+-- the line behind the last link and what is said of single nodes: at least one link is required
+abbrev pub behind_links : Setup → List ChannelLine → List ℕ → List (ℕ × ℕ) → List Mark → List ℕ → Option (Progress × List ℕ)
+behind_links setup table dests [] marks line = None
+behind_links setup table dests (link ∷ links) marks line = option_map left_by (first_run setup table dests (link ∷ links) marks line)
 
 -- the same at any stage: only links can have such a line behind them
 abbrev pub run_begun : Setup → List ChannelLine → Progress → List ℕ → Option (Progress × List ℕ)
 run_begun setup table First line = None
-run_begun setup table (Links dests links olds) line = behind_links setup table dests links olds line
+run_begun setup table (Links dests links marks) line = behind_links setup table dests links marks line
 run_begun setup table (Runs s) line = None
 
--- a line behind the first, which may say a link or an old node
-abbrev pub link_reply : Setup → List ChannelLine → List ℕ → List (ℕ × ℕ) → List ℕ → List ℕ → Option (ℕ × ℕ) → Option ℕ → Option (Progress × List ℕ)
-link_reply setup table dests links olds line (Some link) old = option_map silent (with_link dests links olds link)
-link_reply setup table dests links olds line None (Some n) = option_map silent (with_old_line setup.limits dests links olds n)
-link_reply setup table dests links olds line None None = behind_links setup table dests links olds line
+-- a line behind the first, which may say a link, or something of a node
+abbrev pub link_reply : Setup → List ChannelLine → List ℕ → List (ℕ × ℕ) → List Mark → List ℕ → Option (ℕ × ℕ) → Option Mark → Option (Progress × List ℕ)
+link_reply setup table dests links marks line (Some link) mark = option_map silent (with_link dests links marks link)
+link_reply setup table dests links marks line None (Some mark) = option_map silent (with_mark_line setup.options.limits dests links marks mark)
+link_reply setup table dests links marks line None None = behind_links setup table dests links marks line
 
 -- behind the first line
 abbrev pub first_progress : List ℕ → Option Progress
@@ -246,7 +247,7 @@ first_progress line = option_map (λ dests. Links dests [] []) (dests_of line)
 
 unfoldable pub simulation_reply : Setup → List ChannelLine → Progress → List ℕ → Option (Progress × List ℕ)
 simulation_reply setup table First line = option_map silent (first_progress line)
-simulation_reply setup table (Links dests links olds) line = link_reply setup table dests links olds line (link_of line) (old_of line)
+simulation_reply setup table (Links dests links marks) line = link_reply setup table dests links marks line (link_of line) (mark_of line)
 simulation_reply setup table (Runs s) line = option_map left_by (script_line_reply setup.until table s line)
 
 -- ---- the end
@@ -258,7 +259,7 @@ end_of_links limits n dests (link ∷ links) = if has_topology limits (link ∷ 
 
 unfoldable pub simulation_at_end : Setup → Progress → ℕ → Option ℕ
 simulation_at_end setup First n = Some n
-simulation_at_end setup (Links dests links olds) n = end_of_links setup.limits n dests links
+simulation_at_end setup (Links dests links marks) n = end_of_links setup.options.limits n dests links
 simulation_at_end setup (Runs s) n = None
 
 -- the rules of a simulation that is made with this, and over whose channel a table has lines

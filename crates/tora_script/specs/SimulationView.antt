@@ -12,7 +12,7 @@ use Rattle.tora_script.specs.SimulationText.{Progress, rules_with}
 
 abbrev pub progress_of : {S : Type 0} → (S → World) → Stage S → Progress
 progress_of world At.First = Progress.First
-progress_of world (At.Links lines) = Progress.Links lines.dests.items lines.links.items lines.olds.items
+progress_of world (At.Links lines) = Progress.Links lines.dests.items lines.links.items lines.marks.items
 progress_of world (At.Runs s) = Progress.Runs (running_view world s)
 
 abbrev pub simulation_kind : {S : Type 0} → (S → World) → Kind (Simulation S)

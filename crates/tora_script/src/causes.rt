@@ -1,6 +1,6 @@
 //! Why a line of a simulation file is a fault, in plain words.
 use crate::link_lines::LinkLines;
-use crate::parse::{old, simulation_line};
+use crate::parse::{mark, simulation_line};
 use crate::parted::is_same_pair;
 use crate::script_line::SimulationLine;
 use crate::simulation::Stage;
@@ -33,6 +33,8 @@ pub enum SimulationCause {
     Old,
     NoSuchNode,
     LateOld,
+    Erasure,
+    LateErasure,
     Word,
     Pair,
     Id,
@@ -80,6 +82,10 @@ impl SimulationCause {
                 "behind `old` stands one node's number, from 1 to 4294967295, without leading zeros",
             Self::NoSuchNode => "no link names this node",
             Self::LateOld => "a node is old right behind the links, before any other line",
+            Self::Erasure =>
+                "behind `erasure` stand a node's number, from 1 to 4294967295, without leading zeros, and `plain` or `remembered`",
+            Self::LateErasure =>
+                "what a node makes of erased levels is said right behind the links, before any other line",
             _ => self.words_behind_links(),
         }
     }
@@ -179,6 +185,7 @@ const WORD_CAUSES: &[(&[u8], SimulationCause)] = &[
     (b"dests", SimulationCause::LateDests),
     (b"link", SimulationCause::LateLink),
     (b"old", SimulationCause::LateOld),
+    (b"erasure", SimulationCause::LateErasure),
 ];
 
 /// Why a line that says nothing is a fault, by its first word.
@@ -267,13 +274,19 @@ fn topology_cause(limits: Limits, lines: &LinkLines) -> Option<SimulationCause> 
     }
 }
 
+/// Why a line that begins as one that says something of a node is a fault: no link names the node, or else this.
+fn mark_cause(lines: &LinkLines, line: &[u8], other: SimulationCause) -> SimulationCause {
+    match mark(line) {
+        Some(mark) if !is_linked(mark.node(), &lines.links) => SimulationCause::NoSuchNode,
+        _ => other,
+    }
+}
+
 /// Why a line behind a topology's links, which is no link, is a fault.
-fn old_cause(lines: &LinkLines, line: &[u8]) -> SimulationCause {
+fn behind_links_cause(lines: &LinkLines, line: &[u8]) -> SimulationCause {
     match line_cause(line) {
-        SimulationCause::LateOld => match old(line) {
-            Some(n) if !is_linked(n, &lines.links) => SimulationCause::NoSuchNode,
-            _ => SimulationCause::Old,
-        },
+        SimulationCause::LateOld => mark_cause(lines, line, SimulationCause::Old),
+        SimulationCause::LateErasure => mark_cause(lines, line, SimulationCause::Erasure),
         cause => cause,
     }
 }
@@ -290,10 +303,10 @@ fn link_cause(limits: Limits, lines: &LinkLines, line: &[u8]) -> SimulationCause
     }
     match topology_cause(limits, lines) {
         Some(cause) => cause,
-        None if is_link && lines.olds.is_empty() => {
+        None if is_link && lines.marks.is_empty() => {
             shape_cause(line).unwrap_or(SimulationCause::Pair)
         }
-        None => old_cause(lines, line),
+        None => behind_links_cause(lines, line),
     }
 }
 

@@ -14,6 +14,7 @@ mod clear;
 mod deliveries;
 mod done;
 mod link_lines;
+mod node_marks;
 mod pair_bits;
 mod pair_record;
 mod parse;
@@ -35,15 +36,18 @@ pub use air::Air;
 pub use causes::{SimulationCause, simulation_cause, simulation_cause_within};
 pub use clear::clear_channel_delivers_at_once;
 pub use link_lines::LinkLines;
-pub use parse::{is_word, link, old, pair, simulation_line, simulation_lines_are_read_as_written};
+pub use node_marks::{Mark, choices};
+pub use parse::{
+    erasure_word, is_word, link, mark, pair, simulation_line, simulation_lines_are_read_as_written,
+};
 pub use parted::{Parted, is_parted};
 pub use rounds::{make_parted_rounds, make_parted_rounds_over, make_rounds, make_rounds_over};
 pub use running_simulation::{Running, has_end};
 pub use script_line::SimulationLine;
-pub use setup::Setup;
+pub use setup::{Setup, WorldOptions};
 pub use simulation::{Simulation, Stage};
 pub use simulation_file::{
-    first_line, simulate_in, simulation_fault_is_the_first, take_link, take_old,
+    first_line, simulate_in, simulation_fault_is_the_first, take_link, take_mark,
 };
 pub use simulator::Simulator;
 pub use told_simulation::{

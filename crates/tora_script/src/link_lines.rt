@@ -1,21 +1,20 @@
-//! The lines of a simulation file up to its links and old nodes.
+//! The lines of a simulation file up to its links, and those that say something of single nodes right behind them.
 ghost use Rattle.std.specs.Prelude.{◌≡◌, ◌<◌, ◌++◌, ◌∷◌, [], ⊤, true, MatchBool, OnOk};
-ghost use Rattle.tora_sim.specs.Topologies.{with_old};
 ghost use Rattle.tora_script.specs.Simulator.{ArePairs, AreIds, has_topology};
 ghost use Rattle.tora_script.specs.KnownLimits.{is_same_limits, are_limits, has_known_topology};
 
-use crate::running_simulation::has_number;
+use crate::node_marks::Mark;
 use std::alloc::AllocError;
 use tora_height::Id;
 use tora_world::Limits;
 
-/// The lines before a simulation runs: the destinations, the links so far, and the nodes so far whose link ends speak
-/// version 1 of frames alone, each once. No number of the first two is 0.
+/// The lines before a simulation runs: the destinations, the links so far, and what is said so far of single nodes. No number
+/// of the first two is 0.
 #[derive(Drop)]
 pub struct LinkLines {
     pub dests: Vec<Id>,
     pub links: Vec<(Id, Id)>,
-    pub olds: Vec<Id>,
+    pub marks: Vec<Mark>,
     /// Limits within which it is known that there is a topology of these links and destinations.
     pub(crate) known: Option<Limits>,
     ghost dests_are_ids: { ∥ AreIds dests.items ∥₁ },
@@ -45,7 +44,7 @@ impl LinkLines {
     pub fn push(&mut self, link: (Id, Id)) -> Result<(), AllocError>
         requires { (0 < link.0) × (0 < link.1) }
         ensures dests { self.new.dests.items ≡ self.old.dests.items }
-        ensures olds { self.new.olds.items ≡ self.old.olds.items }
+        ensures marks { self.new.marks.items ≡ self.old.marks.items }
         ensures links { OnOk result (self.new.links.items ≡ self.old.links.items ++ link ∷ []) }
     {
         self.known = None;
@@ -53,16 +52,13 @@ impl LinkLines {
         Ok(())
     }
 
-    /// Puts an old node behind the others, unless it is one of them.
-    pub fn push_old(&mut self, n: Id) -> Result<(), AllocError>
+    /// Puts what is said of a node behind the others.
+    pub fn push_mark(&mut self, mark: Mark) -> Result<(), AllocError>
         ensures dests { self.new.dests.items ≡ self.old.dests.items }
         ensures links { self.new.links.items ≡ self.old.links.items }
-        ensures olds { OnOk result (self.new.olds.items ≡ with_old n self.old.olds.items) }
+        ensures marks { OnOk result (self.new.marks.items ≡ self.old.marks.items ++ mark ∷ []) }
     {
-        if has_number(n, &self.olds) {
-            return Ok(());
-        }
-        self.olds.push(n)?;
+        self.marks.push(mark)?;
         Ok(())
     }
 
@@ -78,7 +74,7 @@ impl LinkLines {
         requires { has_topology limits self.old.links.items self.old.dests.items ≡ true }
         ensures dests { self.new.dests.items ≡ self.old.dests.items }
         ensures links { self.new.links.items ≡ self.old.links.items }
-        ensures olds { self.new.olds.items ≡ self.old.olds.items }
+        ensures marks { self.new.marks.items ≡ self.old.marks.items }
     {
         self.known = Some(limits);
     }

@@ -1,13 +1,16 @@
 //! Lines of a simulation file to what they say.
 ghost use Rattle.std.specs.Prelude.{◌≡◌, ℕ, ◌<◌, List, Some, IfSome, IfOk, All};
+ghost use Rattle.tora_script.specs.declared.node_marks.Mark.{Mark as AnyMark};
 ghost use Rattle.tora_script.specs.declared.script_line.SimulationLine.{SimulationLine as AnySimulationLine};
-ghost use Rattle.tora_script.specs.SimulationGrammar.{SpellsSimulationLine, SpellsDests, SpellsLink, SpellsOld};
+ghost use Rattle.tora_script.specs.SimulationGrammar.{SpellsSimulationLine, SpellsDests, SpellsLink, SpellsMark};
 ghost use Rattle.tora_lines.specs.Gives.{Gives};
-ghost use Rattle.tora_script.specs.SimulationLines.{is_word, pair_of, life_number_of, life_of, lane_of, call_of, torn_of, rounds_of, arm_of, restart_of, end_event_of, node_event_of, walk_line_of, order_line_of, simulation_line_of, dests_of, link_of, old_of};
+ghost use Rattle.tora_script.specs.SimulationLines.{is_word, pair_of, life_number_of, life_of, lane_of, call_of, torn_of, rounds_of, arm_of, restart_of, end_event_of, node_event_of, walk_line_of, order_line_of, simulation_line_of, dests_of, link_of, erasure_of, erases_of, mark_of};
 
+use crate::node_marks::Mark;
 use crate::script_line::SimulationLine;
 use std::alloc::Global;
 use tora_arq::Life;
+use tora_core::Erasure;
 use tora_height::Id;
 use tora_lines::words::LineError;
 use tora_lines::{after, behind, words};
@@ -281,12 +284,40 @@ pub fn link(text: &[u8]) -> Option<(Id, Id)>
     pair(after(b"link ", text)?)
 }
 
-/// `old N`.
-#[tactic(auto, unfolding(crate::specs::SimulationLines::old_of))]
-pub fn old(text: &[u8]) -> Option<Id>
-    ensures { result ≡ old_of text.now }
+/// `plain` or `remembered`.
+#[tactic(auto, unfolding(crate::specs::SimulationLines::erasure_of))]
+pub fn erasure_word(text: &[u8]) -> Option<Erasure>
+    ensures { result ≡ erasure_of text.now }
 {
-    words::id(after(b"old ", text)?)
+    if is_word(b"plain", text) {
+        return Some(Erasure::Plain);
+    }
+    if is_word(b"remembered", text) {
+        Some(Erasure::Remembered)
+    } else {
+        None
+    }
+}
+
+#[tactic(auto, unfolding(crate::specs::SimulationLines::erases_of))]
+fn erases(text: &[u8]) -> Option<Mark>
+    ensures { result ≡ erases_of text.now }
+{
+    let (n, rest) = words::cut(b' ', text)?;
+    let n = words::id(n)?;
+    let erasure = erasure_word(rest)?;
+    Some(Mark::Erases(n, erasure))
+}
+
+/// `old N` or `erasure N WORD`.
+#[tactic(auto, unfolding(crate::specs::SimulationLines::mark_of, crate::specs::SimulationLines::for_id))]
+pub fn mark(text: &[u8]) -> Option<Mark>
+    ensures { result ≡ mark_of text.now }
+{
+    if let Some(rest) = after(b"old ", text) {
+        return Some(Mark::Old(words::id(rest)?));
+    }
+    erases(after(b"erasure ", text)?)
 }
 
 /// A line of a simulation file is read exactly where it is written as the formats say.
@@ -297,6 +328,6 @@ pub fn simulation_lines_are_read_as_written()
     ensures dests_only { (text dests : List ℕ) → SpellsDests text dests → dests_of text ≡ Some dests }
     ensures link_found { (text : List ℕ) (p : ℕ × ℕ) → link_of text ≡ Some p → SpellsLink text p }
     ensures link_only { (text : List ℕ) (p : ℕ × ℕ) → SpellsLink text p → link_of text ≡ Some p }
-    ensures old_found { (text : List ℕ) (n : ℕ) → old_of text ≡ Some n → SpellsOld text n }
-    ensures old_only { (text : List ℕ) (n : ℕ) → SpellsOld text n → old_of text ≡ Some n }
+    ensures mark_found { (text : List ℕ) (mark : AnyMark) → mark_of text ≡ Some mark → SpellsMark text mark }
+    ensures mark_only { (text : List ℕ) (mark : AnyMark) → SpellsMark text mark → mark_of text ≡ Some mark }
 {}

@@ -10,10 +10,11 @@ ghost use Rattle.tora_script.specs.RunningView.{running_view};
 ghost use Rattle.tora_script.specs.SimulationText.{begun_in, has_end, without_parted, node_line, heights_text, heights_reply, count_text, exact_reply, rest_text, nodes_text, walk_text, walk_reply, at_rest_text, at_rest_reply, running_reply, event_reply, after_rounds, part_of, where_linked, known_height};
 
 use crate::air::Air;
+use crate::node_marks::Mark;
 use crate::parted::Parted;
 use crate::rounds::make_parted_rounds;
 use crate::script_line::SimulationLine;
-use crate::setup::Setup;
+use crate::setup::{Setup, WorldOptions};
 use crate::simulator::Simulator;
 use std::alloc::{AllocError, Global};
 use tora_arq::{Life, Times};
@@ -23,7 +24,7 @@ use tora_height::{Entry, Id};
 use tora_lines::numbered;
 use tora_lines::words::LineError;
 use tora_trace::{HeightText, HopText};
-use tora_world::{Event, Limits, SimError};
+use tora_world::{Event, SimError};
 
 /// A simulation behind its links: what the links fix, the pairs of nodes that are parted, and the world.
 #[derive(Drop)]
@@ -162,18 +163,18 @@ fn write_at_rest(out: &mut String, is_at_rest: bool) -> Result<(), AllocError>
 #[tactic(auto, unfolding(crate::specs::Simulator::started))]
 fn start<S: Simulator>(
     alloc: Global,
-    limits: Limits,
+    options: WorldOptions,
     links: &[(Id, Id)],
     dests: &[Id],
-    olds: &[Id],
+    marks: &[Mark],
     times: Times,
 ) -> Result<S, LineError>
     requires links { ArePairs links.now }
     requires dests { AreIds dests.now }
     requires times { IsTimes times }
-    ensures { Gives (λ sim. S.world sim) result (started limits links.now dests.now olds.now times) }
+    ensures { Gives (λ sim. S.world sim) result (started options links.now dests.now marks.now times) }
 {
-    match S::start(alloc, limits, links, dests, olds, times) {
+    match S::start(alloc, options, links, dests, marks, times) {
         Ok(sim) => Ok(sim),
         Err(CoreError::Memory) => Err(LineError::Memory),
         Err(_) => Err(LineError::Fault),
@@ -186,15 +187,15 @@ impl<S: Simulator> Running<S> {
         alloc: Global,
         dests: &[Id],
         links: &[(Id, Id)],
-        olds: &[Id],
+        marks: &[Mark],
         setup: Setup,
     ) -> Result<Running<S>, LineError>
         requires links { ArePairs links.now }
         requires dests { AreIds dests.now }
         requires times { IsTimes setup.times }
-        ensures { Gives (running_view S.world) result (option_map (begun_in dests.now setup) (started setup.limits links.now dests.now olds.now setup.times)) }
+        ensures { Gives (running_view S.world) result (option_map (begun_in dests.now setup) (started setup.options links.now dests.now marks.now setup.times)) }
     {
-        let sim: S = start(alloc, setup.limits, links, dests, olds, setup.times)?;
+        let sim: S = start(alloc, setup.options, links, dests, marks, setup.times)?;
         let nodes = sim.nodes(alloc)?;
         let ends = sim.ends(alloc)?;
         let mut own = Vec::new(alloc);

@@ -1,26 +1,46 @@
 //! What a simulation is made with.
 ghost use Rattle.std.specs.Prelude.{◌≡◌};
-ghost use Rattle.tora_script.specs.Setup.{plain};
+ghost use Rattle.tora_script.specs.Setup.{options_within, plain};
 
 use tora_arq::Times;
 use tora_channel::Channel;
+use tora_core::Erasure;
 use tora_world::Limits;
 
-/// The times of each link end, the channel of rounds, whether both ends notice at once that their link is parted, how large the
-/// world may be, and how many rounds are made at most.
+/// How large a world may be, and what its nodes make of erased levels, but for those of which a line says it.
+#[derive(Clone, Copy, Debug, PartialEq, Eq)]
+pub struct WorldOptions {
+    pub limits: Limits,
+    pub erasure: Erasure,
+}
+
+impl WorldOptions {
+    /// With nodes that remember no erased level.
+    pub fn within(limits: Limits) -> WorldOptions
+        ensures { result ≡ options_within limits }
+    {
+        WorldOptions {
+            limits,
+            erasure: Erasure::Plain,
+        }
+    }
+}
+
+/// The times of each link end, the channel of rounds, whether both ends notice at once that their link is parted, the options of the
+/// world, and how many rounds are made at most.
 #[derive(Clone, Copy, Debug, PartialEq, Eq)]
 pub struct Setup {
     pub times: Times,
     pub channel: Channel,
     pub has_notice: bool,
-    pub limits: Limits,
+    pub options: WorldOptions,
     /// Once so many rounds are done, nothing more is.
     pub until: Option<u64>,
 }
 
 impl Setup {
-    /// With a channel over which every datagram comes at once, and once, without notice, within the standard limits, and with no
-    /// round that is the last.
+    /// With a channel over which every datagram comes at once, and once, without notice, within the standard limits, with nodes that
+    /// remember no erased level, and with no round that is the last.
     pub fn plain(times: Times) -> Setup
         ensures { result ≡ plain times }
     {
@@ -28,7 +48,7 @@ impl Setup {
             times,
             channel: Channel::CLEAR,
             has_notice: false,
-            limits: Limits::STANDARD,
+            options: WorldOptions::within(Limits::STANDARD),
             until: None,
         }
     }

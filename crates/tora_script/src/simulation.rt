@@ -15,7 +15,7 @@ pub enum Stage<S> {
     First,
     /// Behind the first line.
     Links(LinkLines),
-    /// Behind the links and the old nodes.
+    /// Behind the links and what is said of single nodes.
     Runs(Running<S>),
 }
 

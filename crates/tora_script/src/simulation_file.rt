@@ -10,9 +10,10 @@ ghost use Rattle.tora_channel.specs.declared.line.ChannelLine.{ChannelLine as An
 ghost use Rattle.tora_channel.specs.Table.{lines_of};
 ghost use Rattle.tora_script.specs.RunningView.{running_view};
 ghost use Rattle.tora_script.specs.SimulationView.{progress_of, simulation_kind};
-ghost use Rattle.tora_script.specs.SimulationText.{Progress, first_progress, with_link, is_linked, with_old_line, first_run, behind_links, run_begun, end_of_links, simulation_reply, first_simulation_fault, first_fault_with, IsFirstFaultWith, Simulates, IsSimulationBegun};
+ghost use Rattle.tora_script.specs.SimulationText.{Progress, first_progress, with_link, is_linked, with_mark_line, first_run, behind_links, run_begun, end_of_links, simulation_reply, first_simulation_fault, first_fault_with, IsFirstFaultWith, Simulates, IsSimulationBegun};
 
 use crate::link_lines::LinkLines;
+use crate::node_marks::Mark;
 use crate::parse;
 use crate::running_simulation::Running;
 use crate::setup::Setup;
@@ -29,25 +30,25 @@ use tora_sim::{Limits, topology_fault_within};
 
 /// Takes the first line.
 pub fn first_line(alloc: Global, line: &[u8]) -> Result<LinkLines, LineError>
-    ensures { Gives (λ lines. Progress.Links lines.dests.items lines.links.items lines.olds.items) result (first_progress line.now) }
+    ensures { Gives (λ lines. Progress.Links lines.dests.items lines.links.items lines.marks.items) result (first_progress line.now) }
 {
     let dests = parse::dests(alloc, line)?;
     Ok(LinkLines {
         dests,
         links: Vec::new(alloc),
-        olds: Vec::new(alloc),
+        marks: Vec::new(alloc),
         known: None,
     })
 }
 
-/// Takes a link; it is a fault behind an old node, and then changes nothing.
+/// Takes a link; it is a fault behind a line that says something of a node, and then changes nothing.
 pub fn take_link(lines: &mut LinkLines, link: (Id, Id)) -> Result<(), LineError>
     requires { (0 < link.0) × (0 < link.1) }
-    ensures gives { Gives (λ _. Progress.Links lines.new.dests.items lines.new.links.items lines.new.olds.items) result
-        (with_link lines.old.dests.items lines.old.links.items lines.old.olds.items link) }
+    ensures gives { Gives (λ _. Progress.Links lines.new.dests.items lines.new.links.items lines.new.marks.items) result
+        (with_link lines.old.dests.items lines.old.links.items lines.old.marks.items link) }
     ensures kept { result ≡ Err LineError.Fault → lines.new ≡ lines.old }
 {
-    if !lines.olds.is_empty() {
+    if !lines.marks.is_empty() {
         return Err(LineError::Fault);
     }
     lines.push(link)?;
@@ -61,31 +62,31 @@ pub fn is_linked(n: Id, links: &[(Id, Id)]) -> bool
     links.iter().any(|link| link.0 == n || link.1 == n)
 }
 
-/// Takes an old node; it is a fault where no link names the node, or there is no topology of the links within
+/// Takes what is said of a node; it is a fault where no link names the node, or there is no topology of the links within
 /// the limits, and then changes nothing.
 ///
-/// The topology is looked for at the first old node: no link comes behind it.
-pub fn take_old(limits: Limits, lines: &mut LinkLines, n: Id) -> Result<(), LineError>
-    ensures gives { Gives (λ _. Progress.Links lines.new.dests.items lines.new.links.items lines.new.olds.items) result
-        (with_old_line limits lines.old.dests.items lines.old.links.items lines.old.olds.items n) }
+/// The topology is looked for at the first such line: no link comes behind it.
+pub fn take_mark(limits: Limits, lines: &mut LinkLines, mark: Mark) -> Result<(), LineError>
+    ensures gives { Gives (λ _. Progress.Links lines.new.dests.items lines.new.links.items lines.new.marks.items) result
+        (with_mark_line limits lines.old.dests.items lines.old.links.items lines.old.marks.items mark) }
     ensures kept { result ≡ Err LineError.Fault → lines.new ≡ lines.old }
 {
-    if !is_linked(n, &lines.links) {
+    if !is_linked(mark.node(), &lines.links) {
         return Err(LineError::Fault);
     }
     if lines.is_known(limits) {
-        lines.push_old(n)?;
+        lines.push_mark(mark)?;
         return Ok(());
     }
     if topology_fault_within(limits, &lines.links, &lines.dests).is_some() {
         return Err(LineError::Fault);
     }
     lines.note(limits);
-    lines.push_old(n)?;
+    lines.push_mark(mark)?;
     Ok(())
 }
 
-/// Takes a line behind the links and the old nodes, which makes the simulation run.
+/// Takes a line behind the links and what is said of single nodes, which makes the simulation run.
 fn first_run<S: Simulator>(
     alloc: Global,
     setup: Setup,
@@ -96,14 +97,14 @@ fn first_run<S: Simulator>(
 ) -> Result<Running<S>, LineError>
     requires times { IsTimes setup.times }
     requires empty { string_bytes text.old ≡ [] }
-    ensures { Gives (λ s. (running_view S.world s, string_bytes text.new)) result (first_run setup (lines_of table.now) lines.now.dests.items lines.now.links.items lines.now.olds.items line.now) }
+    ensures { Gives (λ s. (running_view S.world s, string_bytes text.new)) result (first_run setup (lines_of table.now) lines.now.dests.items lines.now.links.items lines.now.marks.items line.now) }
 {
-    let mut running = Running::new(alloc, &lines.dests, &lines.links, &lines.olds, setup)?;
+    let mut running = Running::new(alloc, &lines.dests, &lines.links, &lines.marks, setup)?;
     running.take(setup.until, table, line, text)?;
     Ok(running)
 }
 
-/// Takes a line behind the last link and the last old node; at least one link is required.
+/// Takes a line behind the last link and what is said of single nodes; at least one link is required.
 fn behind_links<S: Simulator>(
     alloc: Global,
     setup: Setup,
@@ -114,7 +115,7 @@ fn behind_links<S: Simulator>(
 ) -> Result<Running<S>, LineError>
     requires times { IsTimes setup.times }
     requires empty { string_bytes text.old ≡ [] }
-    ensures { Gives (λ s. (Progress.Runs (running_view S.world s), string_bytes text.new)) result (behind_links setup (lines_of table.now) lines.now.dests.items lines.now.links.items lines.now.olds.items line.now) }
+    ensures { Gives (λ s. (Progress.Runs (running_view S.world s), string_bytes text.new)) result (behind_links setup (lines_of table.now) lines.now.dests.items lines.now.links.items lines.now.marks.items line.now) }
 {
     if lines.links.is_empty() {
         return Err(LineError::Fault);
@@ -151,8 +152,8 @@ fn begin_links<S: Simulator>(
     Ok(())
 }
 
-/// Takes a line behind the links that is none of them and no old node; the simulation runs behind it. At any other stage there is no such
-/// line, and nothing changes.
+/// Takes a line behind the links that is none of them and says nothing of a node; the simulation runs behind it. At any other stage there is
+/// no such line, and nothing changes.
 #[inline(never)]
 fn begin_run<S: Simulator>(
     stage: &mut Stage<S>,
@@ -193,8 +194,8 @@ fn take_line<S: Simulator>(
             if let Some(link) = parse::link(line) {
                 return take_link(lines, link);
             }
-            if let Some(n) = parse::old(line) {
-                return take_old(setup.limits, lines, n);
+            if let Some(mark) = parse::mark(line) {
+                return take_mark(setup.options.limits, lines, mark);
             }
             begin_run(stage, setup, table, alloc, line, text)
         }
@@ -215,7 +216,7 @@ impl<S: Simulator> FileKind for Simulation<S> {
     fn end(&self, _alloc: Global, number: u64) -> Result<Option<u64>, AllocError> {
         match &self.stage {
             Stage::First => Ok(Some(number)),
-            Stage::Links(lines) => Ok(end_of_links(self.setup.limits, lines, number)),
+            Stage::Links(lines) => Ok(end_of_links(self.setup.options.limits, lines, number)),
             Stage::Runs(_) => Ok(None),
         }
     }

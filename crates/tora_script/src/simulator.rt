@@ -12,11 +12,13 @@ ghost use Rattle.tora_sim.specs.Steps.{repeats, Happened};
 ghost use Rattle.tora_world.specs.Walks.{height_at, hop_at, exact_in, walk_of};
 ghost use Rattle.tora_world.specs.Rest.{rests};
 
+use crate::node_marks::Mark;
+use crate::setup::WorldOptions;
 use std::alloc::{AllocError, Global};
 use tora_arq::{Life, Times};
 use tora_core::CoreError;
 use tora_height::{Entry, Id};
-use tora_world::{Event, Limits, SimError};
+use tora_world::{Event, SimError};
 
 /// A simulated world.
 pub trait Simulator: Drop {
@@ -24,20 +26,20 @@ pub trait Simulator: Drop {
 
     /// The first world of links and destinations, or why there is no such topology within the limits.
     ///
-    /// The link ends of the old nodes speak version 1 of frames alone, and those of all other nodes both versions; an old
-    /// node that no link names changes nothing. Each link end has these times.
+    /// The marks say which nodes are old, whose link ends speak version 1 of frames alone, and what single nodes make of erased
+    /// levels; one of a node that no link names changes nothing. Each link end has these times.
     fn start(
         alloc: Global,
-        limits: Limits,
+        options: WorldOptions,
         links: &[(Id, Id)],
         dests: &[Id],
-        olds: &[Id],
+        marks: &[Mark],
         times: Times,
     ) -> Result<Self, CoreError>
         requires links { ArePairs links.now }
         requires dests { AreIds dests.now }
         requires times { IsTimes times }
-        ensures { Starts world limits links.now dests.now olds.now times result };
+        ensures { Starts world options links.now dests.now marks.now times result };
 
     /// Whether an event may be possible now: where the answer is `false`, `happen` refuses it.
     ///

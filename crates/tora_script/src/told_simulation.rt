@@ -74,7 +74,7 @@ impl<S: Simulator, T: Eprint> FileKind for Told<'_, S, T> {
             }
             Ok(()) => {}
             Err(LineError::Fault) => {
-                let limits = self.state.setup.limits;
+                let limits = self.state.setup.options.limits;
                 let cause = simulation_cause_within(limits, &self.state.stage, line);
                 tell_cause(self.rt, self.number, cause);
             }
@@ -87,7 +87,7 @@ impl<S: Simulator, T: Eprint> FileKind for Told<'_, S, T> {
         let fault = self.state.end(alloc, number)?;
         match fault {
             Some(line) => {
-                let cause = end_cause(self.state.setup.limits, &self.state.stage);
+                let cause = end_cause(self.state.setup.options.limits, &self.state.stage);
                 tell_cause(self.rt, line, cause);
             }
             None => {}

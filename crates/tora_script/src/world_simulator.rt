@@ -1,29 +1,83 @@
 //! The simulator of the world of all schedules, as the engine asks for it.
-ghost use Rattle.std.specs.Prelude.{◌≡◌, fold};
-ghost use Rattle.tora_script.specs.Simulator.{with_old_node};
+ghost use Rattle.std.specs.Prelude.{◌≡◌, ◌⊎◌, None, Some, IfErr, IfOk, OnOk};
+ghost use Rattle.tora_world.specs.Topology.{topology_fault_within};
+ghost use Rattle.tora_sim.specs.Topologies.{topology_of};
+ghost use Rattle.tora_script.specs.Marks.{with_old_node, with_choice, with_mark, with_marks};
+ghost use Rattle.tora_script.specs.Simulator.{ArePairs, AreIds, mixed_topology};
 
+use crate::node_marks::Mark;
+use crate::setup::WorldOptions;
 use crate::simulator::Simulator;
 use std::alloc::{AllocError, Global};
 use tora_arq::{Life, Times};
-use tora_core::CoreError;
+use tora_core::{CoreError, Erasure};
 use tora_height::{Entry, Id};
 use tora_sim::{Sim, Topology};
-use tora_world::{Event, Limits, SimError};
-
-/// Makes nodes of a topology old; where there is no such node, nothing is changed.
-fn make_old(topology: &mut Topology, olds: &[Id])
-    ensures { topology.new ≡ fold with_old_node topology.old olds.now }
-{
-    for n in olds {
-        make_one_old(topology, *n);
-    }
-}
+use tora_world::{Event, SimError};
 
 /// Makes a node of a topology old; where there is no such node, nothing is changed.
-fn make_one_old(topology: &mut Topology, n: Id)
+fn make_old(topology: &mut Topology, n: Id)
     ensures { topology.new ≡ with_old_node topology.old n }
 {
     let _ = topology.set_old(n);
+}
+
+/// Says what a node of a topology makes of erased levels; where there is no such node, nothing is changed.
+#[tactic(auto, using(crate::proofs::Starting::not_chosen))]
+fn choose(topology: &mut Topology, n: Id, erasure: Erasure) -> Result<(), AllocError>
+    ensures { OnOk result (topology.new ≡ with_choice topology.old n erasure) }
+{
+    match topology.choose(n, erasure) {
+        Ok(()) => Ok(()),
+        Err(SimError::NoNode) => Ok(()),
+        Err(_) => Err(AllocError),
+    }
+}
+
+/// Puts what is said of a node into a topology; where there is no such node, nothing is changed.
+fn put_mark(topology: &mut Topology, mark: Mark) -> Result<(), AllocError>
+    ensures { OnOk result (topology.new ≡ with_mark topology.old mark) }
+{
+    match mark {
+        Mark::Old(n) => {
+            make_old(topology, n);
+            Ok(())
+        }
+        Mark::Erases(n, erasure) => choose(topology, n, erasure),
+    }
+}
+
+/// Puts what is said of nodes into a topology, in order.
+fn put_marks(topology: &mut Topology, marks: &[Mark]) -> Result<(), AllocError>
+    ensures { OnOk result (topology.new ≡ with_marks topology.old marks.now) }
+{
+    for mark in marks {
+        put_mark(topology, *mark)?;
+    }
+    Ok(())
+}
+
+/// The topology of these links and destinations, with what is said of its nodes.
+fn mixed_topology(
+    alloc: Global,
+    options: WorldOptions,
+    links: &[(Id, Id)],
+    dests: &[Id],
+    marks: &[Mark],
+) -> Result<Topology, CoreError>
+    requires links { ArePairs links.now }
+    requires dests { AreIds dests.now }
+    ensures made { IfOk result (λ t. t ≡ mixed_topology options.erasure links.now dests.now marks.now) }
+    ensures sound { IfOk result (λ _. topology_fault_within options.limits (topology_of links.now dests.now) ≡ None) }
+    ensures fault { IfErr result (λ e. ((e ≡ CoreError.Memory) × (topology_fault_within options.limits (topology_of links.now dests.now) ≡ None))
+        ⊎ (topology_fault_within options.limits (topology_of links.now dests.now) ≡ Some e)) }
+{
+    let mut topology = Topology::with_limits(alloc, options.limits, links, dests)?;
+    topology.set_erasure(options.erasure);
+    match put_marks(&mut topology, marks) {
+        Ok(()) => Ok(topology),
+        Err(_) => Err(CoreError::Memory),
+    }
 }
 
 impl Simulator for Sim {
@@ -33,14 +87,13 @@ impl Simulator for Sim {
 
     fn start(
         alloc: Global,
-        limits: Limits,
+        options: WorldOptions,
         links: &[(Id, Id)],
         dests: &[Id],
-        olds: &[Id],
+        marks: &[Mark],
         times: Times,
     ) -> Result<Sim, CoreError> {
-        let mut topology = Topology::with_limits(alloc, limits, links, dests)?;
-        make_old(&mut topology, olds);
+        let topology = mixed_topology(alloc, options, links, dests, marks)?;
         match Sim::with_times(alloc, &topology, times) {
             Ok(sim) => Ok(sim),
             Err(_) => Err(CoreError::Memory),

@@ -80,7 +80,7 @@ module _ (t : Topology) (times : Times) (clock : ℕ) (nodes : List NodeView) (l
       armed_done call e = record { accepted = possible call noded; world = armed_world ∙ e ∙ sym (effect call noded) }
 
     abbrev as_it_was : (new : NodeView) → new.node ≡ x.node → new.first ≡ x.first → new.count ≡ x.count → new.seat ≡ x.seat → new.counts ≡ x.counts → IsSameNode x new
-    as_it_was new a f b s c = record { node = a; first = f; count = b; me = ap (λ (seat : SeatView). seat.core.me) s; neighbours = ap (λ (seat : SeatView). seat.core.neighbours) s; destinations = ap (λ (seat : SeatView). destinations_of seat.core.views) s; seats = ap length c }
+    as_it_was new a f b s c = record { node = a; first = f; count = b; me = ap (λ (seat : SeatView). seat.core.me) s; erasure = ap (λ (seat : SeatView). seat.core.erasure) s; neighbours = ap (λ (seat : SeatView). seat.core.neighbours) s; destinations = ap (λ (seat : SeatView). destinations_of seat.core.views) s; seats = ap length c }
 
     -- its next send is armed, or its next receive
     sends_done : (sending : DeclaredSending) (call : Call) → ((v : World) → after_arming v n call ≡ record v { arms = put_one v.arms n (record (v.arms n) { sending = sending_of sending }) }) →

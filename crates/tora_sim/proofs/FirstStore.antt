@@ -10,14 +10,15 @@ use Rattle.tora_arq.specs.declared.times.Times.{Times}
 use Rattle.tora_arq.specs.LinkEnd.{first_end}
 use Rattle.tora_life.specs.State.{fresh_state}
 use Rattle.tora_life.specs.LifeRun.{opened}
+use Rattle.tora_core.specs.declared.erasure.Erasure.{Erasure}
 use Rattle.tora_core.specs.CoreRun.{CoreView}
-use Rattle.tora_core.specs.View.{first_view}
+use Rattle.tora_core.specs.View.{first_view_of}
 use Rattle.tora_core.specs.Kept.{destinations_of}
 use Rattle.tora_core.specs.Numbers.{has_number, ascending, IsAscending}
 use Rattle.tora_seat.specs.Serving.{SeatState}
 use Rattle.tora_seat.specs.Rows as Rows
 use Rattle.tora_seat.specs.Rows.{new_row, current_of, pending_of}
-use Rattle.tora_world.specs.Topology.{Topology, nodes_in, neighbours_of, other_ends, is_node, is_link, new_core}
+use Rattle.tora_world.specs.Topology.{Topology, erasure_at, nodes_in, neighbours_of, other_ends, is_node, is_link, new_core}
 use Rattle.tora_world.specs.World.{first_world, first_seat, owner_of}
 use Rattle.tora_world.specs.World.Sending.{Goes}
 use Rattle.tora_sim.specs.Topologies.{IsTopology}
@@ -55,9 +56,9 @@ first-state core =
     let cuts = fun_ext (λ (k : ℕ). no-cut k core.neighbours) in
     λ i. record { core = core; current = lives i; pending = cuts i }
 
-same-destinations : (me : ℕ) (ds : List ℕ) → destinations_of (map (first_view me) ds) ≡ ds
-same-destinations me [] = refl
-same-destinations me (d ∷ ds) = ap (λ (xs : List ℕ). d ∷ xs) (same-destinations me ds)
+same-destinations : (choice : Erasure) (me : ℕ) (ds : List ℕ) → destinations_of (map (first_view_of choice me) ds) ≡ ds
+same-destinations choice me [] = refl
+same-destinations choice me (d ∷ ds) = ap (λ (xs : List ℕ). d ∷ xs) (same-destinations choice me ds)
 
 zeros : (n i : ℕ) → slice_index (replicate n 0) i ≡ 0
 zeros zero i = refl
@@ -84,8 +85,9 @@ module _ (order : PutInOrder) (stays : StaysInOrder) (t : Topology) (times : Tim
     count = f.count;
     seats = ap length f.counts ∙ length-replicate (suc x.count) 0;
     me = ap (λ (s : Rows.SeatView). s.core.me) f.seat;
+    erasure = ap (λ (s : Rows.SeatView). s.core.erasure) f.seat;
     neighbours = ap (λ (s : Rows.SeatView). s.core.neighbours) f.seat ∙ stay-ascending (neighbours_of t x.node) (neighbours-ascend order t h x.node);
-    destinations = ap (λ (s : Rows.SeatView). destinations_of s.core.views) f.seat ∙ same-destinations x.node (ascending t.destinations);
+    destinations = ap (λ (s : Rows.SeatView). destinations_of s.core.views) f.seat ∙ same-destinations (erasure_at t x.node) x.node (ascending t.destinations);
   }
 
   link-kept : (i : ℕ) (x : LinkView) → slice_get links i ≡ Some x → IsLinkOf t times x

@@ -44,7 +44,7 @@ module _ (t : Topology) (times : Times) (clock : ℕ) (nodes : List NodeView) (l
   node_place = slice_get_read nodes (length nodes) i x refl first.within read
 
   pub is_there : node_at nodes n ≡ Some x
-  is_there = node_there n nodes i x x first node_place (record { node = refl; first = refl; count = refl; me = refl; neighbours = refl; destinations = refl; seats = refl })
+  is_there = node_there n nodes i x x first node_place (record { node = refl; first = refl; count = refl; me = refl; erasure = refl; neighbours = refl; destinations = refl; seats = refl })
 
   pub is_noded : is_node t n ≡ true
   is_noded = h.nodes n ∙ ap is_some is_there
@@ -71,7 +71,7 @@ module _ (t : Topology) (times : Times) (clock : ℕ) (nodes : List NodeView) (l
     new = after_item x seat clock what
 
     same_node : IsSameNode x new
-    same_node = record { node = refl; first = refl; count = refl; me = refl; neighbours = refl; destinations = refl; seats = length-set x.counts seat (suc (slice_index x.counts seat)) }
+    same_node = record { node = refl; first = refl; count = refl; me = refl; erasure = refl; neighbours = refl; destinations = refl; seats = length-set x.counts seat (suc (slice_index x.counts seat)) }
 
     counted : ◌≡◌ {A = ℕ → ℕ → ℕ} (put_one (λ a. counts_in (node_at nodes a)) n (counts_in (Some new))) (put_at (λ a. counts_in (node_at nodes a)) n seat (suc (counts_in (node_at nodes n) seat)))
     counted = fun_ext (λ a. fun_ext (λ b. go a b (cases_Bool (nat_eq a n)) (cases_Bool (nat_eq b seat))))

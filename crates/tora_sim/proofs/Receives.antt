@@ -71,7 +71,7 @@ module _ (t : Topology) (times : Times) (clock : ℕ) (nodes : List NodeView) (l
       disarmed = record y { receive = false }
 
       same' : IsSameNode y disarmed
-      same' = record { node = refl; first = refl; count = refl; me = refl; neighbours = refl; destinations = refl; seats = refl }
+      same' = record { node = refl; first = refl; count = refl; me = refl; erasure = refl; neighbours = refl; destinations = refl; seats = refl }
 
       at' : slice_get nodes j ≡ Some y
       at' = node_place t times clock nodes links ds h n j y first' read'

@@ -12,8 +12,9 @@ use Rattle.tora_arq.specs.declared.life.Life.{Life}
 use Rattle.tora_arq.specs.LinkEnd.{first_end}
 use Rattle.tora_life.specs.LifeRun.{LifeDisk}
 use Rattle.tora_core.specs.Numbers.{with_number, ascending, IsAscending}
-use Rattle.tora_core.specs.View.{first_view}
-use Rattle.tora_core.specs.CoreRun.{CoreView, first_core}
+use Rattle.tora_core.specs.View.{first_view_of}
+use Rattle.tora_core.specs.declared.erasure.Erasure.{Erasure}
+use Rattle.tora_core.specs.CoreRun.{CoreView, first_core_of}
 use Rattle.tora_core.specs.Kept.{IsCore, destinations_of}
 use Rattle.tora_seat.specs.declared.cargo.Cargo.{Cargo}
 use Rattle.tora_seat.specs.Serving.{put_one}
@@ -21,7 +22,7 @@ use Rattle.tora_seat.specs.Rows.{SeatView, new_row, current_of, pending_of}
 use Rattle.tora_seat.specs.Rows as Rows
 use Rattle.tora_world.specs.declared.event.Event.TheVariants.{Restart}
 use Rattle.tora_world.specs.declared.sim_error.SimError.TheVariants as Refused
-use Rattle.tora_world.specs.Topology.{Topology, is_link, neighbours_of, new_core}
+use Rattle.tora_world.specs.Topology.{Topology, erasure_at, is_link, neighbours_of, new_core}
 use Rattle.tora_world.specs.World.{World, refusal_of, effect_by, world_after, first_seat, after_restart, reopened}
 use Rattle.tora_sim.specs.Keyed.{IsFirst}
 use Rattle.tora_sim.specs.Links.{LinkView, is_at, at_node, AreChanged}
@@ -64,9 +65,9 @@ sorted_on acc (n ∷ ns) h =
 pub sorted_stays : (ns : List ℕ) → IsAscending ns → ascending ns ≡ ns
 sorted_stays ns h = sorted_on [] ns h
 
-pub first_destinations : (me : ℕ) (ds : List ℕ) → destinations_of (map (first_view me) ds) ≡ ds
-first_destinations me [] = refl
-first_destinations me (d ∷ ds) = ap (λ xs. d ∷ xs) (first_destinations me ds)
+pub first_destinations : (choice : Erasure) (me : ℕ) (ds : List ℕ) → destinations_of (map (first_view_of choice me) ds) ≡ ds
+first_destinations choice me [] = refl
+first_destinations choice me (d ∷ ds) = ap (λ xs. d ∷ xs) (first_destinations choice me ds)
 
 -- ---- a new seat
 
@@ -183,8 +184,9 @@ module _ (t : Topology) (times : Times) (clock : ℕ) (nodes : List NodeView) (l
 
     core_is : core_again x.seat.core ≡ new_core t n
     core_is =
-        ap₂ (λ me ks. first_core me ks (destinations_of x.seat.core.views)) (at.kept.me ∙ at.node) at.neighbours
-        ∙ ap (λ sorted. record { me = n; neighbours = ascending (neighbours_of t n); up = []; views = map (first_view n) sorted }) (sorted_stays (destinations_of x.seat.core.views) core_kept.ascending_destinations ∙ at.kept.destinations)
+        ap (λ (choice : Erasure). first_core_of choice x.seat.core.me x.seat.core.neighbours (destinations_of x.seat.core.views)) (at.kept.erasure ∙ ap (erasure_at t) at.node)
+        ∙ ap₂ (λ me ks. first_core_of (erasure_at t n) me ks (destinations_of x.seat.core.views)) (at.kept.me ∙ at.node) at.neighbours
+        ∙ ap (λ sorted. record { me = n; erasure = erasure_at t n; neighbours = ascending (neighbours_of t n); up = []; views = map (first_view_of (erasure_at t n) n) sorted }) (sorted_stays (destinations_of x.seat.core.views) core_kept.ascending_destinations ∙ at.kept.destinations)
 
     same : IsSameNode x y
     same = record {
@@ -192,8 +194,9 @@ module _ (t : Topology) (times : Times) (clock : ℕ) (nodes : List NodeView) (l
       first = refl;
       count = refl;
       me = refl;
+      erasure = refl;
       neighbours = sorted_stays x.seat.core.neighbours core_kept.ascending_neighbours;
-      destinations = first_destinations x.seat.core.me (ascending (destinations_of x.seat.core.views)) ∙ sorted_stays (destinations_of x.seat.core.views) core_kept.ascending_destinations;
+      destinations = first_destinations x.seat.core.erasure x.seat.core.me (ascending (destinations_of x.seat.core.views)) ∙ sorted_stays (destinations_of x.seat.core.views) core_kept.ascending_destinations;
       seats = length-replicate (length x.counts) 0;
     }
 

@@ -86,7 +86,7 @@ module _ (t : Topology) (times : Times) (clock : ℕ) (nodes : List NodeView) (l
     same = record { node = refl; peer = refl; seat = refl; settings = refl; pulled = λ q. q }
 
     same' : IsSameNode y disarmed
-    same' = record { node = refl; first = refl; count = refl; me = refl; neighbours = refl; destinations = refl; seats = refl }
+    same' = record { node = refl; first = refl; count = refl; me = refl; erasure = refl; neighbours = refl; destinations = refl; seats = refl }
 
     at' : slice_get nodes j ≡ Some y
     at' = node_place t times clock nodes links ds h n j y first' read'

@@ -9,7 +9,7 @@ use Rattle.tora_frame.specs.FrameParts.{FrameParts}
 use Rattle.tora_arq.specs.declared.times.Times.{Times}
 use Rattle.tora_arq.specs.Settings.{settings_of}
 use Rattle.tora_seat.specs.Offers.{place_of}
-use Rattle.tora_world.specs.Topology.{version_at, Topology, is_node, is_link, neighbours_of}
+use Rattle.tora_world.specs.Topology.{erasure_at, version_at, Topology, is_node, is_link, neighbours_of}
 use Rattle.tora_core.specs.Kept.{destinations_of}
 use Rattle.tora_world.specs.LinkMachine.{put_at}
 use Rattle.tora_seat.specs.Serving.{put_one}
@@ -269,6 +269,7 @@ pub record IsSameNode (x new : NodeView) : Type 0 where
   pub first : new.first ≡ x.first
   pub count : new.count ≡ x.count
   pub me : new.seat.core.me ≡ x.seat.core.me
+  pub erasure : new.seat.core.erasure ≡ x.seat.core.erasure
   pub neighbours : new.seat.core.neighbours ≡ x.seat.core.neighbours
   pub destinations : destinations_of new.seat.core.views ≡ destinations_of x.seat.core.views
   pub seats : length new.counts ≡ length x.counts
@@ -332,6 +333,7 @@ module _ (n : ℕ) (nodes : List NodeView) (i : ℕ) (x new : NodeView) (first :
     count = same.count ∙ h.count ∙ ap (λ y. length (neighbours_of t y)) (sym same.node);
     seats = same.seats ∙ h.seats ∙ ap suc (sym same.count);
     me = same.me ∙ h.me ∙ sym same.node;
+    erasure = same.erasure ∙ h.erasure ∙ ap (erasure_at t) (sym same.node);
     neighbours = same.neighbours ∙ h.neighbours ∙ ap (neighbours_of t) (sym same.node);
     destinations = same.destinations ∙ h.destinations;
   }

@@ -124,6 +124,7 @@ module _ (t : Topology) (times : Times) (clock : ℕ) (nodes : List NodeView) (l
       first = ap (λ (z : NodeView). z.first) s.node;
       count = ap (λ (z : NodeView). z.count) s.node;
       me = s.me;
+      erasure = s.erasure;
       neighbours = s.neighbours;
       destinations = s.destinations;
       seats = ap (λ (z : NodeView). length z.counts) s.node;

@@ -2,7 +2,7 @@
 use Rattle.std.specs.Prelude.{◌≡◌, ℕ, ◌+◌, ◌<◌, List, [], length, replicate, slice_get, Option, Some}
 use Rattle.tora_arq.specs.LinkEnd.{first_end}
 use Rattle.tora_arq.specs.EndRange.{LinkEndView, link_end_of}
-use Rattle.tora_core.specs.CoreRun.{CoreView, first_core}
+use Rattle.tora_core.specs.CoreRun.{CoreView, first_core_of}
 use Rattle.tora_core.specs.Kept.{destinations_of}
 use Rattle.tora_seat.specs.Rows.{SeatView}
 use Rattle.tora_world.specs.World.{reopened}
@@ -13,9 +13,9 @@ use Rattle.tora_sim.specs.Nodes.{NodeView}
 abbrev pub restarted : Option (List ℕ) → LinkView → LinkView
 restarted torn link = record link { state = first_end; file = reopened torn link.file; pulled = length link.put }
 
--- a core of the same node, neighbours and destinations before any input
+-- a core of the same node, choice, neighbours and destinations before any input
 abbrev pub core_again : CoreView → CoreView
-core_again core = first_core core.me core.neighbours (destinations_of core.views)
+core_again core = first_core_of core.erasure core.me core.neighbours (destinations_of core.views)
 
 -- a node: its lane is empty, and its core has accepted nothing
 abbrev pub restarted_node : SeatView → NodeView → NodeView

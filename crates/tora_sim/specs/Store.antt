@@ -17,7 +17,7 @@ use Rattle.tora_core.specs.Numbers.{ascending}
 use Rattle.tora_core.specs.Kept.{destinations_of}
 use Rattle.tora_seat.specs.Serving.{SeatState, Parcel}
 use Rattle.tora_seat.specs.Rows as Rows
-use Rattle.tora_world.specs.Topology.{Topology, version_at, is_node, is_link, neighbours_of}
+use Rattle.tora_world.specs.Topology.{Topology, erasure_at, version_at, is_node, is_link, neighbours_of}
 use Rattle.tora_world.specs.World.{World, Arms, first_seat, owner_of}
 use Rattle.tora_seat.specs.Offers.{place_of}
 use Rattle.tora_world.specs.World.Sending.{Goes}
@@ -122,6 +122,7 @@ pub record IsNodeOf (t : Topology) (node : NodeView) : Type 0 where
   pub count : node.count ≡ length (neighbours_of t node.node)
   pub seats : length node.counts ≡ suc node.count  -- one for each neighbour, and that of the commands
   pub me : node.seat.core.me ≡ node.node
+  pub erasure : node.seat.core.erasure ≡ erasure_at t node.node
   pub neighbours : node.seat.core.neighbours ≡ neighbours_of t node.node
   pub destinations : destinations_of node.seat.core.views ≡ ascending t.destinations
 

@@ -1,6 +1,8 @@
 -- The links and destinations that are given.
 use Rattle.std.specs.Prelude.{◌≡◌, ℕ, ◌+◌, ◌==◌, ◌<◌, ◌≤◌, ◌||◌, Bool, false, List, [], ◌∷◌, ◌++◌, length, map, None, if◌then◌else◌}
 use Rattle.std.specs.List.{All, list_any}
+use Rattle.tora_core.specs.declared.erasure.Erasure.{Erasure}
+use Rattle.tora_core.specs.declared.erasure.Erasure.TheVariants.{Plain}
 use Rattle.tora_core.specs.Numbers.{has_number, has_repeat}
 use Rattle.tora_world.specs.Topology.{Topology, Link, topology_fault_within, greatest_limits, nodes_in, other_ends, with_node}
 use Rattle.tora_world.specs.declared.limits.TheConstants.{GREATEST_NODES}
@@ -12,11 +14,15 @@ abbrev pub links_in : List (ℕ × ℕ) → List Link
 links_in links = map link_in links
 
 abbrev pub topology_of : List (ℕ × ℕ) → List ℕ → Topology
-topology_of links destinations = record { links = links_in links; destinations = destinations; olds = [] }
+topology_of links destinations = record { links = links_in links; destinations = destinations; olds = []; erasure = Plain; choices = [] }
 
 -- the same, but for the nodes whose link ends speak version 1 of frames alone
 abbrev pub with_olds : Topology → List ℕ → Topology
 with_olds t olds = record t { olds = olds }
+
+-- the same, but for what nodes make of erased levels, and what single nodes make of them
+abbrev pub with_choices : Topology → Erasure → List (ℕ × Erasure) → Topology
+with_choices t erasure choices = record t { erasure = erasure; choices = choices }
 
 -- one of them more
 abbrev pub with_old : ℕ → List ℕ → List ℕ

@@ -20,6 +20,7 @@ pub record IsServed (before : NodeView) (lanes : LanesView) (item : Item) (after
   pub offered : AreOffered DidOffer before.seat.core.neighbours lanes offers lanes_after
   pub serving : (answers : Answers) → Follows answers [] offers → serving_of answers before.seat.core.neighbours (Rows.state_of before.seat) item ≡ serving_at item.now after.seat offers
   pub me : after.seat.core.me ≡ before.seat.core.me
+  pub erasure : after.seat.core.erasure ≡ before.seat.core.erasure
   pub neighbours : after.seat.core.neighbours ≡ before.seat.core.neighbours
   pub destinations : destinations_of after.seat.core.views ≡ destinations_of before.seat.core.views
   pub node : after ≡ record before { seat = after.seat; inputs = before.inputs ++ map (λ input. (input, item.now)) after.seat.inputs; items = after.items }

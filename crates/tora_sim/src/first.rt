@@ -162,8 +162,9 @@ fn new_seat(
     requires neighbours { neighbours.now ≡ neighbours_of topology.now n }
     ensures { MatchResult result (λ seat. seat ≡ first_seat (new_core topology.now n)) (λ e. e ≡ SimError.Memory) }
 {
-    let Ok(core) = Core::with_limits(
+    let Ok(core) = Core::with_erasure(
         alloc,
+        topology.erasure_of(n),
         CoreLimits::GREATEST,
         n,
         neighbours,

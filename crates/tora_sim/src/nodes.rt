@@ -192,7 +192,7 @@ impl NodeSlot {
         self.seat.stepped()
     }
 
-    /// A new seat of a core of the same node, neighbours and destinations.
+    /// A new seat of a core of the same node, choice, neighbours and destinations.
     ///
     /// # Errors
     /// `Memory` alone: a core of these lists was made before.
@@ -203,8 +203,9 @@ impl NodeSlot {
         ensures memory { IfErr result (λ e. e ≡ SimError.Memory) }
     {
         let core = self.seat.core();
-        match Core::with_limits(
+        match Core::with_erasure(
             alloc,
+            core.erasure(),
             CoreLimits::GREATEST,
             core.me(),
             core.neighbours(),

@@ -1,8 +1,8 @@
 //! Which nodes there are, which links, and the destinations of their tables.
-ghost use Rattle.std.specs.Prelude.{◌≡◌, ◌⊎◌, ◌<◌, ◌≤◌, ◌-◌, if◌then◌else◌, None, Some, IfErr, IfOk, OnOk, true, false, MatchOption, MatchBool, length, map, nat_lt, position};
+ghost use Rattle.std.specs.Prelude.{◌≡◌, ◌⊎◌, ◌<◌, ◌≤◌, ◌-◌, ◌++◌, ◌∷◌, [], if◌then◌else◌, None, Some, IfErr, IfOk, OnOk, true, false, MatchOption, MatchBool, length, map, nat_lt, position};
 ghost use Rattle.std.specs.List.{list_any};
 ghost use Rattle.tora_core.specs.Numbers.{ascending, has_number, has_repeat, with_number};
-ghost use Rattle.tora_world.specs.Topology.{Link, is_node, version_at, topology_fault, topology_fault_within, most_neighbours, nodes_in, neighbours_of, with_node, different, different_neighbours, other_ends, has_too_many_within, has_own_link};
+ghost use Rattle.tora_world.specs.Topology.{Link, chosen_by, erasure_at, is_node, version_at, topology_fault, topology_fault_within, most_neighbours, nodes_in, neighbours_of, with_node, different, different_neighbours, other_ends, has_too_many_within, has_own_link};
 ghost use Rattle.tora_sim.specs.LinksByBits.{rows_in, AreRowsOf};
 ghost use Rattle.tora_sim.specs.Topologies.{topology_of, with_olds, with_old, link_in, links_in, is_named, with_end, AreNumbers, IsTopology};
 ghost use Rattle.arrayvec.specs.ArrayVec.{array_vec_len};
@@ -15,7 +15,7 @@ use arrayvec::ArrayVec;
 use std::alloc::{AllocError, Global};
 use std::marker::Model;
 use tora_core::numbers::{has_number, has_repeat, insert_number};
-use tora_core::{CoreError, GREATEST_NEIGHBOURS};
+use tora_core::{CoreError, Erasure, GREATEST_NEIGHBOURS};
 use tora_frame::Version;
 use tora_height::Id;
 use tora_world::{GREATEST_NODES, Limits};
@@ -35,17 +35,21 @@ pub struct Topology {
     destinations: Vec<Id>,
     /// The nodes whose link ends speak version 1 of frames alone.
     olds: ArrayVec<Id, GREATEST_NODES>,
+    /// What nodes make of erased levels.
+    erasure: Erasure,
+    /// What single nodes make of them, of which the last of a node holds.
+    choices: Vec<(Id, Erasure)>,
 }
 
 impl Model for Topology {
     ghost use Rattle.tora_world.specs.Topology.{Topology};
-    ghost use Rattle.tora_sim.specs.Topologies.{topology_of, with_olds, IsTopology};
+    ghost use Rattle.tora_sim.specs.Topologies.{topology_of, with_choices, with_olds, IsTopology};
 
     ghost Value = { Topology };
 
-    ghost view = { λ t. with_olds (topology_of t.links.items t.destinations.items) t.olds.items };
+    ghost view = { λ t. with_choices (with_olds (topology_of t.links.items t.destinations.items) t.olds.items) t.erasure t.choices.items };
 
-    ghost invariant = { λ t. IsTopology (with_olds (topology_of t.links.items t.destinations.items) t.olds.items) };
+    ghost invariant = { λ t. IsTopology (with_choices (with_olds (topology_of t.links.items t.destinations.items) t.olds.items) t.erasure t.choices.items) };
 }
 
 impl Topology {
@@ -102,6 +106,8 @@ impl Topology {
             links,
             destinations,
             olds: ArrayVec::new(),
+            erasure: Erasure::Plain,
+            choices: Vec::new(alloc),
         })
     }
 
@@ -120,6 +126,40 @@ impl Topology {
             self.olds.push(n);
         }
         Ok(())
+    }
+
+    /// All nodes make this of erased levels, but for those that `choose` names.
+    pub fn set_erasure(&mut self, erasure: Erasure)
+        ensures { self.new ≡ record self.old { erasure = erasure } }
+    {
+        self.erasure = erasure;
+    }
+
+    /// A node makes this of erased levels, whatever was said of it before.
+    ///
+    /// # Errors
+    /// `NoNode` where there is no such node, and `Memory`; either changes nothing.
+    pub fn choose(&mut self, n: Id, erasure: Erasure) -> Result<(), SimError>
+        ensures ok { OnOk result ((is_node self.old n ≡ true) × (self.new ≡ record self.old { choices = self.old.choices ++ (n, erasure) ∷ [] })) }
+        ensures err { IfErr result (λ e. (self.new ≡ self.old) × MatchBool (is_node self.old n) (e ≡ SimError.Memory) (e ≡ SimError.NoNode)) }
+    {
+        if !self.has_node(n) {
+            return Err(SimError::NoNode);
+        }
+        match self.choices.push((n, erasure)) {
+            Ok(()) => Ok(()),
+            Err(_) => Err(SimError::Memory),
+        }
+    }
+
+    /// What a node makes of erased levels.
+    pub fn erasure_of(&self, n: Id) -> Erasure
+        ensures { result ≡ erasure_at self.now n }
+    {
+        self.choices.iter().fold(
+            self.erasure,
+            |erasure, choice| chosen_by(n, erasure, *choice),
+        )
     }
 
     /// The nodes whose link ends speak version 1 of frames alone.
@@ -200,12 +240,22 @@ impl Topology {
         let Ok(()) = olds.try_extend_from_slice(self.olds.as_slice()) else {
             unreachable!()
         };
+        let choices = Vec::from_slice(alloc, &self.choices)?;
         Ok(Topology {
             links,
             destinations,
             olds,
+            erasure: self.erasure,
+            choices,
         })
     }
+}
+
+/// What a node makes of erased levels, behind one choice more.
+fn chosen_by(n: Id, erasure: Erasure, choice: (Id, Erasure)) -> Erasure
+    ensures { result ≡ chosen_by n erasure choice }
+{
+    if choice.0 == n { choice.1 } else { erasure }
 }
 
 /// Whether a link names a number.

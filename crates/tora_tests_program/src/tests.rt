@@ -4,6 +4,7 @@ mod channel_tables;
 mod commands;
 mod drives;
 mod each_call;
+mod erasures;
 mod expected;
 mod failing_streams;
 mod keyed_wires;

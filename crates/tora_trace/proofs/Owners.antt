@@ -1,6 +1,7 @@
 -- The nodes of the copies of a trace.
 use Rattle.std.proofs.Common.{◌≡◌, refl, ap, ◌∙◌, ℕ, zero, suc, ◌+◌, ◌==◌, not, nat_lt, List, [], ◌∷◌, map, length, get_or, set, Some, None, if◌then◌else◌}
 use Rattle.std.specs.List.{position, position_or_len}
+use Rattle.tora_core.specs.declared.erasure.Erasure.{Erasure}
 use Rattle.tora_core.specs.declared.Input.{Input}
 use Rattle.tora_core.specs.CoreRun.{CoreView, core_after}
 use Rattle.tora_core.proofs.AfterInputs.{same-me}
@@ -12,9 +13,9 @@ pub me_stays : (c : CoreView) (input : Input) (now : ℕ) → (core_after c inpu
 me_stays c input now = same-me c input now
 
 -- the first copies are those of the nodes, in their order
-pub owners_first : (ends : List (ℕ × ℕ)) (destinations nodes : List ℕ) → owners_of (map (first_copy_of ends destinations) nodes) ≡ nodes
-owners_first ends destinations [] = refl
-owners_first ends destinations (n ∷ nodes) = ap (λ (ns : List ℕ). n ∷ ns) (owners_first ends destinations nodes)
+pub owners_first : (erasure : Erasure) (choices : List (ℕ × Erasure)) (ends : List (ℕ × ℕ)) (destinations nodes : List ℕ) → owners_of (map (first_copy_of erasure choices ends destinations) nodes) ≡ nodes
+owners_first erasure choices ends destinations [] = refl
+owners_first erasure choices ends destinations (n ∷ nodes) = ap (λ (ns : List ℕ). n ∷ ns) (owners_first erasure choices ends destinations nodes)
 
 -- another copy of the same node in the place of one
 pub owners_set : (copies : List CopyState) (i : ℕ) (x y : CopyState) → x ≡ get_or copies i x → owner_of y ≡ owner_of x → owners_of (set copies i y) ≡ owners_of copies

@@ -6,13 +6,14 @@ use Rattle.std.specs.declared.cmp.Ordering.TheVariants.{Less, Equal, Greater}
 use Rattle.tora_height.specs.Height.{Quintuple}
 use Rattle.tora_height.specs.HeightOrder.{height_cmp}
 use Rattle.tora_arq.specs.declared.life.Life.{Life}
+use Rattle.tora_core.specs.declared.erasure.Erasure.{Erasure}
 use Rattle.tora_core.specs.declared.Input.{Input}
 use Rattle.tora_core.specs.declared.Input.TheVariants as In
 use Rattle.tora_core.specs.Kept.{destinations_of}
 use Rattle.tora_core.specs.declared.TheConstants.{GREATEST_NEIGHBOURS, MOST_DESTINATIONS}
 use Rattle.tora_core.specs.declared.errors.CoreError.{CoreError}
 use Rattle.tora_core.specs.declared.errors.CoreError.TheVariants.{OwnId}
-use Rattle.tora_core.specs.CoreRun.{CoreView, core_refusal_within, first_core, core_after, sends_of, height_of, hop_of}
+use Rattle.tora_core.specs.CoreRun.{CoreView, core_refusal_within, first_core_of, core_after, sends_of, height_of, hop_of}
 use Rattle.tora_trace.specs.declared.route.Route.{Route}
 use Rattle.tora_trace.specs.Records.{up_record, down_record, packet_record, route_record}
 
@@ -157,23 +158,23 @@ are_ids numbers = list_all (λ n. nat_lt 0 n) numbers
 abbrev pub copy_refusal : ℕ → List ℕ → List ℕ → Option CoreError
 copy_refusal me neighbours destinations = if nat_lt 0 me && are_ids neighbours && are_ids destinations then core_refusal_within GREATEST_NEIGHBOURS MOST_DESTINATIONS me neighbours destinations else Some OwnId
 
-abbrev pub first_copy : ℕ → List ℕ → List ℕ → CopyState
-first_copy me neighbours destinations = record {
-  core = first_core me neighbours destinations;
+abbrev pub first_copy : Erasure → ℕ → List ℕ → List ℕ → CopyState
+first_copy erasure me neighbours destinations = record {
+  core = first_core_of erasure me neighbours destinations;
   lives = [];
-  routes = map (route_of (first_core me neighbours destinations)) (destinations_of (first_core me neighbours destinations).views);
+  routes = map (route_of (first_core_of erasure me neighbours destinations)) (destinations_of (first_core_of erasure me neighbours destinations).views);
 }
 
--- the core is made anew; what was told is kept, and told again where it changed
+-- the core is made anew, with the same choice; what was told is kept, and told again where it changed
 unfoldable pub copy_restarted : CopyState → CopyState
 copy_restarted c = record {
-  core = first_core c.core.me c.core.neighbours (destinations_of c.core.views);
+  core = first_core_of c.core.erasure c.core.me c.core.neighbours (destinations_of c.core.views);
   lives = [];
-  routes = routes_told (first_core c.core.me c.core.neighbours (destinations_of c.core.views)) c.routes;
+  routes = routes_told (first_core_of c.core.erasure c.core.me c.core.neighbours (destinations_of c.core.views)) c.routes;
 }
 
 unfoldable pub restart_records : ℕ → CopyState → List ℕ
-restart_records t c = route_changes t (first_core c.core.me c.core.neighbours (destinations_of c.core.views)) c.routes
+restart_records t c = route_changes t (first_core_of c.core.erasure c.core.me c.core.neighbours (destinations_of c.core.views)) c.routes
 
 -- The core was made anew, and the records of its routes stand behind the text.
 pub record Restarts (t : ℕ) (old new : CopyState) (before after : List ℕ) : Type 0 where

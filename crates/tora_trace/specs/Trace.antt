@@ -1,10 +1,11 @@
 -- What a trace keeps between two events, and what each event makes of it.
-use Rattle.std.specs.Prelude.{◌≡◌, ℕ, ◌+◌, ◌==◌, ◌&&◌, Bool, true, false, if◌then◌else◌, List, [], ◌∷◌, ◌++◌, map, filter_map, slice_get, slice_set, Option, Some, None}
+use Rattle.std.specs.Prelude.{◌≡◌, ℕ, ◌+◌, ◌==◌, ◌&&◌, Bool, true, false, if◌then◌else◌, List, [], ◌∷◌, ◌++◌, map, filter_map, fold, slice_get, slice_set, Option, Some, None}
 use Rattle.std.specs.List.{position}
 use Rattle.tora_frame.specs.declared.parts.Body.{Body}
 use Rattle.tora_frame.specs.declared.parts.Body.TheVariants.{Hello, Data, Ack}
 use Rattle.tora_trace.specs.declared.counts.FrameCounts.{FrameCounts}
 use Rattle.tora_trace.specs.Records.{frames_record}
+use Rattle.tora_core.specs.declared.erasure.Erasure.{Erasure}
 use Rattle.tora_core.specs.declared.errors.CoreError.{CoreError}
 use Rattle.tora_trace.specs.Copies.{CopyState, Told, copy_refusal, first_copy, copy_restarted, restart_records}
 
@@ -57,8 +58,15 @@ peer_of n e = if e.0 == n then Some e.1 else None
 abbrev pub neighbours_in : List (ℕ × ℕ) → ℕ → List ℕ
 neighbours_in ends n = filter_map (peer_of n) ends
 
-abbrev pub first_copy_of : List (ℕ × ℕ) → List ℕ → ℕ → CopyState
-first_copy_of ends destinations n = first_copy n (neighbours_in ends n) destinations
+-- what a node makes of erased levels: the last choice of a single node holds
+abbrev pub chosen_by : ℕ → Erasure → ℕ × Erasure → Erasure
+chosen_by n erasure choice = if choice.0 == n then choice.1 else erasure
+
+abbrev pub chosen : Erasure → List (ℕ × Erasure) → ℕ → Erasure
+chosen erasure choices n = fold (chosen_by n) erasure choices
+
+abbrev pub first_copy_of : Erasure → List (ℕ × Erasure) → List (ℕ × ℕ) → List ℕ → ℕ → CopyState
+first_copy_of erasure choices ends destinations n = first_copy (chosen erasure choices n) n (neighbours_in ends n) destinations
 
 abbrev pub refusal_or : Option CoreError → Option CoreError → Option CoreError
 refusal_or (Some error) other = Some error
@@ -77,9 +85,9 @@ refusal_of ends destinations n = copy_refusal n (neighbours_in ends n) destinati
 abbrev pub trace_refusal : List ℕ → List (ℕ × ℕ) → List ℕ → Option CoreError
 trace_refusal nodes ends destinations = first_refusal (refusal_of ends destinations) nodes
 
--- a trace of these nodes and link ends that has no record yet
-abbrev pub first_trace : List ℕ → List (ℕ × ℕ) → List ℕ → TraceState
-first_trace nodes ends destinations = record { copies = map (first_copy_of ends destinations) nodes; counts = no_frames; text = [] }
+-- a trace of these nodes and link ends that has no record yet; all nodes make this of erased levels, but for those that chose
+abbrev pub first_trace : Erasure → List (ℕ × Erasure) → List ℕ → List (ℕ × ℕ) → List ℕ → TraceState
+first_trace erasure choices nodes ends destinations = record { copies = map (first_copy_of erasure choices ends destinations) nodes; counts = no_frames; text = [] }
 
 abbrev pub is_copy_of : ℕ → CopyState → Bool
 is_copy_of n c = c.core.me == n

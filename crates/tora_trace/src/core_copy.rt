@@ -9,7 +9,7 @@ use crate::route::{Route, note_routes, routes_to, write_routes};
 use std::alloc::{AllocError, Global};
 use std::marker::Model;
 use tora_arq::Life;
-use tora_core::{Core, CoreError, CoreLimits, Input, Sends};
+use tora_core::{Core, CoreError, CoreLimits, Erasure, Input, Sends};
 use tora_height::Id;
 
 /// A copy of a node's core, the life in which each of its links came up last, and what was told last of each destination.
@@ -44,18 +44,19 @@ fn are_ids(numbers: &[Id]) -> bool
 }
 
 impl CoreCopy {
-    /// The copy of a new core; of each destination its first route counts as told.
+    /// The copy of a new core with this choice of what becomes of erased levels; of each destination its first route counts as told.
     ///
     /// # Errors
     /// `OwnId` where a number is 0, and those of a new core within the greatest limits: the limits of a simulated world are
     /// those of its topology.
     pub fn new(
         alloc: Global,
+        erasure: Erasure,
         me: Id,
         neighbours: &[Id],
         destinations: &[Id],
     ) -> Result<CoreCopy, CoreError>
-        ensures made { IfOk result (λ copy. copy ≡ first_copy me neighbours.now destinations.now) }
+        ensures made { IfOk result (λ copy. copy ≡ first_copy erasure me neighbours.now destinations.now) }
         ensures accepted { OnOk result (copy_refusal me neighbours.now destinations.now ≡ None) }
         ensures refused { MatchOption (copy_refusal me neighbours.now destinations.now)
             (IfErr result (λ e. e ≡ CoreError.Memory)) (λ e. result ≡ Err e) }
@@ -63,7 +64,14 @@ impl CoreCopy {
         if me == 0 || !are_ids(neighbours) || !are_ids(destinations) {
             return Err(CoreError::OwnId);
         }
-        let core = Core::with_limits(alloc, CoreLimits::GREATEST, me, neighbours, destinations)?;
+        let core = Core::with_erasure(
+            alloc,
+            erasure,
+            CoreLimits::GREATEST,
+            me,
+            neighbours,
+            destinations,
+        )?;
         let Ok(routes) = routes_to(alloc, &core, core.destinations()) else {
             return Err(CoreError::Memory);
         };
@@ -116,15 +124,16 @@ impl CoreCopy {
         Ok(())
     }
 
-    /// Takes a new core in place of its own, and puts the records of the routes that changed so behind a text.
+    /// Takes a new core of the same choice in place of its own, and puts the records of the routes that changed so behind a text.
     #[tactic(auto, unfolding(crate::specs::Copies::copy_restarted, crate::specs::Copies::restart_records))]
     pub fn restart(&mut self, alloc: Global, now: u64, out: &mut String) -> Result<(), AllocError>
         ensures told { OnOk result (Restarts now self.old self.new (string_bytes out.old) (string_bytes out.new)) }
         ensures me { self.new.core.me ≡ self.old.core.me }
     {
         let core = &self.core;
-        let Ok(core) = Core::with_limits(
+        let Ok(core) = Core::with_erasure(
             alloc,
+            core.erasure(),
             CoreLimits::GREATEST,
             core.me(),
             core.neighbours(),

@@ -1,10 +1,10 @@
 //! What a trace keeps between two events, and what it is told.
-ghost use Rattle.std.specs.Prelude.{◌≡◌, ◌⊎◌, ◌++◌, ⊤, IfOk, IfErr, MatchBool, OnOk, None, Some, [], map, filter_map};
+ghost use Rattle.std.specs.Prelude.{◌≡◌, ◌⊎◌, ◌++◌, if◌then◌else◌, ◌==◌, ⊤, IfOk, IfErr, MatchBool, OnOk, None, Some, [], map, filter_map};
 ghost use Rattle.std.specs.List.{position};
 ghost use Rattle.tora_trace.specs.Records.{need_record, part_record, mend_record};
-ghost use Rattle.tora_trace.specs.Copies.{after_inputs};
+ghost use Rattle.tora_trace.specs.Copies.{after_inputs, first_copy};
 ghost use Rattle.tora_trace.specs.NodeEnds.{AreByNode};
-ghost use Rattle.tora_trace.specs.Trace.{Tells, first_trace, refusal_of, trace_refusal, first_copy_of, peer_of, neighbours_in, is_copy_of, owners_of, with_text, with_frame, after_frames, frames_told, after_restart};
+ghost use Rattle.tora_trace.specs.Trace.{Tells, chosen, chosen_by, first_trace, refusal_of, trace_refusal, first_copy_of, peer_of, neighbours_in, is_copy_of, owners_of, with_text, with_frame, after_frames, frames_told, after_restart};
 
 use crate::core_copy::CoreCopy;
 use crate::counts::{FrameCounts, write_frames};
@@ -13,7 +13,7 @@ use crate::names::Names;
 use std::alloc::{AllocError, Global};
 use std::marker::Model;
 use tora_arq::Life;
-use tora_core::{CoreError, Input, Sends};
+use tora_core::{CoreError, Erasure, Input, Sends};
 use tora_frame::Frame;
 use tora_height::Id;
 
@@ -73,23 +73,40 @@ fn neighbours_among(
     neighbours_in(alloc, ends_of(ends, is_by_node, n), n)
 }
 
+/// What a node makes of erased levels, behind one choice more.
+fn chosen_by(n: Id, erasure: Erasure, choice: (Id, Erasure)) -> Erasure
+    ensures { result ≡ chosen_by n erasure choice }
+{
+    if choice.0 == n { choice.1 } else { erasure }
+}
+
+/// What a node makes of erased levels, where single nodes may have chosen, of whose choices the last holds.
+fn chosen(erasure: Erasure, choices: &[(Id, Erasure)], n: Id) -> Erasure
+    ensures { result ≡ chosen erasure choices.now n }
+{
+    choices
+        .iter()
+        .fold(erasure, |erasure, choice| chosen_by(n, erasure, *choice))
+}
+
 /// The copy of a node's first core; whether the ends are known to stand by ascending node is told.
 fn first_copy(
     alloc: Global,
+    erasure: Erasure,
     ends: &[(Id, Id)],
     is_by_node: bool,
     destinations: &[Id],
     n: Id,
 ) -> Result<CoreCopy, CoreError>
     requires { MatchBool is_by_node (AreByNode ends.now) ⊤ }
-    ensures made { IfOk result (λ copy. copy ≡ first_copy_of ends.now destinations.now n) }
+    ensures made { IfOk result (λ copy. copy ≡ first_copy erasure n (neighbours_in ends.now n) destinations.now) }
     ensures accepted { OnOk result (refusal_of ends.now destinations.now n ≡ None) }
     ensures refused { IfErr result (λ e. (e ≡ CoreError.Memory) ⊎ (refusal_of ends.now destinations.now n ≡ Some e)) }
 {
     let Ok(neighbours) = neighbours_among(alloc, ends, is_by_node, n) else {
         return Err(CoreError::Memory);
     };
-    CoreCopy::new(alloc, n, neighbours.as_slice(), destinations)
+    CoreCopy::new(alloc, erasure, n, neighbours.as_slice(), destinations)
 }
 
 /// The place of the copy of a node's core, where the copies stand in the order of these nodes: no copy is looked at.
@@ -103,18 +120,20 @@ fn place(names: &Names, copies: &[CoreCopy], n: Id) -> Option<usize>
 
 impl Trace {
     /// The trace of nodes that begin anew, without a record: `ends` are the link ends, each as its node and its neighbour,
-    /// and `destinations` those of every node's table.
+    /// and `destinations` those of every node's table. All nodes make `erasure` of erased levels, but for those of `choices`.
     ///
     /// # Errors
     /// `OwnId` where a number is 0, those of a new core within the greatest limits, and `Memory`.
     #[tactic(auto, using(crate::proofs::Refusals::first_on, crate::proofs::Refusals::first_none, crate::proofs::Refusals::first_here))]
     pub fn new(
         alloc: Global,
+        erasure: Erasure,
+        choices: &[(Id, Erasure)],
         nodes: &[Id],
         ends: &[(Id, Id)],
         destinations: &[Id],
     ) -> Result<Trace, CoreError>
-        ensures made { IfOk result (λ trace. trace ≡ first_trace nodes.now ends.now destinations.now) }
+        ensures made { IfOk result (λ trace. trace ≡ first_trace erasure choices.now nodes.now ends.now destinations.now) }
         ensures accepted { OnOk result (trace_refusal nodes.now ends.now destinations.now ≡ None) }
         ensures refused { IfErr result (λ e. (e ≡ CoreError.Memory) ⊎ (trace_refusal nodes.now ends.now destinations.now ≡ Some e)) }
     {
@@ -126,7 +145,8 @@ impl Trace {
         };
         let is_by_node = are_by_node(ends);
         for n in nodes {
-            let copy = first_copy(alloc, ends, is_by_node, destinations, *n)?;
+            let choice = chosen(erasure, choices, *n);
+            let copy = first_copy(alloc, choice, ends, is_by_node, destinations, *n)?;
             if copies.push(copy).is_err() {
                 return Err(CoreError::Memory);
             }

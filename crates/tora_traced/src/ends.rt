@@ -1,10 +1,11 @@
 //! The first and the last record of a trace.
 ghost use Rattle.std.specs.Prelude.{◌≡◌, ◌++◌, false, is_some, option_map, IfOk, OnOk, string_bytes};
 ghost use Rattle.std.specs.Io.KnownBytes.{Appends};
-ghost use Rattle.tora_traced.specs.Ends.{field, flag, more_fields, first_record, last_record};
+ghost use Rattle.tora_traced.specs.Ends.{field, flag, more_fields, until_field, file_field, remembered_fields, erasure_fields, first_record, last_record};
 
 use crate::trace_out::TraceOut;
 use std::alloc::{AllocError, Global};
+use tora_core::Erasure;
 use tora_lines::Output;
 use tora_script::Setup;
 
@@ -34,8 +35,58 @@ fn more_fields(out: &mut String, until: Option<u64>, file: Option<&str>) -> Resu
     }
 }
 
+/// Puts a blank and the last round behind a text, `-` where there is none.
+#[tactic(auto, unfolding(crate::specs::Ends::until_field))]
+fn until_field(out: &mut String, until: Option<u64>) -> Result<(), AllocError>
+    ensures { OnOk result (string_bytes out.new ≡ string_bytes out.old ++ until_field until) }
+{
+    match until {
+        None => out.push_str(" -"),
+        Some(until) => field(out, until),
+    }
+}
+
+/// Puts a blank and the digest of a channel file behind a text, `-` where there is none.
+#[tactic(auto, unfolding(crate::specs::Ends::file_field))]
+fn file_field(out: &mut String, file: Option<&str>) -> Result<(), AllocError>
+    ensures { OnOk result (string_bytes out.new ≡ string_bytes out.old ++ file_field (option_map (λ w. w.now) file.entry)) }
+{
+    match file {
+        None => out.push_str(" -"),
+        Some(file) => write!(out, " {file}"),
+    }
+}
+
+/// Puts ` UNTIL FILE remembered` behind a text, with `-` for what there is not.
+fn remembered_fields(
+    out: &mut String,
+    until: Option<u64>,
+    file: Option<&str>,
+) -> Result<(), AllocError>
+    ensures { OnOk result (string_bytes out.new ≡ string_bytes out.old ++ remembered_fields until (option_map (λ w. w.now) file.entry)) }
+{
+    until_field(out, until)?;
+    file_field(out, file)?;
+    out.push_str(" remembered")
+}
+
+/// Puts the last fields of the first record behind a text.
+fn erasure_fields(
+    out: &mut String,
+    erasure: Erasure,
+    until: Option<u64>,
+    file: Option<&str>,
+) -> Result<(), AllocError>
+    ensures { OnOk result (string_bytes out.new ≡ string_bytes out.old ++ erasure_fields erasure until (option_map (λ w. w.now) file.entry)) }
+{
+    match erasure {
+        Erasure::Plain => more_fields(out, until, file),
+        Erasure::Remembered => remembered_fields(out, until, file),
+    }
+}
+
 /// `0 trace 1 HELLO SILENCE RETRY TRIES LOSS LEAST MOST REPEAT SEED NOTICE`, and ` UNTIL FILE` where there is a last round or a
-/// channel file, a line.
+/// channel file, or ` UNTIL FILE remembered` where nodes remember erased levels, a line.
 #[tactic(auto, unfolding(crate::specs::Ends::first_record))]
 fn first_line(alloc: Global, setup: Setup, file: Option<&str>) -> Result<String, AllocError>
     ensures { IfOk result (λ text. string_bytes text ≡ first_record setup (option_map (λ w. w.now) file.entry)) }
@@ -53,7 +104,7 @@ fn first_line(alloc: Global, setup: Setup, file: Option<&str>) -> Result<String,
     field(&mut text, u64::from(c.repeat))?;
     field(&mut text, c.seed)?;
     field(&mut text, flag(setup.has_notice))?;
-    more_fields(&mut text, setup.until, file)?;
+    erasure_fields(&mut text, setup.options.erasure, setup.until, file)?;
     writeln!(&mut text, "")?;
     Ok(text)
 }

@@ -1,19 +1,23 @@
 //! A simulator whose events are traced.
-ghost use Rattle.std.specs.Prelude.{◌≡◌, drop, IfOk, OnOk};
+ghost use Rattle.std.specs.Prelude.{◌≡◌, [], drop, IfOk, OnOk};
 ghost use Rattle.tora_world.specs.World.{refusal_of, world_after};
 ghost use Rattle.tora_sim.specs.Steps.{repeats, Happened};
+ghost use Rattle.tora_trace.specs.Trace.{first_trace};
+ghost use Rattle.tora_sim.specs.Readers.{ends_in};
+ghost use Rattle.tora_script.specs.Marks.{choices_in};
+ghost use Rattle.tora_script.specs.Simulator.{nodes_of};
 ghost use Rattle.tora_traced.specs.Tracing.{life_of_what, life_told, before_of, HasRecords, Records, with_sent, after_sent};
 
 use crate::watched::Watched;
 use std::alloc::{AllocError, Global};
 use tora_arq::{Life, Times};
-use tora_core::{CoreError, Input};
+use tora_core::{CoreError, Erasure, Input};
 use tora_frame::Frame;
 use tora_height::{Entry, Id};
-use tora_script::{Parted, Simulator};
+use tora_script::{Mark, Parted, Simulator, WorldOptions, choices};
 use tora_seat::{Item, What};
 use tora_trace::Trace;
-use tora_world::{Event, Limits, SimError};
+use tora_world::{Event, SimError};
 
 /// A simulator, and the trace of its events.
 #[derive(Drop)]
@@ -72,6 +76,32 @@ fn behind(inputs: &[(Input, u64)], count: usize) -> &[(Input, u64)]
 }
 
 impl<S: Watched> Traced<S> {
+    /// A simulator whose world begins anew, and its trace, with the choices of its nodes.
+    fn begun(
+        alloc: Global,
+        sim: S,
+        erasure: Erasure,
+        marks: &[Mark],
+        dests: &[Id],
+    ) -> Result<Traced<S>, AllocError>
+        ensures sim { IfOk result (λ t. t.sim ≡ sim) }
+        ensures trace { IfOk result (λ t. t.trace ≡ first_trace erasure (choices_in marks.now) (nodes_of (S.world sim)) (ends_in (S.world sim).topology) dests.now) }
+        ensures parted { IfOk result (λ t. t.parted ≡ []) }
+    {
+        let nodes = sim.nodes(alloc)?;
+        let ends = sim.ends(alloc)?;
+        let choices = choices(alloc, marks)?;
+        // A topology that is accepted gives cores that are accepted.
+        let Ok(trace) = Trace::new(alloc, erasure, &choices, &nodes, &ends, dests) else {
+            return Err(AllocError);
+        };
+        Ok(Traced {
+            sim,
+            trace,
+            parted: Parted::new(alloc),
+        })
+    }
+
     /// Reads what the records of an event need of the world before it.
     fn before(&self, event: &Event) -> Before
         ensures { result ≡ before_of (S.world self.now.sim) event.now }
@@ -177,28 +207,17 @@ impl<S: Watched> Simulator for Traced<S> {
 
     fn start(
         alloc: Global,
-        limits: Limits,
+        options: WorldOptions,
         links: &[(Id, Id)],
         dests: &[Id],
-        olds: &[Id],
+        marks: &[Mark],
         times: Times,
     ) -> Result<Traced<S>, CoreError> {
-        let sim: S = S::start(alloc, limits, links, dests, olds, times)?;
-        let Ok(nodes) = sim.nodes(alloc) else {
-            return Err(CoreError::Memory);
-        };
-        let Ok(ends) = sim.ends(alloc) else {
-            return Err(CoreError::Memory);
-        };
-        // A topology that is accepted gives cores that are accepted.
-        let Ok(trace) = Trace::new(alloc, &nodes, &ends, dests) else {
-            return Err(CoreError::Memory);
-        };
-        Ok(Traced {
-            sim,
-            trace,
-            parted: Parted::new(alloc),
-        })
+        let sim: S = S::start(alloc, options, links, dests, marks, times)?;
+        match Traced::begun(alloc, sim, options.erasure, marks, dests) {
+            Ok(traced) => Ok(traced),
+            Err(_) => Err(CoreError::Memory),
+        }
     }
 
     #[inline(always)]

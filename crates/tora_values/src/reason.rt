@@ -15,6 +15,8 @@ pub enum Reason {
     NoPort,
     /// It is no text.
     NoText,
+    /// It is no word for what nodes make of erased levels.
+    NoErasure,
     /// It is no list.
     NoList,
     /// It is no table.
@@ -41,6 +43,7 @@ impl Reason {
             Reason::NoId => "is not from 1 to 4294967295",
             Reason::NoPort => "is not from 1 to 65535",
             Reason::NoText => "is no text",
+            Reason::NoErasure => "is neither `plain` nor `remembered`",
             Reason::NoList => "is no list",
             Reason::NoTable => "is no table",
             Reason::Repeated => "stands before already",

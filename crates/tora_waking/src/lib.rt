@@ -7,7 +7,8 @@
 //! ```rust
 //! let clock = NodeClock::new(&rt);
 //! let (wire, waker) = WakingWire::bind(&rt, alloc, &clock, local, remote)?; // one of each for each link
-//! let ended = run_node_with_wakers(&rt, alloc, config, wires, disks, wakers, &clock, reader, writer)?;
+//! let ticks = clock_ticks(alloc, &clock, config.peers().len()).unwrap();
+//! let ended = run_node_with_wakers(&rt, alloc, config, wires, disks, wakers, ticks, &clock, reader, writer)?;
 //! ```
 #![tactic(auto)]
 

@@ -10,12 +10,16 @@ use Rattle.tora_arq.specs.declared.times.Times.{Times}
 use Rattle.tora_arq.specs.declared.phase.Phase.{Phase}
 use Rattle.tora_arq.specs.declared.phase.Phase.TheVariants.{Closed, Unbound, Bound}
 use Rattle.tora_arq.specs.LinkEnd.{life_in}
+use Rattle.tora_core.specs.declared.erasure.Erasure.{Erasure}
+use Rattle.tora_core.specs.declared.erasure.Erasure.TheVariants.{Remembered}
+use Rattle.tora_core.specs.declared.Input.{Input}
+use Rattle.tora_core.specs.Rules.{outcome_of}
 use Rattle.tora_core.specs.declared.rows.Row.{Row}
 use Rattle.tora_core.specs.Numbers.{has_number, ascending, IsAscending}
-use Rattle.tora_core.specs.View.{View, first_view}
+use Rattle.tora_core.specs.View.{View, first_view_of}
 use Rattle.tora_core.specs.CoreRun.{CoreView, core_after_all, view_of, height_of, entry_in, entry_of}
 use Rattle.tora_core.specs.Kept.{IsRow, destinations_of}
-use Rattle.tora_world.specs.Topology.{Topology, neighbours_of, is_node, is_link, new_core, IsWithinLimits}
+use Rattle.tora_world.specs.Topology.{Topology, neighbours_of, is_node, is_link, erasure_at, new_core, IsWithinLimits}
 use Rattle.tora_world.specs.Lists.{packets_of, parcels_in}
 use Rattle.tora_arq.specs.Lives.{reversed}
 use Rattle.tora_world.specs.World.{World, first_world}
@@ -24,7 +28,8 @@ use Rattle.tora_world.specs.Gaps.{broadcast_packets}
 use Rattle.tora_world.specs.Layers.{LinkLaws, LifeLaws, CoreLaws, SeatLaws, RuleLaws}
 use Rattle.tora_world.specs.Walks.{height_at, entry_at, AreIds}
 use Rattle.tora_world.specs.Rest.{life_at, IsAtRest, IsInOneLife, LacksHeight, EntriesAreHeights}
-use Rattle.tora_world.specs.Losses.{WasLost, StaleAreLost}
+use Rattle.tora_world.specs.Losses.{LosesQuietly, RememberedAreLostInSilence, WasLost, StaleAreLost}
+use Rattle.tora_world.specs.Losses.LosesQuietly.{clears_another_level, loses_last_entry, finds_no_height}
 use Rattle.tora_world.proofs.NeighboursApart.{neighbours_apart}
 use Rattle.tora_world.proofs.RunsWithoutGap.{without_gap}
 use Rattle.tora_world.proofs.KeptCores.{IsKeeping, topology_kept, cores_kept}
@@ -58,9 +63,15 @@ row_at_destination me d k (row ∷ rows) x all e here = go (nat_eq row.neighbour
     go false f again = again f
 
 -- a new core has a view of each destination
-first_destinations : (me : ℕ) (ds : List ℕ) → destinations_of (map (first_view me) ds) ≡ ds
-first_destinations me [] = refl
-first_destinations me (d ∷ ds) = ap (λ xs. d ∷ xs) (first_destinations me ds)
+first_destinations : (choice : Erasure) (me : ℕ) (ds : List ℕ) → destinations_of (map (first_view_of choice me) ds) ≡ ds
+first_destinations choice me [] = refl
+first_destinations choice me (d ∷ ds) = ap (λ xs. d ∷ xs) (first_destinations choice me ds)
+
+-- what a neighbour that remembers erased levels does not hear of is not broadcast
+lost_in_silence : (v : View) (input : Input) (now : ℕ) (g : Quintuple) → LosesQuietly Remembered v input now g → (outcome_of v input now).broadcast ≡ None
+lost_in_silence v input now g (clears_another_level tau oid said outlasts) = absurd cc
+lost_in_silence v input now g (loses_last_entry silent null none) = silent
+lost_in_silence v input now g (finds_no_height silent null some) = silent
 
 -- a node that has an entry, with its view
 pub record HasEntry (w : World) (n k d : ℕ) (x : Quintuple) : Type 0 where
@@ -100,7 +111,7 @@ module _ (laws : LinkLaws) (lows : LifeLaws) (cores : CoreLaws) (seats : SeatLaw
   -- every table has the same destinations
   destinations_in : (n : ℕ) → destinations_of (last.seats n).core.views ≡ ascending t.destinations
   destinations_in n =
-      ap (λ (c : CoreView). destinations_of c.views) (end.received.follows n) ∙ destinations_after (new_core t n) (last.inputs n) ∙ first_destinations n (ascending t.destinations)
+      ap (λ (c : CoreView). destinations_of c.views) (end.received.follows n) ∙ destinations_after (new_core t n) (last.inputs n) ∙ first_destinations (erasure_at t n) n (ascending t.destinations)
 
   -- what is known of a link that is up at a core
   record IsUp (n k : ℕ) : Type 0 where
@@ -157,7 +168,7 @@ module _ (laws : LinkLaws) (lows : LifeLaws) (cores : CoreLaws) (seats : SeatLaw
       sym (end.received.same n k u.life u.current) ∙ b.taken ∙ gap.now (reversed u.life) b.other
 
   -- the height of k is what k has broadcast last, or there is none
-  told_of : IsAtRest last → (n k d : ℕ) → is_node last.topology n ≡ true → (u : IsUp n k) → (v : View) → view_of (last.seats k).core d ≡ Some v → IsHeard (WasLost (new_core t k) (last.inputs k) d) (heard d None (broadcast_packets t last k n)) v.height
+  told_of : IsAtRest last → (n k d : ℕ) → is_node last.topology n ≡ true → (u : IsUp n k) → (v : View) → view_of (last.seats k).core d ≡ Some v → IsHeard (erasure_at t n) (WasLost (erasure_at t n) (new_core t k) (last.inputs k) d) (heard (erasure_at t n) d None (broadcast_packets t last k n)) v.height
   told_of rest n k d there u v found =
       let b = both_up rest n k there u in
       let c : IsCoreOf t k (last.seats k).core = core_of k b.node in
@@ -165,17 +176,17 @@ module _ (laws : LinkLaws) (lows : LifeLaws) (cores : CoreLaws) (seats : SeatLaw
       let follows : (last.seats k).core ≡ core_after_all (new_core t k) (last.inputs k) = end.received.follows k in
       let up : has_number n (core_after_all (new_core t k) (last.inputs k)).up ≡ true =
       ap (λ (x : CoreView). has_number n x.up) (sym follows) ∙ (end.nodes.seats k).up n (reversed u.life) (turned_link cores last.topology n k u.link) b.other in
-      heights_told cores (new_core t k) d n (last.inputs k) (first_ascends k id) refl up v (ap (λ (x : CoreView). view_of x d) (sym follows) ∙ found)
+      heights_told (erasure_at t n) cores (new_core t k) d n (last.inputs k) (first_ascends k id) refl up v (ap (λ (x : CoreView). view_of x d) (sym follows) ∙ found)
 
   -- the height of a node that has a view of the destination
   height_of_view : (k d : ℕ) (v : View) → is_node last.topology k ≡ true → view_of (last.seats k).core d ≡ Some v → height_at last k d ≡ Some v.height
   height_of_view k d v there found = ap (λ (b : Bool). if b then height_of (last.seats k).core d else None) there ∙ ap (option_map (λ (x : View). x.height)) found
 
   -- the neighbour has none, and lost it so
-  abbrev Gone : ℕ → ℕ → Quintuple → Type 0
-  Gone k d x = LacksHeight last k d × WasLost (new_core t k) (last.inputs k) d x
+  abbrev Gone : ℕ → ℕ → ℕ → Quintuple → Type 0
+  Gone n k d x = LacksHeight last k d × WasLost (erasure_at t n) (new_core t k) (last.inputs k) d x
 
-  entry_is : IsAtRest last → (n k d : ℕ) (x : Quintuple) → entry_at last n k d ≡ Some (Some x) → (height_at last k d ≡ Some (Some x)) ⊎ Gone k d x
+  entry_is : IsAtRest last → (n k d : ℕ) (x : Quintuple) → entry_at last n k d ≡ Some (Some x) → (height_at last k d ≡ Some (Some x)) ⊎ Gone n k d x
   entry_is rest n k d x e = by (cases_Bool (nat_eq k d))
     where
       h : HasEntry last n k d x
@@ -210,7 +221,7 @@ module _ (laws : LinkLaws) (lows : LifeLaws) (cores : CoreLaws) (seats : SeatLaw
       as_height o q = height_of_view k d its.0 b.node its.1 ∙ ap Some q
 
       -- the neighbour is the destination
-      own : k ≡ d → (height_at last k d ≡ Some (Some x)) ⊎ Gone k d x
+      own : k ≡ d → (height_at last k d ≡ Some (Some x)) ⊎ Gone n k d x
       own q =
           let vi = view_in (last.seats n).core d h.view c.kept h.found in
           let vk = view_in (last.seats k).core d its.0 (core_of k b.node).kept its.1 in
@@ -220,16 +231,16 @@ module _ (laws : LinkLaws) (lows : LifeLaws) (cores : CoreLaws) (seats : SeatLaw
           inl (as_height (Some x) (height ∙ ap (λ m. Some (destination_height m)) (vk.destination ∙ sym vi.destination) ∙ ap Some (sym is)))
 
       -- another one has told it
-      another : k ≢ d → (height_at last k d ≡ Some (Some x)) ⊎ Gone k d x
+      another : k ≢ d → (height_at last k d ≡ Some (Some x)) ⊎ Gone n k d x
       another other =
-          let received : heard d None (received_from k (new_core t n) (last.inputs n) []) ≡ Some x =
-          entries_heard cores n d k other away (neighbours_of t n) t.destinations (last.inputs n) x
+          let received : heard (erasure_at t n) d None (received_from k (new_core t n) (last.inputs n) []) ≡ Some x =
+          entries_heard (erasure_at t n) cores n d k other away (neighbours_of t n) t.destinations (last.inputs n) x
           (ap (λ (y : CoreView). entry_of y d k) (sym (end.received.follows n)) ∙ ap (option_and_then (entry_in k)) h.found ∙ h.entry) in
-          let told : heard d None (broadcast_packets t last k n) ≡ Some x = ap (heard d None) (sym (all_received rest n k h.node u)) ∙ received in
-          let is : IsHeard (WasLost (new_core t k) (last.inputs k) d) (Some x) its.0.height = subst (λ (o : Option Quintuple). IsHeard (WasLost (new_core t k) (last.inputs k) d) o its.0.height) told (told_of rest n k d h.node u its.0 its.1) in
+          let told : heard (erasure_at t n) d None (broadcast_packets t last k n) ≡ Some x = ap (heard (erasure_at t n) d None) (sym (all_received rest n k h.node u)) ∙ received in
+          let is : IsHeard (erasure_at t n) (WasLost (erasure_at t n) (new_core t k) (last.inputs k) d) (Some x) its.0.height = subst (λ (o : Option Quintuple). IsHeard (erasure_at t n) (WasLost (erasure_at t n) (new_core t k) (last.inputs k) d) o its.0.height) told (told_of rest n k d h.node u its.0 its.1) in
           ⊎_elim (λ q. inl (as_height (Some x) q)) (λ q. inr (as_height None q.0, q.1)) is
 
-      by : (nat_eq k d ≡ true) ⊎ (nat_eq k d ≡ false) → (height_at last k d ≡ Some (Some x)) ⊎ Gone k d x
+      by : (nat_eq k d ≡ true) ⊎ (nat_eq k d ≡ false) → (height_at last k d ≡ Some (Some x)) ⊎ Gone n k d x
       by (inl i) = own (eqb-true k d i)
       by (inr o) = another (λ q. true≢false (sym (eq-eqb k d q) ∙ o))
 
@@ -238,5 +249,11 @@ module _ (laws : LinkLaws) (lows : LifeLaws) (cores : CoreLaws) (seats : SeatLaw
 
   pub stale_are_lost : IsAtRest last → StaleAreLost last
   stale_are_lost rest n k d x e lacks =
-      subst (λ (u : Topology). WasLost (new_core u k) (last.inputs k) d x) (sym same)
+      subst (λ (u : Topology). WasLost (erasure_at u n) (new_core u k) (last.inputs k) d x) (sym same)
       (⊎_elim (λ q. absurd (let z : Some (Some x) ≡ Some None = sym q ∙ lacks in cc)) (λ q. q.1) (entry_is rest n k d x e))
+
+  pub remembered_are_silent : IsAtRest last → RememberedAreLostInSilence last
+  remembered_are_silent rest n k d x is e lacks =
+      let lost : WasLost Remembered (new_core last.topology k) (last.inputs k) d x =
+      subst (λ (choice : Erasure). WasLost choice (new_core last.topology k) (last.inputs k) d x) is (stale_are_lost rest n k d x e lacks) in
+      (lost, lost_in_silence lost.view lost.input lost.now x lost.loses)

@@ -8,15 +8,18 @@ use Rattle.tora_height.specs.Height.{Quintuple, quintuple, destination_height}
 use Rattle.tora_packet.specs.declared.Packet.{Packet}
 use Rattle.tora_packet.specs.declared.Packet.TheVariants.{Qry, Upd, Clr}
 use Rattle.tora_packet.specs.AnyPacket.{destination_of}
+use Rattle.tora_core.specs.declared.erasure.Erasure.{Erasure}
+use Rattle.tora_core.specs.declared.erasure.Erasure.TheVariants.{Plain, Remembered}
 use Rattle.tora_core.specs.declared.Input.{Input}
 use Rattle.tora_core.specs.declared.Input.TheVariants as In
 use Rattle.tora_core.specs.declared.rows.Row.{Row}
 use Rattle.tora_core.specs.declared.errors.StepError.{StepError}
 use Rattle.tora_core.specs.Numbers.{has_number, ascending}
-use Rattle.tora_core.specs.View.{View, first_view, known_heights, are_null, has_downstream, lacks_downstream, greatest_level, least_delta, is_at, is_told, is_entry_at, with_row, without_row, row_with_entry, with_entry, told_row, all_told, erased_row, all_erased, cleared_row, all_cleared}
+use Rattle.tora_core.specs.View.{View, first_view_of, known_heights, are_null, has_downstream, lacks_downstream, greatest_level, least_delta, is_at, is_told, is_entry_at, with_row, without_row, row_with_entry, with_entry, told_row, all_told, erased_row, all_erased, cleared_row, all_cleared, untold_row, withdrawn_row, without_entry, without_told}
 use Rattle.tora_core.specs.Heights.{fresh_time, fitted_height}
-use Rattle.tora_core.specs.Rules.{Outcome, query_broadcast, update_broadcast_of, update_broadcast, joined_height, after_join, new_level_at, new_level, after_erase, below_delta, after_link_loss, after_update_loss_at, after_update_loss, on_need, on_link_up, on_link_down, on_query, on_update, on_clear, link_row, cleared_level, outcome_elsewhere, outcome_at_destination, outcome_of, view_after}
-use Rattle.tora_core.specs.CoreRun.{CoreView, is_of, refusal_of, next_view, core_after, core_taking, core_after_all, first_core, view_of, entry_in, entry_of}
+use Rattle.tora_core.specs.Rules.{Outcome, query_broadcast, update_broadcast_of, update_broadcast, joined_height, after_join, new_level_at, new_level, after_erase, below_delta, after_link_loss, after_update_loss_at, after_update_loss, on_need, on_link_up, on_link_down, on_query, on_update, on_clear, link_row, cleared_level, hearing_clear, is_outdated, rows_behind_clear, outcome_elsewhere, outcome_at_destination, outcome_of, view_after}
+use Rattle.tora_core.specs.CoreRun.{CoreView, is_of, refusal_of, next_view, core_after, core_taking, core_after_all, first_core_of, view_of, entry_in, entry_of}
+use Rattle.tora_world.specs.Losses.{takes_entry}
 use Rattle.tora_world.specs.Layers.{CoreLaws}
 use Rattle.tora_world.proofs.Received.{with_received, received_from}
 use Rattle.tora_world.proofs.ToldHeights.{heard_in, heard, heard-append, heard_other, destination_kept}
@@ -86,6 +89,42 @@ module _ (d k : ℕ) (other : k ≢ d) (up : Bool) where
               let left : is_entry_at level row.entry ≡ false = and_true (is_entry_at level row.entry) (ap (λ (b : Bool). not b && is_entry_at level row.entry) (sym (off row q)) ∙ f) in
               inr (is ∙ sym (keep (ap (is_entry_at level) (sym is) ∙ left)))
 
+  -- what a neighbour told is withdrawn: an entry goes or stays, and that of the neighbour itself goes
+  withdrawn_rows : (j : ℕ) (e : Option Quintuple) (rows : List Row) → AreHeardRows k up e rows → AreHeardRows k up e (without_entry d j rows)
+  withdrawn_rows j e rows h = all_map (IsHeardRow k up e) (IsHeardRow k up e) (withdrawn_row d j) one rows h
+    where
+      one : (row : Row) → IsHeardRow k up e row → IsHeardRow k up e (withdrawn_row d j row)
+      one row p = cond_both ((row.neighbour == j) && not (row.neighbour == d)) (record row { entry = None }) row (IsHeardRow k up e) (λ _ q. ((p q).0, inl refl)) (λ _. p)
+
+  own_withdrawn_rows : (e e' : Option Quintuple) (rows : List Row) → AreHeardRows k up e rows → AreHeardRows k up e' (without_entry d k rows)
+  own_withdrawn_rows e e' rows h = all_map (IsHeardRow k up e) (IsHeardRow k up e') (withdrawn_row d k) one rows h
+    where
+      one : (row : Row) → IsHeardRow k up e row → IsHeardRow k up e' (withdrawn_row d k row)
+      one row p =
+          cond_both ((row.neighbour == k) && not (row.neighbour == d)) (record row { entry = None }) row (IsHeardRow k up e') (λ _ q. ((p q).0, inl refl))
+          (λ f q. absurd (true≢false (sym (ap (λ (b : Bool). b && not (row.neighbour == d)) (eq-eqb row.neighbour k q) ∙ ap not (off row q)) ∙ f)))
+
+  untold_rows : (j : ℕ) (e : Option Quintuple) (rows : List Row) → AreHeardRows k up e rows → AreHeardRows k up e (without_told j rows)
+  untold_rows j e rows h = all_map (IsHeardRow k up e) (IsHeardRow k up e) (untold_row j) one rows h
+    where
+      one : (row : Row) → IsHeardRow k up e row → IsHeardRow k up e (untold_row j row)
+      one row p = cond_both (row.neighbour == j) (record row { told = false }) row (IsHeardRow k up e) (λ _ q. p q) (λ _. p)
+
+  -- a clear is heard from a neighbour, before its level is cleared
+  behind_rows : (choice : Erasure) (j : ℕ) (e : Option Quintuple) (rows : List Row) → AreHeardRows k up e rows → AreHeardRows k up e (rows_behind_clear choice d j rows)
+  behind_rows Plain j e rows h = h
+  behind_rows Remembered j e rows h = untold_rows j e (without_entry d j rows) (withdrawn_rows j e rows h)
+
+  -- and behind it: what the neighbour itself told stays only where a clear of it does not take that
+  own_clear_rows : (choice : Erasure) (level : Level) (e e' : Option Quintuple) → (takes_entry choice level e ≡ false → e' ≡ e) → (rows : List Row) → AreHeardRows k up e rows
+      → AreHeardRows k up e' (all_cleared d level (rows_behind_clear choice d k rows))
+  own_clear_rows Plain level e e' keep rows h = cleared_rows level e e' keep rows h
+  own_clear_rows Remembered level e e' keep rows h =
+      cleared_rows level e' e' (λ _. refl) (rows_behind_clear Remembered d k rows) (untold_rows k e' (without_entry d k rows) (own_withdrawn_rows e e' rows h))
+
+  other_clear_rows : (choice : Erasure) (level : Level) (j : ℕ) (e : Option Quintuple) (rows : List Row) → AreHeardRows k up e rows → AreHeardRows k up e (all_cleared d level (rows_behind_clear choice d j rows))
+  other_clear_rows choice level j e rows h = cleared_rows level e e (λ _. refl) (rows_behind_clear choice d j rows) (behind_rows choice j e rows h)
+
   -- the entry of the neighbour itself, and that of another one
   entry_rows : (height : Quintuple) (e : Option Quintuple) (rows : List Row) → AreHeardRows k up e rows → AreHeardRows k up (Some height) (with_entry k height rows)
   entry_rows height e rows h = all_map (IsHeardRow k up e) (IsHeardRow k up (Some height)) (row_with_entry k height) one rows h
@@ -105,62 +144,64 @@ module _ (d k : ℕ) (other : k ≢ d) (up : Bool) where
 
 -- ---- one view of a node that is not the destination
 
-module _ (me d k : ℕ) (other : k ≢ d) (up : Bool) (e : Option Quintuple) where
+module _ (choice : Erasure) (me d k : ℕ) (other : k ≢ d) (up : Bool) (e : Option Quintuple) where
   pub record IsHeardView (v : View) : Type 0 where
     pub owner : v.me ≡ me
     pub destination : v.destination ≡ d
+    pub erasure : v.erasure ≡ choice
     pub rows : AreHeardRows k up e v.rows
 
   abbrev Heard : Outcome → Type 0
   Heard o = IsHeardView o.view
 
   query_heard : (v : View) → IsHeardView v → Heard (query_broadcast v)
-  query_heard v h = record { owner = h.owner; destination = h.destination; rows = h.rows }
+  query_heard v h = record { owner = h.owner; destination = h.destination; erasure = h.erasure; rows = h.rows }
 
   update_heard : (v : View) → IsHeardView v → Heard (update_broadcast v)
   update_heard v h = go v.height
     where
       go : (o : Option Quintuple) → Heard (update_broadcast_of v o)
       go None = h
-      go (Some height) = record { owner = h.owner; destination = h.destination; rows = told_rows d k other up e v.rows h.rows }
+      go (Some height) = record { owner = h.owner; destination = h.destination; erasure = h.erasure; rows = told_rows d k other up e v.rows h.rows }
 
   join_heard : (v : View) → IsHeardView v → Heard (after_join v)
   unfolding after_join
-  join_heard v h = update_heard (record v { height = joined_height v; flag = false }) (record { owner = h.owner; destination = h.destination; rows = h.rows })
+  join_heard v h = update_heard (record v { height = joined_height v; flag = false }) (record { owner = h.owner; destination = h.destination; erasure = h.erasure; rows = h.rows })
 
   new_level_heard : (v : View) (now : ℕ) → IsHeardView v → Heard (new_level v now)
   unfolding new_level
   new_level_heard v now h = go (fitted_height (quintuple (fresh_time v now) v.me 0 (pos 0) v.me))
     where
       go : (o : Option Quintuple) → Heard (new_level_at v (fresh_time v now) o)
-      go None = record { owner = h.owner; destination = h.destination; rows = h.rows }
-      go (Some height) = update_heard (record v { height = Some height; last = fresh_time v now }) (record { owner = h.owner; destination = h.destination; rows = h.rows })
+      go None = record { owner = h.owner; destination = h.destination; erasure = h.erasure; rows = h.rows }
+      go (Some height) = update_heard (record v { height = Some height; last = fresh_time v now }) (record { owner = h.owner; destination = h.destination; erasure = h.erasure; rows = h.rows })
 
   -- the entries are NULL, whatever they were
-  erase_heard : (v : View) (tau oid : ℕ) (was : Option Quintuple) → v.me ≡ me → v.destination ≡ d → AreHeardRows k up was v.rows → Heard (after_erase v tau oid)
+  erase_heard : (v : View) (tau oid : ℕ) (was : Option Quintuple) → v.me ≡ me → v.destination ≡ d → v.erasure ≡ choice → AreHeardRows k up was v.rows → Heard (after_erase v tau oid)
   unfolding after_erase
-  erase_heard v tau oid was owner at rows = record {
+  erase_heard v tau oid was owner at is rows = record {
     owner = owner;
     destination = at;
+    erasure = is;
     rows = subst (λ x. AreHeardRows k up e (all_erased x v.rows)) (sym at) (erased_rows d k other up was e v.rows rows);
   }
 
   link_loss_heard : (v : View) (now : ℕ) → IsHeardView v → Heard (after_link_loss v now)
   unfolding after_link_loss
-  link_loss_heard v now h = cond_both (are_null v.rows) _ _ Heard (λ _. record { owner = h.owner; destination = h.destination; rows = h.rows }) (λ _. new_level_heard v now h)
+  link_loss_heard v now h = cond_both (are_null v.rows) _ _ Heard (λ _. record { owner = h.owner; destination = h.destination; erasure = h.erasure; rows = h.rows }) (λ _. new_level_heard v now h)
 
   update_loss_heard : (v : View) (now : ℕ) → IsHeardView v → Heard (after_update_loss v now)
   unfolding after_update_loss
   update_loss_heard v now h = go (greatest_level (known_heights v))
     where
       go : (o : Option Level) → Heard (after_update_loss_at v now o)
-      go None = record { owner = h.owner; destination = h.destination; rows = h.rows }
+      go None = record { owner = h.owner; destination = h.destination; erasure = h.erasure; rows = h.rows }
       go (Some level) =
           cond_both (not (list_all (is_at level) (known_heights v))) _ _ Heard
-          (λ _. update_heard (record v { height = below_delta v.me level (least_delta level (known_heights v)) }) (record { owner = h.owner; destination = h.destination; rows = h.rows }))
+          (λ _. update_heard (record v { height = below_delta v.me level (least_delta level (known_heights v)) }) (record { owner = h.owner; destination = h.destination; erasure = h.erasure; rows = h.rows }))
           (λ _. cond_both (level.r == 0) _ _ Heard
-          (λ _. update_heard (record v { height = Some (quintuple level.tau level.oid 1 (pos 0) v.me) }) (record { owner = h.owner; destination = h.destination; rows = h.rows }))
-          (λ _. cond_both (level.oid == v.me) _ _ Heard (λ _. erase_heard v level.tau level.oid e h.owner h.destination h.rows) (λ _. new_level_heard v now h)))
+          (λ _. update_heard (record v { height = Some (quintuple level.tau level.oid 1 (pos 0) v.me) }) (record { owner = h.owner; destination = h.destination; erasure = h.erasure; rows = h.rows }))
+          (λ _. cond_both (level.oid == v.me) _ _ Heard (λ _. erase_heard v level.tau level.oid e h.owner h.destination h.erasure h.rows) (λ _. new_level_heard v now h)))
 
   query_input_heard : (v : View) (j : ℕ) → IsHeardView v → Heard (on_query v j)
   query_input_heard v j h =
@@ -169,33 +210,40 @@ module _ (me d k : ℕ) (other : k ≢ d) (up : Bool) (e : Option Quintuple) whe
       (λ _. cond_both (is_none v.height) _ _ Heard (λ _. join_heard v h)
       (λ _. cond_both (not (is_told j v.rows)) _ _ Heard (λ _. update_heard v h) (λ _. h)))
 
-  update_input_heard : (v : View) (j : ℕ) (height : Quintuple) (now : ℕ) → v.me ≡ me → v.destination ≡ d → AreHeardRows k up e (with_entry j height v.rows) → Heard (on_update v j height now)
-  update_input_heard v j height now owner at rows =
+  update_input_heard : (v : View) (j : ℕ) (height : Quintuple) (now : ℕ) → v.me ≡ me → v.destination ≡ d → v.erasure ≡ choice → AreHeardRows k up e (without_entry v.destination j v.rows) → AreHeardRows k up e (with_entry j height v.rows)
+      → Heard (on_update v j height now)
+  update_input_heard v j height now owner at is old rows =
+      let u : View = record v { rows = without_entry v.destination j v.rows } in
+      let g : IsHeardView u = record { owner = owner; destination = at; erasure = is; rows = old } in
       let w : View = record v { rows = with_entry j height v.rows } in
-      let h : IsHeardView w = record { owner = owner; destination = at; rows = rows } in
-      cond_both v.flag _ _ Heard (λ _. join_heard w h) (λ _. cond_both (lacks_downstream w) _ _ Heard (λ _. update_loss_heard w now h) (λ _. h))
+      let h : IsHeardView w = record { owner = owner; destination = at; erasure = is; rows = rows } in
+      cond_both (is_outdated v height) _ _ Heard
+      (λ _. cond_both (lacks_downstream u) _ _ Heard (λ _. link_loss_heard u now g) (λ _. g))
+      (λ _. cond_both v.flag _ _ Heard (λ _. join_heard w h) (λ _. cond_both (lacks_downstream w) _ _ Heard (λ _. update_loss_heard w now h) (λ _. h)))
 
-  clear_input_heard : (v : View) (level : Level) (now : ℕ) (was : Option Quintuple) → v.me ≡ me → v.destination ≡ d → AreHeardRows k up was v.rows → AreHeardRows k up e (all_cleared v.destination level v.rows) → Heard (on_clear v level now)
-  clear_input_heard v level now was owner at old rows =
-      let w : View = record v { rows = all_cleared v.destination level v.rows } in
-      let h : IsHeardView w = record { owner = owner; destination = at; rows = rows } in
-      cond_both (is_entry_at level v.height) _ _ Heard (λ _. erase_heard v level.tau level.oid was owner at old)
+  clear_input_heard : (v : View) (j : ℕ) (level : Level) (now : ℕ) (was : Option Quintuple) → v.me ≡ me → v.destination ≡ d → v.erasure ≡ choice → AreHeardRows k up was (rows_behind_clear v.erasure v.destination j v.rows)
+      → AreHeardRows k up e (all_cleared v.destination level (rows_behind_clear v.erasure v.destination j v.rows)) → Heard (on_clear v j level now)
+  clear_input_heard v j level now was owner at is old rows =
+      let u : View = hearing_clear v j level in
+      let w : View = record u { rows = all_cleared v.destination level u.rows } in
+      let h : IsHeardView w = record { owner = owner; destination = at; erasure = is; rows = rows } in
+      cond_both (is_entry_at level v.height) _ _ Heard (λ _. erase_heard u level.tau level.oid was owner at is old)
       (λ _. cond_both (lacks_downstream w) _ _ Heard (λ _. link_loss_heard w now h) (λ _. h))
 
-  link_up_heard : (v : View) (j : ℕ) → v.me ≡ me → v.destination ≡ d → ((x : Option Quintuple) → (j ≡ d) ⊎ (x ≡ None) → AreHeardRows k up e (with_row (link_row j x) v.rows)) → Heard (on_link_up v j)
-  link_up_heard v j owner at rows =
+  link_up_heard : (v : View) (j : ℕ) → v.me ≡ me → v.destination ≡ d → v.erasure ≡ choice → ((x : Option Quintuple) → (j ≡ d) ⊎ (x ≡ None) → AreHeardRows k up e (with_row (link_row j x) v.rows)) → Heard (on_link_up v j)
+  link_up_heard v j owner at is rows =
       cond_both (j == v.destination) _ _ Heard
       (λ t. let w : View = record v { rows = with_row (link_row j (Some (destination_height j))) v.rows } in
-      let h : IsHeardView w = record { owner = owner; destination = at; rows = rows (Some (destination_height j)) (inl (eqb-true j v.destination t ∙ at)) } in
+      let h : IsHeardView w = record { owner = owner; destination = at; erasure = is; rows = rows (Some (destination_height j)) (inl (eqb-true j v.destination t ∙ at)) } in
       cond_both v.flag _ _ Heard (λ _. join_heard w h) (λ _. h))
       (λ _. let w : View = record v { rows = with_row (link_row j None) v.rows } in
-      let h : IsHeardView w = record { owner = owner; destination = at; rows = rows None (inr refl) } in
+      let h : IsHeardView w = record { owner = owner; destination = at; erasure = is; rows = rows None (inr refl) } in
       cond_both v.flag _ _ Heard (λ _. query_heard w h) (λ _. h))
 
-  link_down_heard : (v : View) (j now : ℕ) → v.me ≡ me → v.destination ≡ d → AreHeardRows k up e (without_row j v.rows) → Heard (on_link_down v j now)
-  link_down_heard v j now owner at rows =
+  link_down_heard : (v : View) (j now : ℕ) → v.me ≡ me → v.destination ≡ d → v.erasure ≡ choice → AreHeardRows k up e (without_row j v.rows) → Heard (on_link_down v j now)
+  link_down_heard v j now owner at is rows =
       let w : View = record v { rows = without_row j v.rows } in
-      let h : IsHeardView w = record { owner = owner; destination = at; rows = rows } in
+      let h : IsHeardView w = record { owner = owner; destination = at; erasure = is; rows = rows } in
       cond_both (lacks_downstream w) _ _ Heard (λ _. link_loss_heard w now h) (λ _. h)
 
   need_heard : (v : View) → IsHeardView v → Heard (on_need v)
@@ -204,29 +252,29 @@ module _ (me d k : ℕ) (other : k ≢ d) (up : Bool) (e : Option Quintuple) whe
 -- ---- a view after an input that is accepted
 
 -- what the entry of k is told after an input
-abbrev heard_at : ℕ → ℕ → Option Quintuple → Input → Option Quintuple
-heard_at d k e (In.LinkUp j) = if j == k then None else e
-heard_at d k e (In.LinkDown j) = e
-heard_at d k e (In.Packet j packet) = if j == k then heard_in d e packet else e
-heard_at d k e (In.Need m) = e
+abbrev heard_at : Erasure → ℕ → ℕ → Option Quintuple → Input → Option Quintuple
+heard_at choice d k e (In.LinkUp j) = if j == k then None else e
+heard_at choice d k e (In.LinkDown j) = e
+heard_at choice d k e (In.Packet j packet) = if j == k then heard_in choice d e packet else e
+heard_at choice d k e (In.Need m) = e
 
-heard_received : (d k : ℕ) (input : Input) (ps : List Packet) → heard d None (with_received k input ps) ≡ heard_at d k (heard d None ps) input
-heard_received d k (In.LinkUp j) ps = go (j == k)
+heard_received : (choice : Erasure) (d k : ℕ) (input : Input) (ps : List Packet) → heard choice d None (with_received k input ps) ≡ heard_at choice d k (heard choice d None ps) input
+heard_received choice d k (In.LinkUp j) ps = go (j == k)
   where
-    go : (b : Bool) → heard d None (if b then [] else ps) ≡ (if b then None else heard d None ps)
+    go : (b : Bool) → heard choice d None (if b then [] else ps) ≡ (if b then None else heard choice d None ps)
     go true = refl
     go false = refl
-heard_received d k (In.LinkDown j) ps = refl
-heard_received d k (In.Packet j packet) ps = go (j == k)
+heard_received choice d k (In.LinkDown j) ps = refl
+heard_received choice d k (In.Packet j packet) ps = go (j == k)
   where
-    go : (b : Bool) → heard d None (if b then ps ++ packet ∷ [] else ps) ≡ (if b then heard_in d (heard d None ps) packet else heard d None ps)
-    go true = heard-append d None ps (packet ∷ [])
+    go : (b : Bool) → heard choice d None (if b then ps ++ packet ∷ [] else ps) ≡ (if b then heard_in choice d (heard choice d None ps) packet else heard choice d None ps)
+    go true = heard-append choice d None ps (packet ∷ [])
     go false = refl
-heard_received d k (In.Need m) ps = refl
+heard_received choice d k (In.Need m) ps = refl
 
-module _ (cores : CoreLaws) (me d k : ℕ) (other : k ≢ d) (away : me ≢ d) where
+module _ (choice : Erasure) (cores : CoreLaws) (me d k : ℕ) (other : k ≢ d) (away : me ≢ d) where
   abbrev HeardView : Bool → Option Quintuple → View → Type 0
-  HeardView up e v = IsHeardView me d k other up e v
+  HeardView up e v = IsHeardView choice me d k other up e v
 
   elsewhere : (v : View) (input : Input) (now : ℕ) → v.me ≡ me → v.destination ≡ d → outcome_of v input now ≡ outcome_elsewhere v input now
   elsewhere v input now owner at =
@@ -240,50 +288,62 @@ module _ (cores : CoreLaws) (me d k : ℕ) (other : k ≢ d) (away : me ≢ d) w
   same_none true e e' q = q
   same_none false e e' q = refl
 
-  packet_next : (up : Bool) (e : Option Quintuple) (v : View) (j : ℕ) (packet : Packet) (now : ℕ) → HeardView up e v → HeardView up (if j == k then heard_in d e packet else e) (next_view (In.Packet j packet) now v)
+  packet_next : (up : Bool) (e : Option Quintuple) (v : View) (j : ℕ) (packet : Packet) (now : ℕ) → HeardView up e v → HeardView up (if j == k then heard_in choice d e packet else e) (next_view (In.Packet j packet) now v)
   packet_next up e v j packet now h = go (cases_Bool (v.destination == destination_of packet))
     where
       level_kept : (x : Bool) (b : Bool) → b ≡ false → (if x && b then None else e) ≡ e
       level_kept true b q = ap (λ (y : Bool). if y then None else e) q
       level_kept false b q = refl
 
-      rules : (p : Packet) → (v.destination == destination_of p) ≡ true → HeardView up (if j == k then heard_in d e p else e) (outcome_elsewhere v (In.Packet j p) now).view
-      rules (Qry q) c = subst (λ x. HeardView up x (on_query v j).view) (sym (same_none (j == k) e e refl)) (query_input_heard me d k other up e v j h)
+      rules : (p : Packet) → (v.destination == destination_of p) ≡ true → HeardView up (if j == k then heard_in choice d e p else e) (outcome_elsewhere v (In.Packet j p) now).view
+      rules (Qry q) c = subst (λ x. HeardView up x (on_query v j).view) (sym (same_none (j == k) e e refl)) (query_input_heard choice me d k other up e v j h)
       rules (Upd u) c = by (cases_Bool (j == k))
         where
-          by : ((j == k) ≡ true) ⊎ ((j == k) ≡ false) → HeardView up (if j == k then heard_in d e (Upd u) else e) (on_update v j u.height now).view
+          by : ((j == k) ≡ true) ⊎ ((j == k) ≡ false) → HeardView up (if j == k then heard_in choice d e (Upd u) else e) (on_update v j u.height now).view
           by (inl t) =
-              subst (λ (b : Bool). HeardView up (if b then heard_in d e (Upd u) else e) (on_update v j u.height now).view) (sym t)
+              subst (λ (b : Bool). HeardView up (if b then heard_in choice d e (Upd u) else e) (on_update v j u.height now).view) (sym t)
               (subst (λ (b : Bool). HeardView up (if b then Some u.height else e) (on_update v j u.height now).view) (sym (ap (λ x. x == u.destination) (sym h.destination) ∙ c))
-              (update_input_heard me d k other up (Some u.height) v j u.height now h.owner h.destination
+              (update_input_heard choice me d k other up (Some u.height) v j u.height now h.owner h.destination h.erasure
+              (subst (λ x. AreHeardRows k up (Some u.height) (without_entry x j v.rows)) (sym h.destination)
+              (subst (λ x. AreHeardRows k up (Some u.height) (without_entry d x v.rows)) (sym (eqb-true j k t)) (own_withdrawn_rows d k other up e (Some u.height) v.rows h.rows)))
               (subst (λ x. AreHeardRows k up (Some u.height) (with_entry x u.height v.rows)) (sym (eqb-true j k t)) (entry_rows d k other up u.height e v.rows h.rows))))
           by (inr f) =
-              subst (λ (b : Bool). HeardView up (if b then heard_in d e (Upd u) else e) (on_update v j u.height now).view) (sym f)
-              (update_input_heard me d k other up e v j u.height now h.owner h.destination
+              subst (λ (b : Bool). HeardView up (if b then heard_in choice d e (Upd u) else e) (on_update v j u.height now).view) (sym f)
+              (update_input_heard choice me d k other up e v j u.height now h.owner h.destination h.erasure
+              (subst (λ x. AreHeardRows k up e (without_entry x j v.rows)) (sym h.destination) (withdrawn_rows d k other up j e v.rows h.rows))
               (other_entry_rows d k other up j u.height e (λ q. true≢false (sym (eq-eqb j k q) ∙ f)) v.rows h.rows))
       rules (Clr x) c = by (cases_Bool (j == k))
         where
           level : Level
           level = cleared_level x.tau x.oid
 
-          cleared : (e' : Option Quintuple) → (is_entry_at level e ≡ false → e' ≡ e) → HeardView up e' (on_clear v (cleared_level x.tau x.oid) now).view
-          cleared e' keep =
-              clear_input_heard me d k other up e' v (cleared_level x.tau x.oid) now e h.owner h.destination h.rows
-              (subst (λ y. AreHeardRows k up e' (all_cleared y (cleared_level x.tau x.oid) v.rows)) (sym h.destination) (cleared_rows d k other up (cleared_level x.tau x.oid) e e' keep v.rows h.rows))
+          behind : AreHeardRows k up e (rows_behind_clear v.erasure v.destination j v.rows)
+          behind = subst (λ y. AreHeardRows k up e (rows_behind_clear v.erasure y j v.rows)) (sym h.destination) (behind_rows d k other up v.erasure j e v.rows h.rows)
 
-          by : ((j == k) ≡ true) ⊎ ((j == k) ≡ false) → HeardView up (if j == k then heard_in d e (Clr x) else e) (on_clear v (cleared_level x.tau x.oid) now).view
+          cleared : (e' : Option Quintuple) → AreHeardRows k up e' (all_cleared d level (rows_behind_clear v.erasure d j v.rows)) → HeardView up e' (on_clear v j (cleared_level x.tau x.oid) now).view
+          cleared e' rows =
+              clear_input_heard choice me d k other up e' v j (cleared_level x.tau x.oid) now e h.owner h.destination h.erasure behind
+              (subst (λ y. AreHeardRows k up e' (all_cleared y (cleared_level x.tau x.oid) (rows_behind_clear v.erasure y j v.rows))) (sym h.destination) rows)
+
+          own : (e' : Option Quintuple) → (takes_entry choice level e ≡ false → e' ≡ e) → AreHeardRows k up e' (all_cleared d level (rows_behind_clear v.erasure d k v.rows))
+          own e' keep = own_clear_rows d k other up v.erasure level e e' (λ q. keep (ap (λ (y : Erasure). takes_entry y level e) (sym h.erasure) ∙ q)) v.rows h.rows
+
+          by : ((j == k) ≡ true) ⊎ ((j == k) ≡ false) → HeardView up (if j == k then heard_in choice d e (Clr x) else e) (on_clear v j (cleared_level x.tau x.oid) now).view
           by (inl t) =
-              subst (λ (b : Bool). HeardView up (if b then heard_in d e (Clr x) else e) (on_clear v (cleared_level x.tau x.oid) now).view) (sym t)
-              (cleared (heard_in d e (Clr x)) (λ q. level_kept (d == x.destination) (is_entry_at level e) q))
-          by (inr f) = subst (λ (b : Bool). HeardView up (if b then heard_in d e (Clr x) else e) (on_clear v (cleared_level x.tau x.oid) now).view) (sym f) (cleared e (λ _. refl))
+              subst (λ (b : Bool). HeardView up (if b then heard_in choice d e (Clr x) else e) (on_clear v j (cleared_level x.tau x.oid) now).view) (sym t)
+              (cleared (heard_in choice d e (Clr x)) (subst (λ y. AreHeardRows k up (heard_in choice d e (Clr x)) (all_cleared d level (rows_behind_clear v.erasure d y v.rows))) (sym (eqb-true j k t))
+              (own (heard_in choice d e (Clr x)) (λ q. level_kept (d == x.destination) (takes_entry choice level e) q))))
+          by (inr f) =
+              subst (λ (b : Bool). HeardView up (if b then heard_in choice d e (Clr x) else e) (on_clear v j (cleared_level x.tau x.oid) now).view) (sym f)
+              (cleared e (other_clear_rows d k other up v.erasure level j e v.rows h.rows))
 
-      go : ((v.destination == destination_of packet) ≡ true) ⊎ ((v.destination == destination_of packet) ≡ false) → HeardView up (if j == k then heard_in d e packet else e) (next_view (In.Packet j packet) now v)
+      go : ((v.destination == destination_of packet) ≡ true) ⊎ ((v.destination == destination_of packet) ≡ false) → HeardView up (if j == k then heard_in choice d e packet else e) (next_view (In.Packet j packet) now v)
       go (inl c) =
-          subst (λ (b : Bool). HeardView up (if j == k then heard_in d e packet else e) (if b then view_after v (In.Packet j packet) now else v)) (sym c)
-          (by_rules up (if j == k then heard_in d e packet else e) v (In.Packet j packet) now h.owner h.destination (rules packet c))
+          subst (λ (b : Bool). HeardView up (if j == k then heard_in choice d e packet else e) (if b then view_after v (In.Packet j packet) now else v)) (sym c)
+          (by_rules up (if j == k then heard_in choice d e packet else e) v (In.Packet j packet) now h.owner h.destination (rules packet c))
       go (inr f) =
-          subst (λ (b : Bool). HeardView up (if j == k then heard_in d e packet else e) (if b then view_after v (In.Packet j packet) now else v)) (sym f)
-          (subst (λ x. HeardView up x v) (sym (same_none (j == k) e (heard_in d e packet) (heard_other d e packet (ap (λ x. x == destination_of packet) (sym h.destination) ∙ f)))) h)
+          subst (λ (b : Bool). HeardView up (if j == k then heard_in choice d e packet else e) (if b then view_after v (In.Packet j packet) now else v)) (sym f)
+          (subst (λ x. HeardView up x v) (sym (same_none (j == k) e (heard_in choice d e packet) (heard_other choice d e packet (ap (λ x. x == destination_of packet) (sym h.destination) ∙ f)))) h)
 
   link_up_next : (c : CoreView) (e : Option Quintuple) (v : View) (j now : ℕ) → refusal_of c (In.LinkUp j) ≡ None → HeardView (has_number k c.up) e v → HeardView (has_number k (core_after c (In.LinkUp j) now).up) (if j == k then None else e) (view_after v (In.LinkUp j) now)
   link_up_next c e v j now ok h = by (cases_Bool (j == k))
@@ -298,7 +358,7 @@ module _ (cores : CoreLaws) (me d k : ℕ) (other : k ≢ d) (away : me ≢ d) w
           λ x c. ⊎_elim (λ (s : j ≡ d). absurd (other (sym q ∙ s))) (λ (s : x ≡ None). all_with_row (IsHeardRow k true None) (link_row j x) v.rows (λ _. (refl, inl s)) none) c in
           subst (λ (b : Bool). HeardView (has_number k (core_after c (In.LinkUp j) now).up) (if b then None else e) (view_after v (In.LinkUp j) now)) (sym t)
           (subst (λ (b : Bool). HeardView b None (view_after v (In.LinkUp j) now)) (sym now_up)
-          (by_rules true None v (In.LinkUp j) now h.owner h.destination (link_up_heard me d k other true None v j h.owner h.destination rows)))
+          (by_rules true None v (In.LinkUp j) now h.owner h.destination (link_up_heard choice me d k other true None v j h.owner h.destination h.erasure rows)))
       by (inr f) =
           let apart : k ≢ j = λ q. true≢false (sym (eq-eqb j k (sym q)) ∙ f) in
           let up : Bool = has_number k c.up in
@@ -306,7 +366,7 @@ module _ (cores : CoreLaws) (me d k : ℕ) (other : k ≢ d) (away : me ≢ d) w
           λ x c'. all_with_row (IsHeardRow k (has_number k c.up) e) (link_row j x) v.rows (λ q. absurd (apart (sym q))) h.rows in
           subst (λ (b : Bool). HeardView (has_number k (core_after c (In.LinkUp j) now).up) (if b then None else e) (view_after v (In.LinkUp j) now)) (sym f)
           (subst (λ (b : Bool). HeardView b e (view_after v (In.LinkUp j) now)) (sym (cores.others_at_up c k j now apart))
-          (by_rules (has_number k c.up) e v (In.LinkUp j) now h.owner h.destination (link_up_heard me d k other (has_number k c.up) e v j h.owner h.destination rows)))
+          (by_rules (has_number k c.up) e v (In.LinkUp j) now h.owner h.destination (link_up_heard choice me d k other (has_number k c.up) e v j h.owner h.destination h.erasure rows)))
 
   link_down_next : (c : CoreView) (e : Option Quintuple) (v : View) (j now : ℕ) → HeardView (has_number k c.up) e v → HeardView (has_number k (core_after c (In.LinkDown j) now).up) e (view_after v (In.LinkDown j) now)
   link_down_next c e v j now h = by (cases_Bool (j == k))
@@ -315,23 +375,23 @@ module _ (cores : CoreLaws) (me d k : ℕ) (other : k ≢ d) (away : me ≢ d) w
       by (inl t) =
           let up : Bool = has_number k (core_after c (In.LinkDown j) now).up in
           by_rules (has_number k (core_after c (In.LinkDown j) now).up) e v (In.LinkDown j) now h.owner h.destination
-          (link_down_heard me d k other (has_number k (core_after c (In.LinkDown j) now).up) e v j now h.owner h.destination
+          (link_down_heard choice me d k other (has_number k (core_after c (In.LinkDown j) now).up) e v j now h.owner h.destination h.erasure
           (subst (λ x. AreHeardRows k (has_number k (core_after c (In.LinkDown j) now).up) e (without_row x v.rows)) (sym (eqb-true j k t)) (none_left k (has_number k (core_after c (In.LinkDown j) now).up) e v.rows)))
       by (inr f) =
           subst (λ (b : Bool). HeardView b e (view_after v (In.LinkDown j) now)) (sym (cores.others_at_down c k j now (λ q. true≢false (sym (eq-eqb j k (sym q)) ∙ f))))
           (by_rules (has_number k c.up) e v (In.LinkDown j) now h.owner h.destination
-          (link_down_heard me d k other (has_number k c.up) e v j now h.owner h.destination (all_filter (IsHeardRow k (has_number k c.up) e) j v.rows h.rows)))
+          (link_down_heard choice me d k other (has_number k c.up) e v j now h.owner h.destination h.erasure (all_filter (IsHeardRow k (has_number k c.up) e) j v.rows h.rows)))
 
   next_heard : (c : CoreView) (e : Option Quintuple) (v : View) (input : Input) (now : ℕ) → refusal_of c input ≡ None → HeardView (has_number k c.up) e v →
-      HeardView (has_number k (core_after c input now).up) (heard_at d k e input) (next_view input now v)
+      HeardView (has_number k (core_after c input now).up) (heard_at choice d k e input) (next_view input now v)
   next_heard c e v (In.Need m) now ok h =
       subst (λ (b : Bool). HeardView b e (next_view (In.Need m) now v)) (sym (ap (has_number k) (cores.at_need c m now)))
       (cond_both (v.destination == m) (view_after v (In.Need m) now) v (HeardView (has_number k c.up) e)
-      (λ _. by_rules (has_number k c.up) e v (In.Need m) now h.owner h.destination (need_heard me d k other (has_number k c.up) e v h)) (λ _. h))
+      (λ _. by_rules (has_number k c.up) e v (In.Need m) now h.owner h.destination (need_heard choice me d k other (has_number k c.up) e v h)) (λ _. h))
   next_heard c e v (In.LinkUp j) now ok h = link_up_next c e v j now ok h
   next_heard c e v (In.LinkDown j) now ok h = link_down_next c e v j now h
   next_heard c e v (In.Packet j packet) now ok h =
-      subst (λ (b : Bool). HeardView b (if j == k then heard_in d e packet else e) (next_view (In.Packet j packet) now v)) (sym (ap (has_number k) (cores.at_packet c j packet now)))
+      subst (λ (b : Bool). HeardView b (if j == k then heard_in choice d e packet else e) (next_view (In.Packet j packet) now v)) (sym (ap (has_number k) (cores.at_packet c j packet now)))
       (packet_next (has_number k c.up) e v j packet now h)
 
   -- ---- a core over inputs
@@ -359,33 +419,33 @@ module _ (cores : CoreLaws) (me d k : ℕ) (other : k ≢ d) (away : me ≢ d) w
           let r = again (sym (ap (λ (b : Bool). if b then Some (next_view input now v) else find (is_of d) (map (next_view input now) views)) (s ∙ t)) ∙ f) in
           record { view = r.view; found = ap (λ (b : Bool). if b then Some v else find (is_of d) views) t ∙ r.found; next = r.next }
 
-  step_hears : (c : CoreView) (input : Input) (now : ℕ) (e : Option Quintuple) → refusal_of c input ≡ None → Hearing c e → Hearing (core_after c input now) (heard_at d k e input)
+  step_hears : (c : CoreView) (input : Input) (now : ℕ) (e : Option Quintuple) → refusal_of c input ≡ None → Hearing c e → Hearing (core_after c input now) (heard_at choice d k e input)
   step_hears c input now e ok h v' found =
       let taking : core_after c input now ≡ core_taking c input now = ap (λ (o : Option StepError). if is_some o then c else core_taking c input now) ok in
       let was = was_view input now c.views v' (sym (ap (λ (x : CoreView). view_of x d) taking) ∙ found) in
-      subst (λ (x : View). HeardView (has_number k (core_after c input now).up) (heard_at d k e input) x) was.next (next_heard c e was.view input now ok (h was.view was.found))
+      subst (λ (x : View). HeardView (has_number k (core_after c input now).up) (heard_at choice d k e input) x) was.next (next_heard c e was.view input now ok (h was.view was.found))
 
-  run_hears : (c : CoreView) (inputs : List (Input × ℕ)) (ps : List Packet) → Hearing c (heard d None ps) → Hearing (core_after_all c inputs) (heard d None (received_from k c inputs ps))
+  run_hears : (c : CoreView) (inputs : List (Input × ℕ)) (ps : List Packet) → Hearing c (heard choice d None ps) → Hearing (core_after_all c inputs) (heard choice d None (received_from k c inputs ps))
   run_hears c [] ps h = h
   run_hears c ((input, now) ∷ inputs) ps h = run_hears (core_after c input now) inputs (if is_some (refusal_of c input) then ps else with_received k input ps) (go (refusal_of c input) refl)
     where
-      go : (o : Option StepError) → refusal_of c input ≡ o → Hearing (core_after c input now) (heard d None (if is_some (refusal_of c input) then ps else with_received k input ps))
+      go : (o : Option StepError) → refusal_of c input ≡ o → Hearing (core_after c input now) (heard choice d None (if is_some (refusal_of c input) then ps else with_received k input ps))
       go None ok =
-          subst (λ (o : Option StepError). Hearing (core_after c input now) (heard d None (if is_some o then ps else with_received k input ps))) (sym ok)
-          (subst (λ x. Hearing (core_after c input now) x) (sym (heard_received d k input ps)) (step_hears c input now (heard d None ps) ok h))
+          subst (λ (o : Option StepError). Hearing (core_after c input now) (heard choice d None (if is_some o then ps else with_received k input ps))) (sym ok)
+          (subst (λ x. Hearing (core_after c input now) x) (sym (heard_received choice d k input ps)) (step_hears c input now (heard choice d None ps) ok h))
       go (Some error) refused =
-          subst (λ (o : Option StepError). Hearing (core_after c input now) (heard d None (if is_some o then ps else with_received k input ps))) (sym refused)
-          (subst (λ (x : CoreView). Hearing x (heard d None ps)) (sym (ap (λ (o : Option StepError). if is_some o then c else core_taking c input now) refused)) h)
+          subst (λ (o : Option StepError). Hearing (core_after c input now) (heard choice d None (if is_some o then ps else with_received k input ps))) (sym refused)
+          (subst (λ (x : CoreView). Hearing x (heard choice d None ps)) (sym (ap (λ (o : Option StepError). if is_some o then c else core_taking c input now) refused)) h)
 
   -- the first core knows nothing
-  first_hears : (ds : List ℕ) (v : View) → find (is_of d) (map (first_view me) ds) ≡ Some v → HeardView false None v
+  first_hears : (ds : List ℕ) (v : View) → find (is_of d) (map (first_view_of choice me) ds) ≡ Some v → HeardView false None v
   first_hears [] v e = absurd cc
   first_hears (m ∷ ds) v e = go (m == d) refl e (first_hears ds v)
     where
-      go : (b : Bool) → (m == d) ≡ b → (if b then Some (first_view me m) else find (is_of d) (map (first_view me) ds)) ≡ Some v → (find (is_of d) (map (first_view me) ds) ≡ Some v → HeardView false None v) → HeardView false None v
+      go : (b : Bool) → (m == d) ≡ b → (if b then Some (first_view_of choice me m) else find (is_of d) (map (first_view_of choice me) ds)) ≡ Some v → (find (is_of d) (map (first_view_of choice me) ds) ≡ Some v → HeardView false None v) → HeardView false None v
       go true t f again =
-          let q : first_view me m ≡ v = cc in
-          subst (HeardView false None) q (record { owner = refl; destination = eqb-true m d t; rows = tt })
+          let q : first_view_of choice me m ≡ v = cc in
+          subst (HeardView false None) q (record { owner = refl; destination = eqb-true m d t; erasure = refl; rows = tt })
       go false t f again = again f
 
   -- an entry that is not NULL is what the neighbour's packets say
@@ -402,13 +462,13 @@ module _ (cores : CoreLaws) (me d k : ℕ) (other : k ≢ d) (away : me ≢ d) w
       go true t q again = is_told_so (h.0 (eqb-true row.neighbour k t)).1 (let z : row.entry ≡ Some x = cc in z)
       go false t q again = again q
 
-  pub entries_heard : (neighbours ds : List ℕ) (inputs : List (Input × ℕ)) (x : Quintuple) → entry_of (core_after_all (first_core me neighbours ds) inputs) d k ≡ Some (Some x) →
-      heard d None (received_from k (first_core me neighbours ds) inputs []) ≡ Some x
+  pub entries_heard : (neighbours ds : List ℕ) (inputs : List (Input × ℕ)) (x : Quintuple) → entry_of (core_after_all (first_core_of choice me neighbours ds) inputs) d k ≡ Some (Some x) →
+      heard choice d None (received_from k (first_core_of choice me neighbours ds) inputs []) ≡ Some x
   entries_heard neighbours ds inputs x e =
-      at (view_of (core_after_all (first_core me neighbours ds) inputs) d) refl e (run_hears (first_core me neighbours ds) inputs [] (λ v f. first_hears (ascending ds) v f))
+      at (view_of (core_after_all (first_core_of choice me neighbours ds) inputs) d) refl e (run_hears (first_core_of choice me neighbours ds) inputs [] (λ v f. first_hears (ascending ds) v f))
     where
-      at : (o : Option View) → view_of (core_after_all (first_core me neighbours ds) inputs) d ≡ o → option_and_then (entry_in k) o ≡ Some (Some x) →
-          ((v : View) → view_of (core_after_all (first_core me neighbours ds) inputs) d ≡ Some v → HeardView (has_number k (core_after_all (first_core me neighbours ds) inputs).up) (heard d None (received_from k (first_core me neighbours ds) inputs [])) v) →
-          heard d None (received_from k (first_core me neighbours ds) inputs []) ≡ Some x
+      at : (o : Option View) → view_of (core_after_all (first_core_of choice me neighbours ds) inputs) d ≡ o → option_and_then (entry_in k) o ≡ Some (Some x) →
+          ((v : View) → view_of (core_after_all (first_core_of choice me neighbours ds) inputs) d ≡ Some v → HeardView (has_number k (core_after_all (first_core_of choice me neighbours ds) inputs).up) (heard choice d None (received_from k (first_core_of choice me neighbours ds) inputs [])) v) →
+          heard choice d None (received_from k (first_core_of choice me neighbours ds) inputs []) ≡ Some x
       at None f q h = absurd cc
-      at (Some v) f q h = entry_heard (has_number k (core_after_all (first_core me neighbours ds) inputs).up) (heard d None (received_from k (first_core me neighbours ds) inputs [])) x v.rows (h v f).rows q
+      at (Some v) f q h = entry_heard (has_number k (core_after_all (first_core_of choice me neighbours ds) inputs).up) (heard choice d None (received_from k (first_core_of choice me neighbours ds) inputs [])) x v.rows (h v f).rows q

@@ -8,13 +8,14 @@ use Rattle.tora_height.specs.declared.level.Level.{Level}
 use Rattle.tora_height.specs.Height.{Quintuple, quintuple, destination_height, height_fault}
 use Rattle.tora_packet.specs.declared.Packet.{Packet}
 use Rattle.tora_packet.specs.declared.Packet.TheVariants.{Qry, Upd, Clr}
+use Rattle.tora_core.specs.declared.erasure.Erasure.{Erasure}
 use Rattle.tora_core.specs.declared.Input.{Input}
 use Rattle.tora_core.specs.declared.Input.TheVariants as In
 use Rattle.tora_core.specs.declared.destination.Broadcast.{Broadcast}
 use Rattle.tora_core.specs.declared.destination.Broadcast.TheVariants as Tell
-use Rattle.tora_core.specs.View.{View, first_view, known_heights, are_null, has_downstream, lacks_downstream, least_height, greatest_level, least_delta, is_at, is_told, is_entry_at, with_row, without_row, with_entry, all_cleared}
+use Rattle.tora_core.specs.View.{View, first_view_of, known_heights, are_null, has_downstream, lacks_downstream, least_height, greatest_level, least_delta, is_at, is_told, is_entry_at, with_row, without_entry, without_row, with_entry, all_cleared}
 use Rattle.tora_core.specs.Heights.{fresh_time, fitted_by, fitted_height}
-use Rattle.tora_core.specs.Rules.{Outcome, silent, query_broadcast, update_broadcast_of, update_broadcast, joined_above, joined_height, after_join, new_level_at, new_level, after_erase, below_delta, after_link_loss, after_update_loss_at, after_update_loss, on_link_up, on_link_down, link_row, cleared_level, on_packet, outcome_elsewhere, outcome_at_destination, outcome_of, packet_of, packet_sent, view_after}
+use Rattle.tora_core.specs.Rules.{Outcome, silent, query_broadcast, update_broadcast_of, update_broadcast, joined_above, joined_height, after_join, new_level_at, new_level, after_erase, below_delta, after_link_loss, after_update_loss_at, after_update_loss, on_link_up, on_link_down, link_row, cleared_level, hearing_clear, is_outdated, on_packet, outcome_elsewhere, outcome_at_destination, outcome_of, packet_of, packet_sent, view_after}
 use Rattle.tora_core.specs.CoreRun.{CoreView, is_from, refusal_of, concerns, next_view, next_packet, core_after, core_taking, sends_of}
 use Rattle.tora_world.specs.Lists.{Each}
 
@@ -108,14 +109,18 @@ module _ (me : ℕ) where
       (λ _. cond_both (not v.flag) _ _ Own (λ _. query_own v h) (λ _. silent_own v h))
       (λ _. cond_both (is_none v.height) _ _ Own (λ _. join_own v h)
       (λ _. cond_both (not (is_told k v.rows)) _ _ Own (λ _. update_own v h) (λ _. silent_own v h)))
-  packet_own v k (Upd u) now h =
-      let w : View = record v { rows = with_entry k u.height v.rows } in
+  packet_own v k (Upd told) now h =
+      let w : View = record v { rows = with_entry k told.height v.rows } in
       let hw : IsOwnView me w = record { owner = h.owner; height = h.height } in
-      cond_both v.flag _ _ Own (λ _. join_own w hw) (λ _. cond_both (lacks_downstream w) _ _ Own (λ _. update_loss_own w now h.owner) (λ _. silent_own w hw))
+      let u : View = record v { rows = without_entry v.destination k v.rows } in
+      cond_both (is_outdated v told.height) _ _ Own
+      (λ _. cond_both (lacks_downstream u) _ _ Own (λ _. link_loss_own u now h.owner) (λ _. silent_own u (record { owner = h.owner; height = h.height })))
+      (λ _. cond_both v.flag _ _ Own (λ _. join_own w hw) (λ _. cond_both (lacks_downstream w) _ _ Own (λ _. update_loss_own w now h.owner) (λ _. silent_own w hw)))
   packet_own v k (Clr c) now h =
       let level : Level = cleared_level c.tau c.oid in
-      let w : View = record v { rows = all_cleared v.destination level v.rows } in
-      cond_both (is_entry_at level v.height) _ _ Own (λ _. erase_own v level.tau level.oid h.owner)
+      let u : View = hearing_clear v k level in
+      let w : View = record u { rows = all_cleared v.destination level u.rows } in
+      cond_both (is_entry_at level v.height) _ _ Own (λ _. erase_own u level.tau level.oid h.owner)
       (λ _. cond_both (lacks_downstream w) _ _ Own (λ _. link_loss_own w now h.owner) (λ _. silent_own w (record { owner = h.owner; height = h.height })))
 
   link_up_own : (v : View) (k : ℕ) → IsOwnView me v → Own (on_link_up v k)
@@ -185,6 +190,6 @@ module _ (me : ℕ) where
               pick true q = packet_is v input now k.0 p q
               pick false q = absurd (cc)
 
-  pub first_own : (ds : List ℕ) → Each (IsOwnView me) (map (first_view me) ds)
-  first_own [] = tt
-  first_own (d ∷ ds) = (record { owner = refl; height = cond_both (me == d) (Some (destination_height d)) None (IsOwn me) (λ e. sym (eqb-true me d e)) (λ _. tt) }, first_own ds)
+  pub first_own : (erasure : Erasure) (ds : List ℕ) → Each (IsOwnView me) (map (first_view_of erasure me) ds)
+  first_own erasure [] = tt
+  first_own erasure (d ∷ ds) = (record { owner = refl; height = cond_both (me == d) (Some (destination_height d)) None (IsOwn me) (λ e. sym (eqb-true me d e)) (λ _. tt) }, first_own erasure ds)

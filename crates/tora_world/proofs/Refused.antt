@@ -19,7 +19,7 @@ use Rattle.tora_seat.specs.declared.cargo.Cargo.TheVariants as Gives
 use Rattle.tora_seat.specs.Serving.{SeatState, Serving, Parcel, Answers, begin_serving, serving_of, put_to, stepped_from}
 use Rattle.tora_world.specs.declared.event.Event.{Event}
 use Rattle.tora_world.specs.declared.event.Event.TheVariants.{Need, Tick, Open, Pull, Transmit, Deliver, Pump, CoreTurn, Arm, Restart}
-use Rattle.tora_world.specs.Topology.{Topology, neighbours_of}
+use Rattle.tora_world.specs.Topology.{Topology, erasure_at, neighbours_of}
 use Rattle.tora_world.specs.Lists.{packets_of, parcels_in, Each}
 use Rattle.tora_arq.specs.Lives.{reversed}
 use Rattle.tora_world.specs.LinkMachine.{MachineStep, machine_after, made}
@@ -54,7 +54,7 @@ first_is : CoreLaws → (t : Topology) (n : ℕ) → IsSeat n (neighbours_of t n
 first_is cores t n = record {
   near = λ j i. cores.members j (neighbours_of t n) ∙ i;
   up = λ j l i e. absurd (cc);
-  own = first_own n (ascending t.destinations);
+  own = first_own n (erasure_at t n) (ascending t.destinations);
   settled = λ j c. true≢false (sym c.up);
 }
 

@@ -10,7 +10,7 @@ use Rattle.tora_core.specs.declared.errors.CoreError.TheVariants as Refusal
 use Rattle.tora_core.specs.Numbers.{has_number, has_repeat, with_number}
 use Rattle.tora_core.specs.CoreRun.{core_refusal_within}
 use Rattle.tora_core.proofs.NumberLemmas.{all-has, all-with_number, all-ascending, length-ascending}
-use Rattle.tora_world.specs.Topology.{Topology, Link, other_ends, neighbours_of, nodes_in, with_node, is_node, IsWithinLimits}
+use Rattle.tora_world.specs.Topology.{erasure_at, Topology, Link, other_ends, neighbours_of, nodes_in, with_node, is_node, IsWithinLimits}
 use Rattle.tora_world.specs.Walks.{AreIds}
 use Rattle.tora_world.specs.Layers.{CoreLaws, RuleLaws}
 use Rattle.tora_world.proofs.NeighboursApart.{neighbours_apart}
@@ -60,6 +60,6 @@ module _ (cores : CoreLaws) (rules : RuleLaws) (t : Topology) (accepted : IsWith
 
   pub keeping : IsKeeping t
   keeping = record {
-    laws = λ n id is ok. rules.kept greatest_core_limits n (neighbours_of t n) t.destinations is id (near_ids n) ids.destinations (not_refused n) ok;
+    laws = λ n id is ok. rules.kept (erasure_at t n) greatest_core_limits n (neighbours_of t n) t.destinations is id (near_ids n) ids.destinations (not_refused n) ok;
     ids = λ n k there. all-has IsId k (neighbours_of t n) (near_ids n) there;
   }

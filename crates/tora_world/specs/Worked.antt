@@ -4,6 +4,7 @@ use Rattle.tora_packet.specs.declared.Packet.{Packet}
 use Rattle.tora_packet.specs.declared.Packet.TheVariants.{Upd}
 use Rattle.tora_arq.specs.declared.life.Life.{Life}
 use Rattle.tora_arq.specs.declared.times.Times.{Times}
+use Rattle.tora_core.specs.declared.erasure.Erasure.TheVariants.{Plain}
 use Rattle.tora_world.specs.declared.event.Event.{Event}
 use Rattle.tora_world.specs.declared.event.Event.TheVariants.{Need, Open, Pull, Transmit, Deliver, Pump, CoreTurn, Restart}
 use Rattle.tora_world.specs.Topology.{Topology}
@@ -14,7 +15,7 @@ use Rattle.tora_world.specs.FreeWorld.{Happens, Schedule, after_schedule, own_sc
 
 -- nodes 1 and 2, their link, and the destination 2
 abbrev pub pair : Topology
-pair = record { links = record { a = 1; b = 2 } ∷ []; destinations = 2 ∷ []; olds = [] }
+pair = record { links = record { a = 1; b = 2 } ∷ []; destinations = 2 ∷ []; olds = []; erasure = Plain; choices = [] }
 
 abbrev pub times : Times
 times = record { hello = 10; silent = 50; retry = 5; tries = 8 }
@@ -82,7 +83,7 @@ handed_back = after_schedule refusal start
 
 -- the same two nodes, where a node that is neither of them is the destination
 abbrev pub pair_elsewhere : Topology
-pair_elsewhere = record { links = record { a = 1; b = 2 } ∷ []; destinations = 3 ∷ []; olds = [] }
+pair_elsewhere = record { links = record { a = 1; b = 2 } ∷ []; destinations = 3 ∷ []; olds = []; erasure = Plain; choices = [] }
 
 abbrev pub start_elsewhere : World
 start_elsewhere = first_world pair_elsewhere times

@@ -7,6 +7,7 @@ use Rattle.tora_arq.specs.LinkEnd.{EndState, first_end, after_open, after_bind}
 use Rattle.tora_seat.specs.declared.cargo.Cargo.{Cargo}
 use Rattle.tora_seat.specs.declared.cargo.Cargo.TheVariants as Gives
 use Rattle.tora_seat.specs.declared.what.What.TheVariants as Tells
+use Rattle.tora_core.specs.declared.erasure.Erasure.TheVariants.{Plain}
 use Rattle.tora_world.specs.declared.event.Event.{Event}
 use Rattle.tora_world.specs.declared.event.Event.TheVariants.{Need, Tick, Open, Pull, Transmit, Deliver, Pump, CoreTurn, Arm, Restart}
 use Rattle.tora_world.specs.declared.call.Call.TheVariants as Fails
@@ -94,7 +95,7 @@ pub record Tries : Type 0 where
 
 -- nodes 1 and 2, and the destinations 2 and 3
 abbrev pub pair_of_two : Topology
-pair_of_two = record { links = record { a = 1; b = 2 } ∷ []; destinations = 2 ∷ 3 ∷ []; olds = [] }
+pair_of_two = record { links = record { a = 1; b = 2 } ∷ []; destinations = 2 ∷ 3 ∷ []; olds = []; erasure = Plain; choices = [] }
 
 -- node 1 needs both, and a life comes up: so its core sends an update and a query in one turn
 abbrev pub two_needs : List Event

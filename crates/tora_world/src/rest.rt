@@ -2,7 +2,7 @@
 ghost use Rattle.std.specs.Prelude.{◌≡◌, ◌≢◌, ◌↔◌, ℕ, true, List, [], Some};
 ghost use Rattle.tora_height.specs.Height.{Quintuple};
 ghost use Rattle.tora_world.specs.Rest.{IsAtRest, rests, LacksHeight, EntriesAreHeights, FollowsHops, HopsDown, ComesDown, HaveHeights, last_of, IsReached};
-ghost use Rattle.tora_world.specs.Losses.{StaleAreLost};
+ghost use Rattle.tora_world.specs.Losses.{RememberedAreLostInSilence, StaleAreLost};
 ghost use Rattle.tora_world.specs.World.{World};
 ghost use Rattle.tora_world.specs.Walks.{EveryWorld, height_at, Arrives};
 
@@ -28,6 +28,8 @@ pub fn entries_at_rest_are_heights()
     // Where an entry stands though its neighbour has no height, the neighbour had that height, and lost it in one of
     // these ways: with a clear of another level, with its last entry, or as no height in range was left to take.
     ensures stale { EveryWorld (λ w. IsAtRest w → StaleAreLost w) }
+    // At a node that remembers erased levels only the last two are left: the neighbour broadcast nothing as it lost the height.
+    ensures remembered { EveryWorld (λ w. IsAtRest w → RememberedAreLostInSilence w) }
 {
     layers_keep_their_laws();
 }

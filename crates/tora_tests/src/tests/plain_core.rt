@@ -48,6 +48,7 @@ impl Plain {
     /// Both lists in ascending order.
     pub fn new(
         alloc: Global,
+        remembers: bool,
         me: Id,
         neighbours: &[Id],
         destinations: &[Id],
@@ -58,7 +59,7 @@ impl Plain {
         }
         let mut views = Vec::new(alloc);
         for destination in destinations {
-            views.push(view_of(alloc, me, *destination, neighbours)?)?;
+            views.push(view_of(alloc, remembers, me, *destination, neighbours)?)?;
         }
         Ok(Plain { links, views })
     }

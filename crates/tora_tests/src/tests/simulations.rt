@@ -13,6 +13,7 @@ use tora_arq::{Life, Times};
 use tora_height::Id;
 use tora_sim::{Event, Sim};
 
+mod choices;
 mod memory;
 mod quiet;
 mod rest;

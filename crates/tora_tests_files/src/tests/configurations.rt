@@ -1,7 +1,10 @@
 //! The worked configuration, and each way to refuse one.
-use reading::Wanted::{Accepted, NoToml, Peers, Refused, Says, TooMany, UnknownKey, Worked};
+use reading::Wanted::{
+    Accepted, Erases, NoToml, Peers, Refused, Says, TooMany, UnknownKey, Worked,
+};
 use reading::{Wanted, each_is_read, each_is_read_or_wants_memory, says};
 use tora_config::*;
+use tora_core::Erasure;
 
 mod reading;
 
@@ -47,6 +50,14 @@ const ACCEPTED_AND_REFUSED: &[(&[&str], Wanted)] = &[
     (
         &["node = 2\ndests = [4]\nlife_dir = \"n1\"\n", LINK],
         Refused(Place::Peer(1), Reason::OwnId),
+    ),
+    (
+        &[HEAD, "erasure = \"remembered\"\n", LINK],
+        Erases(Erasure::Remembered),
+    ),
+    (
+        &[HEAD, "erasure = \"plain\"\n", LINK],
+        Erases(Erasure::Plain),
     ),
     (&["node = = 1\n"], NoToml),
 ];
@@ -317,6 +328,15 @@ const FAULTS: &[(&[&str], Wanted)] = &[
     (
         &["node = 1\ndests = []\nlife_dir = 1\n"],
         Says("`life_dir` is no text"),
+    ),
+    (
+        &[HEAD, "erasure = \"Plain\"\n"],
+        Says("`erasure` is neither `plain` nor `remembered`"),
+    ),
+    (&[HEAD, "erasure = 1\n", LINK], Says("`erasure` is no text")),
+    (
+        &[HEAD, "erasure = \"remembered\"\n"],
+        Says("`link` is missing"),
     ),
     (&[HEAD], Says("`link` is missing")),
     (

@@ -18,7 +18,7 @@ use streams::{Asking, Course, Meeting, Page, Screen, Waiting};
 use tora_core::CoreError;
 use tora_height::Id;
 use tora_life::{Disk, LifeError};
-use tora_neighbour::{MemWire, UnixClock, Wire};
+use tora_neighbour::{ClockTicks, MemWire, UnixClock, Wire, clock_ticks};
 use tora_node::*;
 use tora_seat::Status;
 use tora_waking::NodeClock;
@@ -68,7 +68,10 @@ fn run_over<
     as_many(rt, wires.len(), links);
     as_many(rt, disks.len(), links);
     let clock = UnixClock::new(rt);
-    run_node(rt, alloc, config, wires, disks, &clock, commands, screen)
+    let ticks = there(rt, clock_ticks(alloc, &clock, links), "memory for ticks");
+    run_node(
+        rt, alloc, config, wires, disks, ticks, &clock, commands, screen,
+    )
 }
 
 /// Runs a node with one link over the loopback, whose thread is woken.
@@ -90,9 +93,11 @@ fn run_one<R: Threads + Wait + Sync + time::Clock + log::Log + Abort>(
     let wires = list_of(rt, alloc, wire);
     let wakers = list_of(rt, alloc, waker);
     let disks = list_of(rt, alloc, ByteDisk::of_zeros(0));
+    let ticks = list_of(rt, alloc, ClockTicks { clock });
     let links = config.peers().len();
     as_many(rt, wires.len(), links);
     as_many(rt, disks.len(), links);
+    as_many(rt, ticks.len(), links);
     let mut commands = Asking {
         rt,
         first,
@@ -107,6 +112,7 @@ fn run_one<R: Threads + Wait + Sync + time::Clock + log::Log + Abort>(
         wires,
         disks,
         wakers,
+        ticks,
         clock,
         &mut commands,
         &mut screen,

@@ -100,6 +100,7 @@ fn simulated_once<T: Files + AllocGlobal + Eprint + Clock>(
         has_notice: false,
         is_large: false,
         until,
+        erasure: None,
         channel_file,
     };
     simulate_file(rt, words, FILE, trace, (false, has_bar), writer)

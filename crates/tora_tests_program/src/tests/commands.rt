@@ -41,8 +41,8 @@ impl Run {
     ) -> ExitCode {
         let reader = LinesReader::new((lines, "", 0, ""));
         match self {
-            Run::Replay => replay_command::run(rt, reader, is_verbose, writer),
-            Run::Drive => drive_command::run(rt, None, false, reader, writer),
+            Run::Replay => replay_command::run(rt, None, reader, is_verbose, writer),
+            Run::Drive => drive_command::run(rt, None, None, false, reader, writer),
             Run::Simulation => sim_command::run_over::<Sim, T, LinesReader<'_>, ArrayWriter>(
                 rt,
                 Setup::plain(Times::STANDARD),
@@ -245,6 +245,7 @@ fn simulated_once<T: Files + AllocGlobal + Eprint + Clock>(
         has_notice: false,
         is_large: false,
         until: None,
+        erasure: None,
         channel_file: None,
     };
     simulate_file(rt, words, path, trace, (false, false), writer)

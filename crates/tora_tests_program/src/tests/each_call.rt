@@ -6,7 +6,7 @@ use tora_arq::{Life, Times};
 use tora_channel::Channel;
 use tora_core::CoreError;
 use tora_height::{Entry, Height, Id};
-use tora_script::{Air, Simulator, make_rounds};
+use tora_script::{Air, Mark, Simulator, WorldOptions, make_rounds};
 use tora_sim::{Sim, Topology};
 use tora_world::{Call, Event, Limits, SimError};
 
@@ -32,13 +32,13 @@ impl Simulator for Recorder {
 
     fn start(
         alloc: Global,
-        limits: Limits,
+        options: WorldOptions,
         links: &[(Id, Id)],
         dests: &[Id],
-        olds: &[Id],
+        marks: &[Mark],
         times: Times,
     ) -> Result<Recorder, CoreError> {
-        let sim = <Sim as Simulator>::start(alloc, limits, links, dests, olds, times)?;
+        let sim = <Sim as Simulator>::start(alloc, options, links, dests, marks, times)?;
         Ok(Recorder {
             sim,
             events: Vec::new(alloc),
@@ -164,7 +164,7 @@ fn clear_rounds<S: Simulator>(sim: &mut S, alloc: Global, count: u64) -> Result<
 fn recorded(rt: &impl Abort, alloc: Global) -> Vec<Event> {
     let started = <Recorder as Simulator>::start(
         alloc,
-        Limits::STANDARD,
+        WorldOptions::within(Limits::STANDARD),
         &LINKS,
         &[4],
         &[],

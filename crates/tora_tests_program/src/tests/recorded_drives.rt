@@ -11,6 +11,7 @@ use tora_arq::Times;
 use tora_commands::{INPUT, MEMORY, USAGE, record_command};
 use tora_drive::drive_recorded;
 use tora_lines::{Ended, ReplayError};
+use tora_script::WorldOptions;
 use tora_sim::{Limits, Sim};
 use tora_traced::TraceOut;
 
@@ -78,7 +79,7 @@ fn recorded_once<T: AllocGlobal>(rt: &T, lines: &str, fails: Fails) -> Left {
     let mut out = TraceOut::new(ArrayWriter::new(fails));
     let found = drive_recorded::<Sim, LinesReader<'_>, ArrayWriter, ArrayWriter>(
         rt.alloc(),
-        Limits::STANDARD,
+        WorldOptions::within(Limits::STANDARD),
         Times::STANDARD,
         &mut reader,
         &mut writer,
@@ -171,7 +172,7 @@ fn command_once<T: Files + AllocGlobal + Eprint>(
 ) -> (ExitCode, ArrayWriter) {
     let mut writer = ArrayWriter::new(Fails::Never);
     let reader = LinesReader::new((STEPPED.0, "", 0, ""));
-    let status = record_command::run(rt, times, false, path, reader, &mut writer);
+    let status = record_command::run(rt, times, None, false, path, reader, &mut writer);
     (status, writer)
 }
 
@@ -228,7 +229,7 @@ fn failed_status<T: AllocGlobal + Eprint>(rt: &T, fails: Fails) -> ExitCode {
     let mut out = TraceOut::new(ArrayWriter::new(fails));
     record_command::run_over(
         rt,
-        Limits::STANDARD,
+        WorldOptions::within(Limits::STANDARD),
         Times::STANDARD,
         LinesReader::new((STEPPED.0, "", 0, "")),
         &mut writer,

@@ -6,10 +6,11 @@ use std::process::Abort;
 use tora_arq::Times;
 use tora_channel::ChannelTable;
 use tora_commands::{replay_and_flush, simulate_and_flush, simulate_told_and_flush};
+use tora_core::Erasure;
 use tora_drive::drive_in;
 use tora_lines::{Ended, ReplayError};
-use tora_replay::replay;
-use tora_script::Setup;
+use tora_replay::{replay, replay_with};
+use tora_script::{Setup, WorldOptions};
 use tora_sim::{Limits, Sim};
 use tora_simulate::{simulate, simulate_telling_and_flush, simulate_with};
 
@@ -17,6 +18,8 @@ use tora_simulate::{simulate, simulate_telling_and_flush, simulate_with};
 #[derive(Clone, Copy)]
 pub enum Way {
     Replay,
+    /// A replay of a node that remembers erased levels.
+    RememberedReplay,
     /// A replay that hands on what it wrote.
     FlushedReplay,
     Simulation,
@@ -51,8 +54,8 @@ fn driven(
     reader: &mut LinesReader<'_>,
     writer: &mut ArrayWriter,
 ) -> Result<Ended, ReplayError> {
-    let times = Times::STANDARD;
-    drive_in::<Sim, LinesReader<'_>, ArrayWriter>(alloc, limits, times, reader, writer)
+    let (options, times) = (WorldOptions::within(limits), Times::STANDARD);
+    drive_in::<Sim, LinesReader<'_>, ArrayWriter>(alloc, options, times, reader, writer)
 }
 
 impl Way {
@@ -67,7 +70,8 @@ impl Way {
         let alloc = rt.alloc();
         match self {
             Way::Replay => replay(alloc, reader, writer),
-            Way::FlushedReplay => replay_and_flush(alloc, reader, writer),
+            Way::RememberedReplay => replay_with(alloc, Erasure::Remembered, reader, writer),
+            Way::FlushedReplay => replay_and_flush(alloc, Erasure::Plain, reader, writer),
             Way::Simulation => simulate(alloc, reader, writer),
             Way::FlushedSimulation => simulate_and_flush::<Sim, LinesReader<'_>, ArrayWriter>(
                 alloc,
@@ -89,7 +93,7 @@ impl Way {
                     rt,
                     alloc,
                     Setup {
-                        limits: Limits::GREATEST,
+                        options: WorldOptions::within(Limits::GREATEST),
                         ..Setup::plain(Times::STANDARD)
                     },
                     ChannelTable::none(),

@@ -153,7 +153,7 @@ fn causes_of_faults_before_a_simulation_runs(rt: HostRuntime) {
     expect_causes(&rt, rt.alloc(), EARLY_CAUSES);
 }
 
-/// Old nodes behind two links.
+/// Old nodes and choices of nodes behind two links.
 const OLD_CAUSES: &[(&str, SimulationCause)] = &[
     ("old 4", SimulationCause::NoSuchNode),
     ("old 0", SimulationCause::Old),
@@ -161,11 +161,20 @@ const OLD_CAUSES: &[(&str, SimulationCause)] = &[
     ("old", SimulationCause::Old),
     ("old 1\r", SimulationCause::CarriageReturn),
     ("older 1", SimulationCause::Word),
+    ("erasure 4 plain", SimulationCause::NoSuchNode),
+    ("erasure 1 Plain", SimulationCause::Erasure),
+    ("erasure 0 plain", SimulationCause::Erasure),
+    ("erasure 1", SimulationCause::Erasure),
+    ("erasure", SimulationCause::Erasure),
+    ("erasure 1 remembered 2", SimulationCause::Erasure),
+    ("erasures 1 plain", SimulationCause::Word),
 ];
 
-/// Lines behind an old node.
+/// Lines behind an old node or a choice of a node.
 const LATE_CAUSES: &[(&str, SimulationCause)] = &[
     ("old 3", SimulationCause::NoSuchNode),
+    ("erasure 3 plain", SimulationCause::NoSuchNode),
+    ("erasure 2", SimulationCause::Erasure),
     ("link 2 3", SimulationCause::LateLink),
     ("dests 4", SimulationCause::LateDests),
 ];
@@ -175,13 +184,20 @@ const CAUSES_OF_OLD_NODES: &[Causes] = &[
     (&["dests 4", "link 1 2", "link 2 3"], OLD_CAUSES),
     (&["dests 4", "link 1 2", "old 2"], LATE_CAUSES),
     (
+        &["dests 4", "link 1 2", "erasure 2 remembered"],
+        LATE_CAUSES,
+    ),
+    (
         &["dests 4", "link 1 1"],
         &[("old 1", SimulationCause::OwnLink)],
     ),
     (&["dests 4"], &[("old 1", SimulationCause::NoLink)]),
     (
         &["dests 4", "link 1 2", "old 2", "tick"],
-        &[("old 1", SimulationCause::LateOld)],
+        &[
+            ("old 1", SimulationCause::LateOld),
+            ("erasure 1 plain", SimulationCause::LateErasure),
+        ],
     ),
 ];
 

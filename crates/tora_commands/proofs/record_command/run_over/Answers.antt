@@ -10,7 +10,7 @@ returns g c = inl (record {
   greeted = c.greet.new.writer;
   greets = c.in-Ok.ensures;
   ends =
-      ends_with (shortened_text (recorded_rules c.args.limits c.args.times)) g.W.Write.contents g.W.Output.did_flush (g.R.Read.remaining c.args.reader) (g.R.Read.remaining c.new-reader.result.reader) (g.R.Read.remaining c.drive_and_flush-result.new.reader.reader)
+      ends_with (shortened_text (recorded_rules c.args.options c.args.times)) g.W.Write.contents g.W.Output.did_flush (g.R.Read.remaining c.args.reader) (g.R.Read.remaining c.new-reader.result.reader) (g.R.Read.remaining c.drive_and_flush-result.new.reader.reader)
       c.greet.new.writer c.drive_and_flush-result.new.writer c.drive_and_flush-result.result (is_some c.flush.new.self.failure) _ c.new-reader.ensures c.drive_and_flush-result.ensures.whole c.drive_and_flush-result.ensures.at_end
       c.drive_and_flush-result.ensures.begun c.drive_and_flush-result.ensures.flushed c.traced_status.ensures;
 })

@@ -23,7 +23,7 @@ pub returns-clause-exact : goal.returns-clause-exact
 unfolding configuration_in
 returns-clause-exact c =
     let accepted : core_refusal c.in_ok-node.node (peers_of c.in_ok-links.links.items) c.in_ok-dests.dests.items ≡ None = rw (← c.as_slice.ensures.value, ← c.as_slice-2.ensures.value) c.in_ok-check_core.ensures.accepted in (
-      record { node = c.in_ok-node.node; dests = c.in_ok-dests.dests.items; life_dir = _; links = c.in_ok-links.links.items },
-      rw (c.in_ok-check_keys.ensures, c.in_ok-node.ensures.gives, c.in_ok-dests.ensures.gives, c.in_ok-life_dir.ensures.gives, c.in_ok-links.ensures.gives, accepted),
-      record { node = refl; dests = refl; life_dir = refl; links = c.in_order.ensures.same },
+      record { node = c.in_ok-node.node; dests = c.in_ok-dests.dests.items; life_dir = _; erasure = c.in_ok-erasure.erasure; links = c.in_ok-links.links.items },
+      rw (c.in_ok-check_keys.ensures, c.in_ok-node.ensures.gives, c.in_ok-dests.ensures.gives, c.in_ok-life_dir.ensures.gives, c.in_ok-erasure.ensures, c.in_ok-links.ensures.gives, accepted),
+      record { node = refl; dests = refl; life_dir = refl; erasure = refl; links = c.in_order.ensures.same },
     )

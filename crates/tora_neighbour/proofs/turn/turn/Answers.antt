@@ -26,9 +26,9 @@ returns-in-Err-exchange-clause-last g c =
     let b = c.in_default.ensures.begun in
     let x = c.in-Err-exchange.ensures.exchange in
     let w = c.give_up.ensures.told in
-    let t = turn_of c.args.now b.0 b.1 x.0 x.3 x.4 x.1 x.2 w.0 w.1 false in (
+    let t = turn_of c.args.now b.0 b.1 x.0 x.2 x.3 x.4 x.1 w.0 w.1 false in (
       t,
-      broken_turn c.args.link.now.end c.begin.new.end c.args.now b.0 b.1 b.2 b.3 b.4 c.in-Err-exchange.at x.0 x.3 x.4 c.args.course.now.last_beat x.1 x.2 c.exchange.new.end.state c.give_up.new.end.state w.0 w.1 x.5 w.2,
+      broken_turn c.args.link.now.end c.begin.new.end c.args.now b.0 b.1 b.2 b.3 b.4 c.in-Err-exchange.at x.0 x.2 x.3 c.args.course.now.last_beat x.4 x.1 c.exchange.new.end.state c.give_up.new.end.state w.0 w.1 x.5 w.2,
       x.7,
       traffic_of _ _ t b.5
           (w.3 ∙ ap (λ ps. ps ++ map (entry_of c.args.now) w.0) c.begin.ensures.puts ∙ ap (λ ps. g.H.Hub.puts c.args.hub.now ++ ps) (sym (append-nil (map (entry_of c.args.now) w.0))))
@@ -44,9 +44,9 @@ returns-in-Err-tell-clause-last g c =
     let b = c.in_default.ensures.begun in
     let x = c.in_default-exchange.ensures.exchange in
     let w = c.in-Err-tell.ensures.some in
-    let t = turn_of c.args.now b.0 b.1 x.0 x.3 x.4 x.1 x.2 w.0 w.1 false in (
+    let t = turn_of c.args.now b.0 b.1 x.0 x.2 x.3 x.4 x.1 w.0 w.1 false in (
       t,
-      refused_turn c.args.link.now.end c.begin.new.end c.args.now b.0 b.1 b.2 b.3 b.4 x.0 x.3 x.4 c.args.course.now.last_beat x.1 x.2 c.exchange.new.end.state c.tell.new.end.state w.0 w.1 x.5 w.2 w.5,
+      refused_turn c.args.link.now.end c.begin.new.end c.args.now b.0 b.1 b.2 b.3 b.4 x.0 x.2 x.3 c.args.course.now.last_beat x.4 x.1 c.exchange.new.end.state c.tell.new.end.state w.0 w.1 x.5 w.2 w.5,
       x.7,
       traffic_of _ _ t b.5
           (w.3 ∙ ap (λ ps. ps ++ map (entry_of c.args.now) w.0) c.begin.ensures.puts ∙ ap (λ ps. g.H.Hub.puts c.args.hub.now ++ ps) (sym (append-nil (map (entry_of c.args.now) w.0))))
@@ -63,9 +63,9 @@ returns-clause-turn g c =
     let x = c.in_default-exchange.ensures.exchange in
     let w = c.in_default-tell.ensures.all in
     let beat = is_beat_due c.args.course.now.last_beat c.args.now in
-    let t = turn_of c.args.now b.0 b.1 x.0 x.3 x.4 x.1 x.2 w.0 None beat in (
+    let t = turn_of c.args.now b.0 b.1 x.0 x.2 x.3 x.4 x.1 w.0 None beat in (
       t,
-      whole_turn c.args.link.now.end c.begin.new.end c.args.now b.0 b.1 b.2 b.3 b.4 x.0 x.3 x.4 x.1 x.2 c.exchange.new.end.state c.tell.new.end.state w.0 beat x.5 w.1,
+      whole_turn c.args.link.now.end c.begin.new.end c.args.now b.0 b.1 b.2 b.3 b.4 x.0 x.2 x.3 x.4 x.1 c.exchange.new.end.state c.tell.new.end.state w.0 beat x.5 w.1,
       refl,
       c.in_default-tell.ensures.last,
       x.7,

@@ -8,7 +8,7 @@ use Rattle.tora_lane.specs.Out.{SendEnd}
 use Rattle.tora_lane.specs.Ports.{CoreEnd}
 use Rattle.tora_seat.specs.Rows.{SeatView, first_seat}
 use Rattle.tora_node.specs.NewLinks.{IsOpened}
-use Rattle.tora_node.specs.LinkRuns.{name_of, link_ended, links_of}
+use Rattle.tora_node.specs.LinkRuns.{name_of, link_ended, link_made, links_of}
 use Rattle.tora_node.specs.Threads.{CoreLeaves}
 use Rattle.tora_node.proofs.Lists.{as_long}
 use Rattle.tora_node.proofs.Runs.{not_started}
@@ -25,12 +25,17 @@ new_links-requires-clause-wires g c =
     let ends : map link_ended c.in-Some.ends.items ≡ links_of c.args.config = subst (λ (v : CoreView). map link_ended c.in-Some.ends.items ≡ links_of v) c.into_core-core.ensures.same c.in-Some.ensures in
     c.requires.wires ∙ sym (as_long link_ended (name_of c.args.config.me) c.in-Some.ends.items c.args.config.neighbours ends)
 
+pub new_starts-requires-clause-ticks : goal.new_starts-requires-clause-ticks
+new_starts-requires-clause-ticks g c =
+    let ends : map link_ended c.in-Some.ends.items ≡ links_of c.args.config = subst (λ (v : CoreView). map link_ended c.in-Some.ends.items ≡ links_of v) c.into_core-core.ensures.same c.in-Some.ensures in
+    c.requires.ticks ∙ sym (as_long link_made (name_of c.args.config.me) c.in_ok-new.new.items c.args.config.neighbours (c.in_ok-new.ensures.made ∙ ends))
+
 pub returns-in_err-new : goal.returns-in_err-new
 returns-in_err-new g c =
     let p = err_from_is_err_and c.from_residual-in_err-new.result c.from_residual-in_err-new.ensures.1 in
     let ends : map link_ended c.in-Some.ends.items ≡ links_of c.args.config = subst (λ (v : CoreView). map link_ended c.in-Some.ends.items ≡ links_of v) c.into_core-core.ensures.same c.in-Some.ensures in
     rw (p.1, p.2)
-    (not_started g.W.Wire.did_send g.W.Wire.did_receive (g.C.Clock.did_tell c.args.clock.now) (IsOpened g.D.Disk.syncs g.D.Disk.reads g.D.Disk.writes) c.args.config c.args.wires.items c.args.disks.items (g.Rd.Read.remaining c.args.reader.now)
+    (not_started g.W.Wire.did_send g.W.Wire.did_receive (g.C.Clock.did_tell c.args.clock.now) g.T.Ticks.did_read (IsOpened g.D.Disk.syncs g.D.Disk.reads g.D.Disk.writes) c.args.config c.args.wires.items c.args.disks.items c.args.ticks.items (g.Rd.Read.remaining c.args.reader.now)
     (map link_ended c.in-Some.ends.items) c.in_err-new.field-0.0 ends c.in_err-new.ensures.fault)
 
 pub settled-requires-clause-ends : goal.settled-requires-clause-ends
@@ -41,18 +46,19 @@ settled-requires-clause-ends g c =
     let asked : length c.neighbours.result.now ≡ length c.args.config.neighbours = ap length c.neighbours.ensures ∙ ap (λ (v : CoreView). length v.neighbours) same in
     let ends : map link_ended c.in-Some.ends.items ≡ links_of c.args.config = subst (λ (v : CoreView). map link_ended c.in-Some.ends.items ≡ links_of v) same c.in-Some.ensures in
     let core = c.in-Some-new_core_start.ensures in
-    let left : Left g.W.Wire.did_send g.W.Wire.did_receive g.C.Clock.did_tell c.args.clock.now (IsOpened g.D.Disk.syncs g.D.Disk.reads g.D.Disk.writes) c.args.config c.args.wires.items c.args.disks.items lanes.core lanes.command lanes.links.items lanes.outs.items c.in_ok-new.new.items c.in-Some-new_starts.starts.items rests.core rests.links.items = record {
+    let left : Left g.W.Wire.did_send g.W.Wire.did_receive g.C.Clock.did_tell c.args.clock.now g.T.Ticks.did_read (IsOpened g.D.Disk.syncs g.D.Disk.reads g.D.Disk.writes) c.args.config c.args.wires.items c.args.disks.items c.args.ticks.items lanes.core lanes.command lanes.links.items lanes.outs.items c.in_ok-new.new.items c.in-Some-new_starts.starts.items rests.core rests.links.items = record {
       lanes = subst (λ (n : ℕ). AreLanes n lanes.core lanes.command lanes.links.items lanes.outs.items) asked c.in_ok-port.ensures.made.0;
       links_are = c.in_ok-new.ensures.made ∙ ends;
       wires_are = c.in_ok-new.ensures.wired;
       files_are = c.in_ok-new.ensures.opened;
       starts_are = c.in-Some-new_starts.ensures.links;
       hubs_are = c.in-Some-new_starts.ensures.hubs;
+      ticks_are = c.in-Some-new_starts.ensures.ticks;
       ran = c.in-Some-run_threads.ensures.links;
       served = subst (λ (x : SeatView × (CoreEnd × List SendEnd)). CoreLeaves x.0 x.1.0 x.1.1 rests.core) (λ i. ((core.0 ∙ ap first_seat same) i, (core.1 i, core.2 i))) c.in-Some-run_threads.ensures.core;
       ascending = subst (λ (v : CoreView). IsAscending v.neighbours) same c.into_core-core.ensures.ascending;
     } in
-    have_ends _ _ _ _ _ _ _ _ _ _ _ _ _ _ _ _ left
+    have_ends _ _ _ _ _ _ _ _ _ _ _ _ _ _ _ _ _ _ left
 
 pub returns : goal.returns
 returns g c =
@@ -62,18 +68,19 @@ returns g c =
     let asked : length c.neighbours.result.now ≡ length c.args.config.neighbours = ap length c.neighbours.ensures ∙ ap (λ (v : CoreView). length v.neighbours) same in
     let ends : map link_ended c.in-Some.ends.items ≡ links_of c.args.config = subst (λ (v : CoreView). map link_ended c.in-Some.ends.items ≡ links_of v) same c.in-Some.ensures in
     let core = c.in-Some-new_core_start.ensures in
-    let left : Left g.W.Wire.did_send g.W.Wire.did_receive g.C.Clock.did_tell c.args.clock.now (IsOpened g.D.Disk.syncs g.D.Disk.reads g.D.Disk.writes) c.args.config c.args.wires.items c.args.disks.items lanes.core lanes.command lanes.links.items lanes.outs.items c.in_ok-new.new.items c.in-Some-new_starts.starts.items rests.core rests.links.items = record {
+    let left : Left g.W.Wire.did_send g.W.Wire.did_receive g.C.Clock.did_tell c.args.clock.now g.T.Ticks.did_read (IsOpened g.D.Disk.syncs g.D.Disk.reads g.D.Disk.writes) c.args.config c.args.wires.items c.args.disks.items c.args.ticks.items lanes.core lanes.command lanes.links.items lanes.outs.items c.in_ok-new.new.items c.in-Some-new_starts.starts.items rests.core rests.links.items = record {
       lanes = subst (λ (n : ℕ). AreLanes n lanes.core lanes.command lanes.links.items lanes.outs.items) asked c.in_ok-port.ensures.made.0;
       links_are = c.in_ok-new.ensures.made ∙ ends;
       wires_are = c.in_ok-new.ensures.wired;
       files_are = c.in_ok-new.ensures.opened;
       starts_are = c.in-Some-new_starts.ensures.links;
       hubs_are = c.in-Some-new_starts.ensures.hubs;
+      ticks_are = c.in-Some-new_starts.ensures.ticks;
       ran = c.in-Some-run_threads.ensures.links;
       served = subst (λ (x : SeatView × (CoreEnd × List SendEnd)). CoreLeaves x.0 x.1.0 x.1.1 rests.core) (λ i. ((core.0 ∙ ap first_seat same) i, (core.1 i, core.2 i))) c.in-Some-run_threads.ensures.core;
       ascending = subst (λ (v : CoreView). IsAscending v.neighbours) same c.into_core-core.ensures.ascending;
     } in
-    let a = answers _ _ _ _ _ _ _ _ _ _ _ _ _ _ _ _ left _ _ _ c.in-Some-run_threads.ensures.commands c.what_was_offered_was_sent.ensures c.settled.result c.settled.ensures in
+    let a = answers _ _ _ _ _ _ _ _ _ _ _ _ _ _ _ _ _ _ left _ _ _ c.in-Some-run_threads.ensures.commands c.what_was_offered_was_sent.ensures c.settled.result c.settled.ensures in
     record {
       core = a.core_is_run;
       links = a.links_ran;

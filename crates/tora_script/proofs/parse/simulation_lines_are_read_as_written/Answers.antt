@@ -1,5 +1,6 @@
-use Rattle.tora_script.proofs.SimulationFound.{simulation_line_found, dests_found, link_found, old_found}
-use Rattle.tora_script.proofs.SimulationHere.{simulation_line_here, dests_here, link_here, old_here}
+use Rattle.tora_script.proofs.SimulationFound.{simulation_line_found, dests_found, link_found}
+use Rattle.tora_script.proofs.SimulationHere.{simulation_line_here, dests_here, link_here}
+use Rattle.tora_script.proofs.MarkWords.{mark_found, mark_here}
 use Rattle.tora_script.proofs.parse.simulation_lines_are_read_as_written.Goals as goal
 
 pub returns-clause-found : goal.returns-clause-found
@@ -20,8 +21,8 @@ returns-clause-link_found c = link_found
 pub returns-clause-link_only : goal.returns-clause-link_only
 returns-clause-link_only c = link_here
 
-pub returns-clause-old_found : goal.returns-clause-old_found
-returns-clause-old_found c = old_found
+pub returns-clause-mark_found : goal.returns-clause-mark_found
+returns-clause-mark_found c = mark_found
 
-pub returns-clause-old_only : goal.returns-clause-old_only
-returns-clause-old_only c = old_here
+pub returns-clause-mark_only : goal.returns-clause-mark_only
+returns-clause-mark_only c = mark_here

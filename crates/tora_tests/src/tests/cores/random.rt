@@ -5,7 +5,7 @@ use super::super::plain_core::{Plain, Told, told_by};
 use super::super::sees::same_at;
 use std::alloc::Global;
 use std::process::Abort;
-use tora_core::{Core, Input, Sends};
+use tora_core::{Core, CoreLimits, Erasure, Input, Sends};
 use tora_height::{Height, Id};
 use tora_packet::{Clear, Packet, Update};
 
@@ -34,9 +34,14 @@ impl Random {
     }
 }
 
-/// A packet of neighbour `k` for a destination, sometimes with the height of another node.
+/// A packet of neighbour `k` for a destination, sometimes with the height of another node, and often at a level of time 7, so that
+/// levels come again.
 fn any_packet(random: &mut Random, now: u64, k: Id, d: Id) -> Option<Packet> {
-    let tau = now.saturating_sub(u64::from(random.up_to(9)));
+    let tau = if random.up_to(1) == 0 {
+        7
+    } else {
+        now.saturating_sub(u64::from(random.up_to(9)))
+    };
     let number = 1 + random.up_to(8);
     let oid = if number == 9 { 100 } else { number };
     match random.up_to(9) {
@@ -105,12 +110,23 @@ fn same_tables(rt: &impl Abort, alloc: Global, core: &Core, plain: &Plain, turn:
     same_at(rt, &shown.as_str(), &other.as_str(), "the tables", &turn);
 }
 
-#[test]
-fn plain_body_answers_alike(rt: HostRuntime) {
+/// Both bodies answer alike at ten thousand inputs.
+fn answer_alike(rt: &impl Abort, alloc: Global, erasure: Erasure) {
     let neighbours = [1, 2, 3, 4, 5, 6, 7, 8];
     let destinations = [5, 6, 7, 8, 9, 10, 11, 12, 13, 14, 15, 16, 17, 18, 19, 100];
-    let mut core = Core::new(rt.alloc(), 100, &neighbours, &destinations).expect(&rt, "a core");
-    let mut plain = Plain::new(rt.alloc(), 100, &neighbours, &destinations).expect(&rt, "memory");
+    let limits = CoreLimits::STANDARD;
+    let mut core = Core::with_erasure(
+        alloc,
+        erasure,
+        limits,
+        100,
+        &neighbours,
+        &destinations,
+    ).expect(rt, "a core");
+    let remembers = erasure == Erasure::Remembered;
+    let mut plain = Plain::new(alloc, remembers, 100, &neighbours, &destinations).expect(
+        rt, "memory",
+    );
     let mut random = Random {
         state: 88172645463325252,
     };
@@ -119,18 +135,20 @@ fn plain_body_answers_alike(rt: HostRuntime) {
     for turn in 0..10_000 {
         now = now.saturating_add(u64::from(random.up_to(2)));
         if let Some(input) = any_input(&mut random, now) {
-            same_step(
-                &rt,
-                rt.alloc(),
-                &mut core,
-                &mut plain,
-                &input,
-                now,
-                &mut sends,
-            );
+            same_step(rt, alloc, &mut core, &mut plain, &input, now, &mut sends);
         }
         if turn % 100 == 99 {
-            same_tables(&rt, rt.alloc(), &core, &plain, turn);
+            same_tables(rt, alloc, &core, &plain, turn);
         }
     }
+}
+
+#[test]
+fn plain_body_answers_alike(rt: HostRuntime) {
+    answer_alike(&rt, rt.alloc(), Erasure::Plain);
+}
+
+#[test]
+fn plain_body_that_remembers_answers_alike(rt: HostRuntime) {
+    answer_alike(&rt, rt.alloc(), Erasure::Remembered);
 }

@@ -23,6 +23,9 @@ pub struct PlainView {
     flag: bool,
     rows: Vec<PlainRow>,
     last: u64,
+    /// Whether erased levels are remembered, and the one that was erased last.
+    remembers: bool,
+    erased: Option<Level>,
 }
 
 /// The height of a destination for itself.
@@ -163,6 +166,7 @@ impl PlainView {
     /// Erases the own height, and each entry but that of the destination.
     fn erase(&mut self, tau: u64, oid: u32) -> Option<Told> {
         self.height = None;
+        self.erased = Some((tau, oid, 1));
         for row in self.rows.iter_mut() {
             if row.neighbour != self.destination {
                 row.entry = None;
@@ -219,7 +223,7 @@ impl PlainView {
         match packet {
             Packet::Qry(_) => self.on_query(k),
             Packet::Upd(update) => self.on_update(k, parts_of(update), now),
-            Packet::Clr(clear) => self.on_clear(clear.tau(), clear.oid(), now),
+            Packet::Clr(clear) => self.on_clear(k, clear.tau(), clear.oid(), now),
         }
     }
 
@@ -238,7 +242,28 @@ impl PlainView {
         self.tell()
     }
 
+    /// Forgets the entry of a neighbour, unless it is the destination.
+    fn withdraw(&mut self, k: Id) {
+        for row in self.rows.iter_mut() {
+            if row.neighbour == k && k != self.destination {
+                row.entry = None;
+            }
+        }
+    }
+
+    fn after_loss(&mut self, now: u64) -> Option<Told> {
+        if self.lacks_down() {
+            self.after_link_loss(now)
+        } else {
+            None
+        }
+    }
+
     fn on_update(&mut self, k: Id, entry: Parts, now: u64) -> Option<Told> {
+        if self.remembers && self.erased == Some(entry.0) {
+            self.withdraw(k);
+            return self.after_loss(now);
+        }
         for row in self.rows.iter_mut() {
             if row.neighbour == k {
                 row.entry = Some(entry);
@@ -253,8 +278,17 @@ impl PlainView {
         }
     }
 
-    fn on_clear(&mut self, tau: u64, oid: u32, now: u64) -> Option<Told> {
+    fn on_clear(&mut self, k: Id, tau: u64, oid: u32, now: u64) -> Option<Told> {
         let level = (tau, oid, 1);
+        self.erased = Some(level);
+        if self.remembers {
+            self.withdraw(k);
+            for row in self.rows.iter_mut() {
+                if row.neighbour == k {
+                    row.told = false;
+                }
+            }
+        }
         if self.height.is_some_and(|own| own.0 == level) {
             return self.erase(tau, oid);
         }
@@ -264,11 +298,7 @@ impl PlainView {
                 row.entry = None;
             }
         }
-        if self.lacks_down() {
-            self.after_link_loss(now)
-        } else {
-            None
-        }
+        self.after_loss(now)
     }
 
     /// Takes an input in, and gives what is broadcast.
@@ -315,6 +345,7 @@ impl PlainView {
 /// The view of a destination, with no link up.
 pub fn view_of(
     alloc: Global,
+    remembers: bool,
     me: Id,
     destination: Id,
     neighbours: &[Id],
@@ -340,6 +371,8 @@ pub fn view_of(
         flag: false,
         rows,
         last: 0,
+        remembers,
+        erased: None,
     })
 }
 

@@ -3,7 +3,7 @@ use super::super::sees::{same, same_at, same_text, sees_at};
 use std::alloc::Global;
 use std::process::Abort;
 use tora_config::*;
-use tora_core::CoreError;
+use tora_core::{CoreError, Erasure};
 
 /// What a text is to be read as.
 pub enum Wanted {
@@ -13,6 +13,8 @@ pub enum Wanted {
     Worked,
     /// A configuration with links to these peers, in this order.
     Peers(&'static [u32]),
+    /// A configuration of a node that makes this of erased levels.
+    Erases(Erasure),
     /// No TOML.
     NoToml,
     /// More links or destinations than a core may have.
@@ -73,6 +75,7 @@ fn is_accepted(rt: &impl Abort, config: &NodeConfig, wanted: &Wanted, text: &str
         Wanted::Accepted => {}
         Wanted::Worked => is_worked(rt, config),
         Wanted::Peers(peers) => peers_are(rt, config, peers),
+        Wanted::Erases(erasure) => same(rt, &config.erasure, erasure, "the erasure"),
         _ => panic!(rt; "it is accepted: {text}"),
     }
 }
@@ -119,6 +122,7 @@ fn is_worked(rt: &impl Abort, config: &NodeConfig) {
     let dests = config.dests.as_slice();
     same(rt, &dests, &[4].as_slice(), "the destinations");
     same_text(rt, config.life_dir.as_str(), "n1", "the folder");
+    same(rt, &config.erasure, &Erasure::Plain, "the erasure");
     let link = LinkConfig {
         peer: 2,
         local: 4012,

@@ -70,7 +70,9 @@ fn run_end<R: Wait + Abort>(rt: &R, alloc: Global, me: Id, peer: Id, wire: UdpWi
     let Ok(hub) = ListHub::new(alloc, 30, Vec::new(alloc)) else {
         return None;
     };
-    let finished = run_neighbour(rt, link, &clock_of(1), hub);
+    let clock = clock_of(1);
+    let mut ticks = ClockTicks { clock: &clock };
+    let finished = run_neighbour(rt, link, &mut ticks, hub);
     for put in finished.hub.kept() {
         if let What::Up(life) = put.what {
             return Some(life);

@@ -10,7 +10,7 @@ use std::sync::atomic::{AtomicU64, Ordering};
 use std::thread::Threads;
 use std::time::Duration;
 use std::{thread, time};
-use tora_neighbour::Clock;
+use tora_neighbour::{Clock, clock_ticks};
 use tora_node::{Wake, run_node_with_wakers};
 use tora_waking::NodeClock;
 
@@ -106,6 +106,7 @@ fn run_to_the_end<R: Threads + Wait + Sync + time::Clock + log::Log + Abort>(
     as_many(rt, wires.len(), links);
     as_many(rt, disks.len(), links);
     let counting = CountingClock { clock, course };
+    let ticks = there(rt, clock_ticks(alloc, &counting, links), "memory for ticks");
     let mut commands = Running { rt, course };
     let mut screen = Vec::new(alloc);
     run_node_with_wakers(
@@ -115,6 +116,7 @@ fn run_to_the_end<R: Threads + Wait + Sync + time::Clock + log::Log + Abort>(
         wires,
         disks,
         wakers,
+        ticks,
         &counting,
         &mut commands,
         &mut screen,

@@ -4,7 +4,7 @@ use Rattle.tora_core.specs.Links.{LinkTable, rows_up}
 use Rattle.tora_core.specs.Numbers.{IsAscending}
 use Rattle.tora_core.specs.View.{all_told, neighbours_of, told_row}
 use Rattle.tora_core.specs.declared.TheConstants.{GREATEST_NEIGHBOURS}
-use Rattle.tora_core.proofs.LinkLemmas.{directions-told, downstream-told, least-told, refill-same, table-is}
+use Rattle.tora_core.proofs.LinkLemmas.{directions-mapped, downstream-mapped, least-mapped, refill-same, table-is}
 use Rattle.tora_core.proofs.PlaceLemmas.{few-still, map-up, marked-map}
 use Rattle.tora_core.proofs.Places.{neighbours_of-map}
 use Rattle.tora_core.proofs.links.Links.tell_all.Goals as goal
@@ -17,9 +17,9 @@ invariant_of-self c =
     let numbers : neighbours_of (all_told places) ≡ neighbours_of places = neighbours_of-map told_row (λ row. refl) places in
     rw (same, told) (
       record {
-        directions_are = c.self.invariant.0.directions_are ∙ directions-told c.self.inside.own places;
-        downstream_is = c.self.invariant.0.downstream_is ∙ downstream-told c.self.inside.own places;
-        least_is = least-told c.self.inside.least places c.self.invariant.0.least_is;
+        directions_are = c.self.invariant.0.directions_are ∙ directions-mapped told_row (λ row. refl) c.self.inside.own places;
+        downstream_is = c.self.invariant.0.downstream_is ∙ downstream-mapped told_row (λ row. refl) c.self.inside.own places;
+        least_is = least-mapped told_row (λ row. refl) c.self.inside.least places c.self.invariant.0.least_is;
       },
       marked-map told_row (λ row e. e) c.self.inside.up.items places c.self.invariant.1,
       subst IsAscending (sym numbers) c.self.invariant.2,

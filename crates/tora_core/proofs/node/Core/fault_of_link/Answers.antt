@@ -18,14 +18,14 @@ up-fault c k false there up =
 
 pub returns-then-is_up : goal.returns-then-is_up
 returns-then-is_up c =
-    let core : CoreView = record { me = c.self.inside.me; neighbours = c.self.inside.neighbours.items; up = c.self.inside.up.items; views = views_in c.self.inside.views.items } in
+    let core : CoreView = record { me = c.self.inside.me; erasure = c.self.inside.erasure; neighbours = c.self.inside.neighbours.items; up = c.self.inside.up.items; views = views_in c.self.inside.views.items } in
     let up : has_number c.args.k core.up ≡ true = sym (c.has_number_near.ensures ∙ ap (has_number c.args.k) c.as_slice.ensures.value) ∙ c.if-has_number_near.true in
     let there = part-has c.args.k core.up core.neighbours c.self.invariant.0.up up in
     sym (ap (link_fault core c.args.k) c.if-is_up.true ∙ up-fault core c.args.k true there up) ∙ ap (λ (x : CoreView). link_fault x c.args.k c.args.is_up) c.self.view_is
 
 pub returns-else-is_up : goal.returns-else-is_up
 returns-else-is_up c =
-    let core : CoreView = record { me = c.self.inside.me; neighbours = c.self.inside.neighbours.items; up = c.self.inside.up.items; views = views_in c.self.inside.views.items } in
+    let core : CoreView = record { me = c.self.inside.me; erasure = c.self.inside.erasure; neighbours = c.self.inside.neighbours.items; up = c.self.inside.up.items; views = views_in c.self.inside.views.items } in
     let up : has_number c.args.k core.up ≡ true = sym (c.has_number_near.ensures ∙ ap (has_number c.args.k) c.as_slice.ensures.value) ∙ c.if-has_number_near.true in
     let there = part-has c.args.k core.up core.neighbours c.self.invariant.0.up up in
     sym (ap (link_fault core c.args.k) c.if-is_up.false ∙ up-fault core c.args.k false there up) ∙ ap (λ (x : CoreView). link_fault x c.args.k c.args.is_up) c.self.view_is

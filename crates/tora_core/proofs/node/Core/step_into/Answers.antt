@@ -16,13 +16,13 @@ use Rattle.tora_core.proofs.node.Core.step_into.Goals as goal
 
 pub step-requires-clause-may : goal.step-requires-clause-may
 step-requires-clause-may c =
-    let core : CoreView = record { me = c.self.inside.me; neighbours = c.self.inside.neighbours.items; up = c.self.inside.up.items; views = views_in c.self.inside.views.items } in
+    let core : CoreView = record { me = c.self.inside.me; erasure = c.self.inside.erasure; neighbours = c.self.inside.neighbours.items; up = c.self.inside.up.items; views = views_in c.self.inside.views.items } in
     let free : refusal_of core c.args.input.now ≡ None = ap (λ (x : CoreView). refusal_of x c.args.input.now) c.self.view_is ∙ sym c.refusal.ensures.value ∙ c.in_default.is in
     rw c.deref_mut.ensures.value (All-from_recursion (λ (t : TableView). CanTake c.args.input.now t.view) c.self.inside.views.items (all-in (CanTake c.args.input.now) c.self.inside.views.items (all-can_take core c.args.input.now c.self.invariant.0 c.in_default.ensures.valid free)))
 
 pub note-requires : goal.note-requires
 note-requires c = λ k is.
-    let core : CoreView = record { me = c.self.inside.me; neighbours = c.self.inside.neighbours.items; up = c.self.inside.up.items; views = views_in c.self.inside.views.items } in
+    let core : CoreView = record { me = c.self.inside.me; erasure = c.self.inside.erasure; neighbours = c.self.inside.neighbours.items; up = c.self.inside.up.items; views = views_in c.self.inside.views.items } in
     let free : refusal_of core c.args.input.now ≡ None = ap (λ (x : CoreView). refusal_of x c.args.input.now) c.self.view_is ∙ sym c.refusal.ensures.value ∙ c.in_default.is in
     let P : Input → Type 0 = λ i. refusal_of core i ≡ None in
     let fewer = fewer-up core k c.self.invariant.0 (subst P is free) in
@@ -35,7 +35,7 @@ refill-same n xs ws e = grind (arith, common_steps)
 
 pub invariant_of-self : goal.invariant_of-self
 invariant_of-self c =
-    let core : CoreView = record { me = c.self.inside.me; neighbours = c.self.inside.neighbours.items; up = c.self.inside.up.items; views = views_in c.self.inside.views.items } in
+    let core : CoreView = record { me = c.self.inside.me; erasure = c.self.inside.erasure; neighbours = c.self.inside.neighbours.items; up = c.self.inside.up.items; views = views_in c.self.inside.views.items } in
     let free : refusal_of core c.args.input.now ≡ None = ap (λ (x : CoreView). refusal_of x c.args.input.now) c.self.view_is ∙ sym c.refusal.ensures.value ∙ c.in_default.is in
     let kept : IsCore (core_taking core c.args.input.now c.args.now) = core-kept core c.args.input.now c.args.now c.self.invariant.0 c.in_default.ensures.valid free in
     let same = refill-same c.self.inside.views.len c.self.inside.views.items c.step.new.views (omega (arith, c.step.auto.views, c.deref_mut.ensures.len)) in
@@ -58,13 +58,13 @@ step-requires-clause-places c =
 
 pub step-requires-clause-known : goal.step-requires-clause-known
 step-requires-clause-known c =
-    let core : CoreView = record { me = c.self.inside.me; neighbours = c.self.inside.neighbours.items; up = c.self.inside.up.items; views = views_in c.self.inside.views.items } in
+    let core : CoreView = record { me = c.self.inside.me; erasure = c.self.inside.erasure; neighbours = c.self.inside.neighbours.items; up = c.self.inside.up.items; views = views_in c.self.inside.views.items } in
     let free : refusal_of core c.args.input.now ≡ None = ap (λ (x : CoreView). refusal_of x c.args.input.now) c.self.view_is ∙ sym c.refusal.ensures.value ∙ c.in_default.is in
     rw c.as_slice-2.ensures.value (of-one core c.args.input.now free)
 
 pub step-requires-clause-linked : goal.step-requires-clause-linked
 step-requires-clause-linked c =
-    let core : CoreView = record { me = c.self.inside.me; neighbours = c.self.inside.neighbours.items; up = c.self.inside.up.items; views = views_in c.self.inside.views.items } in
+    let core : CoreView = record { me = c.self.inside.me; erasure = c.self.inside.erasure; neighbours = c.self.inside.neighbours.items; up = c.self.inside.up.items; views = views_in c.self.inside.views.items } in
     let free : refusal_of core c.args.input.now ≡ None = ap (λ (x : CoreView). refusal_of x c.args.input.now) c.self.view_is ∙ sym c.refusal.ensures.value ∙ c.in_default.is in
     let IsUpIn : View → Type 0 = λ v. IsLinked c.args.input.now (up_neighbours v) in
     rw c.deref_mut.ensures.value
@@ -73,7 +73,7 @@ step-requires-clause-linked c =
 
 pub returns-clause-core : goal.returns-clause-core
 returns-clause-core c =
-    let core : CoreView = record { me = c.self.inside.me; neighbours = c.self.inside.neighbours.items; up = c.self.inside.up.items; views = views_in c.self.inside.views.items } in
+    let core : CoreView = record { me = c.self.inside.me; erasure = c.self.inside.erasure; neighbours = c.self.inside.neighbours.items; up = c.self.inside.up.items; views = views_in c.self.inside.views.items } in
     let free : refusal_of core c.args.input.now ≡ None = ap (λ (x : CoreView). refusal_of x c.args.input.now) c.self.view_is ∙ sym c.refusal.ensures.value ∙ c.in_default.is in
     let same = refill-same c.self.inside.views.len c.self.inside.views.items c.step.new.views (omega (arith, c.step.auto.views, c.deref_mut.ensures.len)) in
     let taken : core_after core c.args.input.now c.args.now ≡ core_taking core c.args.input.now c.args.now = ap (λ (o : Option StepError). if is_some o then core else core_taking core c.args.input.now c.args.now) free in

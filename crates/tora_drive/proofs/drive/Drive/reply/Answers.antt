@@ -12,6 +12,6 @@ returns-in_ok-write_fault-in-Fault-clause-record g c =
     let world = g.S.Simulator.world in
     let d = c.args.self.now in
     let is : c.take_and_give_back-taken.result ≡ Err Fault = c.in-Err.is ∙ ap (λ e. Err e) c.in-Fault.is in
-    let fault : place_reply d.limits d.times (whole_own (length d.gone) (own_view c.clear_record.new.self)) (whole_progress d.gone (progress_of world d.stage)) c.args.line.now ≡ None = rw is at c.take_and_give_back-taken.ensures.gives in
-    let none = subst (λ (o : OwnView). place_reply d.limits d.times (whole_own (length d.gone) o) (whole_progress d.gone (progress_of world d.stage)) c.args.line.now ≡ None) c.clear_record.ensures.view fault in
+    let fault : place_reply d.options d.times (whole_own (length d.gone) (own_view c.clear_record.new.self)) (whole_progress d.gone (progress_of world d.stage)) c.args.line.now ≡ None = rw is at c.take_and_give_back-taken.ensures.gives in
+    let none = subst (λ (o : OwnView). place_reply d.options d.times (whole_own (length d.gone) o) (whole_progress d.gone (progress_of world d.stage)) c.args.line.now ≡ None) c.clear_record.ensures.view fault in
     rw none (c.renew_record.ensures.record ∙ cleared_so _ d.own.recorded _ c.is_some-is_recorded.ensures)

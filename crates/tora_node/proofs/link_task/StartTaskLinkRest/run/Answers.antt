@@ -25,7 +25,8 @@ returns g c =
         after = after.link.wire;
         calls = calls.0;
         last_calls = calls.1;
-        ticks = t.7;
+        ticks_after = c.run_neighbour-hub.new.ticks;
+        reads = t.7;
       };
       last_drawn = after.link.file.numbers.drawn;
       numbers = t.5.drawn;

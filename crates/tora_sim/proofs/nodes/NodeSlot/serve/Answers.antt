@@ -33,6 +33,7 @@ returns-clause-served c =
       offered = c.serve.ensures.served.1;
       serving = c.serve.ensures.served.2;
       me = stays_served (λ (core : CoreView). core.me) c.tables_stay.ensures.node c.accepted_inputs_make_the_core.ensures.runs c.offers_are_their_own_answers.ensures c.deref_mut.result.now c.serve.new.self c.in-Some.item c.serve.ensures.served.0 c.serve.ensures.served.2;
+      erasure = stays_served (λ (core : CoreView). core.erasure) c.tables_stay.ensures.erasure c.accepted_inputs_make_the_core.ensures.runs c.offers_are_their_own_answers.ensures c.deref_mut.result.now c.serve.new.self c.in-Some.item c.serve.ensures.served.0 c.serve.ensures.served.2;
       neighbours = c.serve.ensures.neighbours;
       destinations = stays_served (λ (core : CoreView). destinations_of core.views) c.tables_stay.ensures.destinations c.accepted_inputs_make_the_core.ensures.runs c.offers_are_their_own_answers.ensures c.deref_mut.result.now c.serve.new.self c.in-Some.item c.serve.ensures.served.0 c.serve.ensures.served.2;
       node = ap (λ (inputs : List (Input × ℕ)). record before { seat = c.serve.new.self; inputs = inputs; items = c.pop.new.self.items }) noted;

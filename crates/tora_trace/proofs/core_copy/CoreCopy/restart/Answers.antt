@@ -10,7 +10,7 @@ are_positive me up [] h k d lt = absurd (omega (arith, lt))
 are_positive me up (v ∷ views) h zero d lt = h.0.kept.destination.0
 are_positive me up (v ∷ views) h (suc k) d lt = are_positive me up views h.1 k d (omega (arith, lt))
 
-pub with_limits-requires-clause-destinations : goal.with_limits-requires-clause-destinations
-with_limits-requires-clause-destinations c =
+pub with_erasure-requires-clause-destinations : goal.with_erasure-requires-clause-destinations
+with_erasure-requires-clause-destinations c =
     subst (λ (ds : List ℕ). (k d : ℕ) → k < length ds → 0 < slice_index_or ds k d) (sym c.destinations.ensures)
     (are_positive c.self.inside.core.me c.self.inside.core.up c.self.inside.core.views c.me.ensures.kept.views)

@@ -6,5 +6,5 @@ use Rattle.tora_trace.proofs.trace.Trace.new.Goals as goal
 
 pub invariant_of-result : goal.invariant_of-result
 invariant_of-result c =
-    ap owners_of (c.loop-n.invariant.copies ∙ ap (map (first_copy_of c.args.ends.now c.args.destinations.now)) (take_all c.loop-n.n-index c.args.nodes.now c.loop-n-test.false))
-    ∙ owners_first c.args.ends.now c.args.destinations.now c.args.nodes.now ∙ sym c.in-Ok.ensures
+    ap owners_of (c.loop-n.invariant.copies ∙ ap (map (first_copy_of c.args.erasure c.args.choices.now c.args.ends.now c.args.destinations.now)) (take_all c.loop-n.n-index c.args.nodes.now c.loop-n-test.false))
+    ∙ owners_first c.args.erasure c.args.choices.now c.args.ends.now c.args.destinations.now c.args.nodes.now ∙ sym c.in-Ok.ensures

@@ -5,7 +5,7 @@ use Rattle.tora_neighbour.specs.Turns.{Turn, AreTurns, AreBeats, AreRead, IsRow,
 use Rattle.tora_neighbour.specs.Traffic.{Traffic, outside}
 use Rattle.tora_neighbour.specs.Calls.{AreCalls}
 use Rattle.tora_neighbour.specs.Causes.{IsReady}
-use Rattle.tora_neighbour.proofs.neighbour.run_turns.Given as goal
+use Rattle.tora_neighbour.proofs.neighbour.run_neighbour.Given as goal
 
 abbrev pub invariant-loop : goal.invariant-loop
 invariant-loop g l = record {

@@ -6,7 +6,7 @@ use Rattle.tora_core.specs.Numbers.{ascending}
 use Rattle.tora_core.proofs.NumberLemmas.{all-ascending, length-ascending}
 use Rattle.tora_core.proofs.TableViews.{places-first, views_first}
 use Rattle.tora_core.proofs.CoreLemmas.{destinations_of-first, few-neighbours, first_core-kept}
-use Rattle.tora_core.proofs.node.Core.with_limits.Goals as goal
+use Rattle.tora_core.proofs.node.Core.with_erasure.Goals as goal
 
 pub first_views-requires-clause-destinations : goal.first_views-requires-clause-destinations
 first_views-requires-clause-destinations c =
@@ -26,7 +26,7 @@ first_views-requires-clause-ascending c =
     recursion_from_All IsId c.args.neighbours.now (All-from_get_or IsId c.args.neighbours.now 0 (λ k lt. (c.requires.neighbours k 0 lt, (c.type_inv.neighbours k).fits))) in
     let tos : AllByRecursion IsId c.args.destinations.now =
     recursion_from_All IsId c.args.destinations.now (All-from_get_or IsId c.args.destinations.now 0 (λ k lt. (c.requires.destinations k 0 lt, (c.type_inv.destinations k).fits))) in
-    let kept = first_core-kept c.args.limits c.args.me c.args.neighbours.now c.args.destinations.now (c.requires.me, c.ranges.me.fits) ids tos (sym c.core_refusal.ensures.value ∙ c.in_default.is) in
+    let kept = first_core-kept c.args.erasure c.args.limits c.args.me c.args.neighbours.now c.args.destinations.now (c.requires.me, c.ranges.me.fits) ids tos (sym c.core_refusal.ensures.value ∙ c.in_default.is) in
     rw (c.as_slice-2.ensures.value, c.in-Ok.ensures) kept.ascending_neighbours
 
 pub invariant_of-result : goal.invariant_of-result
@@ -35,13 +35,13 @@ invariant_of-result c =
     recursion_from_All IsId c.args.neighbours.now (All-from_get_or IsId c.args.neighbours.now 0 (λ k lt. (c.requires.neighbours k 0 lt, (c.type_inv.neighbours k).fits))) in
     let tos : AllByRecursion IsId c.args.destinations.now =
     recursion_from_All IsId c.args.destinations.now (All-from_get_or IsId c.args.destinations.now 0 (λ k lt. (c.requires.destinations k 0 lt, (c.type_inv.destinations k).fits))) in
-    let kept = first_core-kept c.args.limits c.args.me c.args.neighbours.now c.args.destinations.now (c.requires.me, c.ranges.me.fits) ids tos (sym c.core_refusal.ensures.value ∙ c.in_default.is) in
-    rw (c.in-Ok-first_views.ensures, c.as_slice-2.ensures.value, c.in-Ok.ensures, c.in-Ok-with_capacity.ensures.items, c.as_slice.ensures.value, c.ascending-table.ensures, views_first (ascending c.args.neighbours.now) c.args.me (ascending c.args.destinations.now)) (
+    let kept = first_core-kept c.args.erasure c.args.limits c.args.me c.args.neighbours.now c.args.destinations.now (c.requires.me, c.ranges.me.fits) ids tos (sym c.core_refusal.ensures.value ∙ c.in_default.is) in
+    rw (c.in-Ok-first_views.ensures, c.as_slice-2.ensures.value, c.in-Ok.ensures, c.in-Ok-with_capacity.ensures.items, c.as_slice.ensures.value, c.ascending-table.ensures, views_first (ascending c.args.neighbours.now) c.args.erasure c.args.me (ascending c.args.destinations.now)) (
       kept,
-      (sym (destinations_of-first c.args.me (ascending c.args.destinations.now)), (let wide = c.in-Ok-with_capacity.ensures.exact in let e = length-ascending c.args.neighbours.now in omega arith)),
-      places-first (ascending c.args.neighbours.now) c.args.me (ascending c.args.destinations.now),
+      (sym (destinations_of-first c.args.erasure c.args.me (ascending c.args.destinations.now)), (let wide = c.in-Ok-with_capacity.ensures.exact in let e = length-ascending c.args.neighbours.now in omega arith)),
+      places-first (ascending c.args.neighbours.now) c.args.erasure c.args.me (ascending c.args.destinations.now),
     )
 
 pub returns-clause-value : goal.returns-clause-value
 returns-clause-value c =
-    rw (c.in-Ok-first_views.ensures, c.as_slice-2.ensures.value, c.in-Ok.ensures, c.in-Ok-with_capacity.ensures.items, c.as_slice.ensures.value, c.ascending-table.ensures, views_first (ascending c.args.neighbours.now) c.args.me (ascending c.args.destinations.now)) refl
+    rw (c.in-Ok-first_views.ensures, c.as_slice-2.ensures.value, c.in-Ok.ensures, c.in-Ok-with_capacity.ensures.items, c.as_slice.ensures.value, c.ascending-table.ensures, views_first (ascending c.args.neighbours.now) c.args.erasure c.args.me (ascending c.args.destinations.now)) refl

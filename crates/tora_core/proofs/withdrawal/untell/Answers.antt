@@ -1,0 +1,8 @@
+use Rattle.std.proofs.Common.{arith}
+use Rattle.std.proofs.lemmas.Grind.{common_steps}
+use Rattle.std.proofs.lemmas.List.Edits.{map_over_more}
+use Rattle.tora_core.specs.View.{untold_row}
+use Rattle.tora_core.proofs.withdrawal.untell.Goals as goal
+
+pub loop-row-preserved : goal.loop-row-preserved
+loop-row-preserved c = grind (arith, common_steps, map_over_more (untold_row c.args.k))

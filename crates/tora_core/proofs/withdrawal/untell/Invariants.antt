@@ -1,0 +1,7 @@
+use Rattle.std.proofs.Common.{◌≡◌, ◌++◌, map, take, drop}
+use Rattle.tora_core.specs.View.{untold_row}
+use Rattle.tora_core.proofs.withdrawal.untell.Given as goal
+
+-- the rows so far are changed, the others are not
+abbrev pub invariant-loop-row : goal.invariant-loop-row
+invariant-loop-row l = l.rows ≡ map (untold_row l.k) (take l.row-index l.initial.rows) ++ drop l.row-index l.initial.rows

@@ -1,0 +1,35 @@
+-- What the lines right behind the links say of single nodes.
+use Rattle.std.specs.Prelude.{ℕ, filter_map, List, [], ◌∷◌, ◌++◌, Option, Some, None, if◌then◌else◌, fold}
+use Rattle.tora_core.specs.declared.erasure.Erasure.{Erasure}
+use Rattle.tora_world.specs.Topology.{Topology, is_node}
+use Rattle.tora_sim.specs.Topologies.{with_olds, with_old}
+use Rattle.tora_script.specs.declared.node_marks.Mark.{Mark}
+use Rattle.tora_script.specs.declared.node_marks.Mark.TheVariants.{Old, Erases}
+
+-- the node
+abbrev pub marked : Mark → ℕ
+marked (Old n) = n
+marked (Erases n erasure) = n
+
+-- the node and what it makes of erased levels, if that is what is said
+abbrev pub choice_in : Mark → Option (ℕ × Erasure)
+choice_in (Old n) = None
+choice_in (Erases n erasure) = Some (n, erasure)
+
+abbrev pub choices_in : List Mark → List (ℕ × Erasure)
+choices_in marks = filter_map choice_in marks
+
+-- the same topology, but for the link ends of a node, which speak version 1 of frames alone; where there is no such node, nothing is changed
+abbrev pub with_old_node : Topology → ℕ → Topology
+with_old_node t n = if is_node t n then with_olds t (with_old n t.olds) else t
+
+-- the same topology, but for what a node makes of erased levels; where there is no such node, nothing is changed
+abbrev pub with_choice : Topology → ℕ → Erasure → Topology
+with_choice t n erasure = if is_node t n then record t { choices = t.choices ++ (n, erasure) ∷ [] } else t
+
+abbrev pub with_mark : Topology → Mark → Topology
+with_mark t (Old n) = with_old_node t n
+with_mark t (Erases n erasure) = with_choice t n erasure
+
+abbrev pub with_marks : Topology → List Mark → Topology
+with_marks t marks = fold with_mark t marks

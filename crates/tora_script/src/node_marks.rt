@@ -1,0 +1,48 @@
+//! What the lines right behind the links say of single nodes.
+ghost use Rattle.std.specs.Prelude.{◌≡◌, filter_map, None, Some, IfOk};
+ghost use Rattle.tora_script.specs.Marks.{marked, choice_in, choices_in};
+
+use std::alloc::{AllocError, Global};
+use tora_core::Erasure;
+use tora_height::Id;
+
+/// What a line right behind the links says of a node.
+#[derive(Clone, Copy, Debug)]
+pub enum Mark {
+    /// The link ends of the node speak version 1 of frames alone.
+    Old(Id),
+    /// The node makes this of erased levels.
+    Erases(Id, Erasure),
+}
+
+impl Mark {
+    /// The node.
+    pub fn node(self) -> Id
+        ensures { result ≡ marked self }
+    {
+        match self {
+            Mark::Old(n) => n,
+            Mark::Erases(n, _) => n,
+        }
+    }
+}
+
+/// The node and what it makes of erased levels, if that is what is said.
+fn choice_in(mark: Mark) -> Option<(Id, Erasure)>
+    ensures { result ≡ choice_in mark }
+{
+    match mark {
+        Mark::Old(_) => None,
+        Mark::Erases(n, erasure) => Some((n, erasure)),
+    }
+}
+
+/// What single nodes make of erased levels, in the order in which it was said.
+pub fn choices(alloc: Global, marks: &[Mark]) -> Result<Vec<(Id, Erasure)>, AllocError>
+    ensures { IfOk result (λ v. v.items ≡ choices_in marks.now) }
+{
+    marks
+        .iter()
+        .filter_map(|mark| choice_in(*mark))
+        .collect::<Vec<(Id, Erasure)>>(alloc)
+}
