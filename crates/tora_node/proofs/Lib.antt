@@ -4,6 +4,7 @@ mod Refusals
 mod Faults
 mod Commanding
 mod Lists
+mod Openings
 mod Kept
 mod Runs
 mod Whole

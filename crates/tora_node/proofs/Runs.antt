@@ -4,6 +4,7 @@ use Rattle.std.specs.Prelude.{map, slice_get}
 use Rattle.tora_arq.specs.EndRange.{LinkEndView}
 use Rattle.tora_arq.specs.LinkEnd.{EndState}
 use Rattle.tora_core.specs.CoreRun.{CoreView}
+use Rattle.tora_life.specs.declared.numbers.LifeError.{LifeError}
 use Rattle.tora_neighbour.specs.Causes.{fault_of}
 use Rattle.tora_neighbour.specs.Tally.{first_tally}
 use Rattle.tora_neighbour.specs.Turns.{Turn, IsTurnRun, tally_after}
@@ -14,11 +15,12 @@ use Rattle.tora_neighbour.specs.declared.tally.Tally.{Tally}
 use Rattle.tora_neighbour.specs.declared.wire.WireError.{WireError}
 use Rattle.tora_node.specs.NewLinks.{new_end}
 use Rattle.tora_node.specs.NodeRuns.{fault_or, first_link_fault, first_fault, IsNodeFault}
-use Rattle.tora_node.specs.LinkRuns.{LinkName, name_of, links_of, AreFaultless, AreLinkRuns, IsLinkRun, IsOpening, IsStartFault}
+use Rattle.tora_node.specs.LinkRuns.{LinkName, name_of, links_of, AreFaultless, AreLinkRuns, IsLinkRun, IsOpening, IsStartFault, FailsToOpen}
 use Rattle.tora_neighbour.specs.declared.fault.LinkFault.{LinkFault}
 use Rattle.tora_node.specs.declared.link_task.Outcome.{Outcome}
 use Rattle.tora_node.specs.WholeRuns.{NodeAnswers}
 use Rattle.tora_node.proofs.Lists.{map_more}
+use Rattle.tora_node.proofs.Openings.{failed_start}
 
 -- ---- what is left of a list, which is gone over
 
@@ -75,11 +77,11 @@ pub did_not_start : (first : CoreView) (links : List LinkName) (e : NodeError) �
 did_not_start first links e same h = opening_start first e (subst (λ (l : List LinkName). IsOpening l e) same h) (opening_fault first.me first.neighbours links e same h)
 
 -- so a node answers whose threads were not started
-pub not_started : {W D T : Type 0} (send : W → List ℕ → Result (Unit {0}) WireError → W → Type 0) (receive : W → Result (Option ℕ) WireError → List ℕ → W → Type 0) (told : ℕ → Type 0) (read : T → ℕ → T → Type 0) (opened : ℕ → ℕ → D → ℕ → Type 0) (first : CoreView) (wires : List W) (disks : List D) (ticks : List T)
-    (input : Option (List ℕ)) (links : List LinkName) (e : NodeError) → links ≡ links_of first → IsOpening links e → NodeAnswers send receive told read opened first wires disks ticks input (Err e)
-not_started send receive told read opened first wires disks ticks input links e same h =
+pub not_started : {W D T : Type 0} (send : W → List ℕ → Result (Unit {0}) WireError → W → Type 0) (receive : W → Result (Option ℕ) WireError → List ℕ → W → Type 0) (told : ℕ → Type 0) (read : T → ℕ → T → Type 0) (opened : ℕ → ℕ → D → Result ℕ LifeError → Type 0) (first : CoreView) (wires : List W) (disks : List D) (ticks : List T)
+    (input : Option (List ℕ)) (links : List LinkName) (e : NodeError) → links ≡ links_of first → IsOpening links e → FailsToOpen opened links disks e → NodeAnswers send receive told read opened first wires disks ticks input (Err e)
+not_started send receive told read opened first wires disks ticks input links e same h failed =
     let start = did_not_start first links e same h in
-    record { core = tt; links = tt; fault = opening_fault first.me first.neighbours links e same h; cause = inl start; count = tt; ran = tt; failed = inl start }
+    record { core = tt; links = tt; fault = opening_fault first.me first.neighbours links e same h; cause = inl start; count = tt; ran = tt; failed = inl (failed_start opened first disks e (subst (λ (l : List LinkName). FailsToOpen opened l disks e) same failed)) }
 
 -- ---- what the threads came to
 

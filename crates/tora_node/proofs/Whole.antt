@@ -9,6 +9,7 @@ use Rattle.tora_lane.specs.Offering.{OffersAreSent, sent_at, sent_by}
 use Rattle.tora_lane.specs.Out.{SendEnd, ReceiveEnd, Ring}
 use Rattle.tora_lane.specs.Ports.{InEnd, CoreEnd, new_port}
 use Rattle.tora_life.specs.declared.disk.Disk as Disk
+use Rattle.tora_life.specs.declared.numbers.LifeError.{LifeError}
 use Rattle.tora_neighbour.specs.Puts.{put_in}
 use Rattle.tora_neighbour.specs.Traffic.{cargoes_taken, entries_put}
 use Rattle.tora_node.specs.declared.fault.NodeError.{NodeError}
@@ -50,7 +51,7 @@ runs_of (link ∷ links) [] h = absurd h
 runs_of (link ∷ links) (o ∷ outcomes) h = (h.0, runs_of links outcomes h.1)
 
 module _ {D W C T : Type 0} {disk : Disk.Ghosts D} {wire : Wire.Ghosts W} (send : W → List ℕ → Result (Unit {0}) WireError → W → Type 0) (receive : W → Result (Option ℕ) WireError → List ℕ → W → Type 0) (tell : C → ℕ → Type 0) (clock : C) (read : T → ℕ → T → Type 0)
-    (opened : ℕ → ℕ → D → ℕ → Type 0) (first : CoreView) (wires : List W) (disks : List D) (ticks : List T) (port : CoreEnd) (command : InEnd) (hubs : List (InEnd × ReceiveEnd)) (outs : List SendEnd)
+    (opened : ℕ → ℕ → D → Result ℕ LifeError → Type 0) (first : CoreView) (wires : List W) (disks : List D) (ticks : List T) (port : CoreEnd) (command : InEnd) (hubs : List (InEnd × ReceiveEnd)) (outs : List SendEnd)
     (new : List (NewLink D W disk wire)) (starts : List (Start D W T disk wire)) (core : CoreRest) (rests : List LinkRest) where
   -- what the threads of a node began with, and what they have left
   pub record Left : Type 0 where
@@ -88,7 +89,7 @@ module _ {D W C T : Type 0} {disk : Disk.Ghosts D} {wire : Wire.Ghosts W} (send 
     -- the link at a place
     record AtPlace (k peer : ℕ) (w : W) (d : D) (s : T) (r : LinkRest) (out : SendEnd) : Type 0 where
       drawn : ℕ
-      file : opened first.me peer d drawn
+      file : opened first.me peer d (Ok drawn)
       hub : LaneHub
       port_is : hub.port ≡ new_port port.lane k
       received : hub.outs.received ≡ []
@@ -120,7 +121,7 @@ module _ {D W C T : Type 0} {disk : Disk.Ghosts D} {wire : Wire.Ghosts W} (send 
         let same_ring : out.ring ≡ o.0.ring = cc in
         record {
           drawn = l.0.link.file.numbers.drawn;
-          file = subst (λ (x : LinkName). opened x.me x.peer d l.0.link.file.numbers.drawn) l.2 (each_at _ disks new k d l.0 h.files_are at_disk l.1);
+          file = subst (λ (x : LinkName). opened x.me x.peer d (Ok l.0.link.file.numbers.drawn)) l.2 (each_at _ disks new k d l.0 h.files_are at_disk l.1);
           hub = t.hub;
           port_is = ap (λ (x : LaneHub). x.port) (sym e.2) ∙ p.0;
           received = ap (λ (x : LaneHub). x.outs.received) (sym e.2) ∙ p.1;

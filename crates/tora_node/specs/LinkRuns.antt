@@ -1,11 +1,12 @@
 -- What the threads of a node's links come to.
-use Rattle.std.specs.Prelude.{◌≡◌, ◌⊎◌, ℕ, List, [], ◌∷◌, ◌++◌, map, slice_get, Option, Some, None}
+use Rattle.std.specs.Prelude.{◌≡◌, ◌⊎◌, ◌<◌, ℕ, List, [], ◌∷◌, ◌++◌, map, slice_get, Option, Some, None, Result, Ok, Err}
 use Rattle.tora_arq.specs.LinkEnd.{EndState, first_end}
 use Rattle.tora_arq.specs.Settings.{Settings, settings_of}
 use Rattle.tora_arq.specs.declared.times.TheConstants.Times.{STANDARD}
 use Rattle.tora_core.specs.CoreRun.{CoreView}
 use Rattle.tora_frame.specs.declared.parts.Version.TheVariants.{Two}
 use Rattle.tora_life.specs.declared.disk.Disk as Disk
+use Rattle.tora_life.specs.declared.numbers.LifeError.{LifeError}
 use Rattle.tora_neighbour.specs.Causes.{fault_of}
 use Rattle.tora_neighbour.specs.Tally.{first_tally}
 use Rattle.tora_neighbour.specs.Turns.{Turn, IsTurnRun, tally_after}
@@ -47,8 +48,8 @@ module _ {D W : Type 0} {disk : Disk.Ghosts D} {wire : Wire.Ghosts W} where
   wire_made new = new.link.wire
 
   -- its life file was opened on this disk
-  abbrev pub OpenedOn : (ℕ → ℕ → D → ℕ → Type 0) → D → NewLink D W disk wire → Type 0
-  OpenedOn opened of new = opened new.link.end.settings.me new.link.end.settings.peer of new.link.file.numbers.drawn
+  abbrev pub OpenedOn : (ℕ → ℕ → D → Result ℕ LifeError → Type 0) → D → NewLink D W disk wire → Type 0
+  OpenedOn opened of new = opened new.link.end.settings.me new.link.end.settings.peer of (Ok new.link.file.numbers.drawn)
 
 -- the links of a node whose core begins as this one, in ascending order of their peers
 abbrev pub links_of : CoreView → List LinkName
@@ -90,6 +91,33 @@ IsOpening links Fault.Lane = ⊥
 IsOpening links (Fault.Life peer error) = (place : ℕ) × (link : LinkName) × (slice_get links place ≡ Some link) × (link.peer ≡ peer)
 IsOpening links (Fault.Wire peer) = ⊥
 IsOpening links Fault.Output = ⊥
+
+-- the life file of the link to this peer did not open on its disk, for this reason; those of the links before it did
+pub record LifeFailed {D : Type 0} (opened : ℕ → ℕ → D → Result ℕ LifeError → Type 0) (links : List LinkName) (disks : List D) (peer : ℕ) (error : LifeError) : Type 0 where
+  pub place : ℕ
+  pub link : LinkName
+  pub disk : D
+  pub at_link : slice_get links place ≡ Some link
+  pub at_disk : slice_get disks place ≡ Some disk
+  pub peer_is : link.peer ≡ peer
+  pub failed : opened link.me link.peer disk (Err error)
+  pub before : (k : ℕ) (other : LinkName) (file : D) → k < place → slice_get links k ≡ Some other → slice_get disks k ≡ Some file → (drawn : ℕ) × opened other.me other.peer file (Ok drawn)
+
+-- memory is gone, or the life file of one of these links did not open on its disk
+abbrev pub FailsToOpen : {D : Type 0} → (ℕ → ℕ → D → Result ℕ LifeError → Type 0) → List LinkName → List D → NodeError → Type 0
+FailsToOpen opened links disks Fault.Memory = Unit {0}
+FailsToOpen opened links disks Fault.Lane = ⊥
+FailsToOpen opened links disks (Fault.Life peer error) = LifeFailed opened links disks peer error
+FailsToOpen opened links disks (Fault.Wire peer) = ⊥
+FailsToOpen opened links disks Fault.Output = ⊥
+
+-- before its threads were started, or because one could not be, with these disks for the life files of its links
+abbrev pub FailsToStart : {D : Type 0} → (ℕ → ℕ → D → Result ℕ LifeError → Type 0) → CoreView → List D → NodeError → Type 0
+FailsToStart opened first disks Fault.Memory = Unit {0}
+FailsToStart opened first disks Fault.Lane = IsNodeFault first.neighbours Fault.Lane
+FailsToStart opened first disks (Fault.Life peer error) = LifeFailed opened (links_of first) disks peer error
+FailsToStart opened first disks (Fault.Wire peer) = ⊥
+FailsToStart opened first disks Fault.Output = ⊥
 
 -- before its threads were started, or because one could not be
 abbrev pub IsStartFault : CoreView → NodeError → Type 0

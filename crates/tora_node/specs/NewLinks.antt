@@ -1,5 +1,5 @@
 -- The links of a node as they are made.
-use Rattle.std.specs.Prelude.{◌≡◌, ℕ, List, Result, Ok}
+use Rattle.std.specs.Prelude.{◌≡◌, ℕ, List, Result, Ok, Err}
 use Rattle.tora_arq.specs.EndRange.{LinkEndView, link_end_of}
 use Rattle.tora_arq.specs.LinkEnd.{first_end}
 use Rattle.tora_arq.specs.Settings.{settings_of}
@@ -7,6 +7,7 @@ use Rattle.tora_arq.specs.declared.times.TheConstants.Times.{STANDARD}
 use Rattle.tora_frame.specs.declared.parts.Version.TheVariants.{Two}
 use Rattle.tora_life.specs.Calls.{OpensBy}
 use Rattle.tora_life.specs.declared.disk.DiskError.{DiskError}
+use Rattle.tora_life.specs.declared.numbers.LifeError.{LifeError}
 use Rattle.tora_life.specs.declared.numbers.Numbers.{Numbers}
 use Rattle.tora_life.specs.declared.tags.Owner.{Owner}
 
@@ -18,6 +19,7 @@ new_end me peer = link_end_of (settings_of Two me peer STANDARD) first_end
 abbrev pub owner_of : ℕ → ℕ → Owner
 owner_of me peer = record { node = me; peer = peer }
 
--- the file of this node for its link to this peer was opened on this disk, by these calls of it, and this is the number that counts as its last
-abbrev pub IsOpened : {D : Type 0} → (D → Result (Unit {0}) DiskError → D → Type 0) → (D → ℕ → List ℕ → Result ℕ DiskError → List ℕ → D → Type 0) → (D → ℕ → List ℕ → Result (Unit {0}) DiskError → D → Type 0) → ℕ → ℕ → D → ℕ → Type 0
-IsOpened {D = D} syncs reads writes me peer disk drawn = (numbers : Numbers) × (after : D) × OpensBy syncs reads writes (owner_of me peer) disk (Ok numbers) after × (numbers.drawn ≡ drawn)
+-- Opening the file of this node for its link to this peer on this disk answered so, by these calls of the disk: this is the number that counts as its last, or this is why it did not open
+abbrev pub IsOpened : {D : Type 0} → (D → Result (Unit {0}) DiskError → D → Type 0) → (D → ℕ → List ℕ → Result ℕ DiskError → List ℕ → D → Type 0) → (D → ℕ → List ℕ → Result (Unit {0}) DiskError → D → Type 0) → ℕ → ℕ → D → Result ℕ LifeError → Type 0
+IsOpened {D = D} syncs reads writes me peer disk (Ok drawn) = (numbers : Numbers) × (after : D) × OpensBy syncs reads writes (owner_of me peer) disk (Ok numbers) after × (numbers.drawn ≡ drawn)
+IsOpened {D = D} syncs reads writes me peer disk (Err error) = (after : D) × OpensBy syncs reads writes (owner_of me peer) disk (Err error) after

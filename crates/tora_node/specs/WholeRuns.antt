@@ -1,9 +1,10 @@
 -- What a node did, from its start until all of its threads had ended.
-use Rattle.std.specs.Prelude.{◌≡◌, ◌⊎◌, ◌<◌, ◌≤◌, ℕ, Bool, List, [], ◌∷◌, ◌++◌, length, map, slice_get, Option, None, Some, Result, IfOk, IfErr}
+use Rattle.std.specs.Prelude.{◌≡◌, ◌⊎◌, ◌<◌, ◌≤◌, ℕ, Bool, List, [], ◌∷◌, ◌++◌, length, map, slice_get, Option, None, Some, Result, Ok, IfOk, IfErr}
 use Rattle.std.specs.Io.KnownBytes.{Consumes}
 use Rattle.tora_core.specs.CoreRun.{CoreView, core_after_all}
 use Rattle.tora_lane.specs.LaneRule.{items_of}
 use Rattle.tora_lane.specs.declared.limits.TheConstants.{MOST_LINKS}
+use Rattle.tora_life.specs.declared.numbers.LifeError.{LifeError}
 use Rattle.tora_neighbour.specs.Puts.{put_in}
 use Rattle.tora_neighbour.specs.Traffic.{AreDrawn, cargoes_taken, entries_put, numbers_opened}
 use Rattle.tora_node.specs.declared.fault.NodeError.{NodeError}
@@ -17,7 +18,7 @@ use Rattle.tora_node.specs.declared.commands.CommandsEnd.{CommandsEnd}
 use Rattle.tora_node.specs.declared.link_task.Outcome.{Outcome}
 use Rattle.tora_node.specs.CommandRuns.{AreTold, EndsAt}
 use Rattle.tora_node.specs.CoreRuns.{ServedItem, AreServed, items_served, offers_made, inputs_stepped, EndsSo}
-use Rattle.tora_node.specs.LinkRuns.{IsLinkRun, IsStartFault, AreFaultless, IsCause, links_of}
+use Rattle.tora_node.specs.LinkRuns.{IsLinkRun, FailsToStart, AreFaultless, IsCause, links_of}
 use Rattle.tora_node.specs.NodeRuns.{EndedView, IsNodeFault, IsRunOf, first_fault}
 use Rattle.tora_node.specs.WireCalls.{HasCalled}
 
@@ -31,11 +32,11 @@ pub record LinkExchanged (me : ℕ) (xs : List ServedItem) (place peer : ℕ) (o
   pub cargoes : cargoes_taken (run.turns ++ run.last ∷ []) ++ waiting ≡ put_to peer (offers_made xs)
 
 -- and it has run it with this wire, each turn at a tick that it has read itself from this source on, under the numbers behind the last one of its life file, each the next
-pub record LinkRan {W T : Type 0} (send : W → List ℕ → Result (Unit {0}) WireError → W → Type 0) (receive : W → Result (Option ℕ) WireError → List ℕ → W → Type 0) (read : T → ℕ → T → Type 0) (opened : ℕ → Type 0) (me : ℕ) (xs : List ServedItem) (place peer : ℕ) (wire : W) (ticks : T) (outcome : Outcome) : Type 0 where
+pub record LinkRan {W T : Type 0} (send : W → List ℕ → Result (Unit {0}) WireError → W → Type 0) (receive : W → Result (Option ℕ) WireError → List ℕ → W → Type 0) (read : T → ℕ → T → Type 0) (opened : Result ℕ LifeError → Type 0) (me : ℕ) (xs : List ServedItem) (place peer : ℕ) (wire : W) (ticks : T) (outcome : Outcome) : Type 0 where
   pub exchanged : LinkExchanged me xs place peer outcome
   pub called : HasCalled send receive read wire ticks exchanged.run.turns exchanged.run.last exchanged.run.ending
   pub drawn : ℕ
-  pub file : opened drawn
+  pub file : opened (Ok drawn)
   pub last_drawn : ℕ
   pub numbers : AreDrawn drawn (numbers_opened (exchanged.run.turns ++ exchanged.run.last ∷ [])) last_drawn
 
@@ -54,7 +55,7 @@ pub record CommandsRan (told : ℕ → Type 0) (input : Option (List ℕ)) (seat
 
 -- The threads of a node that began with this core, these wires, these disks, these sources of ticks and this input. Items were served one after another, the core is the run
 -- of the inputs that serving made of them, and each link and the commands had a thread that put them. The first of their faults is the answer
-pub record NodeRan {W D T : Type 0} (send : W → List ℕ → Result (Unit {0}) WireError → W → Type 0) (receive : W → Result (Option ℕ) WireError → List ℕ → W → Type 0) (told : ℕ → Type 0) (read : T → ℕ → T → Type 0) (opened : ℕ → ℕ → D → ℕ → Type 0) (first : CoreView) (wires : List W) (disks : List D) (ticks : List T) (input : Option (List ℕ))
+pub record NodeRan {W D T : Type 0} (send : W → List ℕ → Result (Unit {0}) WireError → W → Type 0) (receive : W → Result (Option ℕ) WireError → List ℕ → W → Type 0) (told : ℕ → Type 0) (read : T → ℕ → T → Type 0) (opened : ℕ → ℕ → D → Result ℕ LifeError → Type 0) (first : CoreView) (wires : List W) (disks : List D) (ticks : List T) (input : Option (List ℕ))
     (answer : Option NodeError) (core : CoreView) (tallies : List Tally) (taken : List Item) (gone : Bool) : Type 0 where
   pub xs : List ServedItem
   pub after : SeatState
@@ -72,13 +73,13 @@ pub record NodeRan {W D T : Type 0} (send : W → List ℕ → Result (Unit {0})
   pub tallies_are : tallies ≡ map (λ o. o.tally) outcomes
 
 -- a node that ends with a fault: one of its start, or the first one of its threads
-abbrev pub EndsWithFault : {W D T : Type 0} → (W → List ℕ → Result (Unit {0}) WireError → W → Type 0) → (W → Result (Option ℕ) WireError → List ℕ → W → Type 0) → (ℕ → Type 0) → (T → ℕ → T → Type 0) → (ℕ → ℕ → D → ℕ → Type 0) → CoreView → List W → List D → List T → Option (List ℕ) → NodeError → Type 0
+abbrev pub EndsWithFault : {W D T : Type 0} → (W → List ℕ → Result (Unit {0}) WireError → W → Type 0) → (W → Result (Option ℕ) WireError → List ℕ → W → Type 0) → (ℕ → Type 0) → (T → ℕ → T → Type 0) → (ℕ → ℕ → D → Result ℕ LifeError → Type 0) → CoreView → List W → List D → List T → Option (List ℕ) → NodeError → Type 0
 EndsWithFault send receive told read opened first wires disks ticks input e =
-    IsStartFault first e
+    FailsToStart opened first disks e
     ⊎ ((core : CoreView) × (tallies : List Tally) × (taken : List Item) × (gone : Bool) × NodeRan send receive told read opened first wires disks ticks input (Some e) core tallies taken gone)
 
 -- What a node answers that began with this core, these wires, these disks, these sources of ticks and this input
-pub record NodeAnswers {W D T : Type 0} (send : W → List ℕ → Result (Unit {0}) WireError → W → Type 0) (receive : W → Result (Option ℕ) WireError → List ℕ → W → Type 0) (told : ℕ → Type 0) (read : T → ℕ → T → Type 0) (opened : ℕ → ℕ → D → ℕ → Type 0) (first : CoreView) (wires : List W) (disks : List D) (ticks : List T) (input : Option (List ℕ))
+pub record NodeAnswers {W D T : Type 0} (send : W → List ℕ → Result (Unit {0}) WireError → W → Type 0) (receive : W → Result (Option ℕ) WireError → List ℕ → W → Type 0) (told : ℕ → Type 0) (read : T → ℕ → T → Type 0) (opened : ℕ → ℕ → D → Result ℕ LifeError → Type 0) (first : CoreView) (wires : List W) (disks : List D) (ticks : List T) (input : Option (List ℕ))
     (answer : Result EndedView NodeError) : Type 0 where
   -- where it ends without a fault, the core is the run of what serving makes of some items from the first core on
   pub core : IfOk answer (λ ended. IsRunOf first ended.core)

@@ -1,9 +1,9 @@
 //! Making the links and the lanes of a node, before its threads are started.
-ghost use Rattle.std.specs.Prelude.{◌≡◌, ◌⊎◌, ◌<◌, ◌≤◌, IfErr, IfOk, IfSome, length, map};
+ghost use Rattle.std.specs.Prelude.{◌≡◌, ◌⊎◌, ◌<◌, ◌≤◌, Err, IfErr, IfOk, IfSome, length, map};
 ghost use Rattle.tora_lane.specs.NodeLanes.{AreLanes};
 ghost use Rattle.tora_node.specs.declared.fault.NodeError.{NodeError};
 ghost use Rattle.tora_node.specs.NewLinks.{IsOpened};
-ghost use Rattle.tora_node.specs.LinkRuns.{name_of, link_ended, link_made, wire_made, OpenedOn, IsOpening};
+ghost use Rattle.tora_node.specs.LinkRuns.{name_of, link_ended, link_made, wire_made, OpenedOn, IsOpening, FailsToOpen};
 ghost use Rattle.tora_node.specs.Threads.{Each, started, link_to_start, hub_started, hub_of, ticks_started};
 
 use crate::fault::NodeError;
@@ -58,6 +58,7 @@ pub(crate) fn new_links<D: Disk + Drop, W: Wire + Drop>(
     ensures wired { IfOk result (λ links. map wire_made links.items ≡ wires.items) }
     ensures opened { IfOk result (λ links. Each (OpenedOn (IsOpened D.syncs D.reads D.writes)) disks.items links.items) }
     ensures fault { IfErr result (IsOpening (map link_ended ends.items)) }
+    ensures failed { IfErr result (FailsToOpen (IsOpened D.syncs D.reads D.writes) (map link_ended ends.items) disks.items) }
 {
     let mut links = Vec::new(alloc);
     let mut disks = disks.into_iter();
@@ -88,7 +89,8 @@ fn new_link<D: Disk + Drop, W: Wire + Drop>(
     disk: D,
     wire: W,
 ) -> Result<NewLink<D, W>, LifeError>
-    ensures { IfOk result (λ link. (link_made link ≡ link_ended new) × (wire_made link ≡ wire) × OpenedOn (IsOpened D.syncs D.reads D.writes) disk link) }
+    ensures made { IfOk result (λ link. (link_made link ≡ link_ended new) × (wire_made link ≡ wire) × OpenedOn (IsOpened D.syncs D.reads D.writes) disk link) }
+    ensures failed { IfErr result (λ error. IsOpened D.syncs D.reads D.writes new.end.settings.me new.end.settings.peer disk (Err error)) }
 {
     let NewEnd { end } = new;
     match LifeFile::open(disk, end.me(), end.peer()) {

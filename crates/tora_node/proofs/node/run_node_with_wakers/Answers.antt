@@ -36,7 +36,7 @@ returns-in_err-new g c =
     let ends : map link_ended c.in-Some.ends.items ≡ links_of c.args.config = subst (λ (v : CoreView). map link_ended c.in-Some.ends.items ≡ links_of v) c.into_core-core.ensures.same c.in-Some.ensures in
     rw (p.1, p.2)
     (not_started g.W.Wire.did_send g.W.Wire.did_receive (g.C.Clock.did_tell c.args.clock.now) g.T.Ticks.did_read (IsOpened g.D.Disk.syncs g.D.Disk.reads g.D.Disk.writes) c.args.config c.args.wires.items c.args.disks.items c.args.ticks.items (g.Rd.Read.remaining c.args.reader.now)
-    (map link_ended c.in-Some.ends.items) c.in_err-new.field-0.0 ends c.in_err-new.ensures.fault)
+    (map link_ended c.in-Some.ends.items) c.in_err-new.field-0.0 ends c.in_err-new.ensures.fault c.in_err-new.ensures.failed)
 
 pub settled-requires-clause-ends : goal.settled-requires-clause-ends
 settled-requires-clause-ends g c =

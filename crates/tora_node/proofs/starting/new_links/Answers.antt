@@ -5,6 +5,7 @@ use Rattle.tora_node.specs.LinkRuns.{link_ended, link_made, wire_made, OpenedOn}
 use Rattle.tora_node.specs.NewLinks.{IsOpened}
 use Rattle.tora_node.specs.Threads.{Each}
 use Rattle.tora_node.proofs.Lists.{each_more, goes_over, gone_over, made_over}
+use Rattle.tora_node.proofs.Openings.{life_failed}
 use Rattle.tora_node.proofs.Runs.{all_done, did_not_open}
 use Rattle.tora_node.proofs.starting.new_links.Goals as goal
 
@@ -26,7 +27,7 @@ loop-new-preserved g c =
     let h = c.loop-new.invariant in
     let links = c.loop-new.links.items in
     let link = c.in-Ok.link in
-    let one = c.in-Ok.ensures in
+    let one = c.in-Ok.ensures.made in
     let more = c.in-Ok-push.ensures.items in
     let a = c.in-Some.ensures.steps in
     let b = c.in-Some-next.ensures.cases in
@@ -58,6 +59,16 @@ returns-in-Err-clause-fault g c =
       did_not_open link_ended done (into_iter_items at.new-iterator) (into_iter_items c.next.new.self) c.in-Some.new (map link_ended c.args.ends.items) c.in-Some.ensures.steps.0 made,
       sym c.peer-peer.ensures.peer,
     )
+
+pub returns-in-Err-clause-failed : goal.returns-in-Err-clause-failed
+returns-in-Err-clause-failed g c =
+    let at = c.loop-new in
+    let o = at.invariant.opened in
+    let links = at.invariant.made ∙ ap (map link_ended) c.into_iter-new-iterator.ensures.into_iter_gives.0 in
+    let disks = o.2 ∙ c.into_iter-disks.ensures.rest in
+    life_failed (IsOpened g.D.Disk.syncs g.D.Disk.reads g.D.Disk.writes) o.0 at.links.items o.1 (into_iter_items at.disks) _ c.in-Some-next.disk c.args.disks.items c.in-Some-next.ensures.cases.0 disks
+    (map link_ended (into_iter_items at.new-iterator)) (map link_ended (into_iter_items c.next.new.self)) (link_ended c.in-Some.new) (map link_ended c.args.ends.items) (ap (map link_ended) c.in-Some.ensures.steps.0) links
+    _ _ (sym c.peer-peer.ensures.peer) c.in-Err.ensures.failed
 
 pub returns-clause-made : goal.returns-clause-made
 returns-clause-made g c =
