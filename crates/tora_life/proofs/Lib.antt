@@ -8,6 +8,7 @@ pub mod OnOks
 pub mod Opens
 pub mod Past
 pub mod ReadOn
+pub mod ReadSteps
 pub mod Runs
 pub mod TagReads
 pub mod TornBytes

@@ -2,6 +2,7 @@ pub mod Calls
 pub mod Disk
 pub mod DiskView
 pub mod Errors
+pub mod FileDisk
 pub mod FileView
 pub mod Fuse
 pub mod FuseDisk
@@ -15,3 +16,4 @@ pub mod Slots
 pub mod State
 pub mod Tags
 pub mod TornBytes
+pub mod WholeRead

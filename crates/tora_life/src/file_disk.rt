@@ -1,64 +1,90 @@
 //! A life file's disk over a file of the operating system.
-ghost use Rattle.std.specs.Prelude.{◌≡◌, Ok, IfOk};
+ghost use Rattle.std.specs.Prelude.{◌≡◌};
 ghost use Rattle.tora_life.specs.Disk.{failures_after};
+ghost use Rattle.tora_life.specs.FileDisk.{Answers, OpensFile, SyncsFolder, folder_of};
 
 use crate::disk::{Disk, DiskError};
+use crate::system_file::{SystemFile, SystemFiles};
 use crate::whole_read::read_whole;
-use std::fs::{File, Files, OpenOptions};
+use std::fs::File;
 use std::io;
 use std::marker::Model;
-use std::os::unix::fs::FileExt;
 use std::path::Path;
 
 /// A file of the operating system as a disk. It is read and written at places, and synced with its length.
 ///
-/// It tells contracts no bytes. So clauses say of it which numbers are drawn, when each error comes and that each
-/// failed call is counted, and nothing of what a crash leaves. That the file keeps what was synced, and that
+/// It tells contracts no bytes. So clauses say of it which calls of the system it makes, which numbers are drawn, when each error
+/// comes and that each failed call is counted, and nothing of what a crash leaves. That the file keeps what was synced, and that
 /// nobody else writes it, are premises of the program. The file is locked as long as its disk lives, so that no
 /// second node on this machine draws from it; a process that is killed leaves no lock behind.
 #[derive(Debug, Drop)]
-pub struct FileDisk {
-    file: File,
+pub struct FileDisk<F = File> {
+    file: F,
     failures: u64,
 }
 
-impl Model for FileDisk {
-    ghost use Rattle.std.specs.Prelude.{ℕ};
+impl<F> Model for FileDisk<F> {
+    ghost use Rattle.tora_life.specs.FileDisk.{FileDiskView};
 
-    ghost Value = { ℕ };
+    ghost Value = { FileDiskView F };
 
-    ghost view = { λ d. d.failures };
+    ghost view = { λ d. record { file = d.file; failures = d.failures } };
 }
 
-impl FileDisk {
+/// The folder of the file at a path, which is `.` where the path names none.
+fn folder_of(path: &str) -> &str
+    ensures { result.now ≡ folder_of path.now }
+{
+    match Path::new(path).parent() {
+        Some(folder) if folder.as_str() != "" => folder.as_str(),
+        _ => ".",
+    }
+}
+
+impl<F: SystemFile> FileDisk<F> {
     /// Opens the file at this path, to read and write. One that is missing is made, empty, and its folder is synced
     /// too, so that the file itself is there after a crash.
     ///
     /// # Errors
     ///
     /// Those of the operating system, and `WouldBlock` where another disk has the file, of this process or of another.
-    pub fn open<R: Files<File = File>>(files: &R, path: &str) -> io::Result<FileDisk>
-        ensures { IfOk result (λ disk. disk ≡ 0) }
+    pub fn open<S: SystemFiles<File = F>>(files: S, path: &str) -> io::Result<FileDisk<F>>
+        ensures { OpensFile S.did_open_file S.did_open_folder S.did_lock S.did_sync_all files path.now result }
     {
-        let file = OpenOptions::new()
-            .read(true)
-            .write(true)
-            .create(true)
-            .open(files, path)?;
-        file.try_lock()?;
-        file.sync_all()?;
-        let folder = match Path::new(path).parent() {
-            Some(folder) if folder.as_str() != "" => folder.as_str(),
-            _ => ".",
+        let mut files = files;
+        let mut file = match files.open_file_at(path) {
+            Ok(file) => file,
+            Err(error) => return Err(error),
         };
-        File::open(files, folder)?.sync_all()?;
-        Ok(FileDisk { file, failures: 0 })
+        match files.lock(&mut file) {
+            Ok(()) => {}
+            Err(error) => return Err(error),
+        }
+        match files.sync_all_of(&mut file) {
+            Ok(()) => FileDisk::in_folder(files, folder_of(path), file),
+            Err(error) => Err(error),
+        }
+    }
+
+    /// Syncs the folder at this path, in which a file was made. Answers the disk over that file.
+    fn in_folder<S: SystemFiles<File = F>>(files: S, path: &str, file: F) -> io::Result<FileDisk<F>>
+        ensures { SyncsFolder S.did_open_folder S.did_sync_all files path.now file result }
+    {
+        let mut files = files;
+        let mut folder = match files.open_folder_at(path) {
+            Ok(folder) => folder,
+            Err(error) => return Err(error),
+        };
+        match files.sync_all_of(&mut folder) {
+            Ok(()) => Ok(FileDisk { file, failures: 0 }),
+            Err(error) => Err(error),
+        }
     }
 
     /// The answer of a call, which is counted where it has failed.
     fn counted<T: Drop>(&mut self, answer: io::Result<T>) -> Result<T, DiskError>
-        ensures failures { self.new ≡ failures_after result self.old }
-        ensures value { IfOk result (λ value. answer ≡ Ok value) }
+        ensures failures { self.new ≡ record self.old { failures = failures_after result self.old.failures } }
+        ensures value { Answers answer result }
     {
         match answer {
             Ok(value) => Ok(value),
@@ -70,9 +96,11 @@ impl FileDisk {
     }
 }
 
-impl Disk for FileDisk {
+impl<F: SystemFile> Disk for FileDisk<F> {
     ghost use Rattle.std.specs.Prelude.{[], false};
     ghost use Rattle.std.proofs.Common.{rules};
+    ghost use Rattle.tora_life.specs.FileDisk.{MakesCall};
+    ghost use Rattle.tora_life.specs.WholeRead.{ReadsWhole};
 
     ghost tells = { λ d. false };
 
@@ -84,13 +112,13 @@ impl Disk for FileDisk {
 
     ghost left_since = { λ d t c. ⊥ };
 
-    ghost failures = { λ d. d };
+    ghost failures = { λ d. d.failures };
 
-    ghost reads = { λ d at buf answer bytes new. Unit {0} };
+    ghost reads = { λ d at buf answer bytes new. MakesCall (λ file said after. ReadsWhole F.did_read_at at file buf said after bytes) d answer new };
 
-    ghost writes = { λ d at bytes answer new. Unit {0} };
+    ghost writes = { λ d at bytes answer new. MakesCall (λ file said after. F.did_write_all_at file at bytes said after) d answer new };
 
-    ghost syncs = { λ d answer new. Unit {0} };
+    ghost syncs = { λ d answer new. MakesCall F.did_sync_all d answer new };
 
     ghost seen_may_stay = { Prim.search rules };
 
@@ -104,7 +132,7 @@ impl Disk for FileDisk {
     }
 
     fn write_at(&mut self, at: usize, bytes: &[u8]) -> Result<(), DiskError> {
-        let written = self.file.write_all_at(bytes, at as u64);
+        let written = self.file.write_all_at(at as u64, bytes);
         self.counted(written)
     }
 

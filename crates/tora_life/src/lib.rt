@@ -7,8 +7,9 @@
 //!
 //! `LifeFile` is generic over `Disk`, whose clauses say what a read gives and what a crash at each moment
 //! may leave. `MemDisk` tells contracts its bytes, so over it all clauses count, and it can be torn at will.
-//! `FileDisk` is a file of the operating system. It tells contracts no bytes: that a real disk keeps what
-//! was synced is a premise of the program that runs over it, and no clause here.
+//! `FileDisk` is a file of the operating system. It tells contracts no bytes, but which calls of the system it makes
+//! (`SystemFile`, `SystemFiles`): that a real disk keeps what was synced is a premise of the program that runs over it,
+//! and no clause here.
 //!
 //! The rules of the life file are this project's own profile. No call takes memory.
 //!
@@ -36,6 +37,7 @@ mod numbers;
 mod opening;
 mod slots;
 mod state;
+mod system_file;
 mod tags;
 mod tearing;
 mod whole_read;
@@ -51,5 +53,6 @@ pub use mem_disk::MemDisk;
 pub use numbers::LifeError;
 pub use slots::{bound_of, slot_bytes};
 pub use state::DiskCall;
+pub use system_file::{SystemFile, SystemFiles};
 pub use tags::{Owner, Tag, tag_bytes};
 pub use whole_read::{ReadFrom, read_whole};

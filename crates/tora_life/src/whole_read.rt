@@ -1,6 +1,8 @@
 //! Reads of a file until all is read that there is and fits.
-ghost use Rattle.std.specs.Prelude.{◌≡◌, ◌<◌, ◌≤◌, ◌^◌, ℕ, Bool, List, length, IfOk, OnErr, IsTrue};
+ghost use Rattle.std.specs.Prelude.{◌≡◌, ◌<◌, ◌≤◌, ◌^◌, ℕ, Bool, List, Result, length, IfOk, OnErr, IsTrue};
+ghost use Rattle.std.specs.declared.io.Error.{Error};
 ghost use Rattle.tora_life.specs.Disk.{IsRead, IsReadInPart};
+ghost use Rattle.tora_life.specs.WholeRead.{ReadsWhole};
 
 use std::fs::File;
 use std::io::{self, ErrorKind};
@@ -8,13 +10,17 @@ use std::os::unix::fs::FileExt;
 
 /// Bytes that are read from a place on, as many at a time as the reader pleases.
 ///
-/// A reader either tells contracts its bytes, or tells none, as a file of the operating system.
+/// A reader either tells contracts its bytes, or tells none, as a file of the operating system. Each tells its calls, which only a
+/// real call gives.
 pub trait ReadFrom {
     /// Whether contracts are told the bytes.
     ghost tells: { Self → Bool };
 
     /// The bytes.
     ghost bytes: { Self → List ℕ };
+
+    /// What a read made of it: place, buffer, answer, new buffer, reader after it.
+    ghost did_read_at: { Self → ℕ → List ℕ → Result ℕ Error → List ℕ → Self → Type 0 };
 
     /// Reads some of the bytes from the place `at` on into the front of `buf`, at least one where there is one and one
     /// fits, and answers their count. The rest of `buf` stays.
@@ -23,6 +29,7 @@ pub trait ReadFrom {
     ///
     /// Those of the operating system. Nothing was read.
     fn read_from(&mut self, at: u64, buf: &mut [u8]) -> io::Result<usize>
+        ensures call { did_read_at self.old at buf.old result buf.new self.new }
         ensures tells { tells self.new ≡ tells self.old }
         ensures same { bytes self.new ≡ bytes self.old }
         ensures long { IsTrue (tells self.old) → length (bytes self.old) < 2 ^ 64 }
@@ -38,6 +45,8 @@ impl ReadFrom for File {
 
     ghost bytes = { λ f. [] };
 
+    ghost did_read_at = { λ f at buf answer bytes after. Unit {0} };
+
     fn read_from(&mut self, at: u64, buf: &mut [u8]) -> io::Result<usize> {
         self.read_at(buf, at)
     }
@@ -52,6 +61,7 @@ impl ReadFrom for File {
 pub fn read_whole<F: ReadFrom>(reader: &mut F, at: usize, buf: &mut [u8]) -> io::Result<usize>
     ensures count { IfOk result (λ n. n ≤ length buf.old) }
     ensures read { IsTrue (F.tells reader.old) → IfOk result (λ n. IsRead (F.bytes reader.old) at buf.old n buf.new) }
+    ensures calls { ReadsWhole F.did_read_at at reader.old buf.old result reader.new buf.new }
 {
     let mut count = 0;
     for _ in 0..u64::MAX {

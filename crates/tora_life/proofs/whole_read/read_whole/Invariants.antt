@@ -1,7 +1,9 @@
-use Rattle.std.proofs.Common.{◌≡◌, ◌≤◌, ◌++◌, length, take, drop, IsTrue}
+use Rattle.std.proofs.Common.{◌≡◌, ◌≤◌, ◌-◌, ◌++◌, ℕ, List, Result, length, take, drop, IsTrue}
+use Rattle.std.specs.declared.io.Error.{Error}
+use Rattle.tora_life.specs.WholeRead.{ReadsOn}
 use Rattle.tora_life.proofs.whole_read.read_whole.Given as goal
 
--- what was read so far is the beginning of what there is from the place on
+-- what was read so far is the beginning of what there is from the place on, and who reads on from here has read from the start
 abbrev pub invariant-loop : goal.invariant-loop
 invariant-loop g l = record {
   few : l.count ≤ length l.buf;
@@ -10,4 +12,5 @@ invariant-loop g l = record {
   same : g.F.ReadFrom.bytes l.reader ≡ g.F.ReadFrom.bytes l.fn.reader;
   there : IsTrue (g.F.ReadFrom.tells l.fn.reader) → l.count ≤ length (drop l.at (g.F.ReadFrom.bytes l.fn.reader));
   bytes : IsTrue (g.F.ReadFrom.tells l.fn.reader) → l.buf ≡ take l.count (drop l.at (g.F.ReadFrom.bytes l.fn.reader)) ++ drop l.count l.fn.buf;
+  onward : (answer : Result ℕ Error) (after : _) (new : List ℕ) → ReadsOn g.F.ReadFrom.did_read_at (18446744073709551615 - l.counter) l.at l.reader l.count l.buf answer after new → ReadsOn g.F.ReadFrom.did_read_at 18446744073709551615 l.at l.fn.reader 0 l.fn.buf answer after new;
 }

@@ -21,6 +21,8 @@ impl ReadFrom for Dripping {
 
     ghost bytes = { λ r. r.bytes };
 
+    ghost did_read_at = { λ r at buf answer bytes after. Unit {0} };
+
     fn read_from(&mut self, at: u64, buf: &mut [u8]) -> io::Result<usize> {
         self.calls = self.calls.saturating_add(1);
         if self.calls >= self.fails_from {

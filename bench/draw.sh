@@ -1,0 +1,16 @@
+#!/usr/bin/env bash
+# The calls of the system that `tora node` makes around its life files, by strace: node 3 of examples/two-nodes is
+# started twice on the same life file, alone, on the loopback. Each time the file is locked, and it and its folder
+# are synced, before a frame is sent; and no frame begins to be sent with a number of a life above the bound that a
+# `pwrite64` wrote and an `fsync` then put on the disk. Prints a line for each start. Status 1 where a call is
+# missing or comes too late. Where strace is missing, it says so, and ends with status 0.
+# usage: bench/draw.sh
+set -eu
+case ${1-} in -h | --help) sed -n '2,/^set -eu/{/^# /s/^# //p}' "$0"; exit 0 ;; esac
+top=$(cd "$(dirname "$0")/.." && pwd)
+if ! command -v strace >/dev/null; then
+  echo "left out: there is no strace"
+  exit 0
+fi
+"$top/tora" --version >&2
+exec python3 "$top/bench/draw.py" "$top"
