@@ -16,3 +16,6 @@ pub mod StillLemmas
 pub mod SteadyLemmas
 pub mod NearLemmas
 pub mod PlaceLemmas
+pub mod TableWords
+pub mod TableHears
+pub mod TableCalls

@@ -3,6 +3,7 @@ pub mod Settings
 pub mod Held
 pub mod SendQueue
 pub mod LinkEnd
+pub mod LinkTable
 pub mod EndRange
 pub mod Rooms
 pub mod StateView

@@ -2,7 +2,7 @@
 //!
 //! Each is said of one call, at any state, and of whole runs of calls from a new end on. They hold for a window of any
 //! size.
-ghost use Rattle.std.specs.Prelude.{◌≡◌, ◌≢◌, ℕ, ◌+◌, ◌^◌, ◌<◌, ◌≤◌, ◌⊎◌, true, false, List, [], ◌∷◌, ◌++◌, map, length, Contains, Some};
+ghost use Rattle.std.specs.Prelude.{◌≡◌, ◌≢◌, ◌↔◌, ℕ, ◌+◌, ◌^◌, ◌<◌, ◌≤◌, ◌⊎◌, true, false, List, [], ◌∷◌, ◌++◌, map, length, Contains, Option, Result, Some};
 ghost use Rattle.std.specs.List.{AllByRecursion};
 ghost use Rattle.tora_packet.specs.declared.Packet.{Packet};
 ghost use Rattle.tora_frame.specs.declared.parts.Body.TheVariants.{Hello};
@@ -10,20 +10,24 @@ ghost use Rattle.tora_frame.specs.declared.parts.Version.TheVariants.{One, Two};
 ghost use Rattle.tora_frame.specs.FrameParts.{FrameParts};
 ghost use Rattle.tora_arq.specs.declared.life.Life.{Life};
 ghost use Rattle.tora_arq.specs.declared.reason.Reason.TheVariants as Because;
+ghost use Rattle.tora_arq.specs.declared.link_event.LinkEvent.{LinkEvent};
 ghost use Rattle.tora_arq.specs.declared.link_event.LinkEvent.TheVariants.{Deliver};
+ghost use Rattle.tora_arq.specs.declared.verdict.Verdict.{Verdict};
 ghost use Rattle.tora_arq.specs.declared.verdict.Verdict.TheVariants as Is;
 ghost use Rattle.tora_arq.specs.declared.times.TheConstants.Times.{STANDARD};
+ghost use Rattle.tora_arq.specs.declared.submit_error.SubmitError.{SubmitError};
 ghost use Rattle.tora_arq.specs.declared.submit_error.SubmitError.TheVariants as Refusal;
-ghost use Rattle.tora_arq.specs.declared.phase.Phase.TheVariants.{Unbound, Bound};
+ghost use Rattle.tora_arq.specs.declared.phase.Phase.TheVariants.{Closed, Unbound, Bound};
 ghost use Rattle.tora_arq.specs.Settings.{Settings, IsTimes};
 ghost use Rattle.tora_arq.specs.SendQueue.{untried};
-ghost use Rattle.tora_arq.specs.LinkEnd.{EndState, first_end, bound_life, after_end, after_tick, submit_answer, after_submit, after_cut, frame_due, frame_sent, after_transmit, is_update_of_another, verdict_of, after_frame};
+ghost use Rattle.tora_arq.specs.LinkEnd.{EndState, first_end, bound_life, after_open, after_end, after_tick, submit_answer, after_submit, after_cut, first_event, after_poll_event, frame_due, frame_sent, after_transmit, is_update_of_another, verdict_of, after_frame};
 ghost use Rattle.tora_arq.specs.LinkFacts.{LinkCall, EveryCall, frame_sent_by, event_given_by, events_left, events_queued, packet_submitted, IsEnd, OpensWith, StaysOrCloses, WasBoundOrBinds, WasUnboundOrOpens, IsFrameSent, IsQueueOf, IsBodyOf, IsPacketAt, AreHeld, CallTells, packets_delivered, DeliversNext, list_of, AreEventsBetween, Leads, AreOverByDown, AreRising, Acknowledges};
 ghost use Rattle.tora_arq.specs.LinkRuns.{EveryRun, EveryBoundRun, CameAt, CountCame, AreAllTold, times_bound, AreFromFirst, IsFrameOfRun, IsSameAtEachTry};
 ghost use Rattle.tora_arq.specs.PeerUpdates.{AreEventsOfPeer, IsOfPeer};
 ghost use Rattle.tora_arq.specs.Polls.{after_polls, frames_polled};
 ghost use Rattle.tora_arq.specs.Floods.{after_submits, IsIdle, flood_frame};
 ghost use Rattle.tora_arq.specs.WorkedHellos.{worked_settings, given_hello, behind_hello};
+ghost use Rattle.tora_arq.specs.LinkTable.{Cuts, Gives, Hears, Opens, Submits, Tells, Ticks};
 
 /// Every call keeps of an end that what was transmitted was submitted, that no more is held than the window, and that
 /// nothing is left of a life that is over. Own profile.
@@ -184,4 +188,21 @@ pub fn flood_is_one_frame()
 pub fn standard_times()
     ensures are { STANDARD ≡ record { hello = 10; silent = 50; retry = 5; tries = 8 } }
     ensures valid { IsTimes STANDARD }
+{}
+
+/// What a link end hears, does and tells stands in a table, one row for each situation: whatever comes to an end in any
+/// state, a row has it, and what follows is what that row says. Own profile.
+pub fn link_ends_follow_the_table()
+    ensures frame { (s : Settings) (e : EndState) (f : FrameParts) (now : ℕ) (verdict : Verdict) (after : EndState)
+        → Hears s e f.header f.body now verdict after ↔ ((verdict ≡ verdict_of s e f now) × (after ≡ after_frame s e f now)) }
+    ensures open { (e : EndState) (life now : ℕ) (after : EndState) → e.phase ≡ Closed → e.last_life < life
+        → Opens e life now after ↔ (after ≡ after_open e life now) }
+    ensures tick { (s : Settings) (e : EndState) (now : ℕ) (after : EndState) → Ticks s e now after ↔ (after ≡ after_tick s e now) }
+    ensures submit { (e : EndState) (life : Life) (packet : Packet) (answer : Result (Unit {0}) SubmitError) (after : EndState)
+        → Submits e life packet answer after ↔ ((answer ≡ submit_answer e life packet) × (after ≡ after_submit e life packet)) }
+    ensures cut { (e : EndState) (life : Life) (after : EndState) → Cuts e life after ↔ (after ≡ after_cut e life) }
+    ensures transmit { (s : Settings) (e : EndState) (now : ℕ) (frame : Option FrameParts) (after : EndState)
+        → Tells s e now frame after ↔ ((frame ≡ frame_due s e now) × (after ≡ after_transmit s e now)) }
+    ensures event { (e : EndState) (event : Option LinkEvent) (after : EndState)
+        → Gives e event after ↔ ((event ≡ first_event e) × (after ≡ after_poll_event e)) }
 {}

@@ -51,8 +51,9 @@ pub use arq_error::ArqError;
 pub use facts::{
     acknowledged_counts_come_from_the_peer, calls_keep_an_end, data_frames_are_what_was_submitted,
     deliveries_are_in_order, events_of_a_life_are_in_order, flood_is_one_frame,
-    lives_are_bound_once, old_hello_comes_right_after, packets_are_submitted_in_the_bound_life,
-    polls_of_a_tick_end, refused_frames_change_nothing, standard_times, updates_are_of_the_peer,
+    link_ends_follow_the_table, lives_are_bound_once, old_hello_comes_right_after,
+    packets_are_submitted_in_the_bound_life, polls_of_a_tick_end, refused_frames_change_nothing,
+    standard_times, updates_are_of_the_peer,
 };
 pub use growing_end::GrowingEnd;
 pub use life::Life;
