@@ -1,4 +1,4 @@
-use Rattle.std.proofs.Common.{ℕ, Some, None, Ok, Err, Option, refl, subst, take, ap, ◌∙◌, arith}
+use Rattle.std.proofs.Common.{ℕ, Some, None, Ok, Err, Option, refl, subst, ap, ◌∙◌, arith}
 use Rattle.tora_neighbour.specs.Datagrams.{IsReceived}
 use Rattle.tora_neighbour.specs.declared.intake.Intake.{Intake}
 use Rattle.tora_neighbour.specs.Tally.{counted}
