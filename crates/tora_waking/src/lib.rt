@@ -13,7 +13,9 @@
 #![tactic(auto)]
 
 mod node_clock;
+mod waited_socket;
 mod waking_wire;
 
 pub use node_clock::NodeClock;
+pub use waited_socket::{PolledSocket, WaitedSocket};
 pub use waking_wire::{SocketWaker, WakingWire};

@@ -1,11 +1,11 @@
 //! The clock of a node, which runs out once its core has ended.
-ghost use Rattle.std.specs.Prelude.{◌≤◌};
+ghost use Rattle.std.specs.Prelude.{◌≡◌, ◌≤◌, ◌⊎◌, ◌-◌, ◌^◌};
 ghost use Rattle.std.specs.Duration.{as_nanos};
+ghost use Rattle.tora_neighbour.specs.SystemTicks.{IsTickRead};
 
 use std::sync::atomic::{AtomicBool, Ordering};
-use std::time;
-use std::time::{Duration, SystemTime, UNIX_EPOCH};
-use tora_neighbour::{Clock, UnixClock};
+use std::time::{Duration, UNIX_EPOCH};
+use tora_neighbour::{Clock, SystemClock, tick_of};
 
 /// The milliseconds of a tick.
 const TICK: u64 = 100;
@@ -20,14 +20,15 @@ fn rest_of_tick(moment: u128) -> u64
 /// The clock of a node: Unix time in ticks of 100 ms, and the last tick that there is, 2^64 - 1, once its core has ended.
 ///
 /// The thread of a link ends where the core takes nothing any more and a put is refused. By the last tick a beat is due, so that its
-/// next turn is its last. No contract speaks of that: nothing is promised of what a clock tells. Own profile.
+/// next turn is its last. Contracts see that each tick is the last one or that of a reading of the system's clock, and not which of
+/// the two: that the core has ended is told by another thread. Own profile.
 #[derive(Drop)]
 pub struct NodeClock<R> {
     rt: R,
     has_ended: AtomicBool,
 }
 
-impl<R: time::Clock> NodeClock<R> {
+impl<R: SystemClock> NodeClock<R> {
     /// The clock that this runtime reads, of a node whose core has not ended.
     pub fn new(rt: R) -> NodeClock<R> {
         NodeClock {
@@ -48,7 +49,7 @@ impl<R: time::Clock> NodeClock<R> {
         if self.has_ended.load(Ordering::SeqCst) {
             return Duration::ZERO;
         }
-        let Ok(time) = SystemTime::now(&self.rt) else {
+        let Ok(time) = self.rt.read_clock() else {
             return Duration::from_millis(TICK);
         };
         match time.duration_since(UNIX_EPOCH) {
@@ -58,13 +59,13 @@ impl<R: time::Clock> NodeClock<R> {
     }
 }
 
-impl<R: time::Clock> Clock for NodeClock<R> {
-    ghost did_tell = { λ c tick. Unit {0} };
+impl<R: SystemClock> Clock for NodeClock<R> {
+    ghost did_tell = { λ c tick. (tick ≡ 2 ^ 64 - 1) ⊎ IsTickRead (R.did_read c.rt) tick };
 
     fn now(&self) -> u64 {
         if self.has_ended.load(Ordering::SeqCst) {
             return u64::MAX;
         }
-        UnixClock::new(&self.rt).now()
+        tick_of(self.rt.read_clock())
     }
 }

@@ -1,27 +1,17 @@
 //! A wire over UDP between two addresses, and what wakes it.
-ghost use Rattle.std.specs.Prelude.{◌≡◌, ◌≤◌, ◌+◌, ◌-◌, ◌^◌, min, false, [], length, IfOk, IfSome};
-ghost use Rattle.tora_neighbour.specs.Datagrams.{failures_after};
+ghost use Rattle.std.specs.Prelude.{◌≡◌, ◌≤◌, ◌+◌, ◌-◌, ◌^◌, ◌↔◌, min, true, false, [], length, IfOk, IfSome, IsTrue};
+ghost use Rattle.tora_waking.specs.WakingWire.{IsLost, Takes, Waits};
 
 use crate::node_clock::NodeClock;
-use mio::net::UdpSocket;
-use mio::{Events, Interest, Poll, Token, Waker};
+use crate::waited_socket::{PolledSocket, WaitedSocket};
+use mio::Waker;
 use std::alloc::Global;
 use std::io;
 use std::io::ErrorKind;
 use std::marker::Model;
 use std::net::{Net, SocketAddr};
-use std::time::Clock;
-use tora_neighbour::{Wire, WireError};
+use tora_neighbour::{SystemClock, Wire, WireError};
 use tora_node::Wake;
-
-/// What the socket is registered under.
-const SOCKET: Token = Token(0);
-
-/// What the wake-up is registered under.
-const WAKE_UP: Token = Token(1);
-
-/// How many events a wait gives at most: that of the socket, and that of the wake-up.
-const MOST_EVENTS: usize = 2;
 
 /// Ends the wait of the wire that it was made with, and the clock of the node with its core. A wake-up that fails is passed over.
 #[derive(Drop)]
@@ -30,7 +20,7 @@ pub struct SocketWaker<'a, R> {
     clock: &'a NodeClock<R>,
 }
 
-impl<'a, R: Clock> Wake for SocketWaker<'a, R> {
+impl<'a, R: SystemClock> Wake for SocketWaker<'a, R> {
     fn wake(&self) {
         let _ = self.waker.wake();
     }
@@ -50,10 +40,8 @@ impl<'a, R: Clock> Wake for SocketWaker<'a, R> {
 /// A send waits for nothing, and one that takes fewer bytes than it is given has failed. Where the system has no room for the
 /// datagram, or no way leads to the other end, as long as an interface is down, the datagram is lost, and the call has not failed.
 #[derive(Drop)]
-pub struct WakingWire<'a, R> {
-    poll: Poll,
-    events: Events,
-    socket: UdpSocket,
+pub struct WakingWire<'a, R, S = PolledSocket> {
+    socket: S,
     remote: SocketAddr,
     clock: &'a NodeClock<R>,
     /// Whether a datagram may have come of which no further event tells.
@@ -61,17 +49,19 @@ pub struct WakingWire<'a, R> {
     failures: u64,
 }
 
-impl<'a, R> Model for WakingWire<'a, R> {
-    ghost use Rattle.std.specs.Prelude.{ℕ};
+impl<'a, R, S> Model for WakingWire<'a, R, S> {
+    ghost use Rattle.tora_waking.specs.WakingWire.{WireView};
 
-    ghost Value = { ℕ };
+    ghost Value = { WireView S };
 
-    ghost view = { λ w. w.failures };
+    ghost view = { λ w. record { socket = w.socket; remote = w.remote; has_more = w.has_more; failures = w.failures } };
 }
 
 /// Whether a datagram that could not be sent for this reason is lost as the network loses datagrams: the system has no room for it
 /// now, or no way leads to the other end for now.
-fn is_lost(kind: ErrorKind) -> bool {
+fn is_lost(kind: ErrorKind) -> bool
+    ensures { IsTrue result ↔ IsLost kind }
+{
     matches!(
         kind,
         ErrorKind::WouldBlock
@@ -81,7 +71,7 @@ fn is_lost(kind: ErrorKind) -> bool {
     )
 }
 
-impl<'a, R: Clock> WakingWire<'a, R> {
+impl<'a, R: SystemClock> WakingWire<'a, R> {
     /// Binds the local address, and sends to the remote one. The socket is not connected. `clock` is that of the node, and tells when a
     /// tick begins; the waker ends it. It takes memory once.
     pub fn bind<N: Net>(
@@ -91,17 +81,12 @@ impl<'a, R: Clock> WakingWire<'a, R> {
         local: SocketAddr,
         remote: SocketAddr,
     ) -> io::Result<(WakingWire<'a, R>, SocketWaker<'a, R>)>
-        ensures { IfOk result (λ made. made.0 ≡ 0) }
+        ensures failures { IfOk result (λ made. made.0.failures ≡ 0) }
+        ensures remote { IfOk result (λ made. made.0.remote ≡ remote) }
+        ensures has_more { IfOk result (λ made. made.0.has_more ≡ true) }
     {
-        let mut socket = UdpSocket::bind(net, local)?;
-        let poll = Poll::new(net)?;
-        let events = Events::with_capacity(alloc, MOST_EVENTS)?;
-        poll.registry()
-            .register(&mut socket, SOCKET, Interest::READABLE)?;
-        let waker = Waker::new(poll.registry(), WAKE_UP)?;
+        let (socket, waker) = PolledSocket::bind(net, alloc, local)?;
         let wire = WakingWire {
-            poll,
-            events,
             socket,
             remote,
             clock,
@@ -115,20 +100,22 @@ impl<'a, R: Clock> WakingWire<'a, R> {
     pub fn local_addr(&self) -> io::Result<SocketAddr> {
         self.socket.local_addr()
     }
+}
 
+impl<'a, R: SystemClock, S: WaitedSocket> WakingWire<'a, R, S> {
     /// Counts a call that has failed.
     fn count(&mut self)
-        ensures { self.new ≡ min (self.old + 1) (2 ^ 64 - 1) }
+        ensures { self.new ≡ record self.old { failures = min (self.old.failures + 1) (2 ^ 64 - 1) } }
     {
         self.failures = self.failures.saturating_add(1);
     }
 
     /// A datagram that has come, if there is one.
     fn take(&mut self, buf: &mut [u8]) -> Result<Option<usize>, WireError>
-        ensures failures { self.new ≡ failures_after result self.old }
+        ensures takes { Takes S.did_receive_from self.old result buf.new self.new }
         ensures count { IfOk result (λ n. IfSome n (λ k. k ≤ length buf.old)) }
     {
-        match self.socket.recv_from(buf) {
+        match self.socket.receive_datagram(buf) {
             Ok((count, _)) => Ok(Some(count)),
             Err(error) => match error.kind() {
                 ErrorKind::WouldBlock => {
@@ -144,13 +131,18 @@ impl<'a, R: Clock> WakingWire<'a, R> {
         }
     }
 
-    /// Waits for a datagram or a wake-up, and answers whether a datagram may have come.
-    fn wait(&mut self) -> Result<bool, WireError>
-        ensures failures { self.new ≡ failures_after result self.old }
+    /// Waits for a datagram or a wake-up, and then takes a datagram where one may have come.
+    fn wait(&mut self, buf: &mut [u8]) -> Result<Option<usize>, WireError>
+        ensures waits { Waits S.did_receive_from S.did_wait self.old result buf.new self.new }
+        ensures count { IfOk result (λ n. IfSome n (λ k. k ≤ length buf.old)) }
     {
         let longest = self.clock.until_next_tick();
-        match self.poll.poll(&mut self.events, Some(longest)) {
-            Ok(()) => Ok(self.events.iter().any(|event| event.token() == SOCKET)),
+        match self.socket.wait(longest) {
+            Ok(true) => {
+                self.has_more = true;
+                self.take(buf)
+            }
+            Ok(false) => Ok(None),
             Err(_) => {
                 self.count();
                 Err(WireError)
@@ -159,24 +151,34 @@ impl<'a, R: Clock> WakingWire<'a, R> {
     }
 }
 
-impl<'a, R: Clock> Wire for WakingWire<'a, R> {
+impl<'a, R: SystemClock, S: WaitedSocket> Wire for WakingWire<'a, R, S> {
+    ghost use Rattle.tora_waking.specs.WakingWire.{SendsTo, ReceivesFrom};
+
     ghost tells = { λ w. false };
 
     ghost coming = { λ w. [] };
 
     ghost tries = { λ w. [] };
 
-    ghost failures = { λ w. w };
+    ghost failures = { λ w. w.failures };
 
-    ghost did_send = { λ w bytes answer after. Unit {0} };
+    ghost did_send = { λ w bytes answer after. SendsTo S.did_send_to w bytes answer after };
 
-    ghost did_receive = { λ w answer buffer after. Unit {0} };
+    ghost did_receive = { λ w answer buffer after. ReceivesFrom S.did_receive_from S.did_wait w answer buffer after };
 
     fn send(&mut self, bytes: &[u8]) -> Result<(), WireError> {
-        match self.socket.send_to(bytes, self.remote) {
-            Ok(count) if count == bytes.len() => Ok(()),
-            Err(error) if is_lost(error.kind()) => Ok(()),
-            _ => {
+        match self.socket.send_datagram(bytes, self.remote) {
+            Ok(count) => {
+                if count == bytes.len() {
+                    return Ok(());
+                }
+                self.count();
+                Err(WireError)
+            }
+            Err(error) => {
+                if is_lost(error.kind()) {
+                    return Ok(());
+                }
                 self.count();
                 Err(WireError)
             }
@@ -185,15 +187,11 @@ impl<'a, R: Clock> Wire for WakingWire<'a, R> {
 
     fn receive(&mut self, buf: &mut [u8]) -> Result<Option<usize>, WireError> {
         if self.has_more {
-            match self.take(buf) {
-                Ok(None) if !self.has_more => {}
-                taken => return taken,
+            let taken = self.take(buf);
+            if self.has_more {
+                return taken;
             }
         }
-        if !self.wait()? {
-            return Ok(None);
-        }
-        self.has_more = true;
-        self.take(buf)
+        self.wait(buf)
     }
 }

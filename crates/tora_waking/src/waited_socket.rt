@@ -1,0 +1,102 @@
+//! Sockets that are waited for, whose calls contracts tell.
+ghost use Rattle.std.specs.Prelude.{◌≤◌, ℕ, Bool, List, Result, IfOk, length};
+ghost use Rattle.std.specs.declared.io.Error.{Error};
+ghost use Rattle.std.specs.declared.net.SocketAddr.{SocketAddr as Address};
+
+use mio::net::UdpSocket;
+use mio::{Events, Interest, Poll, Token, Waker};
+use std::alloc::Global;
+use std::io;
+use std::net::{Net, SocketAddr};
+use std::time::Duration;
+
+/// What the socket is registered under.
+const SOCKET: Token = Token(0);
+
+/// What the wake-up is registered under.
+const WAKE_UP: Token = Token(1);
+
+/// How many events a wait gives at most: that of the socket, and that of the wake-up.
+const MOST_EVENTS: usize = 2;
+
+/// A socket for datagrams that is waited for, whose calls contracts tell: what each was given, how it was answered, and the socket
+/// after it. Only a real call gives one.
+pub trait WaitedSocket {
+    /// What sending a datagram made of it: bytes, address, answer, socket after it.
+    ghost did_send_to: { Self → List ℕ → Address → Result ℕ Error → Self → Type 0 };
+
+    /// What receiving a datagram made of it: buffer, answer, new buffer, socket after it.
+    ghost did_receive_from: { Self → List ℕ → Result (ℕ × Address) Error → List ℕ → Self → Type 0 };
+
+    /// What waiting made of it: whether a datagram may have come, and the socket after it.
+    ghost did_wait: { Self → Result Bool Error → Self → Type 0 };
+
+    /// Sends a datagram to an address, and answers how many of its bytes.
+    fn send_datagram(&mut self, bytes: &[u8], to: SocketAddr) -> io::Result<usize>
+        ensures { did_send_to self.old bytes.now to result self.new };
+
+    /// Receives a datagram into the front of a buffer, cut to it, and answers how many bytes and from where. It waits for none.
+    fn receive_datagram(&mut self, buf: &mut [u8]) -> io::Result<(usize, SocketAddr)>
+        ensures call { did_receive_from self.old buf.old result buf.new self.new }
+        ensures count { IfOk result (λ came. came.0 ≤ length buf.old) };
+
+    /// Waits for a datagram or a wake-up, so long at most. Answers whether a datagram may have come.
+    fn wait(&mut self, longest: Duration) -> io::Result<bool>
+        ensures { did_wait self.old result self.new };
+}
+
+/// A UDP socket, and what tells that a datagram has come or a wake-up.
+#[derive(Drop)]
+pub struct PolledSocket {
+    poll: Poll,
+    events: Events,
+    socket: UdpSocket,
+}
+
+impl PolledSocket {
+    /// Binds an address. What the waker wakes is a wait for this socket.
+    pub(crate) fn bind<N: Net>(
+        net: &N,
+        alloc: Global,
+        local: SocketAddr,
+    ) -> io::Result<(PolledSocket, Waker)> {
+        let mut socket = UdpSocket::bind(net, local)?;
+        let poll = Poll::new(net)?;
+        let events = Events::with_capacity(alloc, MOST_EVENTS)?;
+        poll.registry()
+            .register(&mut socket, SOCKET, Interest::READABLE)?;
+        let waker = Waker::new(poll.registry(), WAKE_UP)?;
+        let polled = PolledSocket {
+            poll,
+            events,
+            socket,
+        };
+        Ok((polled, waker))
+    }
+
+    /// The address at which datagrams come, with the port that the system gave where none was asked for.
+    pub fn local_addr(&self) -> io::Result<SocketAddr> {
+        self.socket.local_addr()
+    }
+}
+
+impl WaitedSocket for PolledSocket {
+    ghost did_send_to = { λ socket bytes to answer after. Unit {0} };
+
+    ghost did_receive_from = { λ socket buffer answer bytes after. Unit {0} };
+
+    ghost did_wait = { λ socket answer after. Unit {0} };
+
+    fn send_datagram(&mut self, bytes: &[u8], to: SocketAddr) -> io::Result<usize> {
+        self.socket.send_to(bytes, to)
+    }
+
+    fn receive_datagram(&mut self, buf: &mut [u8]) -> io::Result<(usize, SocketAddr)> {
+        self.socket.recv_from(buf)
+    }
+
+    fn wait(&mut self, longest: Duration) -> io::Result<bool> {
+        self.poll.poll(&mut self.events, Some(longest))?;
+        Ok(self.events.iter().any(|event| event.token() == SOCKET))
+    }
+}
