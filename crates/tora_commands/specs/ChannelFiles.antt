@@ -1,11 +1,13 @@
 -- What a channel file says.
-use Rattle.std.specs.Prelude.{◌≡◌, ◌⊎◌, ℕ, Bool, List, Option, Ok}
+use Rattle.std.specs.Prelude.{◌≡◌, ◌⊎◌, ℕ, Bool, List, Option, Some, Result, Ok, Err}
+use Rattle.std.specs.declared.io.Error.{Error}
 use Rattle.tora_channel.specs.declared.line.ChannelLine.{ChannelLine}
 use Rattle.tora_channel.specs.TableOrder.{IsTableOf}
 use Rattle.tora_channel.specs.TableText.{channel_lines_of}
 use Rattle.tora_script.specs.declared.setup.Setup.{Setup}
 use Rattle.tora_script.specs.SimulationText.{rules_with}
-use Rattle.tora_simulate.specs.Endings.{IsUnopened, EndsTraced}
+use Rattle.tora_simulate.specs.Endings.{EndsSimulated}
+use Rattle.tora_simulate.specs.Paths.{IsRead, IsUnread, IsFailed}
 
 -- These bytes are the lines of a table.
 pub record IsTableText (bytes : List ℕ) (table : List ChannelLine) : Type 0 where
@@ -13,7 +15,30 @@ pub record IsTableText (bytes : List ℕ) (table : List ChannelLine) : Type 0 wh
   pub read : channel_lines_of bytes ≡ Ok lines
   pub ordered : IsTableOf lines table
 
--- A channel file was read, and the simulation over its table ended; or it could not be read, and nothing was written.
-abbrev pub EndsFiled : {R W : Type 0} → (R → Option (List ℕ)) → Setup → (W → Option (List ℕ)) → (W → Bool → W → Type 0) → W → W → ℕ → Type 0
-EndsFiled remaining setup contents did_flush old new status =
-    ((bytes : List ℕ) × (table : List ChannelLine) × IsTableText bytes table × EndsTraced remaining (rules_with setup table) contents did_flush old new status) ⊎ IsUnopened old new status
+-- The bytes that were read from the file are the lines of a table.
+abbrev pub IsTableFile : {R : Type 0} → (Result R Error → Type 0) → (R → Result (List ℕ) Error → Type 0) → (R → Option (List ℕ)) → List ChannelLine → Type 0
+IsTableFile opened did_read remaining table = (bytes : List ℕ) × IsRead opened did_read remaining bytes × IsTableText bytes table
+
+-- A line of the bytes that were read from the file is none.
+pub record IsNoTableText {R : Type 0} (opened : Result R Error → Type 0) (did_read : R → Result (List ℕ) Error → Type 0) (remaining : R → Option (List ℕ)) (status : ℕ) : Type 0 where
+  pub bytes : List ℕ
+  pub file : IsRead opened did_read remaining bytes
+  pub line : ℕ
+  pub first : channel_lines_of bytes ≡ Err line
+  pub status_is : status ≡ 1
+
+-- Opening or reading the file gave an error, a line is none, or memory was refused.
+abbrev pub IsNoTable : {R : Type 0} → (Result R Error → Type 0) → (R → Result (List ℕ) Error → Type 0) → (R → Option (List ℕ)) → ℕ → Type 0
+IsNoTable opened did_read remaining status = IsFailed (IsUnread opened did_read) status ⊎ (IsNoTableText opened did_read remaining status ⊎ (status ≡ 5))
+
+-- The trace would take the place of the channel file.
+pub record IsTracePlace (path : List ℕ) (trace : Option (List ℕ)) (status : ℕ) : Type 0 where
+  pub same : trace ≡ Some path
+  pub status_is : status ≡ 1
+
+-- The channel file at a path was read, and the simulation over its table ended; or there was no table, and nothing was written.
+abbrev pub EndsFiled : {R W : Type 0} → (List ℕ → Result R Error → Type 0) → (List ℕ → Result R Error → Type 0) → (R → Result (List ℕ) Error → Type 0) → (R → Option (List ℕ)) → Setup → (W → Option (List ℕ)) → (W → Bool → W → Type 0) → List ℕ → List ℕ → Option (List ℕ) → W → W → ℕ → Type 0
+EndsFiled did_open did_create did_read remaining setup contents did_flush channel_path path trace old new status =
+    ((table : List ChannelLine) × IsTableFile (did_open channel_path) did_read remaining table
+    × EndsSimulated did_open did_create remaining (rules_with setup table) contents did_flush path trace old new status)
+    ⊎ ((IsNoTable (did_open channel_path) did_read remaining status ⊎ IsTracePlace channel_path trace status) × (new ≡ old))

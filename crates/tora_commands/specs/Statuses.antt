@@ -1,10 +1,17 @@
--- The exit statuses of a node.
-use Rattle.std.specs.Prelude.{◌≡◌, ◌⊎◌, ℕ, Bool, true, false, Result, Ok, Err}
+-- The exit statuses of a node, and how it ends.
+use Rattle.std.specs.Prelude.{◌≡◌, ◌≢◌, ◌⊎◌, ℕ, Bool, true, false, List, length, Option, Some, None, Result, Ok, Err}
+use Rattle.std.specs.declared.io.Error.{Error}
+use Rattle.toml.specs.Data.{Members}
+use Rattle.toml.specs.Parse.{parse_document}
 use Rattle.tora_core.specs.CoreRun.{CoreView, first_core_of}
-use Rattle.tora_config.specs.NodeConfig.{IsNodeConfig, peers_of}
+use Rattle.tora_config.specs.NodeConfig.{IsNodeConfig, IsWritten, peers_of}
+use Rattle.tora_config.specs.Reading.{Fails, IsNoToml, Reads, configuration_in}
+use Rattle.tora_config.specs.Ways.{WaySaid, ways_in}
 use Rattle.tora_config.specs.declared.NodeConfig.{NodeConfig}
-use Rattle.tora_node.specs.NodeRuns.{EndedView, IsRunOf}
-use Rattle.tora_node.specs.LinkRuns.{AreFaultless, IsCause, links_of}
+use Rattle.tora_config.specs.declared.fault.ConfigError.{ConfigError}
+use Rattle.tora_config.specs.declared.fault.ConfigError.TheVariants.{Memory as NoRoom}
+use Rattle.tora_node.specs.NodeRuns.{EndedView}
+use Rattle.tora_simulate.specs.Paths.{IsRead, IsUnread, IsFailed}
 use Rattle.tora_commands.specs.declared.node_command.Fault.{Fault as NodeFault}
 use Rattle.tora_commands.specs.declared.node_command.Fault.TheVariants.{Memory as NoMemory, Config as NoConfig, Socket as NoSocket, Life as NoLife}
 use Rattle.tora_node.specs.declared.fault.NodeError.{NodeError}
@@ -30,20 +37,90 @@ status_of_node (Err Node.Output) = 1
 abbrev pub core_of : NodeConfig → CoreView
 core_of config = first_core_of config.erasure config.node (peers_of config.links.items) config.dests.items
 
--- What `run_node` answers of a node that began with this core: without a fault, its core is the run of items and each link had a thread
--- without one; else it is a fault of the start, or the first one of what its threads came to
-abbrev pub IsEndOf : CoreView → Result EndedView NodeError → Type 0
-IsEndOf first (Ok ended) = IsRunOf first ended.core × AreFaultless (links_of first) ended.tallies
-IsEndOf first (Err error) = IsCause first error
+-- ---- the configuration of a node
 
--- the node of a configuration ran, and ended so
-pub record RanAndEnded (status : ℕ) : Type 0 where
-  pub config : NodeConfig
-  pub is : IsNodeConfig config
+-- What `read_config` says of a text whose configuration is this one.
+pub record IsConfigOf (text : List ℕ) (config : NodeConfig) : Type 0 where
+  pub range : IsNodeConfig config
+  pub written : (table : Members) × (parse_document text ≡ Some table) × IsWritten table config
+  pub exact : (table : Members) → parse_document text ≡ Some table → Reads (Ok config) (configuration_in table)
+
+-- an error that isn't want of memory
+abbrev pub IsFaulty : ConfigError → Type 0
+IsFaulty NoRoom = ⊥
+IsFaulty _ = Unit {0}
+
+-- `read_config` answers this error of the text.
+pub record IsNoConfig (text : List ℕ) (status : ℕ) : Type 0 where
+  pub error : ConfigError
+  pub is : IsFaulty error
+  pub exact : (table : Members) → parse_document text ≡ Some table → Fails error (configuration_in table)
+  pub syntax : parse_document text ≡ None → IsNoToml {X = NodeConfig} (Err error)
+  pub status_is : status ≡ 1
+
+-- `read_ways` answers this error of the text.
+pub record HasNoWays (text : List ℕ) (status : ℕ) : Type 0 where
+  pub error : ConfigError
+  pub is : IsFaulty error
+  pub exact : (table : Members) → parse_document text ≡ Some table → Fails error (ways_in table)
+  pub status_is : status ≡ 1
+
+-- `read_ways` answers so many ways of the text.
+pub record HasWays (text : List ℕ) (count : ℕ) : Type 0 where
+  pub ways : List WaySaid
+  pub exact : (table : Members) → parse_document text ≡ Some table → ways_in table ≡ Ok ways
+  pub count_is : length ways ≡ count
+
+-- There are not as many ways as links.
+pub record IsUneven (text : List ℕ) (config : NodeConfig) (status : ℕ) : Type 0 where
+  pub count : ℕ
+  pub ways : HasWays text count
+  pub uneven : count ≢ length config.links.items
+  pub status_is : status ≡ 1
+
+-- Opening the file with the key of a link gave an error, or it gave a file that can't be read or has no key.
+pub record HasNoKey {R : Type 0} (did_open : List ℕ → Result R Error → Type 0) (status : ℕ) : Type 0 where
+  pub path : List ℕ
+  pub file : Result R Error
+  pub opens : did_open path file
+  pub status_is : status ≡ 1
+
+-- the text says no configuration, or not how the datagrams go, or a key is none; or memory was refused
+abbrev pub IsRefused : {R : Type 0} → (List ℕ → Result R Error → Type 0) → List ℕ → ℕ → Type 0
+IsRefused did_open text status =
+    IsNoConfig text status
+    ⊎ (((config : NodeConfig) × IsConfigOf text config × IsUneven text config status)
+    ⊎ (HasNoWays text status ⊎ (HasNoKey did_open status ⊎ (status ≡ 5))))
+
+-- Opening or reading the file at a path gave an error, or what was read is refused.
+abbrev pub IsUnconfigured : {R : Type 0} → (List ℕ → Result R Error → Type 0) → (R → Result (List ℕ) Error → Type 0) → (R → Option (List ℕ)) → List ℕ → ℕ → Type 0
+IsUnconfigured did_open did_read remaining path status =
+    IsFailed (IsUnread (did_open path) did_read) status
+    ⊎ ((text : List ℕ) × IsRead (did_open path) did_read remaining text × IsRefused did_open text status)
+
+-- Opening a path gave a reader, and the bytes that reading it to its end gave say this configuration.
+pub record IsConfigured {R : Type 0} (did_open : List ℕ → Result R Error → Type 0) (did_read : R → Result (List ℕ) Error → Type 0) (remaining : R → Option (List ℕ)) (path : List ℕ) (config : NodeConfig) : Type 0 where
+  pub text : List ℕ
+  pub read : IsRead (did_open path) did_read remaining text
+  pub says : IsConfigOf text config
+
+-- ---- how a node ends
+
+-- a socket can't be bound, a life file can't be opened, or memory was refused
+abbrev pub IsUnstarted : ℕ → Type 0
+IsUnstarted status = (status ≡ 3) ⊎ ((status ≡ 4) ⊎ (status ≡ 5))
+
+-- A node ran and answered so, and the status is that of its answer.
+pub record RanAndEnded (answers : Result EndedView NodeError → Type 0) (status : ℕ) : Type 0 where
   pub ended : Result EndedView NodeError
-  pub end_is : IsEndOf (core_of config) ended
+  pub answer : answers ended
   pub status_is : status ≡ status_of_node ended
 
--- the status of a node that was not started for a fault, whose configuration was only read, or that ran and ended
-abbrev pub EndsNode : Bool → ℕ → Type 0
-EndsNode is_check status = ((fault : NodeFault) × (status ≡ status_of_fault fault)) ⊎ (((is_check ≡ true) × (status ≡ 0)) ⊎ ((is_check ≡ false) × RanAndEnded status))
+-- A node whose configuration is at a path ends: without one; with 0 where it is only read; before it is started; or as `run_node` answers of the node of the configuration.
+-- Nothing is written where it did not run.
+abbrev pub EndsNode : {R W : Type 0} → Bool → (List ℕ → Result R Error → Type 0) → (R → Result (List ℕ) Error → Type 0) → (R → Option (List ℕ)) → List ℕ → (NodeConfig → Result EndedView NodeError → Type 0) → W → W → ℕ → Type 0
+EndsNode is_check did_open did_read remaining path answers old new status =
+    (IsUnconfigured did_open did_read remaining path status × (new ≡ old))
+    ⊎ ((config : NodeConfig) × IsConfigured did_open did_read remaining path config
+    × (((is_check ≡ true) × (status ≡ 0) × (new ≡ old))
+    ⊎ ((is_check ≡ false) × ((IsUnstarted status × (new ≡ old)) ⊎ RanAndEnded (answers config) status))))

@@ -1,5 +1,4 @@
 //! `tora sim --progress FILE`: a simulation of a file of lines, with a bar.
-ghost use Rattle.std.specs.Prelude.{◌≡◌, ◌⊎◌};
 ghost use Rattle.std.specs.Process.{exit_status};
 ghost use Rattle.tora_arq.specs.Settings.{IsTimes};
 ghost use Rattle.tora_channel.specs.Table.{lines_of};
@@ -9,16 +8,15 @@ ghost use Rattle.tora_simulate.specs.Endings.{EndsFile};
 use crate::bar::{Paced, Wiping};
 use crate::progress::rounds_of;
 use crate::sim_command::{refuse, run_over};
-use std::fs;
 use std::process::ExitCode;
-use std::rt::Files;
 use std::time::Clock;
 use tora_channel::ChannelTable;
 use tora_lines::Output;
 use tora_script::{Setup, Simulator};
+use tora_simulate::Paths;
 
 /// Simulates the lines of the file at a path as `sim_command::run` does, and draws on standard error how far it is.
-pub fn run<S: Simulator, T: Files + AllocGlobal + Eprint + Clock, W: Output>(
+pub fn run<S: Simulator, T: Paths + AllocGlobal + Eprint + Clock, W: Output>(
     rt: &T,
     setup: Setup,
     table: ChannelTable,
@@ -27,10 +25,10 @@ pub fn run<S: Simulator, T: Files + AllocGlobal + Eprint + Clock, W: Output>(
     writer: &mut W,
 ) -> ExitCode
     requires { IsTimes setup.times }
-    ensures { EndsFile T.File.remaining (rules_with setup (lines_of table)) W.contents W.did_flush writer.old writer.new (exit_status result) }
+    ensures { EndsFile (T.did_open rt.now) T.File.remaining (rules_with setup (lines_of table)) W.contents W.did_flush path.now writer.old writer.new (exit_status result) }
 {
     let total = rounds_of(rt, path);
-    let file = match fs::open(rt, path) {
+    let file = match rt.open_path(path) {
         Ok(file) => file,
         Err(error) => return refuse(rt, path, &error),
     };

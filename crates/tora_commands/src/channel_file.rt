@@ -1,16 +1,15 @@
 //! `--channel-file` of `tora sim`.
-ghost use Rattle.std.specs.Prelude.{◌≡◌, ◌⊎◌, List, [], ℕ, None, IfOk, IfErr};
+ghost use Rattle.std.specs.Prelude.{◌≡◌, [], None, IfOk, IfErr};
 ghost use Rattle.std.specs.Process.{exit_status};
 ghost use Rattle.tora_channel.specs.Table.{lines_of};
-ghost use Rattle.tora_commands.specs.ChannelFiles.{IsTableText};
+ghost use Rattle.tora_commands.specs.ChannelFiles.{IsTableFile, IsNoTable};
 
 use crate::hashing::digest;
 use crate::sim_command::refuse;
 use crate::{INPUT, MEMORY, stop};
-use std::fs;
 use std::process::ExitCode;
-use std::rt::Files;
 use tora_channel::{ChannelTable, LineCause, TableError, channel_table};
+use tora_simulate::{Paths, bytes_at};
 
 /// What a channel file says: its table, and the SHA-256 of its bytes as 64 hexadecimal digits. Without a file there is no line and
 /// no digest.
@@ -46,14 +45,14 @@ fn refuse_line<T: Eprint>(rt: &T, path: &str, number: u64, cause: LineCause) -> 
 ///
 /// # Errors
 /// The status 1 where the file can't be read, or a line is none, and 5 where memory was refused.
-pub(crate) fn channel_file<T: Files + AllocGlobal + Eprint>(
+pub(crate) fn channel_file<T: Paths + AllocGlobal + Eprint>(
     rt: &T,
     path: &str,
 ) -> Result<ChannelFile, ExitCode>
-    ensures table { IfOk result (λ file. (bytes : List ℕ) × IsTableText bytes (lines_of file.table)) }
-    ensures status { IfErr result (λ code. (exit_status code ≡ 1) ⊎ (exit_status code ≡ 5)) }
+    ensures table { IfOk result (λ file. IsTableFile (T.did_open rt.now path.now) T.did_read T.File.remaining (lines_of file.table)) }
+    ensures refused { IfErr result (λ code. IsNoTable (T.did_open rt.now path.now) T.did_read T.File.remaining (exit_status code)) }
 {
-    let bytes = match fs::read(rt, path) {
+    let bytes = match bytes_at(rt, rt.alloc(), path) {
         Ok(bytes) => bytes,
         Err(error) => return Err(refuse(rt, path, &error)),
     };

@@ -1,5 +1,6 @@
 //! Files with keys.
-ghost use Rattle.std.specs.Prelude.{◌≡◌};
+ghost use Rattle.std.specs.Prelude.{◌≡◌, IfErr};
+ghost use Rattle.tora_commands.specs.Statuses.{status_of_fault, HasNoKey};
 
 use crate::node_command::{Fault, say};
 use std::fmt::Display;
@@ -9,7 +10,7 @@ use std::io::Read;
 use std::os::unix::fs::PermissionsExt;
 use std::rt::Files;
 use tora_keyed::{Key, LONGEST_KEY_FILE, key_in, overwrite};
-use tora_simulate::tell_at;
+use tora_simulate::{Paths, tell_at};
 
 /// The permissions of a file that its group or others may read.
 const READ_BY_OTHERS: u32 = 0o044;
@@ -50,7 +51,12 @@ fn warn_of_readers(rt: &impl Eprint, file: &File, path: &str) {
 
 /// The key in the file at a path. What is wrong is said on standard error, and never what the file holds. The room into which the file
 /// was read is overwritten at the end.
-pub(crate) fn key_at<R: Files<File = File> + Eprint>(rt: &R, path: &str) -> Result<Key, Fault> {
+pub(crate) fn key_at<R: Paths + Files<File = File> + Eprint>(
+    rt: &R,
+    path: &str,
+) -> Result<Key, Fault>
+    ensures { IfErr result (λ fault. HasNoKey (R.did_open rt.now) (status_of_fault fault)) }
+{
     let mut room = [0; LONGEST_KEY_FILE + 1];
     let key = read_key(rt, path, &mut room);
     overwrite(&mut room);
@@ -58,12 +64,14 @@ pub(crate) fn key_at<R: Files<File = File> + Eprint>(rt: &R, path: &str) -> Resu
 }
 
 /// Reads the file at a path into a room, and makes the key that it says.
-fn read_key<R: Files<File = File> + Eprint>(
+fn read_key<R: Paths + Files<File = File> + Eprint>(
     rt: &R,
     path: &str,
     room: &mut [u8],
-) -> Result<Key, Fault> {
-    let mut file = match File::open(rt, path) {
+) -> Result<Key, Fault>
+    ensures { IfErr result (λ fault. HasNoKey (R.did_open rt.now) (status_of_fault fault)) }
+{
+    let mut file = match rt.open_path(path) {
         Ok(file) => file,
         Err(error) => return Err(tell_fault(rt, path, &error)),
     };

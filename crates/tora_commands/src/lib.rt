@@ -5,15 +5,15 @@
 //! hands these on.
 #![tactic(auto)]
 
-ghost use Rattle.std.specs.Prelude.{◌≡◌, ◌≢◌, ◌⊎◌, ℕ, List, [], true, None, is_ok, IsSome, IfSome, IfOk, IfErr};
+ghost use Rattle.std.specs.Prelude.{◌≡◌, ◌≢◌, ◌⊎◌, [], true, None, is_ok, option_map, IfSome, IfOk, IfErr};
 ghost use Rattle.std.specs.Process.{exit_status};
 ghost use Rattle.clap.specs.Words.{kind_of};
 ghost use Rattle.tora_script.specs.SimulationText.{rules_over, rules_with};
 ghost use Rattle.tora_commands.specs.SetupWords.{asked_by};
 ghost use Rattle.tora_arq.specs.Settings.{IsTimes};
 ghost use Rattle.tora_channel.specs.Table.{lines_of};
-ghost use Rattle.tora_commands.specs.ChannelFiles.{IsTableText, EndsFiled};
-ghost use Rattle.tora_simulate.specs.Endings.{EndsFile, EndsTraced};
+ghost use Rattle.tora_commands.specs.ChannelFiles.{IsTableFile, IsNoTable, IsTracePlace, EndsFiled};
+ghost use Rattle.tora_simulate.specs.Endings.{EndsSimulated};
 
 mod bar;
 mod bar_command;
@@ -41,7 +41,6 @@ pub use flushing::{replay_and_flush, simulate_and_flush, simulate_told_and_flush
 pub use progress::{Progress, RoundCount};
 pub use setup_words::{SetupFault, SetupWords, asked_setup};
 use std::process::ExitCode;
-use std::rt::Files;
 use std::time::Clock;
 pub use times_word::asked_times;
 use tora_lines::Output;
@@ -50,7 +49,7 @@ use tora_sim::Sim;
 pub use tora_simulate::{
     INPUT, LIFE, MEMORY, SOCKET, USAGE, sim_command, simulate_telling_and_flush, status, stop,
 };
-use tora_simulate::{tell, tell_at};
+use tora_simulate::{Paths, tell, tell_at};
 
 /// Says which words ask for no simulation, and why.
 fn refuse_setup<T: Eprint>(rt: &T, fault: SetupFault<'_>) -> ExitCode
@@ -76,15 +75,16 @@ fn refuse_place<T: Eprint>(rt: &T, path: &str) -> ExitCode
 }
 
 /// What the channel file of these words says, or the status where it can't be read, or would be the trace's.
-fn asked_file<T: Files + AllocGlobal + Eprint>(
+fn asked_file<T: Paths + AllocGlobal + Eprint>(
     rt: &T,
     path: Option<&str>,
     trace: Option<&str>,
 ) -> Result<ChannelFile, ExitCode>
     ensures none { path.entry ≡ None → IfOk result (λ file. lines_of file.table ≡ []) }
     ensures reads { path.entry ≡ None → is_ok result ≡ true }
-    ensures some { IsSome path.entry → IfOk result (λ file. (bytes : List ℕ) × IsTableText bytes (lines_of file.table)) }
-    ensures status { IfErr result (λ code. (exit_status code ≡ 1) ⊎ (exit_status code ≡ 5)) }
+    ensures some { IfSome path.entry (λ p. IfOk result (λ file. IsTableFile (T.did_open rt.now p.now) T.did_read T.File.remaining (lines_of file.table))) }
+    ensures refused { IfSome path.entry (λ p. IfErr result (λ code.
+        IsNoTable (T.did_open rt.now p.now) T.did_read T.File.remaining (exit_status code) ⊎ IsTracePlace p.now (option_map (λ t. t.now) trace.entry) (exit_status code))) }
 {
     let Some(path) = path else {
         return Ok(ChannelFile::none());
@@ -97,7 +97,7 @@ fn asked_file<T: Files + AllocGlobal + Eprint>(
 
 /// Simulates the lines of the file at a path, made with this and over the channel of a channel file, and writes the trace where a
 /// path is given for it; with a bar or without.
-fn simulate_over<T: Files + AllocGlobal + Eprint + Clock, W: Output>(
+fn simulate_over<T: Paths + AllocGlobal + Eprint + Clock, W: Output>(
     rt: &T,
     setup: Setup,
     file: ChannelFile,
@@ -107,8 +107,8 @@ fn simulate_over<T: Files + AllocGlobal + Eprint + Clock, W: Output>(
     writer: &mut W,
 ) -> ExitCode
     requires { IsTimes setup.times }
-    ensures ends { EndsTraced T.File.remaining (rules_with setup (lines_of file.table)) W.contents W.did_flush writer.old writer.new (exit_status result) }
-    ensures untraced { trace.entry ≡ None → EndsFile T.File.remaining (rules_with setup (lines_of file.table)) W.contents W.did_flush writer.old writer.new (exit_status result) }
+    ensures { EndsSimulated (T.did_open rt.now) (T.did_create rt.now) T.File.remaining (rules_with setup (lines_of file.table)) W.contents W.did_flush
+        path.now (option_map (λ t. t.now) trace.entry) writer.old writer.new (exit_status result) }
 {
     let (is_verbose, has_bar) = shown;
     match trace {
@@ -126,7 +126,7 @@ fn simulate_over<T: Files + AllocGlobal + Eprint + Clock, W: Output>(
 /// Simulates the lines of the file at a path, made with what words ask for, and writes the trace where a path is given for it.
 /// Words that ask for none are a fault of usage, and nothing is written; nor is it where the channel file can't be read. What is
 /// shown on standard error: why events are refused, and a bar that tells how far the simulation is.
-pub fn simulate_file<T: Files + AllocGlobal + Eprint + Clock, W: Output>(
+pub fn simulate_file<T: Paths + AllocGlobal + Eprint + Clock, W: Output>(
     rt: &T,
     words: SetupWords<'_>,
     path: &str,
@@ -135,9 +135,12 @@ pub fn simulate_file<T: Files + AllocGlobal + Eprint + Clock, W: Output>(
     writer: &mut W,
 ) -> ExitCode
     ensures usage { asked_by words.entry ≡ None → (exit_status result ≡ 2) × (writer.new ≡ writer.old) }
-    ensures ends { words.entry.channel_file ≡ None → IfSome (asked_by words.entry) (λ s. EndsTraced T.File.remaining (rules_over s) W.contents W.did_flush writer.old writer.new (exit_status result)) }
-    ensures untraced { words.entry.channel_file ≡ None → trace.entry ≡ None → IfSome (asked_by words.entry) (λ s. EndsFile T.File.remaining (rules_over s) W.contents W.did_flush writer.old writer.new (exit_status result)) }
-    ensures filed { IsSome words.entry.channel_file → IfSome (asked_by words.entry) (λ s. EndsFiled T.File.remaining s W.contents W.did_flush writer.old writer.new (exit_status result)) }
+    ensures ends { words.entry.channel_file ≡ None → IfSome (asked_by words.entry) (λ s.
+        EndsSimulated (T.did_open rt.now) (T.did_create rt.now) T.File.remaining (rules_over s) W.contents W.did_flush
+        path.now (option_map (λ t. t.now) trace.entry) writer.old writer.new (exit_status result)) }
+    ensures filed { IfSome words.entry.channel_file (λ p. IfSome (asked_by words.entry) (λ s.
+        EndsFiled (T.did_open rt.now) (T.did_create rt.now) T.did_read T.File.remaining s W.contents W.did_flush
+        p.now path.now (option_map (λ t. t.now) trace.entry) writer.old writer.new (exit_status result))) }
 {
     let setup = match asked_setup(words) {
         Ok(setup) => setup,

@@ -1,5 +1,6 @@
 //! The wires of a node's links.
-ghost use Rattle.std.specs.Prelude.{◌≡◌, IfOk, is_some, length, map};
+ghost use Rattle.std.specs.Prelude.{◌≡◌, ◌⊎◌, IfOk, IfErr, IfSome, is_some, length, map};
+ghost use Rattle.tora_commands.specs.Statuses.{status_of_fault, HasWays, HasNoWays, HasNoKey, IsUnstarted};
 ghost use Rattle.tora_keyed.specs.Links.{over, cleared};
 
 use crate::key_file::key_at;
@@ -15,7 +16,7 @@ use std::time::Clock;
 use tora_config::{ConfigError, LinkWay, read_ways};
 use tora_keyed::{Key, LentWire, LinkWire, NoticedWire};
 use tora_neighbour::{UnixClock, Wire};
-use tora_simulate::tell_at;
+use tora_simulate::{Paths, tell_at};
 use tora_waking::{NodeClock, SocketWaker, WakingWire};
 
 /// How the datagrams of a link go, and its key: there is one just where it has a file with a key.
@@ -33,8 +34,12 @@ pub(crate) type ProgramWire<'a, R, L> = NoticedWire<'a, WakingWire<'a, &'a R>, U
 pub(crate) type ProgramWaker<'a, R> = SocketWaker<'a, &'a R>;
 
 /// The key of a link, where it has one.
-fn key_of<R: Files<File = File> + Eprint>(rt: &R, way: &LinkWay) -> Result<Option<Key>, Fault>
-    ensures { IfOk result (λ key. is_some key ≡ is_some way.now.key_file) }
+fn key_of<R: Paths + Files<File = File> + Eprint>(
+    rt: &R,
+    way: &LinkWay,
+) -> Result<Option<Key>, Fault>
+    ensures key { IfOk result (λ key. is_some key ≡ is_some way.now.key_file) }
+    ensures none { IfErr result (λ fault. HasNoKey (R.did_open rt.now) (status_of_fault fault)) }
 {
     match &way.key_file {
         Some(path) => {
@@ -47,11 +52,14 @@ fn key_of<R: Files<File = File> + Eprint>(rt: &R, way: &LinkWay) -> Result<Optio
 
 /// How the datagrams of each link go, by ascending neighbour, from the text of the configuration at a path, and the keys from
 /// their files. What is wrong is said on standard error.
-pub(crate) fn ways_in<R: Files<File = File> + AllocGlobal + Eprint>(
+pub(crate) fn ways_in<R: Paths + Files<File = File> + AllocGlobal + Eprint>(
     rt: &R,
     path: &str,
     text: &str,
-) -> Result<Vec<KeyedWay>, Fault> {
+) -> Result<Vec<KeyedWay>, Fault>
+    ensures ways { IfOk result (λ keyed. HasWays text.now (length keyed.items)) }
+    ensures fault { IfErr result (λ fault. HasNoWays text.now (status_of_fault fault) ⊎ (HasNoKey (R.did_open rt.now) (status_of_fault fault) ⊎ (status_of_fault fault ≡ 5))) }
+{
     let ways = match read_ways(rt.alloc(), text) {
         Ok(ways) => ways,
         Err(ConfigError::Memory) => return Err(say(rt, Fault::Memory)),
@@ -61,9 +69,23 @@ pub(crate) fn ways_in<R: Files<File = File> + AllocGlobal + Eprint>(
             return Err(fault);
         }
     };
+    with_keys(rt, ways)
+}
+
+/// The ways by ascending neighbour, with the keys from their files. What is wrong is said on standard error.
+fn with_keys<R: Paths + Files<File = File> + AllocGlobal + Eprint>(
+    rt: &R,
+    ways: Vec<LinkWay>,
+) -> Result<Vec<KeyedWay>, Fault>
+    ensures count { IfOk result (λ keyed. length keyed.items ≡ length ways.items) }
+    ensures fault { IfErr result (λ fault. HasNoKey (R.did_open rt.now) (status_of_fault fault) ⊎ (status_of_fault fault ≡ 5)) }
+{
     let mut keyed = Vec::new(rt.alloc());
     for way in ways {
-        let key = key_of(rt, &way)?;
+        let key = match key_of(rt, &way) {
+            Ok(key) => key,
+            Err(fault) => return Err(fault),
+        };
         let Ok(()) = keyed.push(KeyedWay { way, key }) else {
             return Err(say(rt, Fault::Memory));
         };
@@ -89,7 +111,8 @@ fn wire_of<'a, R: Net + Eprint + Clock, L: Log>(
     clock: &'a NodeClock<&'a R>,
     keyed: KeyedWay,
 ) -> Result<Woken<'a, R, L>, Fault>
-    ensures { IfOk result (λ woken. woken.0 ≡ over 0 keyed.key) }
+    ensures wire { IfOk result (λ woken. woken.0 ≡ over 0 keyed.key) }
+    ensures fault { IfErr result (λ fault. IsUnstarted (status_of_fault fault)) }
 {
     let KeyedWay { way, key } = keyed;
     match WakingWire::bind(rt, alloc, clock, way.local, way.remote) {
@@ -114,7 +137,10 @@ pub(crate) fn bind<'a, R: Net + Eprint + Clock, L: Log>(
     alloc: Global,
     clock: &'a NodeClock<&'a R>,
     ways: Vec<KeyedWay>,
-) -> Result<(Vec<ProgramWire<'a, R, L>>, Vec<ProgramWaker<'a, R>>), Fault> {
+) -> Result<(Vec<ProgramWire<'a, R, L>>, Vec<ProgramWaker<'a, R>>), Fault>
+    ensures count { IfOk result (λ bound. length bound.0.items ≡ length ways.items) }
+    ensures fault { IfErr result (λ fault. IsUnstarted (status_of_fault fault)) }
+{
     let mut wires = Vec::new(alloc);
     let mut wakers = Vec::new(alloc);
     for way in ways {
@@ -126,16 +152,18 @@ pub(crate) fn bind<'a, R: Net + Eprint + Clock, L: Log>(
     Ok((wires, wakers))
 }
 
-/// Lends each wire, in this order.
-pub(crate) fn lend<W: Wire>(alloc: Global, wires: &mut [W]) -> Result<Vec<LentWire<'_, W>>, Fault> {
+/// Lends each wire, in this order. `None` where memory was refused.
+pub(crate) fn lend<W: Wire>(alloc: Global, wires: &mut [W]) -> Option<Vec<LentWire<'_, W>>>
+    ensures { IfSome result (λ lent. map (λ l. l.wire.now) lent.items ≡ wires.old) }
+{
     let mut lent = Vec::new(alloc);
     let each = wires.iter_mut();
     for wire in each {
         let Ok(()) = lent.push(LentWire::new(wire)) else {
-            return Err(Fault::Memory);
+            return None;
         };
     }
-    Ok(lent)
+    Some(lent)
 }
 
 /// Closes each wire, once the node has ended: the last counts of its links with keys are logged, and their keys are overwritten.

@@ -1,8 +1,11 @@
 //! `tora node CONFIG`: a node over UDP and real life files.
-ghost use Rattle.std.specs.Prelude.{◌≡◌, IfOk, false};
+ghost use Rattle.std.specs.Prelude.{◌≡◌, ◌⊎◌, List, map, length, IfOk, IfErr, IfSome, Err, string_bytes};
 ghost use Rattle.std.specs.Process.{exit_status};
-ghost use Rattle.tora_commands.specs.Statuses.{core_of, status_of_node, status_of_fault, EndsNode};
+ghost use Rattle.tora_commands.specs.Statuses.{core_of, status_of_node, status_of_fault, IsConfigOf, IsNoConfig, IsConfigured, IsUnconfigured, IsUnstarted, RanAndEnded, EndsNode};
 ghost use Rattle.tora_config.specs.NodeConfig.{IsNodeConfig};
+ghost use Rattle.tora_node.specs.NewLinks.{IsOpened};
+ghost use Rattle.tora_node.specs.WholeRuns.{NodeAnswers};
+ghost use Rattle.tora_simulate.specs.Paths.{IsRead, IsUnread, IsFailed};
 
 use crate::link_wires::{KeyedWay, ProgramWaker, ProgramWire, bind, close, lend, ways_in};
 use crate::{INPUT, LIFE, MEMORY, SOCKET, stop};
@@ -18,12 +21,13 @@ use std::thread::Threads;
 use std::time::Clock;
 use std::{fs, io};
 use tora_config::{ConfigError, LinkConfig, NodeConfig, read_config};
-use tora_core::CoreError;
+use tora_core::numbers_are_put_in_order;
 use tora_height::Id;
+use tora_keyed::LentWire;
 use tora_life::{Disk, FileDisk, LifeError, Owner, Tag};
-use tora_neighbour::clock_ticks;
-use tora_node::{Config, Ended, NodeError, run_node_with_wakers};
-use tora_simulate::{tell, tell_at};
+use tora_neighbour::{ClockTicks, Ticks, Wire, clock_ticks};
+use tora_node::{Config, Ended, NodeError, Wake, run_node_with_wakers};
+use tora_simulate::{Paths, tell, tell_at, text_at};
 use tora_waking::NodeClock;
 
 /// Why a node is not started.
@@ -81,34 +85,65 @@ fn status(rt: &impl Eprint, ended: Result<Ended, NodeError>) -> ExitCode
     }
 }
 
+/// The text at a path. Why it can't be read is said on standard error.
+fn text_of<R: Paths + AllocGlobal + Eprint>(rt: &R, path: &str) -> Result<String, Fault>
+    ensures read { IfOk result (λ text. IsRead (R.did_open rt.now path.now) R.did_read R.File.remaining (string_bytes text)) }
+    ensures failed { IfErr result (λ fault. IsFailed (IsUnread (R.did_open rt.now path.now) R.did_read) (status_of_fault fault)) }
+{
+    match text_at(rt, rt.alloc(), path) {
+        Ok(text) => Ok(text),
+        Err(error) => {
+            if error.kind() == ErrorKind::OutOfMemory {
+                return Err(say(rt, Fault::Memory));
+            }
+            let fault = say(rt, Fault::Config);
+            tell_at(rt, "input: ", path, &error);
+            Err(fault)
+        }
+    }
+}
+
+/// The configuration that the text at a path says. What is wrong is said on standard error.
+fn config_of<R: AllocGlobal + Eprint>(rt: &R, path: &str, text: &str) -> Result<NodeConfig, Fault>
+    ensures says { IfOk result (IsConfigOf text.now) }
+    ensures refused { IfErr result (λ fault. IsNoConfig text.now (status_of_fault fault) ⊎ (status_of_fault fault ≡ 5)) }
+{
+    match read_config(rt.alloc(), text) {
+        Ok(config) => Ok(config),
+        Err(ConfigError::Memory) => Err(say(rt, Fault::Memory)),
+        Err(error) => {
+            let fault = say(rt, Fault::Config);
+            tell_at(rt, "input: ", path, &error);
+            Err(fault)
+        }
+    }
+}
+
 /// Reads the configuration at a path, and the keys of its links. What is wrong is said on standard error.
-fn read<R: Files<File = File> + AllocGlobal + Eprint>(
+fn read<R: Paths + Files<File = File> + AllocGlobal + Eprint>(
     rt: &R,
     path: &str,
 ) -> Result<(NodeConfig, Vec<KeyedWay>), Fault>
-    ensures { IfOk result (λ read. IsNodeConfig read.0) }
+    ensures says { IfOk result (λ read. IsConfigured (R.did_open rt.now) R.did_read ⟦<File as Read>⟧.remaining path.now read.0) }
+    ensures count { IfOk result (λ read. length read.1.items ≡ length read.0.links.items) }
+    ensures refused { IfErr result (λ fault. IsUnconfigured (R.did_open rt.now) R.did_read ⟦<File as Read>⟧.remaining path.now (status_of_fault fault)) }
 {
-    let text = match fs::read_to_string(rt, path) {
+    let text = match text_of(rt, path) {
         Ok(text) => text,
-        Err(error) if error.kind() == ErrorKind::OutOfMemory => {
-            return Err(say(rt, Fault::Memory));
-        }
-        Err(error) => {
-            let fault = say(rt, Fault::Config);
-            tell_at(rt, "input: ", path, &error);
-            return Err(fault);
-        }
+        Err(fault) => return Err(fault),
     };
-    let config = match read_config(rt.alloc(), text.as_str()) {
+    let said = text.as_str();
+    let config = match config_of(rt, path, said) {
         Ok(config) => config,
-        Err(ConfigError::Memory) => return Err(say(rt, Fault::Memory)),
-        Err(error) => {
-            let fault = say(rt, Fault::Config);
-            tell_at(rt, "input: ", path, &error);
-            return Err(fault);
-        }
+        Err(fault) => return Err(fault),
     };
-    let ways = ways_in(rt, path, text.as_str())?;
+    let ways = match ways_in(rt, path, said) {
+        Ok(ways) => ways,
+        Err(fault) => return Err(fault),
+    };
+    if ways.len() != config.links.len() {
+        return Err(say(rt, Fault::Config));
+    }
     Ok((config, ways))
 }
 
@@ -155,7 +190,10 @@ fn open<R: Files<File = File> + Eprint>(
     alloc: Global,
     folder: &str,
     links: &[LinkConfig],
-) -> Result<Vec<FileDisk>, Fault> {
+) -> Result<Vec<FileDisk>, Fault>
+    ensures count { IfOk result (λ disks. length disks.items ≡ length links.now) }
+    ensures fault { IfErr result (λ fault. IsUnstarted (status_of_fault fault)) }
+{
     let mut disks = Vec::new(alloc);
     let _ = fs::create_dir_all(rt, folder);
     for link in links {
@@ -273,20 +311,26 @@ fn finish<R: Files<File = File> + AllocGlobal + Eprint>(
 ///
 /// At the end it logs how many datagrams of each link with a key were not authentic, and overwrites the keys.
 pub fn run<
-    R: Files<File = File> + AllocGlobal + Eprint + Net + Clock + Sync,
+    'a,
+    R: Paths + Files<File = File> + AllocGlobal + Eprint + Net + Clock + Sync,
     L: Threads + Wait + Log + Sync,
     Rd: Read,
     W: Write + Send,
 >(
-    rt: &R,
-    log: &L,
+    rt: &'a R,
+    log: &'a L,
     path: &str,
     is_check: bool,
     is_verbose: bool,
     reader: &mut Rd,
     writer: &mut W,
 ) -> ExitCode
-    ensures { EndsNode is_check (exit_status result) }
+    ensures { EndsNode is_check (R.did_open rt.now) R.did_read ⟦<File as Read>⟧.remaining path.now
+        (λ config ended. (bound : List _) × (told : _) × (lent : List _) × (disks : List _) × (ticks : List _) × (map (λ l. l.wire.now) lent ≡ bound)
+        × NodeAnswers ⟦<LentWire<'a, ProgramWire<'a, R, L>> as Wire>⟧.did_send ⟦<LentWire<'a, ProgramWire<'a, R, L>> as Wire>⟧.did_receive (⟦<NodeClock<&'a R> as tora_neighbour::Clock>⟧.did_tell told)
+        ⟦<ClockTicks<'a, NodeClock<&'a R>> as Ticks>⟧.did_read (IsOpened ⟦<FileDisk as Disk>⟧.syncs ⟦<FileDisk as Disk>⟧.reads ⟦<FileDisk as Disk>⟧.writes)
+        (core_of config) lent disks ticks (Rd.remaining reader.old) ended)
+        writer.old writer.new (exit_status result) }
 {
     let alloc = rt.alloc();
     let (config, ways) = match read(rt, path) {
@@ -302,7 +346,7 @@ pub fn run<
         Ok(bound) => bound,
         Err(fault) => return code_of(fault),
     };
-    let code = run_over(
+    let code = run_bound(
         rt, log, &config, &mut wires, wakers, &clock, is_verbose, reader, writer,
     );
     close(&mut wires);
@@ -310,73 +354,107 @@ pub fn run<
 }
 
 /// Opens the life files and runs the node of a configuration over its wires, which are lent to it, and wakes its links.
-fn run_over<
+fn run_bound<
+    'a,
     R: Files<File = File> + AllocGlobal + Eprint + Net + Clock + Sync,
     L: Threads + Wait + Log + Sync,
     Rd: Read,
     W: Write + Send,
 >(
-    rt: &R,
-    log: &L,
+    rt: &'a R,
+    log: &'a L,
     config: &NodeConfig,
-    wires: &mut [ProgramWire<'_, R, L>],
-    wakers: Vec<ProgramWaker<'_, R>>,
-    clock: &NodeClock<&R>,
+    wires: &mut [ProgramWire<'a, R, L>],
+    wakers: Vec<ProgramWaker<'a, R>>,
+    clock: &'a NodeClock<&'a R>,
     is_verbose: bool,
     reader: &mut Rd,
     writer: &mut W,
 ) -> ExitCode
-    requires { IsNodeConfig config.now }
-    ensures { EndsNode false (exit_status result) }
+    requires config { IsNodeConfig config.now }
+    requires wires { length wires.now ≡ length config.now.links.items }
+    ensures { (IsUnstarted (exit_status result) × (writer.new ≡ writer.old))
+        ⊎ RanAndEnded (λ ended. (bound : List _) × (told : _) × (lent : List _) × (disks : List _) × (ticks : List _) × (map (λ l. l.wire.now) lent ≡ bound)
+        × NodeAnswers ⟦<LentWire<'a, ProgramWire<'a, R, L>> as Wire>⟧.did_send ⟦<LentWire<'a, ProgramWire<'a, R, L>> as Wire>⟧.did_receive (⟦<NodeClock<&'a R> as tora_neighbour::Clock>⟧.did_tell told)
+        ⟦<ClockTicks<'a, NodeClock<&'a R>> as Ticks>⟧.did_read (IsOpened ⟦<FileDisk as Disk>⟧.syncs ⟦<FileDisk as Disk>⟧.reads ⟦<FileDisk as Disk>⟧.writes)
+        (core_of config.now) lent disks ticks (Rd.remaining reader.old) ended) (exit_status result) }
 {
-    let alloc = rt.alloc();
-    let disks = match open(rt, alloc, config.life_dir.as_str(), config.links.as_slice()) {
+    let (alloc, folder) = (rt.alloc(), config.life_dir.as_str());
+    let disks = match open(rt, alloc, folder, config.links.as_slice()) {
         Ok(disks) => disks,
         Err(fault) => return code_of(fault),
     };
-    let node = match node_of(alloc, config) {
-        Ok(node) => node,
-        Err(fault) => return code_of(say(rt, fault)),
-    };
-    let lent = match lend(alloc, wires) {
-        Ok(lent) => lent,
-        Err(fault) => return code_of(say(rt, fault)),
-    };
-    let count = node.peers().len();
-    if lent.len() != count || disks.len() != count {
-        return code_of(say(rt, Fault::Config));
-    }
-    let Some(ticks) = clock_ticks(alloc, clock, count) else {
-        return code_of(say(rt, Fault::Memory));
-    };
-    let ended = run_node_with_wakers(
-        log, alloc, node, lent, disks, wakers, ticks, clock, reader, writer,
+    let ended = run_over(
+        log, alloc, config, wires, disks, wakers, clock, reader, writer,
     );
-    finish(rt, config.life_dir.as_str(), ended, is_verbose)
+    finish(rt, folder, ended, is_verbose)
 }
 
-/// The node of a configuration.
-fn node_of(alloc: Global, config: &NodeConfig) -> Result<Config, Fault>
-    requires { IsNodeConfig config.now }
-    ensures { IfOk result (λ node. node ≡ core_of config.now) }
+/// Runs the node of a configuration over its wires, which are lent to it, and its disks, and wakes its links. It is `Memory` where
+/// memory was refused before, and then nothing is written.
+fn run_over<
+    'a,
+    L: Threads + Wait + Log + Sync,
+    Wi: Wire + Send,
+    D: Disk + Send + Drop,
+    K: Wake + Send + Drop,
+    C: tora_neighbour::Clock + Sync,
+    Rd: Read,
+    W: Write + Send,
+>(
+    log: &L,
+    alloc: Global,
+    config: &NodeConfig,
+    wires: &'a mut [Wi],
+    disks: Vec<D>,
+    wakers: Vec<K>,
+    clock: &'a C,
+    reader: &mut Rd,
+    writer: &mut W,
+) -> Result<Ended, NodeError>
+    requires config { IsNodeConfig config.now }
+    requires wires { length wires.now ≡ length config.now.links.items }
+    requires disks { length disks.items ≡ length config.now.links.items }
+    ensures { ((result ≡ Err NodeError.Memory) × (writer.new ≡ writer.old))
+        ⊎ ((lent : List _) × (ticks : List _) × (map (λ l. l.wire.now) lent ≡ wires.old)
+        × NodeAnswers ⟦<LentWire<'a, Wi> as Wire>⟧.did_send ⟦<LentWire<'a, Wi> as Wire>⟧.did_receive (C.did_tell clock.now) ⟦<ClockTicks<'a, C> as Ticks>⟧.did_read
+        (IsOpened D.syncs D.reads D.writes) (core_of config.now) lent disks.items ticks (Rd.remaining reader.old) result) }
 {
+    let Some(node) = node_of(alloc, config) else {
+        return Err(NodeError::Memory);
+    };
+    let Some(ticks) = clock_ticks(alloc, clock, disks.len()) else {
+        return Err(NodeError::Memory);
+    };
+    let Some(lent) = lend(alloc, wires) else {
+        return Err(NodeError::Memory);
+    };
+    run_node_with_wakers(
+        log, alloc, node, lent, disks, wakers, ticks, clock, reader, writer,
+    )
+}
+
+/// The node of a configuration. `None` where memory was refused.
+fn node_of(alloc: Global, config: &NodeConfig) -> Option<Config>
+    requires { IsNodeConfig config.now }
+    ensures node { IfSome result (λ node. node ≡ core_of config.now) }
+    ensures count { IfSome result (λ node. length node.neighbours ≡ length config.now.links.items) }
+{
+    numbers_are_put_in_order();
     let Ok(peers) = config
         .links
         .iter()
         .map(|link| link.peer)
         .collect::<Vec<u32>>(alloc)
     else {
-        return Err(Fault::Memory);
+        return None;
     };
-    match Config::with_erasure(
+    Config::with_erasure(
         alloc,
         config.erasure,
         config.node,
         peers.as_slice(),
         config.dests.as_slice(),
-    ) {
-        Ok(node) => Ok(node),
-        Err(CoreError::Memory) => Err(Fault::Memory),
-        Err(_) => Err(Fault::Config),
-    }
+    )
+    .ok()
 }

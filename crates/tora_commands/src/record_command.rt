@@ -15,15 +15,14 @@ use crate::sim_command::tell;
 use crate::traced_command::{refuse_trace, traced_status};
 use crate::{INPUT, MEMORY, SetupFault, USAGE, asked_times, stop};
 use std::alloc::Global;
-use std::fs;
 use std::io::{BufWriter, Read};
 use std::process::ExitCode;
-use std::rt::Files;
 use tora_arq::Times;
 use tora_drive::{Driven, drive_recorded, greet};
 use tora_lines::{Ended, Output, Recent, ReplayError, flushed};
 use tora_script::WorldOptions;
 use tora_sim::Sim;
+use tora_simulate::Paths;
 use tora_traced::TraceOut;
 
 /// Drives a world, writes its record, and flushes the writer: `Write` where that alone fails.
@@ -80,7 +79,7 @@ pub fn run_over<T: AllocGlobal + Eprint, R: Read + Drop, W: Output, V: Output>(
 }
 
 /// Drives a world with these options, whose link ends have these times, and writes the record to the file at a path.
-fn run_with<T: Files + AllocGlobal + Eprint, R: Read + Drop, W: Output>(
+fn run_with<T: Paths + AllocGlobal + Eprint, R: Read + Drop, W: Output>(
     rt: &T,
     options: WorldOptions,
     times: Times,
@@ -89,9 +88,9 @@ fn run_with<T: Files + AllocGlobal + Eprint, R: Read + Drop, W: Output>(
     writer: &mut W,
 ) -> ExitCode
     requires { IsTimes times }
-    ensures { EndsRecordedTo options times W.contents W.did_flush (R.remaining reader) writer.old writer.new (exit_status result) }
+    ensures { EndsRecordedTo (T.did_create rt.now path.now) options times W.contents W.did_flush (R.remaining reader) writer.old writer.new (exit_status result) }
 {
-    let made = match fs::create(rt, path) {
+    let made = match rt.create_path(path) {
         Ok(made) => made,
         Err(error) => return refuse_trace(rt, path, &error),
     };
@@ -108,7 +107,7 @@ fn run_with<T: Files + AllocGlobal + Eprint, R: Read + Drop, W: Output>(
 /// It ends with the status of the drive, or with 1 where that is 0 and the record could not be written; with 1, before anything is
 /// written, where its file can't be made; and with 5 where memory was refused. A word that gives no times or no erasure is a fault of
 /// usage.
-pub fn run<T: Files + AllocGlobal + Eprint, R: Read + Drop, W: Output>(
+pub fn run<T: Paths + AllocGlobal + Eprint, R: Read + Drop, W: Output>(
     rt: &T,
     times: Option<&str>,
     erasure: Option<&str>,
@@ -120,7 +119,7 @@ pub fn run<T: Files + AllocGlobal + Eprint, R: Read + Drop, W: Output>(
     ensures times { asked_times (option_map (λ w. w.now) times.entry) ≡ None → (exit_status result ≡ 2) × (writer.new ≡ writer.old) }
     ensures erasure { asked_options is_large (option_map (λ w. w.now) erasure.entry) ≡ None → (exit_status result ≡ 2) × (writer.new ≡ writer.old) }
     ensures ends { IfSome (asked_times (option_map (λ w. w.now) times.entry)) (λ t. IfSome (asked_options is_large (option_map (λ w. w.now) erasure.entry)) (λ o.
-        EndsRecordedTo o t W.contents W.did_flush (R.remaining reader) writer.old writer.new (exit_status result))) }
+        EndsRecordedTo (T.did_create rt.now path.now) o t W.contents W.did_flush (R.remaining reader) writer.old writer.new (exit_status result))) }
 {
     let Some(times) = asked_times(times) else {
         return stop(rt, USAGE, SetupFault::Times.cause());

@@ -1,10 +1,11 @@
 //! `tora sim --trace PATH FILE`: a simulation of a file of lines, and its trace.
-ghost use Rattle.std.specs.Prelude.{◌≡◌, ◌≢◌, ◌⊎◌, is_some, Ok, IfOk, IfErr, IfSome};
+ghost use Rattle.std.specs.Prelude.{◌≡◌, ◌≢◌, ◌⊎◌, is_some, Ok, Err, IfOk, IfErr, IfSome, OnOk};
 ghost use Rattle.std.specs.Io.KnownBytes.{IsAtEnd};
 ghost use Rattle.tora_lines.specs.Flushing.{IsFlushed};
 ghost use Rattle.std.specs.Process.{exit_status};
 ghost use Rattle.tora_arq.specs.Settings.{IsTimes};
 ghost use Rattle.tora_simulate.specs.Endings.{EndsBy, EndsTraced};
+ghost use Rattle.tora_simulate.specs.Paths.{IsFailed, IsStatusOfError};
 ghost use Rattle.tora_channel.specs.Table.{lines_of};
 ghost use Rattle.tora_script.specs.SimulationText.{rules_with, SimulatesWith, IsBegunWith};
 ghost use Rattle.tora_simulate.specs.Statuses.{traced_status};
@@ -17,20 +18,19 @@ use crate::progress::rounds_of;
 use crate::sim_command::{refuse, tell};
 use crate::{INPUT, MEMORY, status, stop};
 use std::alloc::Global;
+use std::io;
 use std::io::{BufWriter, ErrorKind, Read};
 use std::process::ExitCode;
-use std::rt::Files;
 use std::time::Clock;
-use std::{fs, io};
 use tora_channel::ChannelTable;
 use tora_lines::{Ended, Output, Recent, ReplayError, flushed};
 use tora_script::Setup;
-use tora_simulate::tell_at;
+use tora_simulate::{Paths, tell_at};
 use tora_traced::{TraceOut, Watched, simulate_traced};
 
 /// Says which path can't be the trace's or the record's, and why, and ends with the status of the cause.
 pub fn refuse_trace<T: Eprint>(rt: &T, path: &str, error: &io::Error) -> ExitCode
-    ensures { (exit_status result ≡ 1) ⊎ (exit_status result ≡ 5) }
+    ensures { IsStatusOfError error.now (exit_status result) }
 {
     if error.kind() == ErrorKind::OutOfMemory {
         return stop(rt, MEMORY, "memory");
@@ -145,13 +145,14 @@ pub fn run_over<S: Watched, T: AllocGlobal + Eprint, R: Read + Drop, W: Output, 
 }
 
 /// The file of a trace at a path, which is made anew, or the status where it can't be had, after its lines on standard error.
-fn make_trace<T: Files + AllocGlobal + Eprint>(
+fn make_trace<T: Paths + AllocGlobal + Eprint>(
     rt: &T,
     path: &str,
 ) -> Result<TraceOut<BufWriter<T::File>>, ExitCode>
-    ensures { IfErr result (λ code. (exit_status code ≡ 1) ⊎ (exit_status code ≡ 5)) }
+    ensures made { OnOk result ((made : T.File) × T.did_create rt.now path.now (Ok made)) }
+    ensures refused { IfErr result (λ code. IsFailed (λ e. T.did_create rt.now path.now (Err e)) (exit_status code) ⊎ (exit_status code ≡ 5)) }
 {
-    let made = match fs::create(rt, path) {
+    let made = match rt.create_path(path) {
         Ok(made) => made,
         Err(error) => return Err(refuse_trace(rt, path, &error)),
     };
@@ -168,7 +169,7 @@ fn make_trace<T: Files + AllocGlobal + Eprint>(
 /// It ends with the status of the simulation, or with 1 where that is 0 and the trace could not be written; with 1, before
 /// anything is simulated, where the file can't be opened, where that of the trace can't be made, or where both paths are
 /// one; and with 5 where memory was refused.
-pub fn run<S: Watched, T: Files + AllocGlobal + Eprint + Clock, W: Output>(
+pub fn run<S: Watched, T: Paths + AllocGlobal + Eprint + Clock, W: Output>(
     rt: &T,
     setup: Setup,
     file: ChannelFile,
@@ -177,7 +178,7 @@ pub fn run<S: Watched, T: Files + AllocGlobal + Eprint + Clock, W: Output>(
     writer: &mut W,
 ) -> ExitCode
     requires { IsTimes setup.times }
-    ensures ends { EndsTraced T.File.remaining (rules_with setup (lines_of file.table)) W.contents W.did_flush writer.old writer.new (exit_status result) }
+    ensures ends { EndsTraced (T.did_open rt.now) (T.did_create rt.now) T.File.remaining (rules_with setup (lines_of file.table)) W.contents W.did_flush paths.entry.0.now paths.entry.1.now writer.old writer.new (exit_status result) }
     ensures same { paths.entry.0.now ≡ paths.entry.1.now → (exit_status result ≡ 1) × (writer.new ≡ writer.old) }
 {
     let (path, trace) = paths;
@@ -188,7 +189,7 @@ pub fn run<S: Watched, T: Files + AllocGlobal + Eprint + Clock, W: Output>(
         return code;
     }
     let total = if has_bar { rounds_of(rt, path) } else { None };
-    let reader = match fs::open(rt, path) {
+    let reader = match rt.open_path(path) {
         Ok(reader) => reader,
         Err(error) => return refuse(rt, path, &error),
     };

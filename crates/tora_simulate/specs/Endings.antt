@@ -1,8 +1,10 @@
 -- How a run over a file of lines ended, and with which status.
-use Rattle.std.specs.Prelude.{◌≡◌, ◌≢◌, ◌⊎◌, ℕ, Bool, false, List, Option, Result, Ok, IfOk, IfErr, IfSome}
+use Rattle.std.specs.Prelude.{◌≡◌, ◌≢◌, ◌⊎◌, ℕ, Bool, false, List, Option, Some, None, Result, Ok, Err, IfOk, IfErr, IfSome}
+use Rattle.std.specs.declared.io.Error.{Error}
 use Rattle.std.specs.Io.KnownBytes.{IsAtEnd}
 use Rattle.tora_lines.specs.Engine.{IsWholeText, IsFrontOfText}
 use Rattle.tora_lines.specs.LineText.{Text, Rules, whole_text}
+use Rattle.tora_simulate.specs.Paths.{IsFailed}
 use Rattle.tora_simulate.specs.Statuses.{traced_status}
 use Rattle.tora_lines.specs.declared.ended.Ended.{Ended}
 use Rattle.tora_lines.specs.declared.ended.Ended.TheVariants.{Whole}
@@ -25,17 +27,41 @@ pub record EndsWith {W : Type 0} (text : List ℕ → Text) (contents : W → Op
 abbrev pub EndsBy : {S W : Type 0} → Rules S → (W → Option (List ℕ)) → (W → Bool → W → Type 0) → Option (List ℕ) → W → W → Bool → ℕ → Type 0
 EndsBy rules contents did_flush input old new is_lost status = EndsWith (whole_text rules) contents did_flush input old new is_lost status
 
--- No file was opened, or none made for the trace: the status says so, and nothing was written.
-pub record IsUnopened {W : Type 0} (old new : W) (status : ℕ) : Type 0 where
-  pub status_is : (status ≡ 1) ⊎ (status ≡ 5)
+-- A call for a file gave an error: the status says which, and nothing was written.
+pub record IsUnopened {W : Type 0} (gave : Error → Type 0) (old new : W) (status : ℕ) : Type 0 where
+  pub failed : IsFailed gave status
   pub nothing : new ≡ old
 
--- The file was opened, and the status is that of an end of the engine over it; or it was not.
-abbrev pub EndsFile : {R S W : Type 0} → (R → Option (List ℕ)) → Rules S → (W → Option (List ℕ)) → (W → Bool → W → Type 0) → W → W → ℕ → Type 0
-EndsFile {R} remaining rules contents did_flush old new status =
-    ((reader : R) × EndsBy rules contents did_flush (remaining reader) old new false status) ⊎ IsUnopened old new status
+-- Memory was refused, and nothing was written.
+pub record HasNoMemory {W : Type 0} (old new : W) (status : ℕ) : Type 0 where
+  pub status_is : status ≡ 5
+  pub nothing : new ≡ old
 
--- The same of a file whose trace is written, and lost or not.
-abbrev pub EndsTraced : {R S W : Type 0} → (R → Option (List ℕ)) → Rules S → (W → Option (List ℕ)) → (W → Bool → W → Type 0) → W → W → ℕ → Type 0
-EndsTraced {R} remaining rules contents did_flush old new status =
-    ((reader : R) × (is_lost : Bool) × EndsBy rules contents did_flush (remaining reader) old new is_lost status) ⊎ IsUnopened old new status
+-- One path is that of a file that is read and of one that is written: nothing was written.
+pub record IsOnePlace {W : Type 0} (path place : List ℕ) (old new : W) (status : ℕ) : Type 0 where
+  pub same : path ≡ place
+  pub status_is : status ≡ 1
+  pub nothing : new ≡ old
+
+-- Opening this path gave a reader, and the status is that of an end of the engine over it; or it gave an error.
+abbrev pub EndsFile : {R S W : Type 0} → (List ℕ → Result R Error → Type 0) → (R → Option (List ℕ)) → Rules S → (W → Option (List ℕ)) → (W → Bool → W → Type 0) → List ℕ → W → W → ℕ → Type 0
+EndsFile {R} did_open remaining rules contents did_flush path old new status =
+    ((reader : R) × did_open path (Ok reader) × EndsBy rules contents did_flush (remaining reader) old new false status)
+    ⊎ IsUnopened (λ e. did_open path (Err e)) old new status
+
+-- Opening a path gave this error, or it gave a reader and making the trace's path anew gave the error.
+abbrev pub IsUntraced : {R : Type 0} → (List ℕ → Result R Error → Type 0) → (List ℕ → Result R Error → Type 0) → List ℕ → List ℕ → Error → Type 0
+IsUntraced {R} did_open did_create path trace error = did_open path (Err error) ⊎ ((reader : R) × did_open path (Ok reader) × did_create trace (Err error))
+
+-- The same where a trace is written, and lost or not, to the file that making its path anew gave; none is where that would take the place of the file.
+abbrev pub EndsTraced : {R S W : Type 0} → (List ℕ → Result R Error → Type 0) → (List ℕ → Result R Error → Type 0) → (R → Option (List ℕ)) → Rules S → (W → Option (List ℕ)) → (W → Bool → W → Type 0) → List ℕ → List ℕ → W → W → ℕ → Type 0
+EndsTraced {R} did_open did_create remaining rules contents did_flush path trace old new status =
+    ((reader : R) × (made : R) × (is_lost : Bool) × did_open path (Ok reader) × did_create trace (Ok made)
+    × EndsBy rules contents did_flush (remaining reader) old new is_lost status)
+    ⊎ (IsUnopened (IsUntraced did_open did_create path trace) old new status
+    ⊎ (HasNoMemory old new status ⊎ IsOnePlace path trace old new status))
+
+-- The same with a trace or without one.
+abbrev pub EndsSimulated : {R S W : Type 0} → (List ℕ → Result R Error → Type 0) → (List ℕ → Result R Error → Type 0) → (R → Option (List ℕ)) → Rules S → (W → Option (List ℕ)) → (W → Bool → W → Type 0) → List ℕ → Option (List ℕ) → W → W → ℕ → Type 0
+EndsSimulated did_open did_create remaining rules contents did_flush path None old new status = EndsFile did_open remaining rules contents did_flush path old new status
+EndsSimulated did_open did_create remaining rules contents did_flush path (Some trace) old new status = EndsTraced did_open did_create remaining rules contents did_flush path trace old new status

@@ -7,12 +7,14 @@
 #![tactic(auto)]
 
 mod flushing;
+mod paths;
 pub mod sim_command;
 mod simulated;
 mod statuses;
 mod telling;
 
 pub use flushing::{simulate_last_and_flush, simulate_telling_and_flush};
+pub use paths::{Paths, bytes_at, text_at};
 pub use simulated::{simulate, simulate_with};
 pub use statuses::{INPUT, LIFE, MEMORY, SOCKET, USAGE, status, stop};
 pub use telling::{tell, tell_at};

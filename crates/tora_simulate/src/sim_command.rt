@@ -1,25 +1,26 @@
 //! `tora sim [--times HELLO,SILENCE,RETRY,TRIES] FILE`: a simulation of a file of lines.
-ghost use Rattle.std.specs.Prelude.{◌≡◌, ◌⊎◌, false};
+ghost use Rattle.std.specs.Prelude.{false};
 ghost use Rattle.std.specs.Process.{exit_status};
 ghost use Rattle.tora_simulate.specs.Endings.{EndsBy, EndsFile};
+ghost use Rattle.tora_simulate.specs.Paths.{IsStatusOfError};
 ghost use Rattle.tora_arq.specs.Settings.{IsTimes};
 ghost use Rattle.tora_channel.specs.Table.{lines_of};
 ghost use Rattle.tora_script.specs.SimulationText.{rules_with};
 
 use crate::flushing::simulate_last_and_flush;
+use crate::paths::Paths;
 use crate::statuses::{INPUT, MEMORY, status, stop};
 use crate::telling::{tell as tell_error, tell_at};
+use std::io;
 use std::io::{ErrorKind, Read};
 use std::process::ExitCode;
-use std::rt::Files;
-use std::{fs, io};
 use tora_channel::ChannelTable;
 use tora_lines::{Ended, LONGEST_LINE, Output, Recent, ReplayError};
 use tora_script::{Setup, SimulationCause, Simulator, tell_cause};
 
 /// Says why there is no file, and ends with the status of the cause. The cause is said without `-v`, too.
 pub fn refuse<R: Eprint>(rt: &R, path: &str, error: &io::Error) -> ExitCode
-    ensures { (exit_status result ≡ 1) ⊎ (exit_status result ≡ 5) }
+    ensures { IsStatusOfError error.now (exit_status result) }
 {
     if error.kind() == ErrorKind::OutOfMemory {
         return stop(rt, MEMORY, "memory");
@@ -76,7 +77,7 @@ pub fn run_over<S: Simulator, T: AllocGlobal + Eprint, R: Read + Drop, W: Output
 /// Simulates the lines of the file at a path, in a world that is made with this and over a channel that the lines of a table
 /// change, and ends with a status: that of `run_over` over the file, 1 where it can't be opened, and 5 where memory was refused
 /// for that. Nothing is written where it is not opened.
-pub fn run<S: Simulator, T: Files + AllocGlobal + Eprint, W: Output>(
+pub fn run<S: Simulator, T: Paths + AllocGlobal + Eprint, W: Output>(
     rt: &T,
     setup: Setup,
     table: ChannelTable,
@@ -85,9 +86,9 @@ pub fn run<S: Simulator, T: Files + AllocGlobal + Eprint, W: Output>(
     writer: &mut W,
 ) -> ExitCode
     requires { IsTimes setup.times }
-    ensures { EndsFile T.File.remaining (rules_with setup (lines_of table)) W.contents W.did_flush writer.old writer.new (exit_status result) }
+    ensures { EndsFile (T.did_open rt.now) T.File.remaining (rules_with setup (lines_of table)) W.contents W.did_flush path.now writer.old writer.new (exit_status result) }
 {
-    match fs::open(rt, path) {
+    match rt.open_path(path) {
         Ok(file) => run_over::<S, T, T::File, W>(rt, setup, table, file, is_verbose, writer),
         Err(error) => refuse(rt, path, &error),
     }

@@ -1,0 +1,6 @@
+use Rattle.std.proofs.Common.{◌≡◌, length}
+use Rattle.tora_commands.proofs.node_command.open.Given as goal
+
+-- a disk for each link so far
+abbrev pub invariant-loop-link : goal.invariant-loop-link
+invariant-loop-link g l = length l.disks.items ≡ l.link-index

@@ -1,0 +1,86 @@
+//! Files by their paths, whose calls contracts tell.
+ghost use Rattle.std.specs.Prelude.{◌≡◌, List, ℕ, Result, Ok, Err, IfOk, IfErr, IfSome, string_bytes};
+ghost use Rattle.std.specs.declared.io.Error.{Error};
+ghost use Rattle.tora_simulate.specs.Paths.{IsRead, IsUnread};
+
+use std::alloc::Global;
+use std::io::Read;
+use std::rt::Files;
+use std::{fs, io};
+
+/// Files by their paths, whose calls contracts tell: which file or error a call gave. All `Files` are such.
+pub trait Paths: Files {
+    /// What opening the file at a path gave.
+    ghost did_open: { Self → List ℕ → Result Self.File Error → Type 0 };
+
+    /// What making the file at a path anew gave.
+    ghost did_create: { Self → List ℕ → Result Self.File Error → Type 0 };
+
+    /// What reading a file to its end gave.
+    ghost did_read: { Self.File → Result (List ℕ) Error → Type 0 };
+
+    /// Opens the file at a path, to read it.
+    fn open_path(&self, path: &str) -> io::Result<Self::File>
+        ensures { did_open self.now path.now result };
+
+    /// Makes the file at a path anew, to write it.
+    fn create_path(&self, path: &str) -> io::Result<Self::File>
+        ensures { did_create self.now path.now result };
+
+    /// Reads a file to its end.
+    fn read_bytes(&self, alloc: Global, file: Self::File) -> io::Result<Vec<u8>>
+        ensures read { IfOk result (λ bytes. did_read file (Ok bytes.items)) }
+        ensures failed { IfErr result (λ error. did_read file (Err error)) }
+        ensures bytes { IfOk result (λ bytes. IfSome (Self.File.remaining file) (λ input. bytes.items ≡ input)) };
+
+    /// Reads a file to its end, whose bytes are a text.
+    fn read_text(&self, alloc: Global, file: Self::File) -> io::Result<String>
+        ensures read { IfOk result (λ text. did_read file (Ok (string_bytes text))) }
+        ensures failed { IfErr result (λ error. did_read file (Err error)) }
+        ensures bytes { IfOk result (λ text. IfSome (Self.File.remaining file) (λ input. string_bytes text ≡ input)) };
+}
+
+impl<T: Files> Paths for T {
+    ghost did_open = { λ files path result. Unit {0} };
+
+    ghost did_create = { λ files path result. Unit {0} };
+
+    ghost did_read = { λ file result. Unit {0} };
+
+    fn open_path(&self, path: &str) -> io::Result<T::File> {
+        fs::open(self, path)
+    }
+
+    fn create_path(&self, path: &str) -> io::Result<T::File> {
+        fs::create(self, path)
+    }
+
+    fn read_bytes(&self, alloc: Global, file: T::File) -> io::Result<Vec<u8>> {
+        let mut file = file;
+        let mut bytes = Vec::new(alloc);
+        file.read_to_end(&mut bytes)?;
+        Ok(bytes)
+    }
+
+    fn read_text(&self, alloc: Global, file: T::File) -> io::Result<String> {
+        io::read_to_string(alloc, file)
+    }
+}
+
+/// The bytes of the file at a path.
+pub fn bytes_at<T: Paths>(rt: &T, alloc: Global, path: &str) -> io::Result<Vec<u8>>
+    ensures read { IfOk result (λ bytes. IsRead (T.did_open rt.now path.now) T.did_read T.File.remaining bytes.items) }
+    ensures failed { IfErr result (IsUnread (T.did_open rt.now path.now) T.did_read) }
+{
+    let file = rt.open_path(path)?;
+    rt.read_bytes(alloc, file)
+}
+
+/// The text of the file at a path.
+pub fn text_at<T: Paths>(rt: &T, alloc: Global, path: &str) -> io::Result<String>
+    ensures read { IfOk result (λ text. IsRead (T.did_open rt.now path.now) T.did_read T.File.remaining (string_bytes text)) }
+    ensures failed { IfErr result (IsUnread (T.did_open rt.now path.now) T.did_read) }
+{
+    let file = rt.open_path(path)?;
+    rt.read_text(alloc, file)
+}
