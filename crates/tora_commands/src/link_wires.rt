@@ -2,6 +2,7 @@
 ghost use Rattle.std.specs.Prelude.{◌≡◌, ◌⊎◌, IfOk, IfErr, IfSome, is_some, length, map};
 ghost use Rattle.tora_commands.specs.Statuses.{status_of_fault, HasWays, HasNoWays, HasNoKey, IsUnstarted};
 ghost use Rattle.tora_keyed.specs.Links.{over, cleared};
+ghost use Rattle.tora_waking.specs.WakingWire.{WireView};
 
 use crate::key_file::key_at;
 use crate::node_command::{Fault, say};
@@ -111,7 +112,7 @@ fn wire_of<'a, R: Net + Eprint + Clock, L: Log>(
     clock: &'a NodeClock<&'a R>,
     keyed: KeyedWay,
 ) -> Result<Woken<'a, R, L>, Fault>
-    ensures wire { IfOk result (λ woken. woken.0 ≡ over 0 keyed.key) }
+    ensures wire { IfOk result (λ woken. (wire : WireView _) × (woken.0 ≡ over wire keyed.key) × (wire.remote ≡ keyed.way.remote) × (wire.failures ≡ 0)) }
     ensures fault { IfErr result (λ fault. IsUnstarted (status_of_fault fault)) }
 {
     let KeyedWay { way, key } = keyed;
