@@ -3,12 +3,15 @@
 
 usage: dev/check-promises.py [PAGE ..]
 
-Without a PAGE it reads docs/reference/promises.md, docs/explanation/*.md and docs/developers/*.md. Of each page:
+Without a PAGE it reads docs/reference/promises.md, docs/explanation/*.md, docs/developers/*.md and CONTRIBUTING.md. Of each page:
 
 - A table whose heading is `promise`, `function`, `clause`, `crate` names functions: each function has to stand in `src/` of a crate
   of its row, and each clause has to be one that a function of the row ensures. `TYPE::NAME` is a function in an `impl` of TYPE, or in the
   trait TYPE, and `MODULE::NAME` one in the file MODULE.rt. A clause cell `one clause` means that the functions ensure one clause, which has no name.
 - Each other name in backquotes has to be a word of the sources or definitions of the crates, a word of the scripts, or a path.
+
+Of docs/explanation/architecture.md it also asks that the tables headed `crate`, `content` name each crate of crates.txt once, behind
+all crates that it stands on.
 
 It prints each name that does not exist, with its page and line, and ends with 1 where there is one.
 """
@@ -150,17 +153,49 @@ def page_faults(page, functions, words):
                 yield number, f"no source has the word {name}"
 
 
+def crate_faults(page):
+    """What the list of crates of a page lacks, and which crate stands in it before one that it needs."""
+    needs = {}
+    for line in (TOP / "crates.txt").read_text(encoding="utf-8").splitlines():
+        if ":" in line and not line.startswith("#"):
+            name, _, below = line.partition(":")
+            needs[name.split()[0]] = below.split()
+    listed = []
+    table = False
+    for number, line in enumerate(page.read_text(encoding="utf-8").splitlines(), 1):
+        cells = [cell.strip() for cell in line.strip().strip("|").split(" | ")] if line.startswith("|") else []
+        table = bool(cells) and (table or [cell.lower() for cell in cells] == ["crate", "content"])
+        name = quoted(cells[0])[0] if table and quoted(cells[0]) else ""
+        if not name:
+            continue
+        if name not in needs:
+            yield number, f"crates.txt has no crate {name}"
+        if name in listed:
+            yield number, f"{name} stands twice in the list of crates"
+        listed.append(name)
+        for below in needs.get(name, []):
+            if below in needs and below not in listed:
+                yield number, f"{name} stands before {below}, which it needs"
+    for name in needs:
+        if name not in listed:
+            yield 1, f"the list of crates lacks {name}"
+
+
 def main():
     pages = [Path(word).resolve() for word in sys.argv[1:]] or [
         TOP / "docs/reference/promises.md",
         *sorted((TOP / "docs/explanation").glob("*.md")),
         *sorted((TOP / "docs/developers").glob("*.md")),
+        TOP / "CONTRIBUTING.md",
     ]
     functions, words = read_crates()
     words |= other_words()
     count = 0
     for page in pages:
-        for number, fault in page_faults(page, functions, words):
+        faults = list(page_faults(page, functions, words))
+        if page.name == "architecture.md":
+            faults += crate_faults(page)
+        for number, fault in faults:
             count += 1
             print(f"{page.relative_to(TOP)}:{number}: {fault}")
     print(f"{len(pages)} pages, {count} names that do not exist")
