@@ -4,7 +4,7 @@
 usage: tools/capture.py LIST OUT
 
 Each line of LIST is a datagram: its bytes in hexadecimal, and behind `|` words that are for the reader, such as what
-tools/tora.lua is to say of it; blanks in the bytes don't matter. A line may be empty or begin with `#`. Datagram number N goes
+dev/tora.lua is to say of it; blanks in the bytes don't matter. A line may be empty or begin with `#`. Datagram number N goes
 from port 40012 of 127.0.0.1 to port 40021 at N tenths of a second, so that the same LIST makes the same bytes. Exit status: 1
 where LIST is at fault, with its line, or a file can't be read or written. A datagram has at most 65507 bytes.
 """

@@ -174,7 +174,8 @@ class ToolsTest(unittest.TestCase):
                 (["test.py", "--jobs", "9999"], "from 1 to 1024"), (["test.py", "--jobs", "x"], "from 1 to 1024"), (["build.py", "--jobs", "0"], "from 1 to 1024"),
             ):
                 with self.subTest(words=words):
-                    done = subprocess.run([f"{HERE}/{words[0]}", *words[1:]], cwd=work, capture_output=True, text=True)
+                    folder = f"{HERE}/../dev" if words[0] in ("edits.sh", "test.py", "build.py") else HERE
+                    done = subprocess.run([f"{folder}/{words[0]}", *words[1:]], cwd=work, capture_output=True, text=True)
                     self.assertEqual((done.returncode, os.listdir(work)), (2, []), done.stderr)
                     self.assertIn(told, done.stderr.splitlines()[-1])
 

@@ -29,7 +29,7 @@ import time
 
 TOP = os.path.dirname(os.path.dirname(os.path.realpath(__file__)))
 PROGRAM, UNPROVED = f"{TOP}/crates/tora/out/tora", f"{TOP}/out/tora_unproved"
-PARTS = "CHANGELOG.md CITATION.cff README.md SECURITY.md VERSION docs examples ns3 python tools".split()
+PARTS = "CHANGELOG.md CITATION.cff README.md SECURITY.md VERSION docs examples ns3 python dev".split()
 AUTHOR = "the Ginavoru authors <maintainers@users.noreply.ginavoru.example>"
 
 
@@ -103,16 +103,16 @@ def copy_sources(tree):
     for path in git("ls-files", "-z", "--cached", "--others", "--exclude-standard", "--", *PARTS).split("\0"):
         if path and os.path.isfile(f"{TOP}/{path}"):
             copy(f"{TOP}/{path}", f"{tree}/{path}")
-    os.rename(f"{tree}/tools/debian", f"{tree}/debian")
+    os.rename(f"{tree}/dev/debian", f"{tree}/debian")
     os.rename(f"{tree}/docs/man", f"{tree}/man")
 
 
 def stage(state, tree):
     """What is made for the packages out of files of the repository."""
     copy(state.program, f"{tree}/staged/libexec/tora")
-    copy(f"{TOP}/tools/installed.sh", f"{tree}/staged/bin/tora")
+    copy(f"{TOP}/dev/installed.sh", f"{tree}/staged/bin/tora")
     os.chmod(f"{tree}/staged/bin/tora", 0o755)
-    copy(f"{TOP}/tools/completion/tora.bash", f"{tree}/staged/completions/tora")
+    copy(f"{TOP}/dev/completion/tora.bash", f"{tree}/staged/completions/tora")
     os.makedirs(f"{tree}/staged", exist_ok=True)
     os.rename(f"{tree}/debian/tora.README", f"{tree}/staged/README")
     for unit in "tora@.service", "tora@.socket":
@@ -126,10 +126,10 @@ def stage(state, tree):
 
 def write_control(state, tree):
     """The list of packages, what is needed to make them, and the changelog of the packaging."""
-    control = read("tools/debian/control")
+    control = read("dev/debian/control")
     needs = []
     for name in state.packages()[1:]:
-        control += read(f"tools/debian/control.{name}")
+        control += read(f"dev/debian/control.{name}")
     if state.has_ns3:
         needs += ["cmake", "g++", "libns3-dev"]
     if state.has_python:

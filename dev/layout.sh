@@ -1,7 +1,7 @@
 #!/usr/bin/env bash
 # Whether each file of code is in the layout that `rt fmt` gives it, tests as well: the merge gate refuses a crate with one that is not, and
 # says so an hour later. Files that are not are put into it, and named. Half a minute.
-# usage: tools/layout.sh [CRATE ..]     all crates where none is named
+# usage: dev/layout.sh [CRATE ..]     all crates where none is named
 # Status 1 where a file was not in the layout, 2 where a crate or `rt` is missing.
 set -u
 top=$(cd "$(dirname "$0")/.." && pwd)

@@ -3,13 +3,13 @@
 # (as .dot) are compared with stored ones, the data in pages that play the runs, the reading of movement files, and the
 # refusals of bad input. Beside them the dissector, the completion, what ./tora install puts where, and that the manual pages and
 # the help have the lines of docs/formats.md. Where the program stands, nodes of it are tried, too: their lock, log and keys, and what they tell programs.
-# usage: tools/check.sh [--store]
-#   --store   write what comes out to tools/stored in place of comparing; for a change that is meant to change it
+# usage: dev/check.sh [--store]
+#   --store   write what comes out to dev/stored and tools/stored in place of comparing; for a change that is meant to change it
 # Where a simulator with --trace is there, the stored simulations are run, too, and twelve random networks (tools/rest.py). The
 # stored traces are those of a second, unverified simulator, which knows version 1 of frames alone: with a line `old N` for
 # every node the trace has to be the stored one byte for byte, and without these lines in all but its records of datagrams.
 # The simulator is TORA_SIM where that is set, else the program that stands in crates/tora/out; nothing is built.
-# The dissector tools/tora.lua is tried on a stored capture, where there is a tshark (package tshark), and the module for ns-3 (ns3/check)
+# The dissector dev/tora.lua is tried on a stored capture, where there is a tshark (package tshark), and the module for ns-3 (ns3/check)
 # where it is built (ns3/build). Else python3 is enough.
 set -eu
 here=$(cd "$(dirname "$0")" && pwd)
@@ -21,7 +21,7 @@ case ${1:-} in
   *) echo "check: no option $1 (--help)" >&2; exit 2 ;;
 esac
 command -v python3 >/dev/null || { echo "check: python3 is missing (package python3)" >&2; exit 2; }
-cd "$here/stored"
+cd "$here/../tools/stored"
 work=$(mktemp -d)
 trap 'rm -rf "$work"' EXIT
 passed=0 failed=0
@@ -174,7 +174,7 @@ check_traffic() {
 
 # The unit tests, tools/test_*.py.
 check_units() {
-  holds 'the unit tests' env PYTHONPATH=.. python3 -m unittest discover -s .. -p 'test_*.py'
+  holds 'the unit tests' env PYTHONPATH="..:$here" python3 -m unittest discover -s .. -p 'test_*.py'
 }
 
 check_pictures() {
@@ -255,27 +255,27 @@ check_refusals() {
 
 # The dissector, on the capture of stored/frames.list: of a port that is decoded as tora, and by the bytes alone.
 check_dissector() {
-  local tried=(tshark -X lua_script:../tora.lua -r frames.pcap -T fields -e tora.summary)
+  local tried=(tshark -X lua_script:"$here/tora.lua" -r frames.pcap -T fields -e tora.summary)
   python3 ../capture.py frames.list "$work/frames.pcap"
   same frames.pcap "$work/frames.pcap"
   if ! command -v tshark >/dev/null; then
-    echo "check: no tshark (package tshark); tools/tora.lua is not tried"
+    echo "check: no tshark (package tshark); dev/tora.lua is not tried"
     return
   fi
   sed -n 's/^[^#|]*| //p' frames.list >"$work/wanted"
   "${tried[@]}" -d udp.port==40021,tora >"$work/found" 2>"$work/err" || cat "$work/err" >&2
-  agrees "$work/wanted" "$work/found" "what tools/tora.lua says of stored/frames.pcap"
+  agrees "$work/wanted" "$work/found" "what dev/tora.lua says of stored/frames.pcap"
   sed -i '/no frame/d' "$work/wanted"
   "${tried[@]}" 2>"$work/err" | sed '/^$/d' >"$work/found"
-  agrees "$work/wanted" "$work/found" "what tools/tora.lua says of stored/frames.pcap by its bytes"
+  agrees "$work/wanted" "$work/found" "what dev/tora.lua says of stored/frames.pcap by its bytes"
 }
 
 # ./tora install and uninstall, in a copy with a stand-in for the program.
 check_install() {
   local copy=$work/copy root=$work/root tora=$work/copy/tora program=$work/copy/crates/tora/out/tora
-  mkdir -p "$copy/crates/tora/src" "$copy/crates/tora/out" "$copy/tools" "$copy/docs" "$root/usr/share/tora"
+  mkdir -p "$copy/crates/tora/src" "$copy/crates/tora/out" "$copy/dev" "$copy/docs" "$root/usr/share/tora"
   cp ../../tora ../../crates.txt "$copy/"
-  cp -R ../install.py ../installed.sh ../tora.lua ../completion "$copy/tools/"
+  cp -R "$here"/{install.py,installed.sh,tora.lua,completion} "$copy/dev/"
   cp -R ../../docs/man "$copy/docs/"
   refuses 2 'the program is not built' "$tora" install
   refuses 2 'the program is not built' "$tora" deb
@@ -300,7 +300,7 @@ check_install() {
     GLIBC_TUNABLES=theirs usr/bin/tora drive --large
     find . -type f -printf '%m %P\n' | sort -k2
   ) >"$work/installed"
-  same installed "$work/installed"
+  same ../../dev/stored/installed "$work/installed"
   DESTDIR=$root "$tora" uninstall /usr >"$work/told"
   (cd "$root" && find . -type f) >"$work/found"
   echo ./usr/share/tora/other >"$work/wanted"
@@ -311,14 +311,14 @@ check_install() {
 check_completion() {
   local it
   while IFS= read -r it; do
-    echo "$it: $(cd ../../examples/line-of-four && ../../tools/completion/offers.sh "$it")"
+    echo "$it: $(cd ../../examples/line-of-four && ../../dev/completion/offers.sh "$it")"
   done >"$work/completion" <<<$'tora \ntora s\n../../tora i\ntora -v sim --t\ntora sim --times 1 \ntora node --ch\ntora node --log w\ntora node n1\ntora drive --t\ntora help '
-  same completion "$work/completion"
+  same ../../dev/stored/completion "$work/completion"
 }
 
 # The forms of lines in the manual pages and the help are those of docs/formats.md.
 check_forms() {
-  python3 ../forms.py >"$work/found" || true
+  python3 "$here/forms.py" >"$work/found" || true
   agrees /dev/null "$work/found" 'docs/formats.md has lines that the manual pages or the help lack, which'
 }
 

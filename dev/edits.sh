@@ -1,7 +1,7 @@
 #!/usr/bin/env bash
 # Tries the wrong bodies that the merge gate leaves out, crates/NAME/edits/*.edit: the prover has to refuse each. They have
 # the form of the edits in crates/NAME/must-fail/, which `rt ci` tries.
-# usage: tools/edits.sh [-j NUMBER] [CRATE ..]     all crates that have such edits where none is named
+# usage: dev/edits.sh [-j NUMBER] [CRATE ..]     all crates that have such edits where none is named
 #   -j NUMBER   as many crates side by side, 1 to 999, each with up to 4 GB; 1 without it
 # Each crate is tried on a copy, which is gone at the end, so that what is not committed is tried, too. The copy takes the
 # libraries of the crates below from their out/ (`rt all check` makes them), and proves those that are missing or old. The

@@ -1,7 +1,7 @@
 #!/usr/bin/env python3
 """Compares the lines that docs/formats.md has with those that the manual pages and the help of the program repeat.
 
-usage: tools/forms.py
+usage: dev/forms.py
 
 docs/formats.md is where the lines of replay files, simulation files, traces and commands are stated. The pages of docs/man and
 crates/tora_commands/src/command_line.rt repeat their forms, for whoever has the program alone. Each form that is missing there is

@@ -1,7 +1,7 @@
 #!/usr/bin/env bash
 # Installs the Debian packages in a new Debian system in a folder of its own, and tries them as a new user would. It is for a release,
 # and not for the gate: it needs root, the command debootstrap, and a mirror of Debian; it takes some minutes, and 2 GB under TMPDIR.
-# usage: tools/release-check.sh [--quick] [--suite SUITE] [--mirror URL] [DIR]
+# usage: dev/release-check.sh [--quick] [--suite SUITE] [--mirror URL] [DIR]
 #   --quick   does not compile the example of the module for ns-3 against libns3-dev; the built example is run all the same
 #   --suite SUITE, --mirror URL    the Debian system that is made; bookworm, of the mirror that apt uses here
 #   DIR       where the packages are; out/deb without it (./tora deb makes them)

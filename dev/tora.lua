@@ -4,12 +4,12 @@
 -- A Wireshark dissector for the datagrams of a TORA node: frames of both versions, and the packets in them, as
 -- docs/formats.md ("Packets", "Frames", "Reading frames") has them.
 --
---   tshark -X lua_script:tools/tora.lua -r FILE [-d udp.port==PORT,tora]
+--   tshark -X lua_script:dev/tora.lua -r FILE [-d udp.port==PORT,tora]
 --
 -- Wireshark loads it from the user's folder of Lua plugins ("Help", "About Wireshark", "Folders"), where a link to this file
 -- is enough. UDP datagrams that spell a frame are known by their bytes, whatever the port. Those of a port that is decoded as
 -- `tora` are all taken for frames: where one spells none, `tora.error` has the first test of docs/formats.md that holds.
--- `tora.summary` has one line of each frame; `tshark -X lua_script:tools/tora.lua -G fields` lists the fields.
+-- `tora.summary` has one line of each frame; `tshark -X lua_script:dev/tora.lua -G fields` lists the fields.
 
 local tora = Proto("tora", "TORA link frame")
 

@@ -24,11 +24,11 @@ PAGES = ["tora.1", "tora-drive.1", "tora-node.1", "tora-replay.1", "tora-sim.1",
 # What is installed: the file in the repository, the place under PREFIX, and its permissions.
 FILES = [
     ("crates/tora/out/tora", "libexec/tora", 0o755),
-    ("tools/installed.sh", "bin/tora", 0o755),
+    ("dev/installed.sh", "bin/tora", 0o755),
     *((f"docs/man/{it}", f"share/man/man{it[-1]}/{it}", 0o644) for it in PAGES),
-    ("tools/completion/tora.bash", "share/bash-completion/completions/tora", 0o644),
-    ("tools/completion/_tora", "share/zsh/site-functions/_tora", 0o644),
-    ("tools/tora.lua", "share/tora/tora.lua", 0o644),
+    ("dev/completion/tora.bash", "share/bash-completion/completions/tora", 0o644),
+    ("dev/completion/_tora", "share/zsh/site-functions/_tora", 0o644),
+    ("dev/tora.lua", "share/tora/tora.lua", 0o644),
 ]
 # The folder that is the program's alone.
 OWN = "share/tora"

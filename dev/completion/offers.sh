@@ -1,5 +1,5 @@
 #!/usr/bin/env bash
-# What tora.bash offers for a line of which the last word is being written; for tools/check.sh.
+# What tora.bash offers for a line of which the last word is being written; for dev/check.sh.
 # usage: offers.sh 'tora sim --t'
 set -u
 . "$(dirname "$0")/tora.bash"

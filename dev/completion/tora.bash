@@ -1,4 +1,4 @@
-# Completion of the command `tora` for bash: ./tora install puts it where bash-completion finds it; or: source tools/completion/tora.bash
+# Completion of the command `tora` for bash: ./tora install puts it where bash-completion finds it; or: source dev/completion/tora.bash
 
 _tora() {
   local word=${COMP_WORDS[COMP_CWORD]} before=${COMP_WORDS[COMP_CWORD - 1]} command='' words='-v --verbose -h --help' at files=''
@@ -20,7 +20,7 @@ _tora() {
     '')
       words+=' -V --version replay sim drive node key help'
       # the launcher at the top of the repository has words of its own
-      if [ -f "$(dirname "${COMP_WORDS[0]}")/tools/build.py" ]; then words+=' build test install uninstall deb'; fi
+      if [ -f "$(dirname "${COMP_WORDS[0]}")/dev/build.py" ]; then words+=' build test install uninstall deb'; fi
       ;;
     replay) words+=' --erasure' ;;
     sim) words+=' --times --channel --seed --channel-file --notice --large --erasure --until --progress --trace' files='*.sim' ;;
