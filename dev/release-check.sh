@@ -104,7 +104,7 @@ check_module() {
   fi
   [ -z "$quick" ] || return 0
   holds 'a compiler and ns-3 are installed' 'apt-get install -y --no-install-recommends g++ libns3-dev'
-  holds 'the example compiles' "cd /tmp && $(sed -n '/^g++ /,/^```/{/^```/d; s/ *#.*//; s/\\$//; p}' "$here/../docs/packages.md" | tr -d '\n')"
+  holds 'the example compiles' "cd /tmp && $(sed -n '/^g++ /,/^```/{/^```/d; s/ *#.*//; s/\\$//; p}' "$here/../docs/how-to/install.md" | tr -d '\n')"
   prints 'it runs' 'received 100 of 100' '/tmp/tora-line'
 }
 

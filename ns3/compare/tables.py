@@ -1,7 +1,7 @@
 #!/usr/bin/env python3
 # SPDX-FileCopyrightText: 2026 the Ginavoru authors
 # SPDX-License-Identifier: GPL-2.0-only
-"""The tables of docs/studies-ns3.md: what each protocol did at each greatest speed, TORA beside AODV and OLSR, and by what packets were lost.
+"""The tables of docs/studies/ns-3.md: what each protocol did at each greatest speed, TORA beside AODV and OLSR, and by what packets were lost.
 
   tables.py [--nodes N] [--flows N] [--tora WORDS] compare.csv
 

@@ -10,7 +10,7 @@ from conftest import REPOSITORY
 from tora.cli import parser
 from tora.studying import study_of
 
-DOCUMENTS = ("studies", "studies-reference", "studies-tora", "studies-ns3")
+DOCUMENTS = ("tutorial/index", "how-to/cluster", "studies/guide", "studies/reference", "studies/tora", "studies/ns-3")
 
 
 def commands(name: str) -> list[str]:
@@ -40,13 +40,9 @@ def test_commands(name: str) -> None:
                 assert (REPOSITORY / word).is_file()
 
 
-def test_the_guide_is_short() -> None:
-    """At most 1,500 words."""
-    assert len((REPOSITORY / "docs" / "studies.md").read_text().split()) <= 1500
-
-
 def test_pictures_are_there() -> None:
     """Each picture that a document shows stands beside it."""
     for name in DOCUMENTS:
-        for path in re.findall(r"!\[[^]]*\]\(([^)]+)\)", (REPOSITORY / "docs" / f"{name}.md").read_text()):
-            assert (REPOSITORY / "docs" / path).is_file()
+        page = REPOSITORY / "docs" / f"{name}.md"
+        for path in re.findall(r"!\[[^]]*\]\(([^)]+)\)", page.read_text()):
+            assert (page.parent / path).is_file()

@@ -107,7 +107,7 @@ def test_too_many_lines() -> None:
 
 
 def test_growth_in_print() -> None:
-    """The exponents of the stored study of 50 to 400 nodes are those that docs/studies.md had by another fit."""
+    """The exponents of the stored study of 50 to 400 nodes are those that docs/studies/tora.md had by another fit."""
     lines = [line.split() for line in plots.growth_lines(stored("large"), "nodes", ["unavailable", "control", "restore_median"])]
     found = {(line[0], line[2]): line[3:] for line in lines[1:]}
     assert found["unavailable", "0"] == ["0.484", "[0.387", "..", "0.580]", "of", "40"]

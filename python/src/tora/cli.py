@@ -165,7 +165,7 @@ def _add_measure(words: argparse._SubParsersAction[Parser]) -> None:
     """The word measure."""
     added = _add_word(
         words, "measure", "measure a run to a row of CSV",
-        "Prints the names of the columns and the row of a run. docs/studies.md and `tora-study summary` say what columns are.",
+        "Prints the names of the columns and the row of a run. docs/studies/reference.md says what the columns are.",
     )
     added.add_argument("scenario", metavar="SCENARIO.json", help="what `make` wrote")
     added.add_argument("trace", metavar="TRACE", help="what `run` wrote")
