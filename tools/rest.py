@@ -4,7 +4,7 @@
 usage: tools/rest.py [--networks 200] [--seed 1] [--keep DIR]
 
 Each network has 3 to 10 nodes, one or two destinations, needs, links that are parted and mended, nodes that begin anew and
-datagrams that are lost; then it is left alone until `rest` prints `rest yes`. The laws are those of docs/protocol.md, "What a route
+datagrams that are lost; then it is left alone until `rest` prints `rest yes`. The laws are those of docs/explanation/tora.md, "What a route
 is worth": each entry is NULL, the neighbour's height, or of a neighbour that has no height; next hops go down; and routes
 arrive where nobody lacks a height. Heights, next hops, walks and whether entries are exact are printed by the simulator. No line
 prints an entry: it is what the neighbour has told in the life of the link, by the trace, and `taken` has to count all that. A clear
