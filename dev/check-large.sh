@@ -1,13 +1,14 @@
 #!/usr/bin/env bash
 # Checks the limits of worlds, and a world of 500 nodes, with the program that stands in crates/tora/out: simulations and drives one under, at and
-# one over each limit, without --large and with it; each line of a simulation file in a world of 500 nodes; its trace, and what the tools make of it.
+# one over each limit, without --large and with it; each line of a simulation file in a world of 500 nodes; its trace, and what tora-study makes of it.
 # usage: dev/check-large.sh [NODES]     so many nodes in place of 500
-# TORA_PROGRAM names another program. Python 3 is enough.
+# TORA_PROGRAM names another program. It takes the packages that docs/how-to/install.md names.
 set -eu
 here=$(cd "$(dirname "$0")" && pwd)
 case ${1:-} in -h | --help) sed -n '2,/^set -eu/{/^# /s/^# //p}' "$0"; exit 0 ;; esac
 nodes=${1:-500}
 program=${TORA_PROGRAM:-$here/../crates/tora/out/tora}
+study=$here/../python/tora-study
 [ -x "$program" ] || { echo "check-large: there is no program (./tora build, or TORA_PROGRAM)" >&2; exit 2; }
 work=$(mktemp -d)
 trap 'rm -rf "$work"' EXIT
@@ -131,30 +132,29 @@ check_traces() {
   "$program" sim --large moving.sim >plain
   "$program" sim --large --trace moving.trace moving.sim >printed
   holds 'a trace changes nothing that is printed' cmp plain printed
-  holds 'the trace tells what is printed' python3 "$here/../tools/agree.py" moving.sim printed moving.trace
+  holds 'the trace tells what is printed' "$here/oracle.py" agree moving.sim printed moving.trace
   awk '/^link / { print; node[$2]; node[$3]; next } NR > 1 && !told { for (n in node) print "old " n; told = 1 } { print }' moving.sim >old.sim
   "$program" sim --large --trace old.trace old.sim >old.printed
-  holds 'the same with every node old' python3 "$here/../tools/agree.py" old.sim old.printed old.trace
+  holds 'the same with every node old' "$here/oracle.py" agree old.sim old.printed old.trace
 }
 
-check_tools() {
-  python3 "$here/../tools/measure.py" --traffic 1 moving.json moving.trace >row || true
+check_package() {
+  "$study" measure moving.json moving.trace --traffic 1 >row || true
   holds 'the row of the run, of all nodes' grep -q "^$nodes," row
-  holds 'its loops' python3 "$here/../tools/measure.py" --loops moving.json moving.trace
-  holds 'the breaks of routes' python3 "$here/../tools/dag.py" moving.json moving.trace "$to" --list
-  holds 'a picture of heights' python3 "$here/../tools/dag.py" moving.json moving.trace "$to" dag --rounds 200 --format dot
-  holds 'a page' python3 "$here/../tools/play.py" moving.json moving.trace -o moving.html
-  holds 'the page is of the trace' python3 "$here/../tools/agree.py" --page moving.html moving.trace
+  holds 'its loops' "$study" measure moving.json moving.trace --loops
+  holds 'the breaks of routes' "$study" plot heights moving.json moving.trace "$to" --list
+  holds 'a picture of heights' "$study" plot heights moving.json moving.trace "$to" --rounds 200 -o heights
+  holds 'a page' "$study" page moving.json moving.trace -o moving.html
   grep -E '^(dests|link|old) ' moving.sim >world.sim
-  mkdir driven
-  holds 'a drive is the simulation of its record' python3 "$here/../tools/drive.py" --large --ticks 50 --loss 0.1 --need "$(grep -m 1 '^need ' moving.sim | cut -d ' ' -f 2,3 | tr ' ' ,)" --keep driven "$program" world.sim
+  holds 'a drive is the simulation of its record' "$here/oracle.py" drive --large --ticks 50 --loss 0.1 \
+    --need "$(grep -m 1 '^need ' moving.sim | cut -d ' ' -f 2,3 | tr ' ' ,)" --keep driven --program "$program" world.sim
 }
 
 check_limits
-python3 "$here/../tools/scenario.py" moving --large --nodes "$nodes" --seed 1 --rounds 300 --heights 100
+"$study" make moving --large --nodes "$nodes" --seed 1 --rounds 300 --heights 100
 to=$(sed -n '1s/^dests \([0-9]*\).*/\1/p' moving.sim)
 check_traces
-check_tools
+check_package
 check_lines
 echo "$passed passed, $failed failed"
 [ "$failed" = 0 ]

@@ -4,7 +4,7 @@
 /*
  * One run of a comparison: moving nodes with radios, flows of data packets, and one of four routing
  * protocols. The same seed gives the same motion, flows and radios, whatever the protocol. It
- * prints one row of CSV; docs/studies/ns-3.md tells the columns, and ns3/compare/run makes many
+ * prints one row of CSV; docs/studies/ns-3.md tells the columns, and ns3/compare/Snakefile makes many
  * runs.
  *
  *   tora-compare --protocol=TORA --nodes=20 --speed=10 --flows=5 --seed=1 [--header]

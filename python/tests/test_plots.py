@@ -115,6 +115,14 @@ def test_growth_in_print() -> None:
     assert found["restore_median", "1"] == ["-", "of", "0"]
 
 
+def test_stored_growth() -> None:
+    """The exponents of five stored runs are those of another making."""
+    wanted = [line.split() for line in (Path(__file__).parent / "stored" / "growth").read_text().splitlines()[1:]]
+    table = with_derived(read_table(Path(__file__).parent / "stored" / "study.csv"))
+    found = [line.replace("all runs", "").split() for line in plots.growth_lines(table, "nodes", [line[0] for line in wanted])[1:]]
+    assert found == wanted
+
+
 def test_growth_by_hand() -> None:
     """What grows by n^2, falls by 1/n, has no logarithm, and is not there."""
     head = "nodes,seed,rounds,silence_ticks,notice,available,restore_median,query,update,clear"

@@ -27,7 +27,7 @@ NETWORK_LIMIT = 600.0  # seconds of a run of a random network without a limit of
 # Lines of a simulation file that print nothing, where nothing is refused, and leave the clock
 NO_LINE: tuple[int, list[str]] = (0, [])
 QUIET = (
-    "dests", "link", "old", "need", "part", "mend", "open", "pull", "transmit", "pump", "deliver", "turn", "arm",
+    "dests", "link", "old", "erasure", "need", "part", "mend", "open", "pull", "transmit", "pump", "deliver", "turn", "arm",
     "restart"
 )
 

@@ -1,23 +1,46 @@
-#!/usr/bin/env python3
+#!/usr/bin/python3
 """Drives the pages of stored runs in a headless Chromium; check-page.sh makes them and calls it.
 
   check_page.py --browser PATH --driver PATH [--picture FILE] [--figures PAGE] DIR
 """
 import argparse
 import collections
-import os
+import pathlib
 import sys
 
-from agree import Fold
-from dag import breaks
-from page_browser import Browser, figures
-from record import records
-from routes import WORKS, follow, live_loops
-from scenario_file import load_scenario
-from study import ordered, run
-from world import Rounds, moments
+sys.path.insert(0, str(pathlib.Path(__file__).resolve().parents[1] / "python" / "src"))
 
-STORED = os.path.join(os.path.dirname(os.path.realpath(__file__)), "stored")
+from page_browser import Browser, figures  # noqa: E402
+from tora.heights import breaks, ordered, stale_hops  # noqa: E402
+from tora.route_measures import WORKS, follow, live_loops  # noqa: E402
+from tora.run import Run  # noqa: E402
+from tora.scenario import Scenario  # noqa: E402
+from tora.trace import Trace  # noqa: E402
+from tora.world import moments  # noqa: E402
+
+STORED = pathlib.Path(__file__).resolve().parents[1] / "python" / "tests" / "stored"
+NULL = (None, None)
+
+
+class Fold:
+    """Heights and next hops at any moment: the `route` records of a trace, taken one after the other."""
+
+    def __init__(self, trace):
+        """Before the first record."""
+        self.routes = [record for record in trace.records() if record.kind == "route"]
+        self.now, self.at = {}, 0
+
+    def until(self, clock):
+        """Takes the records up to a clock."""
+        while self.at < len(self.routes) and self.routes[self.at].clock <= clock:
+            record = self.routes[self.at]
+            self.now[record.words[0], record.words[1]] = record.words[2:]
+            self.at += 1
+        return self
+
+    def of(self, node, destination):
+        """Height and next hop of a node for a destination."""
+        return self.now.get((node, destination), ((0, 0, 0, 0, destination), None) if node == destination else NULL)
 
 
 class Checks:
@@ -45,35 +68,35 @@ def check_hops(checks, page, trace, nodes, destinations, rounds):
     page.js("document.getElementById('table-part').open = true")
     for destination in destinations:
         page.choose("destination", str(destination))
-        fold = Fold(records(trace))
+        fold = Fold(trace)
         for clock in rounds:
             fold.until(clock)
             page.go(clock)
             wanted = {node: fold.of(node, destination) for node in nodes}
             drawn = page.js("return tora.stage.drawn.hops")
-            checks.same(f"{trace} next hops to {destination} drawn in round {clock}",
+            checks.same(f"{trace.path} next hops to {destination} drawn in round {clock}",
                         sorted((a, b) for a, b, _ in drawn), sorted((node, hop) for node, (_, hop) in wanted.items() if hop))
             told = page.js("return [...document.querySelectorAll('#table tr')].slice(1).map((row) => [...row.cells].map((cell) => cell.textContent))")
             text = {str(node): "-" if height is None else str(height).replace(" ", "") for node, (height, _) in wanted.items()}
-            checks.same(f"{trace} heights for {destination} told in round {clock}", {row[0]: row[1] for row in told}, text)
+            checks.same(f"{trace.path} heights for {destination} told in round {clock}", {row[0]: row[1] for row in told}, text)
     page.js("document.getElementById('table-part').open = false")
 
 
 def told_rounds(scenario, trace, destination):
     """Yields for each round how each link is at its end, and how many copies of packets each node broadcast in it."""
-    rounds, up, parted, sent, now = Rounds(), set(), set(), collections.Counter(), 1
+    up, parted, sent, now = set(), set(), collections.Counter(), 1
 
     def picture():
         kinds = []
-        for a, b in scenario["links"]:
+        for a, b in scenario.links:
             ends = ((a, b) in up) + ((b, a) in up)
             kinds.append([a, b, ("parted, held up" if ends else "parted") if (a, b) in parted else ("none", "one", "both")[ends]])
         copies = sorted([*key, count] for key, count in sent.items() if count)
         sent.clear()
         return kinds, copies
 
-    for record in records(trace):
-        while now < rounds.of(record):
+    for record, of in zip(trace.records(), trace.rounds().tolist(), strict=True):
+        while now < of:
             yield picture()
             now += 1
         kind, words = record.kind, record.words
@@ -83,16 +106,15 @@ def told_rounds(scenario, trace, destination):
             (parted.add if kind == "part" else parted.discard)(ordered(*words))
         elif kind in ("qry", "upd", "clr") and words[1] == destination:
             sent[kind, words[0]] += words[2]
-    while now <= scenario["rounds"]:
+    while now <= scenario.rounds:
         yield picture()
         now += 1
 
 
-def check_links(checks, page, scenario_path, trace):
+def check_links(checks, page, scenario, trace):
     """Links and packets that are drawn are those that the trace tells, in every round."""
-    scenario = load_scenario(scenario_path)
     page.click("all-links")
-    for destination in scenario["destinations"]:
+    for destination in scenario.destinations:
         page.choose("destination", str(destination))
         found = page.js("""const found = [];
             for (let round = 1; round <= tora.film.last; round++) {
@@ -103,36 +125,35 @@ def check_links(checks, page, scenario_path, trace):
             }
             return found""")
         wanted = list(told_rounds(scenario, trace, destination))
-        checks.same(f"{trace} links drawn", [links for links, _ in found], [links for links, _ in wanted])
-        checks.same(f"{trace} packets for {destination} drawn", [sorted(sent) for _, sent in found], [sent for _, sent in wanted])
+        checks.same(f"{trace.path} links drawn", [links for links, _ in found], [links for links, _ in wanted])
+        checks.same(f"{trace.path} packets for {destination} drawn", [sorted(sent) for _, sent in found], [sent for _, sent in wanted])
     page.click("all-links")
 
 
-def check_every_round(checks, page, scenario_path, trace):
-    """Stale hops, loops, shares and breaks of every round are those of measure.py and dag.py."""
-    scenario = load_scenario(scenario_path)
-    for destination in scenario["destinations"]:
+def check_every_round(checks, page, scenario, trace):
+    """Stale hops, loops, shares and breaks of every round are those of the package."""
+    for destination in scenario.destinations:
         page.choose("destination", str(destination))
-        flows, shares, kinds, loops = [flow for flow in scenario["flows"] if flow[1] == destination], [], [], []
-        for clock, world in moments(scenario, trace, records(trace)):
+        flows, shares, kinds, loops = [flow for flow in scenario.flows if flow[1] == destination], [], [], []
+        for clock, world in moments(scenario, trace):
             hops = world.hops[destination]
             shares.append(sum(follow(hops, world.near, *flow)[0] == WORKS for flow in flows) / len(flows))
             looping = {node for ring in live_loops(hops, world.near, hops) for node in ring}
             loops += [clock] if looping else []
-            stale = {node for node, hop in hops.items() if hop and tuple(sorted((node, hop))) not in world.links}
+            stale = {node for node, _ in stale_hops(world, destination)}
             kinds.append(sorted([node, "stale" if node in stale else "loop" if node in looping else "works"] for node, hop in hops.items() if hop))
         found = page.js("""const found = [];
             for (let round = 1; round <= tora.film.last; round++) {
               tora.time.go(round); tora.draw(); found.push(tora.stage.drawn.hops.map(([node, , kind]) => [node, kind]));
             }
             return found""")
-        checks.same(f"{trace} kinds of next hops to {destination}", [sorted(each) for each in found], kinds)
+        checks.same(f"{trace.path} kinds of next hops to {destination}", [sorted(each) for each in found], kinds)
         told = page.js("const {works} = tora.summary; return [...works].slice(1).map((sum, at) => sum - works[at])")
-        checks.holds(f"{trace} shares of routes to {destination}", all(abs(a - b) < 1e-9 for a, b in zip(told, shares, strict=True)))
-        checks.same(f"{trace} rounds with a loop, to {destination}", page.js("return tora.summary.loops"), loops)
-        checks.same(f"{trace} breaks of routes to {destination}", page.js("return tora.summary.breaks"),
-                    [clock for clock, _, _ in breaks(scenario, trace, destination)])
-    checks.same(f"{trace} entries that make another next hop", page.js("""let others = 0; const {run, film, world, ask} = tora;
+        checks.holds(f"{trace.path} shares of routes to {destination}", all(abs(a - b) < 1e-9 for a, b in zip(told, shares, strict=True)))
+        checks.same(f"{trace.path} rounds with a loop, to {destination}", page.js("return tora.summary.loops"), loops)
+        checks.same(f"{trace.path} breaks of routes to {destination}", page.js("return tora.summary.breaks"),
+                    [found.round for found in breaks(Run(scenario, trace), destination)])
+    checks.same(f"{trace.path} entries that make another next hop", page.js("""let others = 0; const {run, film, world, ask} = tora;
         for (let d = 0; d < run.destinations.length; d++) for (let node = 0; node < run.count; node++)
           for (let round = 0; round <= film.last; round++) { film.seek(world, film.ends[round]); if (!ask.agrees(node, d, world)) others++; }
         return others"""), 0)
@@ -277,12 +298,11 @@ def check_all(options):
     with Browser(options.browser, options.driver) as page:
         for name in ("8-2", "7-9"):
             page.open(f"{options.folder}/{name}.html")
-            scenario_path, trace = f"{STORED}/{name}.json", f"{STORED}/{name}.trace"
-            scenario = load_scenario(scenario_path)
-            rounds = [0, 1, 2, *range(10, scenario["rounds"], 30), scenario["rounds"]]
-            check_hops(checks, page, trace, range(1, scenario["nodes"] + 1), scenario["destinations"], rounds)
-            check_every_round(checks, page, scenario_path, trace)
-            check_links(checks, page, scenario_path, trace)
+            scenario, trace = Scenario.read(STORED / f"{name}.json"), Trace.read(STORED / f"{name}.trace")
+            rounds = [0, 1, 2, *range(10, scenario.rounds, 30), scenario.rounds]
+            check_hops(checks, page, trace, range(1, scenario.nodes + 1), scenario.destinations, rounds)
+            check_every_round(checks, page, scenario, trace)
+            check_links(checks, page, scenario, trace)
         page.choose("destination", "1")
         check_steps(checks, page)
         check_play(checks, page)
@@ -292,7 +312,7 @@ def check_all(options):
             page.open(f"{options.folder}/7-9.html#round=121&destination=1&flow=7-1&node=4")
             page.picture(options.picture)
         page.open(f"{options.folder}/6-1.html")
-        check_hops(checks, page, f"{STORED}/6-1.trace", range(1, 7), [3, 6], [0, 1, 100, 291])
+        check_hops(checks, page, Trace.read(STORED / "6-1.trace"), range(1, 7), [3, 6], [0, 1, 100, 291])
         checks.same("the console", page.complaints, [])
     print(f"{checks.passed} passed, {checks.failed} failed")
     return checks.failed
@@ -308,9 +328,9 @@ def main():
     parser.add_argument("folder", metavar="DIR", help="where the pages are")
     options = parser.parse_args()
     if options.figures:
-        return run("check-page", lambda: figures(options.browser, options.driver, options.figures))
-    failed = []
-    return run("check-page", lambda: failed.append(check_all(options))) or int(any(failed))
+        figures(options.browser, options.driver, options.figures)
+        return 0
+    return int(bool(check_all(options)))
 
 
 if __name__ == "__main__":

@@ -1,4 +1,4 @@
-"""A page of play.py in a headless Chromium, by selenium."""
+"""A page of `tora-study page` in a headless Chromium, by selenium."""
 import os
 import time
 
