@@ -27,7 +27,7 @@ BUDGETS = {
     "reference": (14000, ["docs/reference/*.md", "docs/formats.md", "docs/simulation.md"]),
     "explanation": (14000, ["docs/explanation/*.md"]),
     "studies": (5000, ["docs/studies/*.md"]),
-    "developers": (8000, ["CONTRIBUTING.md", "docs/developers/*.md", "bench/FIGURES.md"]),
+    "developers": (8000, ["CONTRIBUTING.md", "docs/developers/*.md"]),
 }
 HOW_TO = 700
 OTHERS = ["CHANGELOG.md", "SECURITY.md", "ns3/README.md", "examples/README.md"]
@@ -124,7 +124,7 @@ def main(options):
         print(f"check-docs: no option {options[0]}", file=sys.stderr)
         return 2
     pages = sorted(TOP.glob("docs/**/*.md"))
-    loose = [TOP / it for it in ["README.md", "CONTRIBUTING.md", "bench/FIGURES.md", *OTHERS] if (TOP / it).exists()]
+    loose = [TOP / it for it in ["README.md", "CONTRIBUTING.md", *OTHERS] if (TOP / it).exists()]
     found = list(too_many("--words" in options))
     found += too_long(TOP / "README.md", 100, False)
     lines = len(read(TOP / "README.md"))

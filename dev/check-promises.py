@@ -10,6 +10,8 @@ Without a PAGE it reads docs/reference/promises.md, docs/explanation/*.md, docs/
   trait TYPE, and `MODULE::NAME` one in the file MODULE.rt. A clause cell `one clause` means that the functions ensure one clause, which has no name.
 - Each other name in backquotes has to be a word of the sources or definitions of the crates, a word of the scripts, or a path.
 
+- A table whose last heading is `constants` has numbers of the sources: the numbers of a row are those of its constants, in order.
+
 Of docs/explanation/architecture.md it also asks that the tables headed `crate`, `content` name each crate of crates.txt once, behind
 all crates that it stands on.
 
@@ -124,6 +126,31 @@ def row_faults(functions, cells):
         yield "a row names a function and a clause"
 
 
+def constants():
+    """The public constants of the crates whose value is a number or another constant."""
+    found = {}
+    for path in sorted(CRATES.glob("*/src/**/*.rt")):
+        for name, value in re.findall(r"pub const ([A-Z_]+): \w+ = ([^;]+);", path.read_text(encoding="utf-8")):
+            found.setdefault(name, value.strip())
+    for _ in range(3):
+        found.update({name: found[value] for name, value in found.items() if value in found})
+    return {name: int(value, 0) for name, value in found.items() if re.fullmatch(r"0x[0-9a-f_]+|[0-9][0-9_]*", value)}
+
+
+def number_faults(page):
+    """The rows of tables of constants whose numbers are others than the sources'."""
+    values = constants()
+    table = False
+    for number, line in enumerate(page.read_text(encoding="utf-8").splitlines(), 1):
+        cells = [cell.strip() for cell in line.strip().strip("|").split(" | ")] if line.startswith("|") else []
+        table = bool(cells) and (table or cells[-1].lower() == "constants")
+        if table and quoted(cells[-1]):
+            told = [int(it.replace(",", "")) for it in re.findall(r"\b\d[\d,]*", " ".join(cells[1:-1]))]
+            wanted = [values.get(name) for name in quoted(cells[-1])]
+            if told != wanted:
+                yield number, f"the numbers are {told}, those of the constants {wanted}"
+
+
 def is_path(name):
     return any(TOP.glob(name.rstrip("/"))) or any(CRATES.glob(f"*/{name}")) or any(CRATES.glob(f"*/*/{name}"))
 
@@ -192,13 +219,13 @@ def main():
     words |= other_words()
     count = 0
     for page in pages:
-        faults = list(page_faults(page, functions, words))
+        faults = [*page_faults(page, functions, words), *number_faults(page)]
         if page.name == "architecture.md":
             faults += crate_faults(page)
         for number, fault in faults:
             count += 1
             print(f"{page.relative_to(TOP)}:{number}: {fault}")
-    print(f"{len(pages)} pages, {count} names that do not exist")
+    print(f"{len(pages)} pages, {count} faults")
     return 1 if count else 0
 
 

@@ -1,7 +1,7 @@
 """Checks of runs against their laws: a trace against what was printed, and random networks at rest.
 
-The laws of worlds at rest are those of `docs/protocol.md`, "What a route is worth": each entry is NULL, the neighbour's
-height, or of a neighbour that has no height; next hops go down; and routes arrive where nobody lacks a height.
+The laws of worlds at rest are those of `docs/explanation/tora.md`, "What a route is worth": each entry is NULL, the
+neighbour's height, or of a neighbour that has no height; next hops go down; and routes arrive where nobody lacks a height.
 """
 from __future__ import annotations
 
