@@ -6,8 +6,8 @@ usage: dev/tables.py [--check] [PAGE..]
   PAGE      the pages; all pages of docs/ without one
 
 A table stands between the lines `<!-- made by COMMAND -->` and `<!-- made -->`. A COMMAND begins with `python/tora-study summary`; its output, a
-Markdown table, is the block. A COMMAND that ends in `| across NAME DIGITS` has its rows told across: a row for each group without NAME and each
-measure, a column for each value of NAME, and in each cell the value with that many digits and its 95 % interval.
+Markdown table, is the block. A COMMAND that ends in `| across NAME FORMAT` has its rows told across: a row for each group without NAME and each
+measure, a column for each value of NAME, and in each cell the value and its 95 % interval in that format of Python, as `.3f`.
 
 Exit status: 0; 1 where --check finds a difference or a command fails; 2 for a wrong use.
 """
@@ -36,20 +36,22 @@ def output(words):
     return done.stdout
 
 
-def cell(row, digits):
-    """The value of a row with its interval, which is missing where there is none."""
-    value = f"{float(row['value']):.{digits}f}"
-    return value + (f" [{float(row['low']):.{digits}f} .. {float(row['high']):.{digits}f}]" if row["low"] else "")
+def cell(row, form):
+    """The value of a row with its interval; a dash where nothing of the kind happened."""
+    if not row["value"]:
+        return "-"
+    value = format(float(row["value"]), form)
+    return value + (f" [{float(row['low']):{form}} .. {float(row['high']):{form}}]" if row["low"] else "")
 
 
-def across(text, name, digits):
+def across(text, name, form):
     """A table of CSV with the values of a column told across."""
     rows = list(csv.DictReader(io.StringIO(text)))
     groups = [it for it in rows[0] if it not in VALUES and it != name]
     heads = list(dict.fromkeys(row[name] for row in rows))
     found = {}
     for row in rows:
-        found.setdefault((*(row[it] for it in groups), row["measure"]), {})[row[name]] = cell(row, digits)
+        found.setdefault((*(row[it] for it in groups), row["measure"]), {})[row[name]] = cell(row, form)
     measures = len({row["measure"] for row in rows}) > 1
     titles = [*groups, *(["measure"] if measures else []), *(f"{name} {it}" for it in heads)]
     lines = [f"| {' | '.join(titles)} |", "|" + "---|" * len(titles)]
@@ -64,8 +66,7 @@ def table(command):
     command, _, how = command.partition(" | across ")
     words = shlex.split(command)
     if how:
-        name, digits = how.split()
-        return across(output([*words, "--format", "csv"]), name, int(digits))
+        return across(output([*words, "--format", "csv"]), *how.split())
     lines = output(words).splitlines()
     first = next(i for i, it in enumerate(lines) if it.startswith("|"))
     return "\n".join(lines[first:]).rstrip() + "\n"
