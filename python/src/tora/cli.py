@@ -150,12 +150,15 @@ def _add_sweep(words: argparse._SubParsersAction[Parser]) -> None:
 def _add_storms(words: argparse._SubParsersAction[Parser]) -> None:
     """The word storms."""
     added = _add_word(
-        words, "storms", "count the networks that do not come to rest after a partition",
+        words, "storms", "how networks come to rest after a partition",
         "Draws a ring of 3 to 8 nodes from each seed, parts it from its destination, and asks 150 rounds behind the last event whether it is at rest;\n"
-        "once where nodes forget the levels that they erased, and once where they remember them. Prints how many are not, by the greatest delay of a\n"
-        f"datagram in rounds of 100 ms. docs/after-a-partition.md tells more.\n{PROGRAM}",
+        "once where nodes forget the levels that they erased, and once where they remember them. Prints how many are not, the time to rest in ticks of\n"
+        "100 ms, control packets behind the last event, and loops and dead ends at rest: by the greatest delay of a datagram in rounds of 100 ms, and\n"
+        f"by the size of the ring. docs/after-a-partition.md tells more.\n{PROGRAM}",
     )
     added.add_argument("--runs", metavar="NUMBER", action=Once, type=count, default=400, help="how many networks, of the seeds from 0 on (400)")
+    added.add_argument("--mended", action=Flag, default=False, help="the destination comes back as the last event")
+    added.add_argument("--plot", metavar="FILE", action=Once, type=text, help="also draw them, .png, .svg or .pdf")
     added.add_argument("--jobs", metavar="NUMBER", action=Once, type=count, help="runs at a time, 1 or more (as many as processors)")
     _add_program(added)
     add_output(added, "also write a row for each run, as CSV")
@@ -230,6 +233,7 @@ def _add_plot(words: argparse._SubParsersAction[Parser]) -> None:
         "by": "measures over a column, with a line for each group", "overview": "routes, breaks, broadcasts and stretch over a column",
         "growth": "measures on logarithmic axes, and the power laws that fit", "notice": "speed, loss and notice of parted links",
         "comparison": "the ns-3 comparison over the greatest speed", "rest": "time to rest by nodes and delay, for choices of erasure",
+        "storms": "how partitions come to rest, by nodes and by delay, for choices of erasure",
     }
     for name, text_ in tables.items():
         kind = kinds.add_parser(name, help=text_, description=f"{text_[0].upper()}{text_[1:]}.", epilog=STATUSES)

@@ -18,9 +18,9 @@ from tora.program import TIME_LIMIT, Program
 from tora.records import record_text
 from tora.run import Run
 from tora.scenario import Scenario
-from tora.storms import storm_counts, storm_table
+from tora.storms import count_lines, storm_table
 from tora.summary import Summary, compare, csv_text, markdown_lines, summarize, text_lines
-from tora.table import Table, read_table
+from tora.table import Table, read_table, table_of
 from tora.trace import Trace
 
 
@@ -53,14 +53,19 @@ def do_run(found: argparse.Namespace) -> int:
 
 
 def do_storms(found: argparse.Namespace) -> int:
-    """Counts the random partitions that do not come to rest."""
-    if found.output is not None:
-        check_outputs([found.output], overwrite=found.overwrite)
+    """Runs random partitions, and tells how they come to rest."""
+    outputs = [name for name in (found.output, found.plot) if name is not None]
+    check_outputs(outputs, overwrite=found.overwrite)
+    if found.plot is not None:
+        kind_of(found.plot)
     limit = TIME_LIMIT if found.time_limit is None else found.time_limit
-    table = storm_table(range(found.runs), Program.find(found.program), jobs=found.jobs, time_limit=limit)
+    table = storm_table(range(found.runs), Program.find(found.program), jobs=found.jobs, time_limit=limit, is_mended=found.mended)
+    text = table.to_csv(index=False, lineterminator="\n")
     if found.output is not None:
-        write_file(found.output, table.to_csv(index=False, lineterminator="\n"), overwrite=found.overwrite)
-    return tell(storm_counts(table).to_string(index=False).splitlines())
+        write_file(found.output, text, overwrite=found.overwrite)
+    if found.plot is not None:
+        plots.write_picture(plots.drawn(table_of(text.encode(), "storms"), "storms"), found.plot, overwrite=found.overwrite)
+    return tell(count_lines(table))
 
 
 def do_measure(found: argparse.Namespace) -> int:
