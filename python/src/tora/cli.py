@@ -242,6 +242,19 @@ def _add_plot(words: argparse._SubParsersAction[Parser]) -> None:
             kind.add_argument("--by", metavar="COLUMN", action=Once, type=text, default="nodes", help="a column of numbers (nodes)")
         add_output(kind, "the picture, .png, .svg or .pdf", needed=True)
     _add_heights(kinds)
+    _add_packets(kinds)
+
+
+def _add_packets(kinds: argparse._SubParsersAction[Parser]) -> None:
+    """The kind packets of the word plot."""
+    kind = kinds.add_parser(
+        "packets", help="QRY, UPD and CLR of a run over time", epilog=STATUSES,
+        description="How many QRY, UPD and CLR are broadcast in each second of a run, and in some rounds which node broadcasts what.",
+    )
+    kind.add_argument("trace", metavar="TRACE", help="what `run` wrote, or `tora sim --trace`")
+    kind.add_argument("--destination", metavar="DESTINATION", action=Once, type=whole, help="packets of this destination alone (all)")
+    kind.add_argument("--rounds", metavar="FIRST-LAST", action=Once, type=text, help="the rounds that are shown node by node (none)")
+    add_output(kind, "the picture, .png, .svg or .pdf", needed=True)
 
 
 def _add_heights(kinds: argparse._SubParsersAction[Parser]) -> None:

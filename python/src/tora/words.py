@@ -7,9 +7,10 @@ import sys
 from collections.abc import Iterable, Sequence
 
 from tora import commands, heights, metrics, page, plots, verifying
+from tora.broadcasts import broadcasts
 from tora.comparison import TORA, report
 from tora.derived import with_derived
-from tora.errors import UsageError
+from tora.errors import UsageError, shown
 from tora.files import check_outputs, write_file, write_files
 from tora.options import CHANNEL, EDGE_LOSS, FILES, SCENARIO, flag_of, given
 from tora.plots import kind_of
@@ -137,6 +138,8 @@ def do_plot(found: argparse.Namespace) -> int:
     """Draws a picture."""
     if found.kind == "heights":
         return _plot_heights(found)
+    if found.kind == "packets":
+        return _plot_packets(found)
     kind_of(found.output)
     check_outputs([found.output], [found.table], found.overwrite)
     table = _table(found)
@@ -144,6 +147,20 @@ def do_plot(found: argparse.Namespace) -> int:
         table, found.kind, getattr(found, "by", None), found.measures, statistic=found.statistic, method=found.interval, pool=found.pool
     )
     plots.write_picture(figure, found.output, [found.table], found.overwrite)
+    return 0
+
+
+def _plot_packets(found: argparse.Namespace) -> int:
+    """Draws the control packets of a run."""
+    kind_of(found.output)
+    check_outputs([found.output], [found.trace], found.overwrite)
+    rounds = None
+    if found.rounds is not None:
+        parts = found.rounds.split("-")
+        if len(parts) != 2 or not all(part.isascii() and part.isdecimal() and len(part) < 20 for part in parts):
+            raise UsageError(f"`{shown(found.rounds)}` is not FIRST-LAST", key="--rounds")
+        rounds = int(parts[0]), int(parts[1])
+    plots.write_picture(broadcasts(Trace.read(found.trace), found.destination, rounds), found.output, [found.trace], found.overwrite)
     return 0
 
 
