@@ -10,7 +10,7 @@ from conftest import REPOSITORY
 from tora.cli import parser
 from tora.studying import study_of
 
-DOCUMENTS = ("studies", "studies-reference", "studies-tora", "studies-ns3")
+DOCUMENTS = ("studies", "studies-reference", "studies-tora", "studies-ns3", "studies-sparse", "after-a-partition")
 
 
 def commands(name: str) -> list[str]:
