@@ -46,6 +46,9 @@ main(int argc, char* argv[])
     cmd.AddValue("returns", "TORA: packets that come back cut links", setup.isReturnNoticed);
     cmd.AddValue("waits", "TORA: packets that come back wait", setup.isReturnWaiting);
     cmd.AddValue("salvage", "TORA: packets that the radio gives up wait", setup.isSalvaging);
+    cmd.AddValue("erasure",
+                 "TORA: what nodes make of erased levels, plain or remembered",
+                 setup.erasure);
     cmd.AddValue("record", "TORA: the file for the engine's record of the run", setup.record);
     cmd.AddValue("large", "TORA: nodes may have more than 32 neighbours", setup.isLarge);
     cmd.AddValue("header", "print the names of the columns, too", setup.hasHeader);

@@ -10,7 +10,7 @@ from conftest import REPOSITORY
 from tora.cli import parser
 from tora.studying import study_of
 
-DOCUMENTS = ("tutorial/index", "how-to/cluster", "studies/guide", "studies/reference", "studies/tora", "studies/ns-3")
+DOCUMENTS = ("tutorial/index", "how-to/cluster", "studies/guide", "studies/reference", "studies/tora", "studies/ns-3", "studies/sparse", "explanation/after-a-partition")
 
 
 def commands(name: str) -> list[str]:
