@@ -58,7 +58,7 @@ def test_pictures_are_there() -> None:
 @pytest.fixture(scope="module")
 def maker() -> ModuleType:
     """The script that makes the pictures and tables of the documents."""
-    spec = importlib.util.spec_from_file_location("make", REPOSITORY / "docs" / "studies" / "make.py")
+    spec = importlib.util.spec_from_file_location("make", REPOSITORY / "dev" / "studies.py")
     assert spec is not None and spec.loader is not None
     found = importlib.util.module_from_spec(spec)
     spec.loader.exec_module(found)

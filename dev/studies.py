@@ -1,7 +1,7 @@
 #!/usr/bin/python3
 """Makes every picture and table of measured figures in docs/ from the stored rows.
 
-usage: docs/studies/make.py [--check] [NAME..]
+usage: dev/studies.py [--check] [NAME..]
 
   --check   compares the tables that stand in docs/ with those that are made, and writes nothing
   NAME..    these pictures and tables in place of all
@@ -18,8 +18,8 @@ import subprocess
 import sys
 import tempfile
 
-DOCS = pathlib.Path(__file__).resolve().parents[1]
-TOP = DOCS.parent
+TOP = pathlib.Path(__file__).resolve().parents[1]
+DOCS = TOP / "docs"
 sys.path.insert(0, str(TOP / "python" / "src"))
 
 from tora import Scenario, heights, plots, stats  # noqa: E402
@@ -195,10 +195,10 @@ def made(name, old):
     if name in WHOLE:
         return WHOLE[name]()
     if name not in TABLES:
-        raise StudyError(f"there is no table {name}", file="docs/studies/make.py")
+        raise StudyError(f"there is no table {name}", file="dev/studies.py")
     found, labels = TABLES[name](), [line.split(" | ")[0].removeprefix("|").strip() for line in old[2:]]
     if len(labels) != len(found):
-        raise StudyError(f"table {name}: {len(labels)} lines stand, and {len(found)} are made", file="docs/studies/make.py")
+        raise StudyError(f"table {name}: {len(labels)} lines stand, and {len(found)} are made", file="dev/studies.py")
     return old[:2] + [cells(label, *some).replace("|  |", "| |") for label, some in zip(labels, found)]
 
 
@@ -290,7 +290,7 @@ def main():
                 print(f"{told} {'differs' if words.check else 'is made anew'}")
                 status = int(words.check)
     except StudyError as cause:
-        print(f"make.py: {cause}", file=sys.stderr)
+        print(f"studies.py: {cause}", file=sys.stderr)
         return 1
     for name, make in {} if words.check else PICTURES.items():
         if not words.names or name in words.names:
@@ -298,7 +298,7 @@ def main():
                 make()
                 print(f"docs/studies/{name.replace('break.png', 'break-*.png')}")
             except StudyError as cause:
-                print(f"make.py: {cause}", file=sys.stderr)
+                print(f"studies.py: {cause}", file=sys.stderr)
                 status = 1
     return status
 
