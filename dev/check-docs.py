@@ -7,12 +7,13 @@ usage: dev/check-docs.py [--words]
 It checks that
 
 - each part has at most the words of BUDGETS, each how-to guide at most 700, and the README at most 120 lines of 100 characters;
-- no line of a document is longer than 120 characters, but for tables and the commands that make them;
+- no line of a document is longer than 120 characters, but for tables;
 - each relative link of a Markdown file outside docs/ leads to a file, and to a heading where it names one (Sphinx checks those of docs/);
 - each path that a document names in backquotes is there;
 - docs/reference/command-line.md is what dev/command-line.py makes, where the program can say its help.
 
-A word is a run of characters without a blank that has a letter. Fenced blocks are not counted, except in the README.
+A word is a run of characters without a blank that has a letter. Fenced blocks are not counted, except in the README, and neither are tables that
+dev/studies.py makes.
 Each fault is one line, FILE:LINE: what is wrong. Exit status: 0 where there is none, 1 where there are some, 2 for a wrong use.
 """
 import pathlib
@@ -54,7 +55,12 @@ def read(path):
 def words(path):
     """How many words a file has."""
     every = path == TOP / "README.md"
-    return sum(1 for line, fenced in read(path) if every or not fenced for it in line.split() if re.search(r"[A-Za-z]", it))
+    count, is_made = 0, False
+    for line, fenced in read(path):
+        is_made = line.lstrip().startswith(("<!-- made: ", "|")) if is_made else "<!-- made: " in line
+        if (every or not fenced) and not is_made:
+            count += sum(1 for it in line.split() if re.search(r"[A-Za-z]", it))
+    return count
 
 
 def name(path):
@@ -81,7 +87,7 @@ def too_many(told):
 def too_long(path, most, tables):
     """The lines of a file that are too long."""
     for number, (line, _) in enumerate(read(path), 1):
-        if len(line) > most and not (tables and line.lstrip().startswith(("|", "<!-- made by"))):
+        if len(line) > most and not (tables and line.lstrip().startswith("|")):
             yield f"{name(path)}:{number}: {len(line)} characters, {most} at most"
 
 
