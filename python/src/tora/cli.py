@@ -153,7 +153,7 @@ def _add_storms(words: argparse._SubParsersAction[Parser]) -> None:
         words, "storms", "count the networks that do not come to rest after a partition",
         "Draws a ring of 3 to 8 nodes from each seed, parts it from its destination, and asks 150 rounds behind the last event whether it is at rest;\n"
         "once where nodes forget the levels that they erased, and once where they remember them. Prints how many are not, by the greatest delay of a\n"
-        f"datagram in rounds of 100 ms. docs/after-a-partition.md tells more.\n{PROGRAM}",
+        f"datagram in rounds of 100 ms. docs/explanation/after-a-partition.md tells more.\n{PROGRAM}",
     )
     added.add_argument("--runs", metavar="NUMBER", action=Once, type=count, default=400, help="how many networks, of the seeds from 0 on (400)")
     added.add_argument("--jobs", metavar="NUMBER", action=Once, type=count, help="runs at a time, 1 or more (as many as processors)")
