@@ -7,7 +7,7 @@ usage: dev/check-docs.py [--words]
 It checks that
 
 - each part has at most the words of BUDGETS, each how-to guide at most 700, and the README at most 120 lines of 100 characters;
-- no line of a document is longer than 120 characters, but for tables and for headings and links that cannot be broken;
+- no line of a document is longer than 120 characters, but for tables and the commands that make them;
 - each relative link of a Markdown file outside docs/ leads to a file, and to a heading where it names one (Sphinx checks those of docs/);
 - each path that a document names in backquotes is there;
 - docs/reference/command-line.md is what dev/command-line.py makes, where the program can say its help.
@@ -81,7 +81,7 @@ def too_many(told):
 def too_long(path, most, tables):
     """The lines of a file that are too long."""
     for number, (line, _) in enumerate(read(path), 1):
-        if len(line) > most and not (tables and line.lstrip().startswith("|")):
+        if len(line) > most and not (tables and line.lstrip().startswith(("|", "<!-- made by"))):
             yield f"{name(path)}:{number}: {len(line)} characters, {most} at most"
 
 
@@ -115,7 +115,7 @@ def lost_paths(path):
         for word in re.findall(r"`([^`\s]+)`", line):
             first = word.split("/")[0]
             if "/" in word and first in FOLDERS and re.fullmatch(r"[\w./@*-]+", word) and "/out/" not in word:
-                if not list(TOP.glob(word.rstrip("/"))):
+                if not list(TOP.glob(word.rstrip("/"))) and not (path.parent / word).exists():
                     yield f"{name(path)}:{number}: no {word} in the tree"
 
 
@@ -137,7 +137,8 @@ def main(options):
         if path.name != "README.md":
             found += too_long(path, 120, True)
         found += lost_links(path)
-        found += lost_paths(path)
+        if path.name != "CHANGELOG.md":  # it names what was there
+            found += lost_paths(path)
     for it in found:
         print(it)
     return 1 if found else 0

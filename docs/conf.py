@@ -1,7 +1,9 @@
 """The documents as one Sphinx project: dev/docs builds them into out/docs."""
 import pathlib
+import sys
 
 HERE = pathlib.Path(__file__).parent
+sys.path.insert(0, str(HERE.parent / "python" / "src"))
 
 project = "Ginavoru"
 author = "the Ginavoru authors"
@@ -9,11 +11,19 @@ copyright = "2026, the Ginavoru authors"
 release = (HERE.parent / "VERSION").read_text().strip()
 version = release
 
-extensions = ["myst_parser"]
+extensions = ["myst_parser", "sphinx.ext.autodoc", "sphinx.ext.napoleon"]
 source_suffix = {".md": "markdown"}
 root_doc = "index"
 exclude_patterns = ["man"]
 nitpicky = True
+# The names of types in docstrings are words for people; the links of the pages are checked.
+nitpick_ignore_regex = [("py:.*", ".*")]
+
+# The package is read without the libraries that it needs.
+autodoc_mock_imports = ["jsonschema", "matplotlib", "networkx", "numpy", "pandas", "scipy"]
+autodoc_typehints = "none"
+autodoc_member_order = "bysource"
+napoleon_google_docstring = False
 
 # A heading of up to three levels can be linked to as PAGE.md#its-words.
 myst_heading_anchors = 3

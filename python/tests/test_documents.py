@@ -18,7 +18,7 @@ def commands(name: str) -> list[str]:
     found = []
     for block in re.findall(r"^ *```sh\n(.*?)^ *```", (REPOSITORY / "docs" / f"{name}.md").read_text(), re.DOTALL | re.MULTILINE):
         variables = dict(re.findall(r'^(\w+)="(.*)"$', block, re.MULTILINE))
-        for line in block.splitlines():
+        for line in block.replace("\\\n", " ").splitlines():
             for part in line.split(" && "):
                 if part.strip().startswith("python/tora-study "):
                     found.append(re.sub(r"\$(\w+)", lambda it: variables[it[1]], part.strip()))
