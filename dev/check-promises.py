@@ -1,4 +1,4 @@
-#!/usr/bin/env python3
+#!/usr/bin/python3
 """Compares the names in the documents with the sources of the crates.
 
 usage: dev/check-promises.py [PAGE ..]

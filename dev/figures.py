@@ -1,4 +1,4 @@
-#!/usr/bin/env python3
+#!/usr/bin/python3
 """Makes docs/developers/figures.md of bench/figures.toml.
 
 usage: dev/figures.py            writes the page
