@@ -8,7 +8,7 @@ come and go follow. Then nothing changes any more. Packets take 1 to J ticks, an
 20,000 packets, or 2,000 ticks, packets are still under way. In a second draw of the same networks the destination comes back in the end, and
 each node asks three times more: `no route` are nodes with a path to the destination whose next hops do not lead there, `loops` next hops that lead in a circle.
 
-Rules `plain` are those of docs/protocol.md. With `unreflected` a route is built from heights whose reference level is not reflected (r = 0)
+Rules `plain` are those of docs/explanation/tora.md. With `unreflected` a route is built from heights whose reference level is not reflected (r = 0)
 alone, as the draft of TORA says. With `remembered` a clear withdraws its sender, and an update of the level that was erased last is not taken.
 
 This is a sketch of the rules for experiments, and apart from the product: nothing of it is proved, and its links lose nothing.
