@@ -1,6 +1,6 @@
 #!/usr/bin/env bash
 # Time of `tora drive` beside `tora sim` of the same events: a grid of 10 x 10 nodes, 1,000 steps, each datagram delivered. The
-# lines are those of one run over a pipe (tools/drive.py), which is timed too; then both read their lines from a file.
+# lines are those of one run over a pipe (dev/oracle.py drive), which is timed too; then both read their lines from a file.
 # usage: bench/drive.sh [STEPS] [RUNS] [PROGRAM] [SIDE]     SIDE: so many nodes along each side, up to 32; 10 without it
 set -eu
 top=$(cd "$(dirname "$0")/.." && pwd)
@@ -38,7 +38,7 @@ least() {
 drive() { "$program" drive --large <"$work/driven.txt"; }
 
 start=$(date +%s%N)
-python3 "$top/tools/drive.py" --large --ticks "$steps" --need "1,$last" --need "$last,1" --keep "$work" "$program" "$work/grid.sim"
+"$top/dev/oracle.py" drive --large --ticks "$steps" --need "1,$last" --need "$last,1" --keep "$work" --program "$program" "$work/grid.sim"
 echo "over a pipe, with its driver: $((($(date +%s%N) - start) / 1000000)) ms, $(wc -l <"$work/driven.txt") lines"
 sim=$(least "$program" sim --large "$work/driven.sim")
 driven=$(least drive)

@@ -22,7 +22,7 @@ import tempfile
 import time
 
 TOP = os.path.dirname(os.path.dirname(os.path.realpath(__file__)))
-sys.path.insert(0, f"{TOP}/tools")
+sys.path.insert(0, f"{TOP}/dev")
 import build  # noqa: E402
 
 CHECKED = re.compile(r"^checked (\S+), \d+ of \d+$")

@@ -89,7 +89,7 @@ links() {
 # Nodes of the scenario with seed 1, for 1,200 rounds, with the heights at their end; each with 32 neighbours at most, as many as the
 # baseline's limit is raised to.
 moving() {
-  python3 "$top/tools/scenario.py" "$work/moving-$1" --large --limit 32 --nodes "$1" --seed 1 --rounds 1200 --heights 1200
+  "$top/python/tora-study" make "$work/moving-$1" --large --limit 32 --nodes "$1" --seed 1 --rounds 1200 --heights 1200
 }
 
 # Small worlds, as often as they are repeated.

@@ -2,9 +2,9 @@
 -- SPDX-License-Identifier: GPL-2.0-only
 
 -- A Wireshark dissector for the broadcast packets of the ns-3 module (ns3/README.md, "On the air"): it spells each frame whole
--- and hands it to tools/tora.lua, where that is loaded, too.
+-- and hands it to dev/tora.lua, where that is loaded, too.
 --
---   tshark -X lua_script:tools/tora.lua -X lua_script:ns3/tora-ns3.lua -r FILE
+--   tshark -X lua_script:dev/tora.lua -X lua_script:ns3/tora-ns3.lua -r FILE
 
 local air = Proto("tora_air", "TORA broadcast packet")
 local PORT, HEADER, WHOLE = 5047, 8, 0

@@ -4,7 +4,7 @@
 /*
  * One run of a comparison: moving nodes with radios, flows of data packets, and one of four routing
  * protocols. The same seed gives the same motion, flows and radios, whatever the protocol. It
- * prints one row of CSV; docs/studies-ns3.md tells the columns, and ns3/compare/run makes many
+ * prints one row of CSV; docs/studies/ns-3.md tells the columns, and ns3/compare/Snakefile makes many
  * runs.
  *
  *   tora-compare --protocol=TORA --nodes=20 --speed=10 --flows=5 --seed=1 [--header]
@@ -46,6 +46,9 @@ main(int argc, char* argv[])
     cmd.AddValue("returns", "TORA: packets that come back cut links", setup.isReturnNoticed);
     cmd.AddValue("waits", "TORA: packets that come back wait", setup.isReturnWaiting);
     cmd.AddValue("salvage", "TORA: packets that the radio gives up wait", setup.isSalvaging);
+    cmd.AddValue("erasure",
+                 "TORA: what nodes make of erased levels, plain or remembered",
+                 setup.erasure);
     cmd.AddValue("record", "TORA: the file for the engine's record of the run", setup.record);
     cmd.AddValue("large", "TORA: nodes may have more than 32 neighbours", setup.isLarge);
     cmd.AddValue("header", "print the names of the columns, too", setup.hasHeader);

@@ -136,6 +136,7 @@ ToraComparison::Receive(Ptr<Socket> socket)
         m_hops += under.hops;
         if (under.least > 0)
         {
+            m_reached++;
             m_leastHops += under.least;
             m_pathHops += under.hops;
         }
@@ -158,6 +159,7 @@ ToraComparison::CountControl(Ptr<const Packet> packet, Ptr<Ipv4>, uint32_t)
     {
         m_controlPackets++;
         m_controlBytes += packet->GetSize();
+        m_controlMost.Add(Simulator::Now(), packet->GetSize());
     }
 }
 

@@ -19,6 +19,26 @@ namespace
 constexpr int64_t STACK_STREAM = 50000;   ///< IP
 constexpr int64_t ROUTING_STREAM = 90000; ///< the routing protocol
 
+/**
+ * Reads what nodes make of erased levels.
+ *
+ * \param word the word of the command line
+ * \returns the choice
+ */
+ToraRouting::Erasure
+ErasureOf(const std::string& word)
+{
+    if (word == "plain")
+    {
+        return ToraRouting::PLAIN;
+    }
+    if (word == "remembered")
+    {
+        return ToraRouting::REMEMBERED;
+    }
+    NS_FATAL_ERROR("no erasure " << word << ": plain or remembered");
+}
+
 } // namespace
 
 std::unique_ptr<Ipv4RoutingHelper>
@@ -32,6 +52,10 @@ ToraComparison::MakeTora() const
     tora->Set("NoticeReturn", BooleanValue(m_setup.isReturnNoticed));
     tora->Set("WaitReturn", BooleanValue(m_setup.isReturnWaiting));
     tora->Set("Salvage", BooleanValue(m_setup.isSalvaging));
+    if (!m_setup.erasure.empty())
+    {
+        tora->Set("Erasure", EnumValue(ErasureOf(m_setup.erasure)));
+    }
     tora->Set("Record", StringValue(m_setup.record));
     tora->Set("Large", BooleanValue(m_setup.isLarge));
     return tora;

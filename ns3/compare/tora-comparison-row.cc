@@ -82,7 +82,8 @@ ToraComparison::Print() const
             << "protocol,nodes,speed,flows,seed,sent,reachable,received,delivery,"
                "delay_median,delay_95,control_bytes,control_packets,control_rate,"
                "bytes_per_packet,packets_per_packet,hops,stretch,came_back,late,hello,data,ack,"
-               "lost_radio,lost_arp,lost_no_route,lost_came_back,lost_late,lost_other\n";
+               "lost_radio,lost_arp,lost_no_route,lost_came_back,lost_late,lost_other,"
+               "delivery_reachable,control_most\n";
     }
     PrintMeans(std::cout);
     std::cout << "," << CameBack() << "," << m_late << "," << CountOf(ToraFrame::HELLO) << ","
@@ -92,7 +93,12 @@ ToraComparison::Print() const
     {
         std::cout << "," << Lost(fate);
     }
-    std::cout << std::endl;
+    std::cout << ",";
+    if (m_reachable > 0)
+    {
+        std::cout << static_cast<double>(m_reached) / m_reachable;
+    }
+    std::cout << "," << m_controlMost.GetMost() << std::endl;
 }
 
 } // namespace ns3

@@ -8,6 +8,7 @@
 #include "ns3/network-module.h"
 #include "ns3/tora-frame.h"
 #include "ns3/tora-header.h"
+#include "ns3/tora-peak.h"
 #include "ns3/tora-routing.h"
 
 #include <cstdint>
@@ -45,6 +46,7 @@ struct ToraComparisonSetup
     bool isReturnNoticed{false};  //!< whether links are cut that packets come back from
     bool isReturnWaiting{false};  //!< whether packets that come back wait for another next hop
     bool isSalvaging{false};      //!< whether packets that the radio gives up wait once more
+    std::string erasure;          //!< what nodes make of erased levels, or nothing: as ToraRouting
     std::string record;           //!< the file for the engine's record
     bool isLarge{false};          //!< whether nodes may have more than 32 neighbours
     bool hasHeader{false};        //!< whether the names of the columns are printed, too
@@ -219,6 +221,7 @@ class ToraComparison
     std::map<uint64_t, UnderWay> m_under; //!< packets under way, by their number in ns-3
     uint32_t m_sequence{0};               //!< how many packets were sent
     uint32_t m_reachable{0};              //!< how many of them had a path as they were sent
+    uint32_t m_reached{0};                //!< how many of these arrived
     std::set<uint32_t> m_arrived;         //!< those that arrived, by number
     std::vector<double> m_delays;         //!< delays of those that arrived, in ms
     uint64_t m_hops{0};                   //!< their hops
@@ -226,6 +229,7 @@ class ToraComparison
     uint64_t m_pathHops{0};               //!< the hops of these
     uint64_t m_controlBytes{0};   //!< bytes of control packets, with headers of IPv4 and UDP
     uint64_t m_controlPackets{0}; //!< control packets
+    ToraPeak m_controlMost;       //!< the most of these bytes in any second
     std::map<ToraFrame::Kind, uint64_t> m_frames; //!< TORA: frames by kind
     uint32_t m_late{0};                           //!< TORA: packets whose time in a queue was over
 };

@@ -61,7 +61,7 @@ enum WifiMacDropReason : uint8_t; // opaque enum declaration
  * MaxQueueTime, and is then dropped; its source gets an ICMP message "host unreachable". A data
  * packet that comes back to a node which sent or forwarded it is dropped and counted. TORA's rules
  * let two neighbours point at each other until an input changes the entries of one of them
- * (docs/protocol.md): with NoticeReturn the link to the next hop that the packet went to is cut,
+ * (docs/explanation/tora.md): with NoticeReturn the link to the next hop that the packet went to is cut,
  * and with WaitReturn the packet waits for another next hop in place of being dropped.
  */
 class ToraRouting : public Ipv4RoutingProtocol
@@ -72,7 +72,7 @@ class ToraRouting : public Ipv4RoutingProtocol
     /// The most bytes of a broadcast packet, with its IPv4 and UDP headers.
     static const uint32_t MAX_PACKET_SIZE;
 
-    /// What a node makes of the reference levels that it erased (docs/protocol.md).
+    /// What a node makes of the reference levels that it erased (docs/explanation/tora.md).
     enum Erasure
     {
         PLAIN,     //!< it forgets them, as the texts do

@@ -4,11 +4,13 @@
 /**
  * \file
  * \ingroup tora
- * The suite "tora": the queue, and an engine that is none; it needs no engine.
+ * The suite "tora": the queue, the most bytes in a second, and an engine that is none; it needs no
+ * engine.
  */
 #include "ns3/packet.h"
 #include "ns3/test.h"
 #include "ns3/tora-engine.h"
+#include "ns3/tora-peak.h"
 #include "ns3/tora-queue.h"
 
 #include <csignal>
@@ -76,6 +78,38 @@ class ToraQueueTestCase : public TestCase
         NS_TEST_EXPECT_MSG_EQ(queue.Take(to, 9).size(), 1, "and it to another");
         queue.SetMaxLength(0);
         NS_TEST_EXPECT_MSG_EQ(queue.Enqueue(first).has_value(), true, "no room at all");
+    }
+};
+
+/**
+ * \ingroup tora
+ * \brief The most bytes in any second.
+ */
+class ToraPeakTestCase : public TestCase
+{
+  public:
+    ToraPeakTestCase()
+        : TestCase("The most bytes in any second")
+    {
+    }
+
+  private:
+    void DoRun() override
+    {
+        ToraPeak peak;
+        NS_TEST_EXPECT_MSG_EQ(peak.GetMost(), 0, "none");
+        peak.Add(MilliSeconds(200), 100);
+        peak.Add(NanoSeconds(999999999), 50);
+        NS_TEST_EXPECT_MSG_EQ(peak.GetMost(), 150, "100 + 50 in the first second");
+        peak.Add(Seconds(1), 120);
+        NS_TEST_EXPECT_MSG_EQ(peak.GetMost(), 150, "1 s is of the next one");
+        peak.Add(MilliSeconds(1500), 31);
+        NS_TEST_EXPECT_MSG_EQ(peak.GetMost(), 151, "120 + 31 in the second one");
+        peak.Add(MilliSeconds(7100), 151);
+        peak.Add(MilliSeconds(8000), 90);
+        NS_TEST_EXPECT_MSG_EQ(peak.GetMost(), 151, "later ones have no more");
+        peak.Add(Seconds(8), 5000000000);
+        NS_TEST_EXPECT_MSG_EQ(peak.GetMost(), 5000000090, "more than 32 bits hold");
     }
 };
 
@@ -183,6 +217,7 @@ class ToraTestSuite : public TestSuite
         : TestSuite("tora", UNIT)
     {
         AddTestCase(new ToraQueueTestCase, TestCase::QUICK);
+        AddTestCase(new ToraPeakTestCase, TestCase::QUICK);
         AddTestCase(new ToraNoEngineTestCase, TestCase::QUICK);
     }
 };

@@ -123,7 +123,7 @@ def test_summary_of_a_stored_study(capsys: pytest.CaptureFixture[str], tmp_path:
 
 
 def test_reports_of_the_comparison(capsys: pytest.CaptureFixture[str]) -> None:
-    """The means and sums of docs/studies-ns3.md, which another program worked out; intervals are BCa's now."""
+    """The means and sums of docs/studies/ns-3.md, which another program worked out; intervals are BCa's now."""
     where = ["--where", "nodes=50", "--where", "flows=10"]
     runs = told(capsys, "summary", PROVED, *where, "--report", "runs")[1]
     assert "| AODV | 0 m/s | 20 | 0.990 [" in runs and "| TORA:notice=1,waits=1 | 20 m/s | 20 | 0.898 [" in runs and "scipy.stats.bootstrap" in runs

@@ -73,6 +73,14 @@ def test_files(text: str, written: Callable[..., str]) -> None:
     assert refusal(lambda: drive(path, program="true")) == f"{path}:1: no line `dests LIST`"
 
 
+def test_erasure(program: Program, tmp_path: pathlib.Path) -> None:
+    """Choices of nodes are said to the drive, and stand in its simulation."""
+    text = "dests 3\nlink 1 2\nlink 2 3\nold 3\nerasure 1 remembered\n"
+    (tmp_path / "file").write_text(text)
+    drive(tmp_path / "file", ticks=30, needs=[(1, 3)], keep=tmp_path, program=program)
+    assert (tmp_path / "driven.txt").read_text().startswith(text + "need 1 3\n") and (tmp_path / "driven.sim").read_text().startswith(text)
+
+
 def test_drive(program: Program, tmp_path: pathlib.Path) -> None:
     """A driven world is the simulated one, and so is its record, whose trace agrees with what it prints."""
     found = drive(FILE, ticks=60, loss=0.4, needs=[(1, 3)], keep=tmp_path, program=program)

@@ -26,8 +26,9 @@ TRACE = "0 need 1 3\n2 route 2 3 (0,0,0,1,2) 3\n3 route 1 3 (0,0,0,2,1) 2\n"
 
 def test_agreement(written: Write) -> None:
     """Each printed line is what the trace tells."""
-    found = agree(written(SIMULATION, "s"), written(PRINTED, "p"), written(TRACE, "t"))
-    assert (found.lines, found.routes) == (6, 2)
+    for text in (SIMULATION, SIMULATION.replace("need", "erasure 1 remembered\nneed")):
+        found = agree(written(text, "s"), written(PRINTED, "p"), written(TRACE, "t"))
+        assert (found.lines, found.routes) == (6, 2)
 
 
 @pytest.mark.parametrize(

@@ -107,12 +107,20 @@ def test_too_many_lines() -> None:
 
 
 def test_growth_in_print() -> None:
-    """The exponents of the stored study of 50 to 400 nodes are those that docs/studies.md had by another fit."""
+    """The exponents of the stored study of 50 to 400 nodes are those that docs/studies/tora.md had by another fit."""
     lines = [line.split() for line in plots.growth_lines(stored("large"), "nodes", ["unavailable", "control", "restore_median"])]
     found = {(line[0], line[2]): line[3:] for line in lines[1:]}
     assert found["unavailable", "0"] == ["0.484", "[0.387", "..", "0.580]", "of", "40"]
     assert found["control", "1"] == ["1.209", "[1.074", "..", "1.344]", "of", "40"]
     assert found["restore_median", "1"] == ["-", "of", "0"]
+
+
+def test_stored_growth() -> None:
+    """The exponents of five stored runs are those of another making."""
+    wanted = [line.split() for line in (Path(__file__).parent / "stored" / "growth").read_text().splitlines()[1:]]
+    table = with_derived(read_table(Path(__file__).parent / "stored" / "study.csv"))
+    found = [line.replace("all runs", "").split() for line in plots.growth_lines(table, "nodes", [line[0] for line in wanted])[1:]]
+    assert found == wanted
 
 
 def test_growth_by_hand() -> None:

@@ -4,6 +4,7 @@ from __future__ import annotations
 import csv
 import io
 import math
+import re
 import statistics
 from pathlib import Path
 
@@ -15,6 +16,7 @@ from tora.summary import Summary, compare, csv_text, keys_of, markdown_lines, su
 from tora.table import Table, read_table, table_of
 
 STORED = Path(__file__).parents[2] / "docs" / "studies"
+RUNS = Path(__file__).parent / "stored"
 
 
 def comparison(rows: list[str]) -> Table:
@@ -101,6 +103,16 @@ def test_stored_medians() -> None:
             assert row["value"] == statistics.median(values)
             assert (row["low"], row["high"]) == (values[5], values[14])
             assert (row["least"], row["greatest"]) == (values[0], values[-1])
+
+
+def test_stored_summary() -> None:
+    """Median, least and greatest of five stored runs are those that a summary of another making had."""
+    table = read_table(RUNS / "study.csv")
+    for line in (RUNS / "summary").read_text().splitlines():
+        name, *cells = line.split(maxsplit=1)[0], *re.findall(r"(\S+) \[(\S+) \.\. (\S+)\]", line)
+        summary = summarize(table, [name], statistic="median")
+        told = [tuple(f"{row[part]:.4g}" for part in ("value", "least", "greatest")) for row in summary.rows.to_dict("records") if row["runs"] > row["without"]]
+        assert told == cells, name
 
 
 def test_empty_cells_are_counted() -> None:

@@ -150,12 +150,15 @@ def _add_sweep(words: argparse._SubParsersAction[Parser]) -> None:
 def _add_storms(words: argparse._SubParsersAction[Parser]) -> None:
     """The word storms."""
     added = _add_word(
-        words, "storms", "count the networks that do not come to rest after a partition",
+        words, "storms", "how networks come to rest after a partition",
         "Draws a ring of 3 to 8 nodes from each seed, parts it from its destination, and asks 150 rounds behind the last event whether it is at rest;\n"
-        "once where nodes forget the levels that they erased, and once where they remember them. Prints how many are not, by the greatest delay of a\n"
-        f"datagram in rounds of 100 ms. docs/after-a-partition.md tells more.\n{PROGRAM}",
+        "once where nodes forget the levels that they erased, and once where they remember them. Prints how many are not, the time to rest in ticks of\n"
+        "100 ms, control packets behind the last event, and loops and dead ends at rest: by the greatest delay of a datagram in rounds of 100 ms, and\n"
+        f"by the size of the ring. docs/explanation/after-a-partition.md tells more.\n{PROGRAM}",
     )
     added.add_argument("--runs", metavar="NUMBER", action=Once, type=count, default=400, help="how many networks, of the seeds from 0 on (400)")
+    added.add_argument("--mended", action=Flag, default=False, help="the destination comes back as the last event")
+    added.add_argument("--plot", metavar="FILE", action=Once, type=text, help="also draw them, .png, .svg or .pdf")
     added.add_argument("--jobs", metavar="NUMBER", action=Once, type=count, help="runs at a time, 1 or more (as many as processors)")
     _add_program(added)
     add_output(added, "also write a row for each run, as CSV")
@@ -165,7 +168,7 @@ def _add_measure(words: argparse._SubParsersAction[Parser]) -> None:
     """The word measure."""
     added = _add_word(
         words, "measure", "measure a run to a row of CSV",
-        "Prints the names of the columns and the row of a run. docs/studies.md and `tora-study summary` say what columns are.",
+        "Prints the names of the columns and the row of a run. docs/studies/reference.md says what the columns are.",
     )
     added.add_argument("scenario", metavar="SCENARIO.json", help="what `make` wrote")
     added.add_argument("trace", metavar="TRACE", help="what `run` wrote")
@@ -230,6 +233,7 @@ def _add_plot(words: argparse._SubParsersAction[Parser]) -> None:
         "by": "measures over a column, with a line for each group", "overview": "routes, breaks, broadcasts and stretch over a column",
         "growth": "measures on logarithmic axes, and the power laws that fit", "notice": "speed, loss and notice of parted links",
         "comparison": "the ns-3 comparison over the greatest speed", "rest": "time to rest by nodes and delay, for choices of erasure",
+        "storms": "how partitions come to rest, by nodes and by delay, for choices of erasure",
     }
     for name, text_ in tables.items():
         kind = kinds.add_parser(name, help=text_, description=f"{text_[0].upper()}{text_[1:]}.", epilog=STATUSES)
@@ -238,6 +242,19 @@ def _add_plot(words: argparse._SubParsersAction[Parser]) -> None:
             kind.add_argument("--by", metavar="COLUMN", action=Once, type=text, default="nodes", help="a column of numbers (nodes)")
         add_output(kind, "the picture, .png, .svg or .pdf", needed=True)
     _add_heights(kinds)
+    _add_packets(kinds)
+
+
+def _add_packets(kinds: argparse._SubParsersAction[Parser]) -> None:
+    """The kind packets of the word plot."""
+    kind = kinds.add_parser(
+        "packets", help="QRY, UPD and CLR of a run over time", epilog=STATUSES,
+        description="How many QRY, UPD and CLR are broadcast in each second of a run, and in some rounds which node broadcasts what.",
+    )
+    kind.add_argument("trace", metavar="TRACE", help="what `run` wrote, or `tora sim --trace`")
+    kind.add_argument("--destination", metavar="DESTINATION", action=Once, type=whole, help="packets of this destination alone (all)")
+    kind.add_argument("--rounds", metavar="FIRST-LAST", action=Once, type=text, help="the rounds that are shown node by node (none)")
+    add_output(kind, "the picture, .png, .svg or .pdf", needed=True)
 
 
 def _add_heights(kinds: argparse._SubParsersAction[Parser]) -> None:

@@ -163,7 +163,7 @@ def drive(
     Parameters
     ----------
     path : path
-        A simulation file, of which the `dests`, `link` and `old` lines are taken.
+        A simulation file, of which the `dests`, `link`, `old` and `erasure` lines are taken.
     ticks : int
         Steps, from 1.
     loss : float
@@ -249,9 +249,9 @@ def _say_all(running: Drive, lines: list[str], driven: Driven, loss: float, seed
 
 
 def _first_lines(path: str) -> list[str]:
-    """The `dests`, `link` and `old` lines of a simulation file, the first line among them."""
+    """The `dests`, `link`, `old` and `erasure` lines of a simulation file, the first line among them."""
     with reading(path) as source:
         lines = source.read().splitlines()
     if not lines or not re.fullmatch("dests [0-9,-]+", lines[0]):
         raise StudyError("no line `dests LIST`", file=path, line=1)
-    return [line for line in lines if line.split(" ")[0] in ("dests", "link", "old")]
+    return [line for line in lines if line.split(" ")[0] in ("dests", "link", "old", "erasure")]

@@ -105,8 +105,15 @@ def control_of(trace: Trace) -> tuple[int, int]:
     return sum(row[name] for name in BROADCASTS.values()), sum(row[f"{name}_copies"] for name in BROADCASTS.values())
 
 
-def time_to_rest(scenario: Scenario, trace: Trace) -> pd.DataFrame:
+def time_to_rest(scenario: Scenario, trace: Trace, at_rest: bool | None = None) -> pd.DataFrame:
     """When the control packets of each destination ended; `tora.resting` has the definitions.
+
+    Parameters
+    ----------
+    scenario : Scenario
+    trace : Trace
+    at_rest : bool, optional
+        What the program has answered to a line ``rest`` at the end; without it the trace is looked at.
 
     Returns
     -------
@@ -125,7 +132,7 @@ def time_to_rest(scenario: Scenario, trace: Trace) -> pd.DataFrame:
         pass
     if world is None:
         raise StudyError("the run has no round", file=trace.path)
-    return resting.rest_table(scenario, trace, world)
+    return resting.rest_table(scenario, trace, world, at_rest)
 
 
 def loop_table(loops: list[Loop]) -> pd.DataFrame:

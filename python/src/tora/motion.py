@@ -1,4 +1,4 @@
-"""Models of motion: each makes a way of every node, by its published definition, which `docs/studies.md` cites.
+"""Models of motion: each makes a way of every node, by its published definition, which `docs/studies/reference.md` cites.
 
 A model is a function of the parameters and a source of random numbers; it gives the ways of all nodes from 0 seconds
 (or earlier) to the end. Parameters are named as in the papers.

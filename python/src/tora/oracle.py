@@ -1,7 +1,7 @@
 """Checks of runs against their laws: a trace against what was printed, and random networks at rest.
 
-The laws of worlds at rest are those of `docs/protocol.md`, "What a route is worth": each entry is NULL, the neighbour's
-height, or of a neighbour that has no height; next hops go down; and routes arrive where nobody lacks a height.
+The laws of worlds at rest are those of `docs/explanation/tora.md`, "What a route is worth": each entry is NULL, the
+neighbour's height, or of a neighbour that has no height; next hops go down; and routes arrive where nobody lacks a height.
 """
 from __future__ import annotations
 
@@ -27,7 +27,7 @@ NETWORK_LIMIT = 600.0  # seconds of a run of a random network without a limit of
 # Lines of a simulation file that print nothing, where nothing is refused, and leave the clock
 NO_LINE: tuple[int, list[str]] = (0, [])
 QUIET = (
-    "dests", "link", "old", "need", "part", "mend", "open", "pull", "transmit", "pump", "deliver", "turn", "arm",
+    "dests", "link", "old", "erasure", "need", "part", "mend", "open", "pull", "transmit", "pump", "deliver", "turn", "arm",
     "restart"
 )
 

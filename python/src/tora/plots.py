@@ -23,7 +23,7 @@ from tora.errors import UsageError
 from tora.summary import keys_of, summarize
 from tora.table import Key, Table, text_of
 
-__all__ = ["by_column", "drawn", "growth", "growth_lines", "kind_of", "overview", "picture", "points_of", "rest", "styled", "write_picture"]
+__all__ = ["by_column", "drawn", "growth", "growth_lines", "kind_of", "overview", "picture", "points_of", "rest", "storms", "styled", "write_picture"]
 
 OVERVIEW = (
     ("share of rounds and flows", (("connected", "a path stands"), ("available", "of these: the route works"), ("stale", "of these: it is stale"))),
@@ -35,6 +35,9 @@ NOTICE = ("available", "looping", "delivery_ratio", "update")
 COMPARISON = ("delivery", "control_rate", "delay_median", "delay_95", "bytes_per_packet", "packets_per_packet", "stretch")
 GROWTH = ("unavailable", "restore_median", "restore_95", "control", "control_per_delivered", "hops_mean")
 BY = ("available", "restore_median", "stretch_mean", "update")
+STORMS = (
+    ("at_rest", "mean"), ("rest_ticks", "q0.95"), ("control_after_change", "mean"), ("loops_at_rest", "mean"), ("dead_ends_at_rest", "mean"),
+)
 
 
 @styled
@@ -187,20 +190,61 @@ def rest(table: Table, *, statistic: str = "median", method: str | None = None) 
     return figure
 
 
+@styled
+def storms(table: Table) -> Figure:
+    """How partitions came to rest: each measure by the number of nodes, and by the greatest delay, with a line for each choice of `erasure`.
+
+    Runs of other delays are in one interval by nodes, and those of other sizes in one by delay. A run that did not come to rest counts as longer
+    than all others. A measure that is 0 in each run has no panel.
+    """
+    table.need(["erasure", "nodes", "delay_most", *(name for name, _ in STORMS)])
+    frame = table.frame
+    without = int((frame["at_rest"] == 0).sum())
+    chosen = [(name, statistic) for name, statistic in STORMS if frame[name].max() > 0]
+    table = Table(table.path, frame.fillna({"rest_ticks": math.inf}), table.design)
+    told = f"means over runs with 95 % intervals (bootstrap, BCa), and the 95 % point of the time to rest (order statistics); {without} of {len(frame)} runs did not come to rest"
+    figure, axes = panels_of(2 * len(chosen), f"{told}; of these the time ends at the top, and packets are those until the end of the run")
+    for at, (name, statistic) in enumerate(chosen):
+        for panel, by, pooled in ((axes[2 * at], "nodes", "delay_most"), (axes[2 * at + 1], "delay_most", "nodes")):
+            _draw_storms(panel, table, name, statistic, by, [pooled] if pooled in table.varied else [])
+    return figure
+
+
+def _draw_storms(panel: Axes, table: Table, name: str, statistic: str, by: str, pool: Sequence[str]) -> None:
+    """A panel of `storms`."""
+    keys, lines = lines_of(table, by, pool)
+    summary = summarize(table, [name], statistic=statistic, pool=pool)
+    rows = with_keys(table, summary, [by, *keys], pool)
+    finite = rows[["value", "low", "high"]].to_numpy(dtype=float)
+    top = 1.15 * float(np.max(finite[np.isfinite(finite)], initial=1.0))
+    draw_lines(panel, rows.replace(math.inf, top), by, keys, lines)
+    mark_places(panel, table, by)
+    panel.set_ylabel(("95 % point: " if statistic == "q0.95" else "") + measure_of(name).label)
+    panel.legend(fontsize=8)
+    if name == "rest_ticks":
+        panel.set_ylim(0, top)
+    elif name == "control_after_change":
+        panel.set_yscale("log")
+
+
 def drawn(
     table: Table, kind: str, by: str | None = None, measures: Sequence[str] = (), *, statistic: str | None = None, method: str | None = None,
     pool: Sequence[str] = (),
 ) -> Figure:
-    """The picture of a kind: `by`, `overview`, `growth`, `notice`, `comparison` or `rest`; `by` is a column, `nodes` where it is not told.
+    """The picture of a kind: `by`, `overview`, `growth`, `notice`, `comparison`, `rest` or `storms`; `by` is a column, `nodes` where it is not told.
 
-    The statistic is a mean where it is not told, and a median of `notice` and `rest`.
+    The statistic is a mean where it is not told, and a median of `notice` and `rest`; `storms` has its own.
     """
     told = statistic or ("median" if kind in ("notice", "rest") else "mean")
-    fixed = {"overview": (), "rest": ()}
+    fixed = {"overview": (), "rest": (), "storms": ()}
     if kind in fixed and measures:
         raise UsageError(f"the picture {kind} has measures of its own", key="--measures")
     if kind in ("growth", "overview") and method is not None or kind == "rest" and pool:
         raise UsageError(f"it is not for the picture {kind}", key="--pool" if kind == "rest" else "--interval")
+    if kind == "storms":
+        if statistic is not None or method is not None or pool:
+            raise UsageError("the picture storms has statistics of its own", key="--statistic")
+        return storms(table)
     if kind == "overview":
         return overview(table, by or "nodes", statistic=told, pool=pool)
     if kind == "growth":

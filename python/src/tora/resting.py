@@ -7,7 +7,8 @@ A destination is known to be at rest where, at the end of the run, nothing has h
 may be under way: no link was parted, mended, stepped up or down, nothing was asked for, no control packet of the
 destination was broadcast, no height or next hop of it changed, and no DATA frame was sent, for `silence + HELLO +
 retry` ticks and the greatest delay of the channel. A packet that is not acknowledged is sent again after `retry` ticks;
-a link end notices a parted link after `silence` ticks. Where a destination is not known to be at rest, the control
+a link end notices a parted link after `silence` ticks. Where the program was asked, by a line `rest` at the end of the
+simulation file, its answer counts in the place of this. Where a destination is not known to be at rest, the control
 packets are those until the end of the run, and no time is told.
 """
 from __future__ import annotations
@@ -38,12 +39,12 @@ def quiet_ticks(scenario: Scenario, trace: Trace) -> int:
     return silence + hello + retry + (0 if trace.header is None else trace.header.delay_most)
 
 
-def rest_table(scenario: Scenario, trace: Trace, world: World) -> pd.DataFrame:
+def rest_table(scenario: Scenario, trace: Trace, world: World, at_rest: bool | None = None) -> pd.DataFrame:
     """A row for each destination of a run; `world` is that at its end. See `tora.metrics.time_to_rest`."""
     topology = topology_changes(scenario, trace)
     frames = trace.places("frames")
     busy = np.concatenate([topology, trace.places("up", "down"), frames[trace.columns["frames"][1] > 0]])
-    rows = [_row(scenario, trace, world, destination, topology, busy) for destination in scenario.destinations]
+    rows = [_row(scenario, trace, world, destination, topology, busy, at_rest) for destination in scenario.destinations]
     return pd.DataFrame(rows).astype(
         {"last_control": "Int64", "rest_ticks": "Int64", "loops_at_rest": "Int64", "dead_ends_at_rest": "Int64"}
     )
@@ -80,9 +81,10 @@ def row_of(table: pd.DataFrame) -> dict[str, Any]:
 
 
 def _row(
-    scenario: Scenario, trace: Trace, world: World, destination: int, topology: Numbers, busy: Numbers
+    scenario: Scenario, trace: Trace, world: World, destination: int, topology: Numbers, busy: Numbers,
+    told: bool | None = None,
 ) -> dict[str, Any]:
-    """The row of a destination."""
+    """The row of a destination; what the program has told of rest counts."""
     needs = trace.places("need")[trace.columns["need"][1] == destination]
     change = int(max(topology.max(initial=-1), needs.max(initial=-1)))
     changed = int(trace.clocks[change]) if change >= 0 else 0
@@ -93,7 +95,7 @@ def _row(
     routes = trace.places("route")[trace.columns["route"][1] == destination]
     latest = int(max(it.max(initial=-1) for it in (busy, needs, routes, *sent.values())))
     quiet = scenario.rounds - (int(trace.clocks[latest]) if latest >= 0 else 0)
-    at_rest = quiet >= quiet_ticks(scenario, trace)
+    at_rest = quiet >= quiet_ticks(scenario, trace) if told is None else told
     loops, dead_ends = _loops_and_dead_ends(scenario, world, destination)
     return {
         "destination": destination, "last_change": changed, "last_control": last,

@@ -7,9 +7,10 @@ import sys
 from collections.abc import Iterable, Sequence
 
 from tora import commands, heights, metrics, page, plots, verifying
+from tora.broadcasts import broadcasts
 from tora.comparison import TORA, report
 from tora.derived import with_derived
-from tora.errors import UsageError
+from tora.errors import UsageError, shown
 from tora.files import check_outputs, write_file, write_files
 from tora.options import CHANNEL, EDGE_LOSS, FILES, SCENARIO, flag_of, given
 from tora.plots import kind_of
@@ -18,9 +19,9 @@ from tora.program import TIME_LIMIT, Program
 from tora.records import record_text
 from tora.run import Run
 from tora.scenario import Scenario
-from tora.storms import storm_counts, storm_table
+from tora.storms import count_lines, storm_table
 from tora.summary import Summary, compare, csv_text, markdown_lines, summarize, text_lines
-from tora.table import Table, read_table
+from tora.table import Table, read_table, table_of
 from tora.trace import Trace
 
 
@@ -53,14 +54,19 @@ def do_run(found: argparse.Namespace) -> int:
 
 
 def do_storms(found: argparse.Namespace) -> int:
-    """Counts the random partitions that do not come to rest."""
-    if found.output is not None:
-        check_outputs([found.output], overwrite=found.overwrite)
+    """Runs random partitions, and tells how they come to rest."""
+    outputs = [name for name in (found.output, found.plot) if name is not None]
+    check_outputs(outputs, overwrite=found.overwrite)
+    if found.plot is not None:
+        kind_of(found.plot)
     limit = TIME_LIMIT if found.time_limit is None else found.time_limit
-    table = storm_table(range(found.runs), Program.find(found.program), jobs=found.jobs, time_limit=limit)
+    table = storm_table(range(found.runs), Program.find(found.program), jobs=found.jobs, time_limit=limit, is_mended=found.mended)
+    text = table.to_csv(index=False, lineterminator="\n")
     if found.output is not None:
-        write_file(found.output, table.to_csv(index=False, lineterminator="\n"), overwrite=found.overwrite)
-    return tell(storm_counts(table).to_string(index=False).splitlines())
+        write_file(found.output, text, overwrite=found.overwrite)
+    if found.plot is not None:
+        plots.write_picture(plots.drawn(table_of(text.encode(), "storms"), "storms"), found.plot, overwrite=found.overwrite)
+    return tell(count_lines(table))
 
 
 def do_measure(found: argparse.Namespace) -> int:
@@ -132,6 +138,8 @@ def do_plot(found: argparse.Namespace) -> int:
     """Draws a picture."""
     if found.kind == "heights":
         return _plot_heights(found)
+    if found.kind == "packets":
+        return _plot_packets(found)
     kind_of(found.output)
     check_outputs([found.output], [found.table], found.overwrite)
     table = _table(found)
@@ -139,6 +147,20 @@ def do_plot(found: argparse.Namespace) -> int:
         table, found.kind, getattr(found, "by", None), found.measures, statistic=found.statistic, method=found.interval, pool=found.pool
     )
     plots.write_picture(figure, found.output, [found.table], found.overwrite)
+    return 0
+
+
+def _plot_packets(found: argparse.Namespace) -> int:
+    """Draws the control packets of a run."""
+    kind_of(found.output)
+    check_outputs([found.output], [found.trace], found.overwrite)
+    rounds = None
+    if found.rounds is not None:
+        parts = found.rounds.split("-")
+        if len(parts) != 2 or not all(part.isascii() and part.isdecimal() and len(part) < 20 for part in parts):
+            raise UsageError(f"`{shown(found.rounds)}` is not FIRST-LAST", key="--rounds")
+        rounds = int(parts[0]), int(parts[1])
+    plots.write_picture(broadcasts(Trace.read(found.trace), found.destination, rounds), found.output, [found.trace], found.overwrite)
     return 0
 
 

@@ -1,4 +1,4 @@
-// The data of the page: the run, its places, and its records (tools/play_data.py tells how they are coded).
+// The data of the page: the run, its places, and its records (page/coding.py tells how they are coded).
 
 // Bytes that are read number by number.
 class Bytes {
@@ -101,7 +101,7 @@ class Run {
   }
 }
 
-// The kinds of records, as tools/study.py has them.
+// The kinds of records, as records.py has them.
 const KINDS = ["need", "part", "mend", "up", "down", "qry", "upd", "clr", "route", "frames"];
 const [NEED, PART, MEND, UP, DOWN, QRY, UPD, CLR, ROUTE, FRAMES] = KINDS.keys();
 

@@ -1,0 +1,217 @@
+#!/usr/bin/env python3
+"""Makes Debian packages of the program that is built, and of what stands around it.
+
+usage: ./tora deb [--unproved] [--twice] [--out DIR]
+
+  --unproved   takes out/tora_unproved, which ./tora made for a first answer and which is not proved, in place of the program;
+               the version of the packages has `unproved` then
+  --twice      makes each package twice, in two folders, and compares the bytes
+  --out DIR    where the packages go; out/deb without it
+
+  tora           the program, its manual pages, completion, units for systemd, dissector, examples and documents
+  ns3-tora       the module for ns-3 as sources and, where there is ns-3 (package libns3-dev), as a library
+  python3-tora   the package tora of Python, where the repository has the folder python
+
+Nothing is compiled but the module. The version is that of the file VERSION, with the time and name of the commit where it ends in
+`-dev`; with `changed` where the tree has changes. All files have the time of the commit (SOURCE_DATE_EPOCH), so the same text, program
+and system give the same bytes. What `lintian` says is told; an error of it is one here. It needs `dpkg-dev` and `debhelper`; the module
+`cmake`, `g++` and `libns3-dev`; python3-tora `dh-python` and `pybuild-plugin-pyproject`. Exit status: 1 where a package can't be made,
+differs when it is made again, or has an error of lintian; 2 for usage, where a command is missing, or where there is no program.
+"""
+import argparse
+import hashlib
+import os
+import shutil
+import subprocess
+import sys
+import tempfile
+import time
+
+TOP = os.path.dirname(os.path.dirname(os.path.realpath(__file__)))
+PROGRAM, UNPROVED = f"{TOP}/crates/tora/out/tora", f"{TOP}/out/tora_unproved"
+PARTS = "CHANGELOG.md CITATION.cff README.md SECURITY.md VERSION docs examples ns3 python dev".split()
+AUTHOR = "the Ginavoru authors <maintainers@users.noreply.ginavoru.example>"
+
+
+def stop(why, status=2):
+    print(f"tora: {why}", file=sys.stderr)
+    sys.exit(status)
+
+
+def git(*words):
+    found = subprocess.run(["git", "-C", TOP, *words], capture_output=True, text=True)
+    if found.returncode:
+        stop(f"git {words[0]}: {found.stderr.strip()}")
+    return found.stdout
+
+
+def need(command, package):
+    if not shutil.which(command):
+        stop(f"{command} is missing (package {package})")
+
+
+class State:
+    """What the packages are made of: program, commit, version, and which packages there are."""
+
+    def __init__(self, is_unproved):
+        self.program = UNPROVED if is_unproved else PROGRAM
+        if not os.access(self.program, os.X_OK):
+            stop("there is no out/tora_unproved (./tora sim FILE makes it)" if is_unproved else "the program is not built (./tora build)")
+        self.time = int(git("log", "-1", "--format=%ct"))
+        self.version = self.full_version(is_unproved)
+        self.has_ns3 = bool(shutil.which("cmake")) and os.path.exists("/usr/include/ns3/wifi-module.h")
+        self.has_python = os.path.exists(f"{TOP}/python/pyproject.toml")
+
+    def full_version(self, is_unproved):
+        with open(f"{TOP}/VERSION") as text:
+            version = text.read().strip()
+        marks = []
+        if version.endswith("-dev"):
+            version = version.replace("-", "~") + time.strftime("%Y%m%d%H%M%S", time.gmtime(self.time))
+            marks.append(git("log", "-1", "--format=%h", "--abbrev=8").strip())
+        if git("status", "--porcelain").strip():
+            marks.append("changed")
+        if is_unproved:
+            marks.append("unproved")
+        return version + ("+" + ".".join(marks) if marks else "") + "-1"
+
+    def packages(self):
+        return ["tora", "ns3-tora", *(["python3-tora"] if self.has_python else [])]
+
+
+def write(path, text, mode=0o644):
+    os.makedirs(os.path.dirname(path), exist_ok=True)
+    with open(path, "w") as out:
+        out.write(text)
+    os.chmod(path, mode)
+
+
+def read(path):
+    with open(f"{TOP}/{path}") as text:
+        return text.read()
+
+
+def copy(source, target):
+    """A copy with the permissions that a package has."""
+    os.makedirs(os.path.dirname(target), exist_ok=True)
+    shutil.copyfile(source, target)
+    os.chmod(target, 0o755 if os.access(source, os.X_OK) else 0o644)
+
+
+def copy_sources(tree):
+    """The files of the repository that the packages have, as git lists them."""
+    for path in git("ls-files", "-z", "--cached", "--others", "--exclude-standard", "--", *PARTS).split("\0"):
+        if path and os.path.isfile(f"{TOP}/{path}"):
+            copy(f"{TOP}/{path}", f"{tree}/{path}")
+    os.rename(f"{tree}/dev/debian", f"{tree}/debian")
+    os.rename(f"{tree}/docs/man", f"{tree}/man")
+
+
+def stage(state, tree):
+    """What is made for the packages out of files of the repository."""
+    copy(state.program, f"{tree}/staged/libexec/tora")
+    copy(f"{TOP}/dev/installed.sh", f"{tree}/staged/bin/tora")
+    os.chmod(f"{tree}/staged/bin/tora", 0o755)
+    copy(f"{TOP}/dev/completion/tora.bash", f"{tree}/staged/completions/tora")
+    os.makedirs(f"{tree}/staged", exist_ok=True)
+    os.rename(f"{tree}/debian/tora.README", f"{tree}/staged/README")
+    for unit in "tora@.service", "tora@.socket":
+        text = read(f"examples/systemd/{unit}").replace("/usr/local/bin/tora", "/usr/bin/tora")
+        text = text.replace(" Copy both files to /etc/systemd/system; `./tora install` puts the program in /usr/local/bin.", "")
+        if "/usr/local" in text or "./tora" in text:
+            stop(f"examples/systemd/{unit} names a place that no package has", 1)
+        write(f"{tree}/debian/{unit}", text)
+    shutil.rmtree(f"{tree}/examples/systemd")
+
+
+def write_control(state, tree):
+    """The list of packages, what is needed to make them, and the changelog of the packaging."""
+    control = read("dev/debian/control")
+    needs = []
+    for name in state.packages()[1:]:
+        control += read(f"dev/debian/control.{name}")
+    if state.has_ns3:
+        needs += ["cmake", "g++", "libns3-dev"]
+    if state.has_python:
+        needs += ["dh-python", "pybuild-plugin-pyproject", "python3-all", "python3-setuptools"]
+    control = control.replace("debhelper-compat (= 13)\n", ", ".join(["debhelper-compat (= 13)", *needs]) + "\n")
+    write(f"{tree}/debian/control", control)
+    date = time.strftime("%a, %d %b %Y %H:%M:%S +0000", time.gmtime(state.time))
+    write(
+        f"{tree}/debian/changelog",
+        f"ginavoru ({state.version}) unstable; urgency=medium\n\n  * What changed stands in the changelog of the sources.\n\n"
+        f" -- {AUTHOR}  {date}\n",
+    )
+
+
+def make(state, work):
+    """Makes the packages in a folder, and answers their paths."""
+    tree = f"{work}/ginavoru"
+    copy_sources(tree)
+    stage(state, tree)
+    write_control(state, tree)
+    words = {"SOURCE_DATE_EPOCH": str(state.time), "DEB_BUILD_OPTIONS": "noautodbgsym nocheck", "LC_ALL": "C.UTF-8", "TZ": "UTC"}
+    words["PATH"] = "/usr/sbin:/usr/bin:/sbin:/bin"  # the compilers and the Python of Debian
+    words.update({"BUILDS_NS3": "1"} if state.has_ns3 else {})
+    words.update({"BUILDS_PYTHON": "1"} if state.has_python else {})
+    with open(f"{work}/log", "w") as log:
+        ran = subprocess.run(
+            ["dpkg-buildpackage", "--build=binary", "--no-sign"],
+            cwd=tree, env={**os.environ, **words}, stdin=subprocess.DEVNULL, stdout=log, stderr=subprocess.STDOUT,
+        )
+    if ran.returncode:
+        with open(f"{work}/log", errors="replace") as log:
+            print("".join(log.readlines()[-25:]), end="", file=sys.stderr)
+        stop("dpkg-buildpackage makes no packages of this", 1)
+    return [f"{work}/{it}" for it in sorted(os.listdir(work)) if it.endswith(".deb")]
+
+
+def digest(path):
+    with open(path, "rb") as found:
+        return hashlib.sha256(found.read()).hexdigest()
+
+
+def inspect(paths):
+    """Tells what lintian says; answers whether it names no error."""
+    if not shutil.which("lintian"):
+        print("tora: no lintian (package lintian); the packages are not inspected")
+        return True
+    ran = subprocess.run(["lintian", "--allow-root", "--fail-on", "error", *paths], capture_output=True, text=True)
+    print(ran.stdout + ran.stderr, end="")
+    return not ran.returncode
+
+
+def main():
+    parser = argparse.ArgumentParser(prog="tora deb", description=__doc__, formatter_class=argparse.RawDescriptionHelpFormatter)
+    parser.add_argument("--unproved", action="store_true", help="takes out/tora_unproved")
+    parser.add_argument("--twice", action="store_true", help="makes each package twice, and compares")
+    parser.add_argument("--out", default=f"{TOP}/out/deb", metavar="DIR", help="where the packages go")
+    words = parser.parse_args()
+    need("dpkg-buildpackage", "dpkg-dev")
+    need("dh", "debhelper")
+    os.umask(0o022)
+    state = State(words.unproved)
+    if not state.has_ns3:
+        print("tora: no ns-3 (packages libns3-dev and cmake); ns3-tora has the sources alone")
+    os.makedirs(words.out, exist_ok=True)
+    for old in os.listdir(words.out):
+        if old.endswith(".deb"):
+            os.remove(f"{words.out}/{old}")
+    with tempfile.TemporaryDirectory(prefix="tora-deb-") as work:
+        found = make(state, f"{work}/1")
+        again = make(state, f"{work}/2-again") if words.twice else []
+        differ = [os.path.basename(it) for it, other in zip(found, again) if digest(it) != digest(other)]
+        if differ:
+            stop(f"made twice, these differ: {', '.join(differ)}", 1)
+        for it in found:
+            shutil.copy(it, words.out)
+    made = [f"{words.out}/{os.path.basename(it)}" for it in found]
+    for it in made:
+        print(f"{digest(it)}  {it}")
+    if words.twice:
+        print("tora: made twice, each package has the same bytes")
+    return 0 if inspect(made) else 1
+
+
+if __name__ == "__main__":
+    sys.exit(main())

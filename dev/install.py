@@ -1,0 +1,92 @@
+#!/usr/bin/env python3
+"""Installs the program `tora` that was built, with its manual pages, completion and dissector, or takes these files away.
+
+usage: ./tora install [PREFIX]       copies them to PREFIX (/usr/local without it)
+       ./tora uninstall [PREFIX]     removes just these files, where they are there
+
+  PREFIX/bin/tora                                  a script that runs the program, as ./tora does once it is built
+  PREFIX/libexec/tora                              the program; it needs nothing of the repository
+  PREFIX/share/man/man1, man5                      the manual pages
+  PREFIX/share/bash-completion/completions/tora    completion for bash
+  PREFIX/share/zsh/site-functions/_tora            completion for zsh
+  PREFIX/share/tora/tora.lua                       the dissector for Wireshark
+
+Where the variable DESTDIR is set, it stands in front of each of these paths: for a package. Folders that are missing are made,
+and stay when the files go, but for share/tora. Each file takes its place whole. Exit status: 1 where a file can't be copied or
+removed, 2 for usage, and where the program is not built or is older than its sources.
+"""
+import os
+import shutil
+import sys
+
+TOP = os.path.dirname(os.path.dirname(os.path.realpath(__file__)))
+PAGES = ["tora.1", "tora-drive.1", "tora-node.1", "tora-replay.1", "tora-sim.1", "tora.5"]
+# What is installed: the file in the repository, the place under PREFIX, and its permissions.
+FILES = [
+    ("crates/tora/out/tora", "libexec/tora", 0o755),
+    ("dev/installed.sh", "bin/tora", 0o755),
+    *((f"docs/man/{it}", f"share/man/man{it[-1]}/{it}", 0o644) for it in PAGES),
+    ("dev/completion/tora.bash", "share/bash-completion/completions/tora", 0o644),
+    ("dev/completion/_tora", "share/zsh/site-functions/_tora", 0o644),
+    ("dev/tora.lua", "share/tora/tora.lua", 0o644),
+]
+# The folder that is the program's alone.
+OWN = "share/tora"
+
+
+def copy(source, target, mode):
+    """Puts a copy in place at once, so that a program that runs is not written to."""
+    os.makedirs(os.path.dirname(target), exist_ok=True)
+    part = f"{target}.part-{os.getpid()}"
+    try:
+        shutil.copyfile(source, part)
+        os.chmod(part, mode)
+        os.replace(part, target)
+    finally:
+        if os.path.lexists(part):
+            os.remove(part)
+
+
+def install(root):
+    for source, place, mode in FILES:
+        copy(f"{TOP}/{source}", f"{root}/{place}", mode)
+        print(f"{root}/{place}")
+
+
+def uninstall(root):
+    for _, place, _ in FILES:
+        try:
+            os.remove(f"{root}/{place}")
+            print(f"{root}/{place} is removed")
+        except FileNotFoundError:
+            pass
+    try:
+        os.rmdir(f"{root}/{OWN}")
+    except OSError:
+        pass  # there is none, or it has other files
+
+
+def main():
+    words = sys.argv[2:]
+    if {"-h", "--help"} & {*sys.argv[1:]}:
+        print(__doc__, end="")
+        return 0
+    if sys.argv[1:2] not in (["install"], ["uninstall"]):
+        print(__doc__, end="", file=sys.stderr)
+        return 2
+    if len(words) > 1 or words and not os.path.isabs(words[0]):
+        print(f"tora: {sys.argv[1]} takes one PREFIX, a path from the root on (--help)", file=sys.stderr)
+        return 2
+    prefix = words[0] if words else "/usr/local"
+    root = (os.environ.get("DESTDIR", "") + prefix).rstrip("/")
+    try:
+        (install if sys.argv[1] == "install" else uninstall)(root)
+        sys.stdout.flush()
+    except OSError as error:
+        print(f"tora: {error.filename or 'standard output'}: {error.strerror}", file=sys.stderr)
+        return 1
+    return 0
+
+
+if __name__ == "__main__":
+    sys.exit(main())

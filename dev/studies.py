@@ -1,0 +1,327 @@
+#!/usr/bin/python3
+"""Makes every picture and table of measured figures in docs/ from the stored rows.
+
+usage: dev/studies.py [--check] [NAME..]
+
+  --check   compares the tables that stand in docs/ with those that are made, and writes nothing
+  NAME..    these pictures and tables in place of all
+
+A table stands in a document under a line `<!-- made: NAME -->`. Its cells are made; the words of its header and of its first column are the
+document's own, but for the tables of `tora-study summary --report`, which are made whole. The pictures of a break are of a run that is made
+for them, by the program of TORA, else of the repository. The picture of a page is a browser's: it needs the packages chromium,
+chromium-driver and python3-selenium. Exit status: 0 where all is made or agrees; 1 where a table differs or a picture can't be made; 2 for usage.
+"""
+import argparse
+import pathlib
+import re
+import subprocess
+import sys
+import tempfile
+
+TOP = pathlib.Path(__file__).resolve().parents[1]
+DOCS = TOP / "docs"
+sys.path.insert(0, str(TOP / "python" / "src"))
+
+from tora import Scenario, heights, plots, stats  # noqa: E402
+from tora.comparison import report  # noqa: E402
+from tora.derived import with_derived  # noqa: E402
+from tora.errors import StudyError  # noqa: E402
+from tora.summary import compare  # noqa: E402
+from tora.table import read_table  # noqa: E402
+
+STORED = DOCS / "studies"
+MARK = re.compile(r"<!-- made: (\S+) -->")
+SIZES = {"20-5": (20, 5), "20-10": (20, 10), "50-5": (50, 5), "50-10": (50, 10)}  # of the comparison: nodes and flows
+NOTICE, WAITS = "TORA:notice=1", "TORA:notice=1,waits=1"
+PROTOCOLS = {"20-5": ("TORA", NOTICE, WAITS)}  # that are judged, where it is not WAITS alone
+GROWTH = ("unavailable", "rounds_lost_by_outage", "restore_median", "control", "control_per_delivered", "hops_mean")
+
+
+def table(name, **wanted):
+    """The stored rows of a study with these values."""
+    held = with_derived(read_table(STORED / f"{name}.csv"))
+    return held.where({key: str(value) for key, value in wanted.items()}) if wanted else held
+
+
+def cells(label, *some):
+    """A line of a table."""
+    return f"| {' | '.join([label, *some])} |"
+
+
+# ---- numbers
+
+def number(value, digits):
+    """A number with so many digits behind the point, and none where it is 0 or 1."""
+    return f"{value:.0f}" if value in (0, 1) else f"{value:,.{digits}f}"
+
+
+def count(value):
+    """A number that is whole, or half of one."""
+    return f"{value:,.1f}".removesuffix(".0")
+
+
+def thousands(value, like):
+    """Thousands with some three digits, as many as `like` has."""
+    return f"{value / 1000:.{0 if like >= 1e5 else 1 if like >= 1e3 else 2}f}"
+
+
+def shares(value):
+    """A share to three digits."""
+    return number(value, 3)
+
+
+def fixed(digits):
+    """Numbers with so many digits behind the point."""
+    return lambda value: f"{value:,.{digits}f}"
+
+
+# ---- tables of the comparison
+
+def whole(kind, size):
+    """A table that the package makes whole."""
+    nodes, flows = SIZES[size]
+    held = table("ns3-proved", nodes=nodes, flows=flows)
+    if kind != "aims":
+        return report(held, kind)[2:]
+    parts = [report(held, "aims", tora)[2:] for tora in PROTOCOLS.get(size, (WAITS,))]
+    return parts[0][:2] + [line for part in parts for line in part[2:]]
+
+
+def beside(tora, other):
+    """One choice of TORA beside another, in pairs of runs of 20 nodes and 5 flows."""
+    rows = {}
+    for measure, ratio in (("delivery", False), ("control_rate", True)):
+        held = compare(table("ns3-proved", nodes=20, flows=5), {"protocol": other.replace(",", ";")}, [measure], ratio=ratio)
+        for row in held.rows.to_dict("records"):
+            if row["protocol"] == tora.replace(",", ";"):
+                scale = 1 if ratio else 100
+                told = f"{scale * row['value']:.2f}"
+                if row["low"] == row["low"]:
+                    told += f" [{scale * row['low']:.2f} .. {scale * row['high']:.2f}]"
+                rows.setdefault(row["speed"], [str(row["pairs"])]).append(told)
+    return [rows[speed] for speed in sorted(rows)]
+
+
+def across(size, measure, digits):
+    """A measure of the comparison: a line for each protocol, a column for each greatest speed."""
+    nodes, flows = SIZES[size]
+    held = table("ns3-proved", nodes=nodes, flows=flows).frame
+    speeds = sorted(held["speed"].unique())
+    lines = [cells("protocol", *(f"{speed:g} m/s" for speed in speeds)), "|" + "---|" * (len(speeds) + 1)]
+    for protocol, rows in sorted(held.groupby("protocol")):
+        found = [stats.bca_interval(rows[rows["speed"] == speed][measure].to_numpy(float)) for speed in speeds]
+        lines.append(cells(protocol, *(interval(it, digits) for it in found)))
+    return lines
+
+
+def interval(found, digits):
+    """A mean with its interval, where it has one."""
+    told = f"{found.value:.{digits}f}"
+    return f"{told} [{found.low:.{digits}f} .. {found.high:.{digits}f}]" if found.low == found.low else told
+
+
+def salvage():
+    """The runs of TORA with salvage, of the first runs."""
+    held = table("ns3", protocol="TORA:salvage=1").frame
+    digits = {"delivery": 3, "control_rate": 2, "delay_95": 1, "stretch": 3}
+    groups = sorted(held.groupby("speed"))
+    return [[f"{speed:g} m/s", str(len(rows)), *(f"{rows[name].mean():.{some}f}" for name, some in digits.items())] for speed, rows in groups]
+
+
+# ---- tables of TORA
+
+def study():
+    """Medians, least and greatest of the study of 10, 20 and 40 nodes."""
+    groups = [rows for _, rows in sorted(table("study").frame.groupby("nodes"))]
+    two, three = (lambda value: number(value, 2)), shares
+    kinds = {"breaks": count, "connected": three, "available": three, "stale": three, "restore_median": count, "restore_95": count, "stretch_mean": two,
+             "query": count, "update": count, "clear": count, "hello": None, "data": None}
+    lines = []
+    for name, shown in kinds.items():
+        line = []
+        for rows in groups:
+            middle = stats.quantile(rows[name].dropna().to_numpy(float), 0.5)
+            own = shown or (lambda value, middle=middle: thousands(value, middle))
+            line.append(f"{own(middle)} ({own(rows[name].min())} to {own(rows[name].max())})")
+        lines.append(line)
+    return [*lines, [str(int((rows["loops"] > 0).sum())) for rows in groups]]
+
+
+def noticed(measures, speeds):
+    """Medians of the study of speed, loss and notice: a line for each notice and loss, a column for each measure and speed."""
+    held = table("notice").frame
+    lines = []
+    for notice, loss in ((0, 0), (0, 200000), (1, 0), (1, 100000), (1, 200000)):
+        rows = held[(held["notice"] == notice) & (held["loss"] == loss)]
+        lines.append([shares(stats.quantile(rows[rows["speed_most"] == speed][name].to_numpy(float), 0.5)) for name in measures for speed in speeds])
+    return lines
+
+
+def mean(values, shown):
+    """A mean with its interval."""
+    found = stats.bca_interval(values.dropna().to_numpy(float))
+    return f"{shown(found.value)} ({shown(found.low)} to {shown(found.high)})"
+
+
+def large(notice, kinds):
+    """Means of the study of 50 to 400 nodes: a line for each measure, a column for each size."""
+    groups = [rows for _, rows in sorted(table("large", notice=notice).frame.groupby("nodes"))]
+    return [[mean(rows[name], fixed(digits)) for rows in groups] for name, digits in kinds.items()]
+
+
+def motion():
+    """The motion of the study of 50 to 400 nodes."""
+    groups = [rows for _, rows in sorted(table("large", notice=0).frame.groupby("nodes"))]
+    means = [[mean(rows[name], fixed(digits)) for rows in groups] for name, digits in {"degree_mean": 1, "links_declared": 0, "breaks": 0}.items()]
+    return [[f"{rows['width'].iloc[0]:,.0f}" for rows in groups], *means, [f"{rows['most_met'].max():.0f}" for rows in groups]]
+
+
+def growth():
+    """Exponents over the number of nodes: a line for each measure, a column for each notice."""
+    lines = []
+    for name in GROWTH:
+        line = []
+        for notice in (0, 1):
+            rows = table("large", notice=notice).frame[["nodes", name]].dropna()
+            rows = rows[rows[name] > 0]
+            fit = stats.power_law(rows["nodes"].to_numpy(float), rows[name].to_numpy(float)) if len(rows) else None
+            line.append("" if fit is None else f"{fit.exponent:.2f} ({fit.low:.2f} to {fit.high:.2f})")
+        lines.append(line)
+    return lines
+
+
+SILENCE = {"available": 3, "stale": 3, "restore_median": 0, "restore_95": 0, "rounds_lost_by_outage": 0, "control_per_node": 1, "control_per_delivered": 2,
+           "hops_mean": 1}
+WITH_NOTICE = {"available": 3, "no_hop": 3, "looping": 3, "rounds_lost_by_outage": 0, "control_per_node": 1, "control_per_delivered": 2, "hops_mean": 1}
+WHOLE = {f"ns3-{size}-{kind}": (lambda kind=kind, size=size: whole(kind, size)) for size in SIZES for kind in ("runs", "aims", "losses")}
+WHOLE |= {f"ns3-{size}-delivery": (lambda size=size: across(size, "delivery", 3)) for size in SIZES}
+WHOLE |= {f"ns3-{size}-control_rate": (lambda size=size: across(size, "control_rate", 2)) for size in ("20-5", "50-10")}
+TABLES = {
+    "ns3-notice": lambda: beside(NOTICE, "TORA"),
+    "ns3-waits": lambda: beside(WAITS, NOTICE),
+    "ns3-salvage": salvage,
+    "study": study,
+    "notice-available": lambda: noticed(["available"], [1, 5, 10, 20]),
+    "notice-others": lambda: noticed(["stale", "no_hop", "looping"], [10]),
+    "large-silence": lambda: large(0, SILENCE),
+    "large-notice": lambda: large(1, WITH_NOTICE),
+    "large-growth": growth,
+    "large-motion": motion,
+}
+
+
+def made(name, old):
+    """The lines of a table, by those that stand."""
+    if name in WHOLE:
+        return WHOLE[name]()
+    if name not in TABLES:
+        raise StudyError(f"there is no table {name}", file="dev/studies.py")
+    found, labels = TABLES[name](), [line.split(" | ")[0].removeprefix("|").strip() for line in old[2:]]
+    if len(labels) != len(found):
+        raise StudyError(f"table {name}: {len(labels)} lines stand, and {len(found)} are made", file="dev/studies.py")
+    return old[:2] + [cells(label, *some).replace("|  |", "| |") for label, some in zip(labels, found)]
+
+
+def tables_of(lines):
+    """Yields the name, the place and the lines of each table of a document that is made."""
+    for at, line in enumerate(lines):
+        mark = MARK.fullmatch(line.strip())
+        if mark:
+            start = next((it for it in range(at + 1, min(at + 3, len(lines))) if lines[it].lstrip().startswith("|")), None)
+            if start is None:
+                raise StudyError(f"no table stands under the line of {mark[1]}", line=at + 1)
+            end = start
+            while end < len(lines) and lines[end].lstrip().startswith("|"):
+                end += 1
+            yield mark[1], start, lines[start:end]
+
+
+def documents():
+    """The documents that have tables that are made."""
+    return [path for path in sorted(DOCS.rglob("*.md")) if MARK.search(path.read_text(encoding="utf-8"))]
+
+
+def make_tables(path, wanted, is_check):
+    """Makes the tables of a document; answers what differs."""
+    lines = path.read_text(encoding="utf-8").split("\n")
+    differ = []
+    for name, start, old in list(tables_of(lines)):
+        if not wanted or name in wanted:
+            indent = old[0][:len(old[0]) - len(old[0].lstrip())]
+            new = [indent + line for line in made(name, [line.strip() for line in old])]
+            if new != old:
+                differ.append(f"{path.relative_to(TOP)}: table {name}")
+                lines[start:start + len(old)] = new + [None] * (len(old) - len(new)) if len(new) <= len(old) else new
+                if len(new) > len(old):
+                    raise StudyError(f"table {name}: {len(new) - len(old)} lines are missing; add them, empty", file=str(path))
+    if differ and not is_check:
+        path.write_text("\n".join(line for line in lines if line is not None), encoding="utf-8")
+    return differ
+
+
+# ---- pictures
+
+def draw(name, kind, *, of=None, **wanted):
+    """A picture of a stored table."""
+    measures = GROWTH if kind == "growth" else ()
+    plots.write_picture(plots.drawn(table(of or name, **wanted), kind, None, measures), STORED / f"{name}.png", overwrite=True)
+
+
+def draw_break():
+    """Heights around a break of a route."""
+    run = Scenario.waypoint(nodes=20, seed=2).run()
+    for clock, figure in heights.heights(run, 7, heights.rounds_around(run, 7, 5)).items():
+        plots.write_picture(figure, STORED / f"break-{clock}.png", overwrite=True)
+
+
+def draw_page():
+    """A page in a browser."""
+    with tempfile.TemporaryDirectory() as work:
+        done = subprocess.run([str(TOP / "dev" / "check-page.sh"), "--picture", f"{work}/page.png"], capture_output=True, text=True)
+        path = pathlib.Path(work, "page.png")
+        if not path.exists():
+            raise StudyError(f"no picture of a page: {(done.stderr.strip().splitlines() or ['dev/check-page.sh fails'])[-1]}", file="docs/studies/page.png")
+        (STORED / "page.png").write_bytes(path.read_bytes())
+
+
+PICTURES = {
+    "study.png": lambda: draw("study", "overview"),
+    "notice.png": lambda: draw("notice", "notice"),
+    "large.png": lambda: draw("large", "growth"),
+    "ns3.png": lambda: draw("ns3", "comparison"),
+    **{f"ns3-{size}.png": (lambda size=size: draw(f"ns3-{size}", "comparison", of="ns3-proved", nodes=SIZES[size][0], flows=SIZES[size][1])) for size in SIZES},
+    "break.png": draw_break,
+    "page.png": draw_page,
+}
+
+
+def main():
+    parser = argparse.ArgumentParser(description=__doc__, formatter_class=argparse.RawDescriptionHelpFormatter)
+    parser.add_argument("--check", action="store_true", help="compare the tables, and write nothing")
+    parser.add_argument("names", metavar="NAME", nargs="*", help="a table or a picture")
+    words = parser.parse_args()
+    for name in words.names:
+        if name not in {*TABLES, *WHOLE, *PICTURES}:
+            parser.error(f"there is no table or picture {name}: {', '.join([*TABLES, *WHOLE, *PICTURES])}")
+    status = 0
+    try:
+        for path in documents():
+            for told in make_tables(path, words.names, words.check):
+                print(f"{told} {'differs' if words.check else 'is made anew'}")
+                status = int(words.check)
+    except StudyError as cause:
+        print(f"studies.py: {cause}", file=sys.stderr)
+        return 1
+    for name, make in {} if words.check else PICTURES.items():
+        if not words.names or name in words.names:
+            try:
+                make()
+                print(f"docs/studies/{name.replace('break.png', 'break-*.png')}")
+            except StudyError as cause:
+                print(f"studies.py: {cause}", file=sys.stderr)
+                status = 1
+    return status
+
+
+if __name__ == "__main__":
+    sys.exit(main())
