@@ -202,8 +202,9 @@ def storms(table: Table) -> Figure:
     without = int((frame["at_rest"] == 0).sum())
     chosen = [(name, statistic) for name, statistic in STORMS if frame[name].max() > 0]
     table = Table(table.path, frame.fillna({"rest_ticks": math.inf}), table.design)
-    told = f"means over runs with 95 % intervals (bootstrap, BCa), and the 95 % point of the time to rest (order statistics); {without} of {len(frame)} runs did not come to rest"
-    figure, axes = panels_of(2 * len(chosen), f"{told}; of these the time ends at the top, and packets are those until the end of the run")
+    told = "means over runs with 95 % intervals (bootstrap, BCa), and the 95 % point of the time to rest (order statistics)"
+    lost = f"{without} of {len(frame)} runs did not come to rest; of these the time ends at the top, and packets are those until the end of the run"
+    figure, axes = panels_of(2 * len(chosen), f"{told}\n{lost}")
     for at, (name, statistic) in enumerate(chosen):
         for panel, by, pooled in ((axes[2 * at], "nodes", "delay_most"), (axes[2 * at + 1], "delay_most", "nodes")):
             _draw_storms(panel, table, name, statistic, by, [pooled] if pooled in table.varied else [])
