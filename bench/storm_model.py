@@ -6,7 +6,8 @@ storm_model.py [RUNS]    RUNS networks a case (60), 32 cases a set of rules
 A network is a ring of 3 to 12 nodes, half of them with chords. Some nodes ask for the destination, which is then cut off; needs and links that
 come and go follow. Then nothing changes any more. Packets take 1 to J ticks, and each link keeps their order. A run is not at rest where after
 20,000 packets, or 2,000 ticks, packets are still under way. In a second draw of the same networks the destination comes back in the end, and
-each node asks three times more: `no route` are nodes with a path to the destination whose next hops do not lead there, `loops` next hops that lead in a circle.
+in a third it is never cut off; there each node asks three times more in the end. `loops` are next hops that lead in a circle, `in loops` nodes whose
+next hops lead into one, and `no route` are nodes with a path to the destination whose next hops end elsewhere.
 
 Rules `plain` are those of docs/explanation/tora.md. With `unreflected` a route is built from heights whose reference level is not reflected (r = 0)
 alone, as the draft of TORA says. With `remembered` a clear withdraws its sender, and an update of the level that was erased last is not taken.
@@ -216,8 +217,8 @@ class Net:
         return "route", ()
 
 
-def driven(seed, nodes, most, chords, rules):
-    """A network whose destination was cut off, behind its last event."""
+def driven(seed, nodes, most, chords, rules, is_cut=True):
+    """A network whose destination was cut off, or was not, behind its last event."""
     draw = random.Random(seed)
     net = Net(draw, nodes, most, chords, rules)
     for a, b in net.links + [(1, D)]:
@@ -225,7 +226,8 @@ def driven(seed, nodes, most, chords, rules):
     for _ in range(draw.randint(1, 3)):
         net.need(draw.randint(1, nodes))
     net.run(net.now + draw.randint(0, 4 * nodes))
-    net.down(1, D)
+    if is_cut:
+        net.down(1, D)
     for _ in range(6):
         net.run(net.now + draw.randint(0, 2 * nodes))
         if draw.random() < 0.5:
@@ -240,42 +242,63 @@ def driven(seed, nodes, most, chords, rules):
     return net
 
 
+def left(net, is_at_rest):
+    """Of a network at rest its loops, the nodes that are led into one, and those whose next hops end at a node without one."""
+    walks = [net.walk(i) for i in net.views if i != D] if is_at_rest else []
+    rings = [ring for status, ring in walks if status == "loop"]
+    return len(set(rings)), len(rings), sum(status == "end" for status, _ in walks)
+
+
 def cut_off(*case):
-    """Whether a network comes to rest that stays cut off, its packets, and its loops."""
+    """Whether a network comes to rest that stays cut off, its packets, and what is left."""
     net = driven(*case)
     is_at_rest = net.settle()
-    walks = [net.walk(i) for i in net.views if i != D] if is_at_rest else []
-    return is_at_rest, net.count, len({ring for status, ring in walks if status == "loop"}), 0
+    loops, in_loops, _ = left(net, is_at_rest)
+    return is_at_rest, net.count, loops, in_loops, 0
 
 
-def come_back(*case):
-    """The same of one whose destination comes back, each node asking three times more; and how many nodes have no route."""
-    net = driven(*case)
-    net.up(1, D)
+def asked_again(net):
+    """The same of a network whose destination is there, each node asking three times more."""
     is_at_rest = True
     for _ in range(3):
         for i in sorted(net.views):
             if i != D:
                 net.need(i)
         is_at_rest = net.settle() and is_at_rest
-    walks = [net.walk(i) for i in net.views if i != D] if is_at_rest else []
-    return is_at_rest, net.count, len({ring for status, ring in walks if status == "loop"}), sum(status != "route" for status, _ in walks)
+    return is_at_rest, net.count, *left(net, is_at_rest)
+
+
+def come_back(*case):
+    """The same of one whose destination comes back."""
+    net = driven(*case)
+    net.up(1, D)
+    return asked_again(net)
+
+
+def stay(*case):
+    """The same of one whose destination was never cut off."""
+    return asked_again(driven(*case, is_cut=False))
 
 
 def main():
     """Prints a line for each draw, set of rules and J."""
-    if len(sys.argv) > 2 or sys.argv[1:] in (["-h"], ["--help"]) or not "".join(sys.argv[1:]).isdecimal() and sys.argv[1:]:
+    words = sys.argv[1:]
+    if words and (len(words) > 1 or not words[0].isdecimal()):
         print(__doc__.strip())
-        return 0 if sys.argv[1:] in (["-h"], ["--help"]) else 2
-    runs = int(sys.argv[1]) if len(sys.argv) > 1 else 60
-    print(f"{'destination':12}{'rules':13}{'J':3}{'runs':>6}{'not at rest':>13}{'most packets of a run at rest':>31}{'loops':>7}{'no route':>10}")
-    for what, run in (("cut off", cut_off), ("comes back", come_back)):
+        return 0 if words in (["-h"], ["--help"]) else 2
+    runs = int(words[0]) if words else 60
+    print(f"{'destination':13}{'rules':13}{'J':3}{'runs':>6}{'not at rest':>13}{'most packets at rest':>22}{'loops':>7}{'in loops':>10}{'no route':>10}")
+    for what, run in (("cut off", cut_off), ("comes back", come_back), ("stays", stay)):
         for rules in RULES:
             for most in (1, 2, 4, 8):
-                cases = [(s * 7919 + n * 31 + most + chords, n, most, chords, rules) for n in (3, 5, 8, 12) for chords in (0, n // 2) for s in range(runs)]
+                cases = [
+                    (s * 7919 + n * 31 + most + chords, n, most, chords, rules)
+                    for n in (3, 5, 8, 12) for chords in (0, n // 2) for s in range(runs)
+                ]
                 found = [run(*case) for case in cases]
-                endless, greatest = sum(not it[0] for it in found), max((it[1] for it in found if it[0]), default=0)
-                print(f"{what:12}{rules:13}{most:<3}{len(found):6}{endless:13}{greatest:31}{sum(it[2] for it in found):7}{sum(it[3] for it in found):10}", flush=True)
+                endless, packets = sum(not it[0] for it in found), max((it[1] for it in found if it[0]), default=0)
+                loops, in_loops, no_route = (sum(it[at] for it in found) for at in (2, 3, 4))
+                print(f"{what:13}{rules:13}{most:<3}{len(found):6}{endless:13}{packets:22}{loops:7}{in_loops:10}{no_route:10}", flush=True)
     return 0
 
 

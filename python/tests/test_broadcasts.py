@@ -13,7 +13,7 @@ from tora.cli import main
 from tora.errors import UsageError
 from tora.trace import Trace
 
-# Two queries in the first second, one in the second one; updates and clears of two nodes; a query of another destination.
+# Three queries in the first second, the rounds 1 to 10; updates and clears of two nodes; a query of another destination.
 TEXT = """\
 1 qry 1 9 1
 9 qry 2 9 1
@@ -33,12 +33,12 @@ def trace(written: Callable[..., str]) -> Trace:
 
 
 def test_broadcasts_by_second(trace: Trace) -> None:
-    """Rounds 0 to 9 are the first second, 10 to 19 the next; of one destination alone where it is told."""
+    """Rounds 1 to 10 are the first second, 11 to 20 the next, to whose end a line goes; of one destination alone where it is told."""
     (panel,) = broadcasts(trace, 9).axes
     drawn = {line.get_label(): line.get_ydata().tolist() for line in panel.lines}
-    assert drawn == {"QRY": [2, 1, 0, 0, 0], "UPD": [0, 1, 0, 1, 0], "CLR": [0, 0, 0, 1, 0]}
+    assert drawn == {"QRY": [3, 0, 0, 0, 0], "UPD": [0, 1, 0, 1, 1], "CLR": [0, 0, 0, 1, 1]}
     (panel,) = broadcasts(trace).axes
-    assert panel.lines[0].get_ydata().tolist() == [2, 2, 0, 0, 0]
+    assert panel.lines[0].get_ydata().tolist() == [3, 1, 0, 0, 0]
 
 
 def test_broadcasts_by_node(trace: Trace) -> None:

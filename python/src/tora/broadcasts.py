@@ -54,11 +54,11 @@ def _of(trace: Trace, kind: str, destination: int | None) -> tuple[Numbers, Numb
 
 
 def _draw_seconds(panel: Axes, held: dict[str, tuple[Numbers, Numbers]], last: int) -> None:
-    """Broadcasts of each kind by seconds."""
+    """Broadcasts of each kind by seconds, of ten rounds each."""
     for kind, (clocks, _) in held.items():
         name, _, colour = SIGNS[kind]
-        counts = np.bincount(clocks // SECOND, minlength=last // SECOND + 1)
-        panel.step(np.arange(len(counts)), counts, where="post", color=colour, linewidth=1.3, label=name)
+        counts = np.bincount(np.maximum(clocks - 1, 0) // SECOND, minlength=-(-last // SECOND))
+        panel.step(np.arange(len(counts) + 1), [*counts, counts[-1]], where="post", color=colour, linewidth=1.3, label=name)
     panel.set_xlabel("seconds of the run")
     panel.set_ylabel("broadcasts in a second")
     panel.set_ylim(bottom=0)

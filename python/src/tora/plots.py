@@ -35,9 +35,14 @@ NOTICE = ("available", "looping", "delivery_ratio", "update")
 COMPARISON = ("delivery", "control_rate", "delay_median", "delay_95", "bytes_per_packet", "packets_per_packet", "stretch")
 GROWTH = ("unavailable", "restore_median", "restore_95", "control", "control_per_delivered", "hops_mean")
 BY = ("available", "restore_median", "stretch_mean", "update")
-STORMS = (
-    ("at_rest", "mean"), ("rest_ticks", "q0.95"), ("control_after_change", "mean"), ("loops_at_rest", "mean"), ("dead_ends_at_rest", "mean"),
-)
+STORMS = {  # by measure its statistic and its label
+    "at_rest": ("mean", "share of runs at rest"),
+    "rest_ticks": ("q0.95", "95 of 100 runs are at rest within ticks (100 ms)"),
+    "control_after_change": ("mean", "control packets behind the last event"),
+    "loops_at_rest": ("mean", "loops of next hops at rest, of a run"),
+    "dead_ends_at_rest": ("mean", "dead ends at rest, of a run"),
+}
+STORMS_BY = {"nodes": "nodes of the ring", "delay_most": "greatest delay of a datagram, rounds (100 ms)"}
 
 
 @styled
@@ -197,21 +202,23 @@ def storms(table: Table) -> Figure:
     Runs of other delays are in one interval by nodes, and those of other sizes in one by delay. A run that did not come to rest counts as longer
     than all others. A measure that is 0 in each run has no panel.
     """
-    table.need(["erasure", "nodes", "delay_most", *(name for name, _ in STORMS)])
+    table.need(["erasure", "nodes", "delay_most", *STORMS])
     frame = table.frame
     without = int((frame["at_rest"] == 0).sum())
-    chosen = [(name, statistic) for name, statistic in STORMS if frame[name].max() > 0]
+    chosen = [name for name in STORMS if frame[name].max() > 0]
     table = Table(table.path, frame.fillna({"rest_ticks": math.inf}), table.design)
-    told = f"means over runs with 95 % intervals (bootstrap, BCa), and the 95 % point of the time to rest (order statistics); {without} of {len(frame)} runs did not come to rest"
-    figure, axes = panels_of(2 * len(chosen), f"{told}; of these the time ends at the top, and packets are those until the end of the run")
-    for at, (name, statistic) in enumerate(chosen):
+    told = "means over runs with 95 % intervals (bootstrap, BCa), and the 95 % point of the time to rest (order statistics)"
+    lost = f"{without} of {len(frame)} runs did not come to rest; of these the time ends at the top, and packets are those until the end of the run"
+    figure, axes = panels_of(2 * len(chosen), f"{told}\n{lost}")
+    for at, name in enumerate(chosen):
         for panel, by, pooled in ((axes[2 * at], "nodes", "delay_most"), (axes[2 * at + 1], "delay_most", "nodes")):
-            _draw_storms(panel, table, name, statistic, by, [pooled] if pooled in table.varied else [])
+            _draw_storms(panel, table, name, by, [pooled] if pooled in table.varied else [])
     return figure
 
 
-def _draw_storms(panel: Axes, table: Table, name: str, statistic: str, by: str, pool: Sequence[str]) -> None:
+def _draw_storms(panel: Axes, table: Table, name: str, by: str, pool: Sequence[str]) -> None:
     """A panel of `storms`."""
+    statistic, label = STORMS[name]
     keys, lines = lines_of(table, by, pool)
     summary = summarize(table, [name], statistic=statistic, pool=pool)
     rows = with_keys(table, summary, [by, *keys], pool)
@@ -219,7 +226,8 @@ def _draw_storms(panel: Axes, table: Table, name: str, statistic: str, by: str, 
     top = 1.15 * float(np.max(finite[np.isfinite(finite)], initial=1.0))
     draw_lines(panel, rows.replace(math.inf, top), by, keys, lines)
     mark_places(panel, table, by)
-    panel.set_ylabel(("95 % point: " if statistic == "q0.95" else "") + measure_of(name).label)
+    panel.set_xlabel(STORMS_BY[by])
+    panel.set_ylabel(label)
     panel.legend(fontsize=8)
     if name == "rest_ticks":
         panel.set_ylim(0, top)

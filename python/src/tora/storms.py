@@ -108,8 +108,8 @@ def rest_of(partition: Partition, erasure: str, program: Program, time_limit: fl
     with tempfile.TemporaryDirectory() as folder:
         path, trace = (os.path.join(folder, f"{partition.seed}.{kind}") for kind in ("sim", "trace"))
         write_file(path, partition.text)
-        words = ["sim", "--notice", "--channel", f"delay=1-{partition.delay}", "--seed", str(partition.seed), "--erasure", erasure, "--trace", trace, path]
-        told = program.run(*words, time_limit=time_limit).output
+        words = ["--channel", f"delay=1-{partition.delay}", "--seed", str(partition.seed), "--erasure", erasure, "--trace", trace]
+        told = program.run("sim", "--notice", *words, path, time_limit=time_limit).output
         if told not in ("rest yes\n", "rest no\n"):
             raise StudyError(f"seed {partition.seed}: the program does not say whether everything is at rest", file=program.words[0])
         return row_of(time_to_rest(Scenario.from_simulation(path), Trace.read(trace), told == "rest yes\n"))
@@ -144,9 +144,11 @@ def storm_table(
     runs = [(draw_partition(seed, is_mended), erasure) for seed in held for erasure in chosen]
     with concurrent.futures.ThreadPoolExecutor(jobs or os.cpu_count()) as pool:
         rests = pool.map(lambda run: rest_of(run[0], run[1], program, time_limit), runs)
-        rows = [{"erasure": erasure, "nodes": it.nodes, "delay_most": it.delay, "seed": it.seed, **rest} for (it, erasure), rest in zip(runs, rests, strict=True)]
-    kinds = dict.fromkeys(COLUMNS, "Int64")
-    return pd.DataFrame(rows, columns=["erasure", "nodes", "delay_most", "seed", *COLUMNS]).astype(kinds)
+        rows = [
+            {"erasure": erasure, "nodes": it.nodes, "delay_most": it.delay, "seed": it.seed, **rest}
+            for (it, erasure), rest in zip(runs, rests, strict=True)
+        ]
+    return pd.DataFrame(rows, columns=["erasure", "nodes", "delay_most", "seed", *COLUMNS]).astype(dict.fromkeys(COLUMNS, "Int64"))
 
 
 def storm_counts(table: pd.DataFrame, by: str = "delay_most") -> pd.DataFrame:
