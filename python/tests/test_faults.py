@@ -148,11 +148,10 @@ def test_names_that_are_missing_or_empty(refused) -> None:  # type: ignore[no-un
 
 
 def test_a_silent_program_is_ended(tmp_path: Path, refused) -> None:  # type: ignore[no-untyped-def]
-    """A program that says nothing is ended by the time limit."""
-    (tmp_path / "silent").write_text("#!/bin/sh\nexec sleep 1000\n")
-    (tmp_path / "silent").chmod(0o755)
+    """A program that tells its version and then says nothing is ended by the time limit."""
+    silent = write_stub(tmp_path, "silent")
     (tmp_path / "x.sim").write_text("dests 1\nlink 1 2\n")
-    refused(1, "seconds", "page", "x.sim", "--program", tmp_path / "silent", "--time-limit", "0.5")
+    refused(1, "not done within 0.5 seconds", "page", "x.sim", "--program", silent, "--time-limit", "0.5")
 
 
 def test_a_folder_with_quotes(tmp_path: Path, capsys: pytest.CaptureFixture[str]) -> None:

@@ -107,10 +107,17 @@ class Reader:
             raise StudyError("the trace is empty", file=self.path, line=1)
         if self.header is not None and self.digest is None:
             raise StudyError("the trace is cut: its last record `end` is missing", file=self.path, line=self.number)
-        columns = {kind: np.concatenate(some)[:, 1:].T.copy() for kind, some in self.rows.items()}
+        columns = {kind: _columns(kind, self.rows.pop(kind)) for kind in KINDS}
         clocks = np.concatenate([np.zeros(0, np.int64), *self.clocks])
         kinds = np.concatenate([np.zeros(0, np.uint8), *self.kinds])
         return self.header, self.digest, self.end_line, clocks, kinds, columns
+
+
+def _columns(kind: str, parts: Sequence[Numbers]) -> Numbers:
+    """The fields of all records of a kind, shape (fields, records), without their ticks."""
+    found = np.empty((WIDTHS[kind], sum(map(len, parts))), np.int64)
+    np.concatenate([part[:, 1:].T for part in parts], axis=1, out=found)
+    return found
 
 
 def read_parts(path: str) -> Parts:

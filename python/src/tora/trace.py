@@ -28,6 +28,7 @@ HEIGHT_PARTS = ("tau", "oid", "r", "delta", "id")
 HEIGHT = slice(2, 7)  # of the fields of a `route` record
 EVENTS = ("part", "mend", "up", "down")
 PACKETS = {"qry": "QRY", "upd": "UPD", "clr": "CLR"}
+BLOCK = 1 << 16  # records that are numbers of Python at once
 
 
 class Trace:
@@ -111,7 +112,8 @@ class Trace:
         """
         node, destination, *_, own, hop = self.columns["route"]
         places = np.where(own == 0, -1, np.arange(len(own)))
-        yield from zip(node.tolist(), destination.tolist(), places.tolist(), [it or None for it in hop.tolist()])
+        for one, to, place, by in rows_of(node, destination, places, hop):
+            yield one, to, place, by or None
 
     def records(self) -> Iterator[Record]:
         """Yields the records in their order, but for the first and the last one of the trace."""
@@ -302,6 +304,12 @@ class Trace:
         if not len(found):
             return []
         return [(int(places[found[0]]) + self.first_line, cause.format(*(field[found[0]] for field in fields)))]
+
+
+def rows_of(*arrays: npt.NDArray[Any]) -> Iterator[tuple[int, ...]]:
+    """Yields what stands at each place of arrays of one length, as numbers of Python: block by block, since these take much memory."""
+    for start in range(0, len(arrays[0]), BLOCK):
+        yield from zip(*(array[start:start + BLOCK].tolist() for array in arrays))
 
 
 def _are_links(scenario: Scenario, a: Numbers, b: Numbers) -> npt.NDArray[np.bool_]:

@@ -6,7 +6,7 @@ from typing import TYPE_CHECKING
 
 
 from tora.records import CODES, Height
-from tora.trace import Trace
+from tora.trace import Trace, rows_of
 
 if TYPE_CHECKING:
     from tora.scenario import Scenario
@@ -131,10 +131,9 @@ def spans(scenario: Scenario, trace: Trace) -> Iterator[tuple[int, int, World]]:
     """
     world, ended, last, route, mend = World(scenario, trace), 0, scenario.rounds, CODES["route"], CODES["mend"]
     places = trace.places("part", "mend", "route")
-    rounds, clocks, kinds = trace.rounds()[places].tolist(), trace.clocks[places].tolist(), trace.kinds[places].tolist()
     fields = {CODES[kind]: zip(*trace.columns[kind].tolist()) for kind in ("part", "mend")}
     changes = trace.route_changes()
-    for now, clock, kind in zip(rounds, clocks, kinds):
+    for now, clock, kind in rows_of(trace.rounds()[places], trace.clocks[places], trace.kinds[places]):
         if now > ended + 1 and ended < last:
             first, ended = ended + 1, min(now - 1, last)
             yield first, ended, world
