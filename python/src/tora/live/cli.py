@@ -12,6 +12,7 @@ import os
 import pathlib
 import platform
 import shutil
+import signal
 import subprocess
 import sys
 import time
@@ -85,6 +86,8 @@ def main(words: Sequence[str] | None = None) -> int:
     """Does what the command line asks for; answers the exit status."""
     found = parser().parse_args(words)
     try:
+        for number in (signal.SIGINT, signal.SIGTERM):  # a shell lets a process in the background ignore the first
+            signal.signal(number, signal.default_int_handler)
         return _done(found)
     except StudyError as cause:
         print(f"live/run: {cause}", file=sys.stderr)

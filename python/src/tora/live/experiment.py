@@ -171,7 +171,7 @@ class Experiment:
         def start() -> None:
             self.daemons[host] = self.protocol.start(self.hosts, host, self.plan.timing, self.program)
 
-        self._phase("killed", "fault", spare, lambda: self._wait(self.plan.hopeless), lambda: self.hosts.kill(host))
+        self._phase("killed", "fault", spare, lambda: self._wait(self.plan.hopeless), self.daemons[host].kill)
         self._phase("killed", "repair", spare, lambda: self._wait(None), start)
         time.sleep(SETTLE)
 

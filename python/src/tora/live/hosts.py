@@ -125,12 +125,6 @@ class Hosts:
                         found[host].append(int(name))
         return found
 
-    def kill(self, host: int) -> None:
-        """Kills the daemons of a host at once."""
-        for process in self.daemons()[host]:
-            with contextlib.suppress(ProcessLookupError):
-                os.kill(process, signal.SIGKILL)
-
     def used(self) -> Used:
         """What the daemons have used so far."""
         processor, memory = 0, 0
@@ -187,10 +181,9 @@ class Hosts:
         """Loses so many of a hundred frames that come over a cable, either way, by nftables as they come in; 0 ends that."""
         rule = "" if percent == 100 else f"numgen random mod 100 < {percent} "
         for here, there in ((a, b), (b, a)):
-            text = (
-                f"table netdev loss {{ chain in {{ type filter hook ingress device e{there} priority 0; {rule}drop; }} }}"
-                if percent else "delete table netdev loss"
-            )
+            text = "delete table netdev loss\n"
+            if percent:
+                text = f"table netdev loss {{\nchain in {{\ntype filter hook ingress device e{there} priority 0;\n{rule}drop\n}}\n}}\n"
             run(["ip", "netns", "exec", self.name(here), "nft", "-f", "-"], text)
 
     def close(self) -> None:

@@ -17,8 +17,8 @@ class Fared:
     gap : float
         The longest time from the sending of a packet that arrived to that of the next one that did.
     working : float or None
-        The time from the beginning to the sending of the first of `STEADY` packets that arrived one after another, behind the last
-        time that so many did not. 0 where no packet was lost; None where no route works at the end.
+        How long no route works: from the sending of the first packet that was lost to the sending of the first of `STEADY` packets behind
+        it that arrived one after another. 0 where no packet was lost; None where none of these runs comes.
     """
 
     sent: int
@@ -43,23 +43,23 @@ def fared(sent: Mapping[int, float], arrived: set[int], begin: float, end: float
     lost = sum(number not in arrived for number in numbers)
     moments = [sent[number] for number in numbers if number in arrived]
     gap = max((b - a for a, b in zip([begin, *moments], [*moments, end])), default=end - begin)
-    return Fared(len(numbers), lost, gap, _working([(sent[it], it in arrived) for it in numbers], begin) if lost else 0.0)
+    return Fared(len(numbers), lost, gap, _working([(sent[it], it in arrived) for it in numbers]) if lost else 0.0)
 
 
-def _working(packets: Sequence[tuple[float, bool]], begin: float) -> float | None:
-    """When a route works again: the first of the steady run of packets that begins behind the last interruption."""
-    run = 0
-    first: float | None = None
+def _working(packets: Sequence[tuple[float, bool]]) -> float | None:
+    """How long no route works, of packets of which one at least was lost."""
+    first_lost: float | None = None
+    run, start = 0, 0.0
     for moment, has_arrived in packets:
         if not has_arrived:
             run = 0
-            continue
-        run += 1
-        if run == 1:
-            start = moment
-        if run == STEADY and first is None:
-            first = start
-    return None if first is None else first - begin
+            first_lost = moment if first_lost is None else first_lost
+        elif first_lost is not None:
+            start = moment if run == 0 else start
+            run += 1
+            if run == STEADY:
+                return start - first_lost
+    return None
 
 
 def longest_stall(intervals: Sequence[tuple[float, float, int]], begin: float, end: float) -> float:

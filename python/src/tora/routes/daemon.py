@@ -70,8 +70,7 @@ class Daemon:
         """
         with contextlib.ExitStack() as stack:
             lock = stack.enter_context(contextlib.closing(locked(self._held.table, self._held.protocol)))
-            assert lock.fileno() >= 0  # the guard has it, too, until its work is done
-            guard = stack.enter_context(contextlib.closing(Guard(self._held.table, self._held.protocol)))
+            guard = stack.enter_context(contextlib.closing(Guard(self._held.table, self._held.protocol, lock)))
             _give_up_ambient()
             self._kernel = stack.enter_context(contextlib.closing(Kernel(self._held.table, self._held.protocol)))
             left = self._kernel.flush()
