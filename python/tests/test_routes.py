@@ -5,6 +5,7 @@ import ipaddress
 import json
 import pathlib
 import struct
+import textwrap
 from collections.abc import Callable
 from typing import Any
 
@@ -262,3 +263,13 @@ def test_a_neighbour_that_does_not_answer_ends_its_link(held: Configuration) -> 
 
 def test_a_route_prints_as_the_command_ip_prints_it() -> None:
     assert str(Route(net("10.0.0.0/8"), "eth0", 5)) == "10.0.0.0/8 dev eth0 metric 5"
+
+
+def test_the_configurations_of_the_page_are_read(tmp_path: pathlib.Path, monkeypatch: pytest.MonkeyPatch) -> None:
+    page = (pathlib.Path(__file__).parents[2] / "docs" / "real-hosts.md").read_text()
+    blocks = [textwrap.dedent(it.split("```")[0]) for it in page.split("```toml\n")[1:]]
+    monkeypatch.chdir(tmp_path)
+    for name, text in zip(("1.toml", "routes-1.toml"), blocks, strict=True):
+        (tmp_path / name).write_text(text)
+    found = read("routes-1.toml")
+    assert found.own == 1 and found.neighbours[2].interface == "eth0" and found.prefixes == {2: (net("10.99.0.2/32"),)}
