@@ -48,7 +48,10 @@ def test_what_is_broken_leaves_another_way_where_it_can() -> None:
         assert cable_to_break(held, [1, 2, 3, 4], random.Random(seed)) in [((1, 2), True), ((2, 3), True)]
         assert host_to_kill(held, [1, 2, 3, 4], random.Random(seed)) == (2, True)
     assert cable_to_break(held, [3, 4], random.Random(1)) == ((3, 4), False)
-    assert host_to_kill(held, [1, 3, 4], random.Random(1)) == (3, False) and host_to_kill(held, [3, 4], random.Random(1)) is None
+    assert (
+        host_to_kill(held, [1, 3, 4], random.Random(1)) == (3, False)
+        and host_to_kill(held, [3, 4], random.Random(1)) is None
+    )
 
 
 def test_how_packets_fared() -> None:
@@ -70,7 +73,9 @@ def test_how_packets_fared() -> None:
 def test_the_longest_stall() -> None:
     intervals = [(at / 10, at / 10 + 0.1, 0 if 10 <= at < 15 or at == 20 else 9) for at in range(30)]
     assert longest_stall(intervals, 0.0, 3.0) == pytest.approx(0.5)
-    assert longest_stall(intervals, 1.25, 3.0) == pytest.approx(0.25) and longest_stall(intervals, 1.6, 3.0) == pytest.approx(0.1)
+    assert longest_stall(intervals, 1.25, 3.0) == pytest.approx(0.25) and longest_stall(
+        intervals, 1.6, 3.0
+    ) == pytest.approx(0.1)
     assert longest_stall([], 0.0, 1.0) == 0
 
 
@@ -79,9 +84,9 @@ def test_plans() -> None:
         return list(cli.plans(cli.parser().parse_args([*words, "out"])))
 
     assert len(plans()) == 20 * 2 * 4 * 7  # seeds, sizes, topologies; tora with its own times, three others with both
-    assert [it.name for it in plans("--protocols", "tora babeld", "--seeds", "1", "--nodes", "10", "--topologies", "ring")] == [
-        "tora-default-ring-10-1", "babeld-default-ring-10-1", "babeld-equal-ring-10-1",
-    ]
+    assert [
+        it.name for it in plans("--protocols", "tora babeld", "--seeds", "1", "--nodes", "10", "--topologies", "ring")
+    ] == ["tora-default-ring-10-1", "babeld-default-ring-10-1", "babeld-equal-ring-10-1"]
     assert "--protocols: `ripd` is none of tora" in refusal(lambda: plans("--protocols", "ripd"))
     assert "--protocols: `tora` stands twice" in refusal(lambda: plans("--protocols", "tora tora"))
     assert "--nodes: `65` is none of" in refusal(lambda: plans("--nodes", "65"))
@@ -94,17 +99,34 @@ def test_tables_and_plots(tmp_path: pathlib.Path) -> None:
     (tmp_path / "rows").mkdir()
     for protocol, base in (("tora", 10.0), ("babeld", 20.0)):
         for seed in range(1, 8):
-            rows = [{"fault": "rest", "phase": "rest", "control_bytes_rate": base + seed, "processor_percent": 0.1, "memory_mb": 5, "stretch": 1,
-                     "control_packets_rate": 2, "routes_left": 0, "spare": 1}]
-            rows += [{"fault": "down", "phase": "fault", "working_ms": base * seed, "gap_ms": 1, "lost": 3, "spare": spare} for spare in (1,)]
+            rows = [
+                {
+                    "fault": "rest",
+                    "phase": "rest",
+                    "control_bytes_rate": base + seed,
+                    "processor_percent": 0.1,
+                    "memory_mb": 5,
+                    "stretch": 1,
+                    "control_packets_rate": 2,
+                    "routes_left": 0,
+                    "spare": 1,
+                }
+            ]
+            rows += [
+                {"fault": "down", "phase": "fault", "working_ms": base * seed, "gap_ms": 1, "lost": 3, "spare": spare}
+                for spare in (1,)
+            ]
             with open(tmp_path / "rows" / f"{protocol}-{seed}.csv", "w", newline="") as sink:
                 writer = csv.DictWriter(sink, COLUMNS, lineterminator="\n", restval="")
                 writer.writeheader()
                 writer.writerows(
-                    {"protocol": protocol, "timing": "default", "topology": "ring", "nodes": 10, "seed": seed, **row} for row in rows
+                    {"protocol": protocol, "timing": "default", "topology": "ring", "nodes": 10, "seed": seed, **row}
+                    for row in rows
                 )
     assert cli.main(["--report", str(tmp_path)]) == 0
     told = (tmp_path / "tables.md").read_text()
-    assert "| babeld | working_ms | 7 | 0 | 80 | [20 .. 140] |" in told  # the median of 20, 40 .. 140, and the least and greatest of seven
+    assert (
+        "| babeld | working_ms | 7 | 0 | 80 | [20 .. 140] |" in told
+    )  # the median of 20, 40 .. 140, and the least and greatest of seven
     assert (tmp_path / "mended.svg").read_bytes().startswith(b"<?xml") and (tmp_path / "cost.svg").stat().st_size > 1000
     assert len((tmp_path / "live.csv").read_text().splitlines()) == 29

@@ -1,4 +1,4 @@
-"""`tora-routes` in a network namespace of its own, with a script that stands for the node. Root is needed, and pyroute2."""
+"""`tora-routes` in a network namespace, with a script that stands for the node. Root is needed, and pyroute2."""
 from __future__ import annotations
 
 import os
@@ -29,7 +29,8 @@ via = ["10.77.0.2", "fd77::2"]
 node = 3
 prefixes = ["10.99.0.3/32", "fd99::3/128"]
 """
-# Keeps its commands in the file `commands`; it finds the route to 3 when it is asked for it, and loses it when the link to 2 is cut.
+# Keeps its commands in the file `commands`. It finds the route to 3 when it is asked for it, and loses it when the link
+# to 2 is cut.
 STUB = """#!/bin/bash
 echo $$ >node
 while read -r word number; do
@@ -52,9 +53,15 @@ class Host:
         self.folder, self.name = folder, f"tora-test-{os.getpid()}"
         self.started: list[subprocess.Popen[str]] = []
         for command in (
-            f"netns add {self.name}", "link set lo up", "link add wire type veth peer name peer", "address add 10.99.0.1/32 dev lo",
-            "address add fd99::1/128 dev lo", "address add 10.77.0.1/24 dev wire", "address add fd77::1/64 dev wire nodad",
-            "link set wire up", "link set peer up",
+            f"netns add {self.name}",
+            "link set lo up",
+            "link add wire type veth peer name peer",
+            "address add 10.99.0.1/32 dev lo",
+            "address add fd99::1/128 dev lo",
+            "address add 10.77.0.1/24 dev wire",
+            "address add fd77::1/64 dev wire nodad",
+            "link set wire up",
+            "link set peer up",
         ):
             self.ip(command, inside=not command.startswith("netns"))
 
@@ -75,9 +82,21 @@ class Host:
         stub.chmod(0o755)
         (self.folder / "1.toml").write_text(NODE)
         (self.folder / "routes.toml").write_text(ROUTES)
-        command = ["ip", "netns", "exec", self.name, sys.executable, "-m", "tora.routes", "--program", str(stub), *words, "routes.toml"]
+        command = [
+            "ip",
+            "netns",
+            "exec",
+            self.name,
+            sys.executable,
+            "-m",
+            "tora.routes",
+            "--program",
+            str(stub),
+            *words,
+            "routes.toml",
+        ]
         process = subprocess.Popen(
-            command, cwd=self.folder, env={**os.environ, "PYTHONPATH": str(SOURCES)}, stderr=subprocess.PIPE, text=True,
+            command, cwd=self.folder, env={**os.environ, "PYTHONPATH": str(SOURCES)}, stderr=subprocess.PIPE, text=True
         )
         self.started.append(process)
         return process
@@ -89,7 +108,11 @@ class Host:
 
     def ping(self, address: str) -> None:
         """Sends a packet."""
-        subprocess.run(["ip", "netns", "exec", self.name, "ping", "-c", "1", "-W", "0.1", address], check=False, capture_output=True)
+        subprocess.run(
+            ["ip", "netns", "exec", self.name, "ping", "-c", "1", "-W", "0.1", address],
+            check=False,
+            capture_output=True,
+        )
 
     def node(self) -> int:
         """The process of the node."""
@@ -120,8 +143,14 @@ def until(holds: Callable[[], bool], seconds: float = LAST) -> float:
     return time.monotonic() - begin
 
 
-BY_TWO = ["10.99.0.3 via 10.77.0.2 dev wire src 10.99.0.1 metric 32 onlink", "fd99::3 via fd77::2 dev wire src fd99::1 metric 32 onlink pref medium"]
-LAST_ONES = ["10.99.0.3 dev tora src 10.99.0.1 metric 16777216", "fd99::3 dev tora src fd99::1 metric 16777216 pref medium"]
+BY_TWO = [
+    "10.99.0.3 via 10.77.0.2 dev wire src 10.99.0.1 metric 32 onlink",
+    "fd99::3 via fd77::2 dev wire src fd99::1 metric 32 onlink pref medium",
+]
+LAST_ONES = [
+    "10.99.0.3 dev tora src 10.99.0.1 metric 16777216",
+    "fd99::3 dev tora src fd99::1 metric 16777216 pref medium",
+]
 
 
 def with_route(host: Host) -> subprocess.Popen[str]:
@@ -161,6 +190,13 @@ def test_a_route_that_the_kernel_lost_is_set_again(host: Host) -> None:
     until(lambda: sorted(BY_TWO + LAST_ONES) == host.routes())
 
 
+def test_a_route_that_somebody_took_is_set_again_when_a_packet_needs_it(host: Host) -> None:
+    with_route(host)
+    host.ip("route del 10.99.0.3/32 metric 32")
+    host.ping("10.99.0.3")
+    until(lambda: host.routes() == sorted(BY_TWO + LAST_ONES))
+
+
 @pytest.mark.parametrize("whose", ["own", "node"])
 def test_kill_leaves_no_route(host: Host, whose: str) -> None:
     process = with_route(host)
@@ -183,5 +219,9 @@ def test_flush_takes_what_was_left(host: Host) -> None:
     host.ip("route add 10.99.0.9/32 via 10.77.0.2 proto 84")
     host.ip("route add 10.99.0.8/32 via 10.77.0.2 proto static")
     process = host.start("--flush")
-    assert process.wait(LAST) == 0 and process.stderr is not None and process.stderr.read() == "tora-routes: 1 routes taken away\n"
+    assert (
+        process.wait(LAST) == 0
+        and process.stderr is not None
+        and process.stderr.read() == "tora-routes: 1 routes taken away\n"
+    )
     assert host.routes() == [] and "10.99.0.8" in host.ip("route show")

@@ -1,4 +1,5 @@
-"""Studies of TORA, a routing protocol for ad hoc networks: scenarios, traces, measures and checks; and in `tora.routes` the routes of a host.
+"""Studies of TORA, a routing protocol for ad hoc networks: scenarios, traces, measures and checks; and in `tora.routes`
+the routes of a host.
 
 A round is a tick of 100 ms. Nodes are whole numbers from 1.
 

@@ -1,7 +1,8 @@
 """Compares `tora-routes` with other routing daemons in network namespaces of this machine.
 
-Each run is a network of hosts with one protocol, at rest and under faults on the way of its data. A run that OUT has already is not made
-again, so the same command goes on. OUT then has `live.csv` (a row for each phase of a run), `tables.md`, `mended.svg` and `cost.svg`.
+Each run is a network of hosts with one protocol, at rest and under faults on the way of its data. A run that OUT has
+already is not made again, so the same command goes on. OUT then has `live.csv` (a row for each phase of a run),
+`tables.md`, `mended.svg` and `cost.svg`.
 """
 from __future__ import annotations
 
@@ -28,12 +29,23 @@ from tora.program import Program
 
 NEEDED = ("ip", "nft", "iperf3", "sysctl")
 
+
 def parser() -> argparse.ArgumentParser:
     """The parser of the command line."""
-    found = argparse.ArgumentParser(prog="run", description=__doc__, allow_abbrev=False, formatter_class=argparse.RawDescriptionHelpFormatter)
+    found = argparse.ArgumentParser(
+        prog="run", description=__doc__, allow_abbrev=False, formatter_class=argparse.RawDescriptionHelpFormatter
+    )
     found.add_argument("out", metavar="OUT", help="the folder of what is measured")
-    found.add_argument("--protocols", default="tora babeld bird-babel bird-ospf", help=f"of {', '.join(PROTOCOLS)} (tora babeld bird-babel bird-ospf)")
-    found.add_argument("--timings", default="default equal", help="default, and equal for hello times set equal to those of TORA (both)")
+    found.add_argument(
+        "--protocols",
+        default="tora babeld bird-babel bird-ospf",
+        help=f"of {', '.join(PROTOCOLS)} (tora babeld bird-babel bird-ospf)",
+    )
+    found.add_argument(
+        "--timings",
+        default="default equal",
+        help="default, and equal for hello times set equal to those of TORA (both)",
+    )
     found.add_argument("--topologies", default=" ".join(KINDS), help=f"of {', '.join(KINDS)} (all)")
     found.add_argument("--nodes", default="10 30", help="numbers of hosts (10 30)")
     found.add_argument("--faults", default=" ".join(FAULTS), help=f"of {', '.join(FAULTS)} (all)")
@@ -42,10 +54,17 @@ def parser() -> argparse.ArgumentParser:
     found.add_argument("--most", type=float, default=60.0, help="seconds in which a route may come back (60)")
     found.add_argument("--every", type=int, default=1000, help="microseconds from one packet to the next (1000)")
     found.add_argument("--no-tcp", action="store_true", help="without iperf3")
-    found.add_argument("--program", metavar="PATH", help="the program tora; else the variable TORA, the repository's ./tora, or `tora` of the path")
+    found.add_argument(
+        "--program",
+        metavar="PATH",
+        help="the program tora; else the variable TORA, the repository's ./tora, or `tora` of the path",
+    )
     found.add_argument("--report", action="store_true", help="make no run, only the tables and plots of what OUT has")
-    found.add_argument("--keep", action="store_true", help="keep the configurations and logs of the runs under OUT/runs")
+    found.add_argument(
+        "--keep", action="store_true", help="keep the configurations and logs of the runs under OUT/runs"
+    )
     return found
+
 
 def words_of(text: str, key: str, known: Sequence[str]) -> list[str]:
     """The words of an option, each a known one, none twice."""
@@ -59,6 +78,7 @@ def words_of(text: str, key: str, known: Sequence[str]) -> list[str]:
         raise UsageError("it is empty", key=key)
     return found
 
+
 def plans(found: argparse.Namespace) -> Iterator[Plan]:
     """The runs, one seed after another, so that a comparison that is broken off has whole seeds."""
     protocols = words_of(found.protocols, "--protocols", list(PROTOCOLS))
@@ -66,7 +86,12 @@ def plans(found: argparse.Namespace) -> Iterator[Plan]:
     topologies = words_of(found.topologies, "--topologies", KINDS)
     sizes = [int(it) for it in words_of(found.nodes, "--nodes", [str(it) for it in range(4, 65)])]
     faults = tuple(words_of(found.faults, "--faults", FAULTS))
-    for key, value in (("--seeds", found.seeds), ("--rest", found.rest), ("--most", found.most), ("--every", found.every)):
+    for key, value in (
+        ("--seeds", found.seeds),
+        ("--rest", found.rest),
+        ("--most", found.most),
+        ("--every", found.every),
+    ):
         if not value > 0:
             raise UsageError(f"`{value}` is not above 0", key=key)
     for nodes in sizes:
@@ -79,8 +104,18 @@ def plans(found: argparse.Namespace) -> Iterator[Plan]:
                     for timing in timings:
                         if timing in PROTOCOLS[name].timings:
                             yield Plan(
-                                name, timing, topology, nodes, seed, faults, found.every, found.rest, found.most, tcp=not found.no_tcp,
+                                name,
+                                timing,
+                                topology,
+                                nodes,
+                                seed,
+                                faults,
+                                found.every,
+                                found.rest,
+                                found.most,
+                                tcp=not found.no_tcp,
                             )
+
 
 def main(words: Sequence[str] | None = None) -> int:
     """Does what the command line asks for; answers the exit status."""
@@ -95,6 +130,7 @@ def main(words: Sequence[str] | None = None) -> int:
     except KeyboardInterrupt:
         print("live/run: broken off; the same command goes on", file=sys.stderr)
         return 130
+
 
 def _done(found: argparse.Namespace) -> int:
     """Makes the runs that are missing, and the report."""
@@ -121,6 +157,7 @@ def _done(found: argparse.Namespace) -> int:
         print(out / name)
     return 1 if failed else 0
 
+
 def _able(names: set[str]) -> set[str]:
     """The protocols that can be run here; the others are told."""
     found = set()
@@ -131,6 +168,7 @@ def _able(names: set[str]) -> set[str]:
         else:
             print(f"live/run: {name} is left out: {missing}", file=sys.stderr)
     return found
+
 
 def _run(plan: Plan, out: pathlib.Path, program: Program, keep: bool, place: str) -> bool:
     """Makes a run and writes its rows; answers whether it came to its end."""
@@ -156,9 +194,11 @@ def _run(plan: Plan, out: pathlib.Path, program: Program, keep: bool, place: str
     print(f"{plan.name} ({place}): {time.monotonic() - begin:.0f} s", flush=True)
     return True
 
+
 def _cell(value: object) -> object:
     """A cell of CSV."""
     return "" if value is None else f"{value:.6g}" if isinstance(value, float) else value
+
 
 def _gather(out: pathlib.Path) -> None:
     """Puts the rows of all runs into one table."""
@@ -173,17 +213,23 @@ def _gather(out: pathlib.Path) -> None:
         lines += own[1:]
     write_file(out / "live.csv", "\n".join(lines) + "\n", overwrite=True)
 
+
 def _describe(out: pathlib.Path, found: argparse.Namespace, program: Program) -> None:
     """Notes with what the runs are made, each time that some are."""
     versions = {
-        "tora": [*program.words, "--version"], "babeld": ["babeld", "-V"], "bird": ["bird", "--version"], "iperf3": ["iperf3", "--version"],
+        "tora": [*program.words, "--version"],
+        "babeld": ["babeld", "-V"],
+        "bird": ["bird", "--version"],
+        "iperf3": ["iperf3", "--version"],
     }
     lines = [f"## {time.strftime('%Y-%m-%d', time.gmtime())}", f"command: {' '.join(sys.argv[1:])}"]
-    lines += [f"kernel: {platform.release()}; processors: {os.cpu_count()}; load: {' '.join(f'{it:.2f}' for it in os.getloadavg())}"]
+    lines += [
+        f"kernel: {platform.release()}; processors: {os.cpu_count()}; "
+        f"load: {' '.join(f'{it:.2f}' for it in os.getloadavg())}"
+    ]
     for name, words in versions.items():
         with contextlib.suppress(OSError):
             told = subprocess.run(words, capture_output=True, text=True, check=False)
             lines.append(f"{name}: {next(iter((told.stdout + told.stderr).strip().splitlines()), '-')}")
     with open(out / "machine.txt", "a") as sink:
         sink.write("\n".join(lines) + "\n\n")
-

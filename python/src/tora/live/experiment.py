@@ -23,8 +23,23 @@ from tora.live.traffic import read_records
 FAULTS = ("down", "silent", "lossy", "killed")
 DESIGN = ("protocol", "timing", "topology", "nodes", "fault", "phase")
 COLUMNS = (
-    *DESIGN, "seed", "spare", "distance", "seconds", "sent", "lost", "gap_ms", "working_ms", "tcp_stall_ms", "stretch",
-    "control_bytes_rate", "control_packets_rate", "processor_percent", "memory_mb", "busy", "routes_left",
+    *DESIGN,
+    "seed",
+    "spare",
+    "distance",
+    "seconds",
+    "sent",
+    "lost",
+    "gap_ms",
+    "working_ms",
+    "tcp_stall_ms",
+    "stretch",
+    "control_bytes_rate",
+    "control_packets_rate",
+    "processor_percent",
+    "memory_mb",
+    "busy",
+    "routes_left",
 )
 START = 90.0  # seconds in which the first packet arrives
 SETTLE = 10.0  # seconds behind the first packet, and behind a repair
@@ -94,6 +109,7 @@ class Experiment:
         self.rng = random.Random(plan.name)
         self.phases: list[Phase] = []
         self.daemons: dict[int, subprocess.Popen[str]] = {}
+        self.client: subprocess.Popen[str] | None = None
         self.began = self.arrived_at = self.tcp_began = 0.0
 
     def run(self) -> list[dict[str, object]]:
@@ -125,11 +141,12 @@ class Experiment:
             time.sleep(0.1)
         self.arrived_at = min(self._received().values())
         if self.plan.tcp:
-            self.hosts.start(self.network.destination, ["iperf3", "-s", "-1", "-B", destination], "log-server", False)
+            server = ["iperf3", "-s", "-1", "-B", destination, "-i", "0.1", "-J"]  # its receiver tells what arrived
+            self.hosts.start(self.network.destination, server, "tcp.json", False)
             time.sleep(1.0)
             self.tcp_began = time.monotonic()
-            words = ["iperf3", "-c", destination, "-B", source, "-b", "500K", "-l", "1K", "-t", "86400", "-i", "0.1", "-J"]
-            self.hosts.start(self.network.source, words, "tcp.json", False)
+            client = ["iperf3", "-c", destination, "-B", source, "-b", "500K", "-l", "1K", "-t", "86400"]
+            self.client = self.hosts.start(self.network.source, client, "log-client", False)
         time.sleep(SETTLE)
 
     def _received(self) -> dict[int, float]:
@@ -191,7 +208,9 @@ class Experiment:
             if late and len(late & self._received().keys()) >= 0.999 * len(late):
                 return
 
-    def _phase(self, fault: str, phase: str, spare: bool, wait: Callable[[], None], act: Callable[[], None] | None = None) -> None:
+    def _phase(
+        self, fault: str, phase: str, spare: bool, wait: Callable[[], None], act: Callable[[], None] | None = None
+    ) -> None:
         """A stretch of time, which begins with an act."""
         used, counted, work = self.hosts.used(), self.hosts.counted(), system.busy()
         begin = time.monotonic()
@@ -203,11 +222,21 @@ class Experiment:
         span = end - begin
         path = self.hosts.path()
         shortest = self._shortest(fault, phase)
-        self.phases.append(Phase(
-            fault, phase, begin, end, spare, (sent.packets - counted.packets) / span, (sent.bytes - counted.bytes) / span,
-            max(0.0, then.processor - used.processor) / span, then.memory, (worked[0] - work[0]) / max(1.0, worked[1] - work[1]),
-            None if path is None or shortest is None else (len(path) - 1) / shortest,
-        ))
+        self.phases.append(
+            Phase(
+                fault,
+                phase,
+                begin,
+                end,
+                spare,
+                (sent.packets - counted.packets) / span,
+                (sent.bytes - counted.bytes) / span,
+                max(0.0, then.processor - used.processor) / span,
+                then.memory,
+                (worked[0] - work[0]) / max(1.0, worked[1] - work[1]),
+                None if path is None or shortest is None else (len(path) - 1) / shortest,
+            )
+        )
 
     def _shortest(self, fault: str, phase: str) -> int | None:
         """The hops of a shortest way of the whole network; None while a fault takes something of it away."""
@@ -217,6 +246,9 @@ class Experiment:
 
     def _stop(self) -> int:
         """Ends the daemons, and answers how many of their routes are left two seconds later."""
+        if self.client is not None:
+            system.end([self.client])  # its server then tells what it has counted
+            time.sleep(1.0)
         system.end(self.hosts.started)
         until = time.monotonic() + 2
         left = self.hosts.routes_left(self.protocol.number)
@@ -232,20 +264,35 @@ class Experiment:
         intervals = self._intervals()
         distance = networkx.shortest_path_length(self.network.graph(), self.network.source, self.network.destination)
         common: dict[str, object] = dict.fromkeys(COLUMNS)
-        common.update({name: getattr(self.plan, name) for name in ("protocol", "timing", "topology", "nodes", "seed")}, distance=distance)
+        common.update(
+            {name: getattr(self.plan, name) for name in ("protocol", "timing", "topology", "nodes", "seed")},
+            distance=distance,
+        )
         rows = [{**common, "fault": "start", "phase": "start", "working_ms": 1000 * (self.arrived_at - self.began)}]
         for it in self.phases:
             held: Fared = fared(sent, arrived, it.begin, it.end)
             is_lost = it.fault == "lossy" and it.phase == "fault"
-            rows.append({
-                **common, "fault": it.fault, "phase": it.phase, "spare": int(it.spare), "seconds": it.end - it.begin, "sent": held.sent,
-                "lost": held.lost, "gap_ms": 1000 * held.gap,
-                "working_ms": None if held.working is None or is_lost else 1000 * held.working,
-                "tcp_stall_ms": None if not intervals else 1000 * longest_stall(intervals, it.begin, it.end), "stretch": it.stretch,
-                "control_bytes_rate": it.bytes / self.plan.nodes, "control_packets_rate": it.packets / self.plan.nodes,
-                "processor_percent": 100 * it.processor / self.plan.nodes, "memory_mb": it.memory / self.plan.nodes / 1e6,
-                "busy": it.busy, "routes_left": left,
-            })
+            rows.append(
+                {
+                    **common,
+                    "fault": it.fault,
+                    "phase": it.phase,
+                    "spare": int(it.spare),
+                    "seconds": it.end - it.begin,
+                    "sent": held.sent,
+                    "lost": held.lost,
+                    "gap_ms": 1000 * held.gap,
+                    "working_ms": None if held.working is None or is_lost else 1000 * held.working,
+                    "tcp_stall_ms": None if not intervals else 1000 * longest_stall(intervals, it.begin, it.end),
+                    "stretch": it.stretch,
+                    "control_bytes_rate": it.bytes / self.plan.nodes,
+                    "control_packets_rate": it.packets / self.plan.nodes,
+                    "processor_percent": 100 * it.processor / self.plan.nodes,
+                    "memory_mb": it.memory / self.plan.nodes / 1e6,
+                    "busy": it.busy,
+                    "routes_left": left,
+                }
+            )
         return rows
 
     def _intervals(self) -> list[tuple[float, float, int]]:

@@ -29,7 +29,8 @@ COUNTERS = f"""table inet live {{
 }}
 """
 SYSCTLS = (
-    "net.ipv4.ip_forward=1 net.ipv6.conf.all.forwarding=1 net.ipv6.conf.default.accept_dad=0 net.ipv4.conf.all.rp_filter=0 "
+    "net.ipv4.ip_forward=1 net.ipv6.conf.all.forwarding=1 net.ipv6.conf.default.accept_dad=0 "
+    "net.ipv4.conf.all.rp_filter=0 "
     "net.ipv4.conf.default.rp_filter=0 net.ipv4.conf.all.send_redirects=0 net.ipv4.conf.default.send_redirects=0"
 )
 
@@ -42,7 +43,8 @@ class Counted(NamedTuple):
 
 
 class Used(NamedTuple):
-    """What the daemons of all hosts have used: seconds of the processors, bytes of memory (each shared page divided by its users)."""
+    """What the daemons of all hosts have used: seconds of the processors, bytes of memory (each shared page divided by
+    its users)."""
 
     processor: float
     memory: int
@@ -83,7 +85,10 @@ class Hosts:
             run(["ip", "netns", "add", self.name(host)])
             script = f"sysctl -qw {SYSCTLS} && nft -f - && echo && exec sleep infinity"
             anchor = subprocess.Popen(
-                ["ip", "netns", "exec", self.name(host), "sh", "-c", script], stdin=subprocess.PIPE, stdout=subprocess.PIPE, text=True,
+                ["ip", "netns", "exec", self.name(host), "sh", "-c", script],
+                stdin=subprocess.PIPE,
+                stdout=subprocess.PIPE,
+                text=True,
             )
             assert anchor.stdin is not None and anchor.stdout is not None
             anchor.stdin.write(COUNTERS)
@@ -106,8 +111,13 @@ class Hosts:
         """Starts a process at a host, in the folder."""
         with open(self.folder / log, "a") as sink:
             process = subprocess.Popen(
-                ["ip", "netns", "exec", self.name(host), *words], cwd=self.folder, stdin=subprocess.DEVNULL, stdout=sink, stderr=sink,
-                text=True, start_new_session=True,
+                ["ip", "netns", "exec", self.name(host), *words],
+                cwd=self.folder,
+                stdin=subprocess.DEVNULL,
+                stdout=sink,
+                stderr=sink,
+                text=True,
+                start_new_session=True,
             )
         self.started.append(process)
         if not is_daemon:
@@ -154,7 +164,8 @@ class Hosts:
         return Counted(packets, size)
 
     def path(self) -> list[int] | None:
-        """The hosts from the source to the destination by the routes of the kernels; None where there is no such path."""
+        """The hosts from the source to the destination by the routes of the kernels; None where there is no such
+        path."""
         found, here = [self.network.source], self.network.source
         target = f"10.99.0.{self.network.destination}"
         while here != self.network.destination:
@@ -169,8 +180,13 @@ class Hosts:
     def routes_left(self, number: int) -> int:
         """How many routes of a protocol's number the kernels have."""
         return sum(
-            len(run(["ip", "-n", self.name(host), version, "route", "show", "table", "all", "proto", str(number)]).splitlines())
-            for host in self.network.hosts for version in ("-4", "-6")
+            len(
+                run(
+                    ["ip", "-n", self.name(host), version, "route", "show", "table", "all", "proto", str(number)]
+                ).splitlines()
+            )
+            for host in self.network.hosts
+            for version in ("-4", "-6")
         )
 
     def cable(self, a: int, b: int, state: str) -> None:
@@ -178,12 +194,14 @@ class Hosts:
         run(["ip", "-n", self.name(a), "link", "set", f"e{b}", state])
 
     def lose(self, a: int, b: int, percent: int) -> None:
-        """Loses so many of a hundred frames that come over a cable, either way, by nftables as they come in; 0 ends that."""
+        """Loses so many of a hundred frames that come over a cable, either way, by nftables as they come in; 0 ends
+        that."""
         rule = "" if percent == 100 else f"numgen random mod 100 < {percent} "
         for here, there in ((a, b), (b, a)):
             text = "delete table netdev loss\n"
             if percent:
-                text = f"table netdev loss {{\nchain in {{\ntype filter hook ingress device e{there} priority 0;\n{rule}drop\n}}\n}}\n"
+                hook = f"type filter hook ingress device e{there} priority 0;"
+                text = f"table netdev loss {{\nchain in {{\n{hook}\n{rule}drop\n}}\n}}\n"
             run(["ip", "netns", "exec", self.name(here), "nft", "-f", "-"], text)
 
     def close(self) -> None:

@@ -17,7 +17,8 @@ class Fared:
     gap : float
         The longest time from the sending of a packet that arrived to that of the next one that did.
     working : float or None
-        How long no route works: from the sending of the first packet that was lost to the sending of the first of `STEADY` packets behind
+        How long no route works: from the sending of the first packet that was lost to the sending of the first of
+        `STEADY` packets behind
         it that arrived one after another. 0 where no packet was lost; None where none of these runs comes.
     """
 
@@ -63,7 +64,8 @@ def _working(packets: Sequence[tuple[float, bool]]) -> float | None:
 
 
 def longest_stall(intervals: Sequence[tuple[float, float, int]], begin: float, end: float) -> float:
-    """The longest time in which no byte went, of intervals with their bytes (begin, end, bytes), as far as it lies within two moments."""
+    """The longest time in which no byte went, of intervals with their bytes (begin, end, bytes), as far as it lies
+    within two moments."""
     longest, current = 0.0, 0.0
     for start, stop, size in intervals:
         part = max(0.0, min(stop, end) - max(start, begin))

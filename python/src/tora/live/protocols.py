@@ -41,7 +41,11 @@ class Protocol:
     def missing(self) -> str | None:
         """Why it can't be run here; None where it can."""
         if self.name == "batman-adv":
-            return "this kernel has no batman-adv" if not os.path.isdir("/sys/module/batman_adv") else "it is not driven by this program yet"
+            return (
+                "this kernel has no batman-adv"
+                if not os.path.isdir("/sys/module/batman_adv")
+                else "it is not driven by this program yet"
+            )
         return next((f"the program {it} is missing" for it in self.programs if shutil.which(it) is None), None)
 
 
@@ -63,13 +67,15 @@ def _key(hosts: Hosts, a: int, b: int) -> str:
 
 def _start_tora(erasure: str) -> Callable[[Hosts, int, str, str], subprocess.Popen[str]]:
     """tora-routes, with nodes that make this of erased levels."""
+
     def start(hosts: Hosts, host: int, timing: str, program: str) -> subprocess.Popen[str]:
         everyone = list(hosts.network.hosts)
         node = f'node = {host}\ndests = {everyone}\nlife_dir = "life{host}"\nerasure = "{erasure}"\n'
         routes = f'node = "node{host}.toml"\nsource = ["10.99.0.{host}"]\n'
         for peer in hosts.network.neighbours(host):
             own, its = hosts.address(host, peer), hosts.address(peer, host)
-            node += f'\n[[link]]\npeer = {peer}\nlocal = "{own}:{7000 + peer}"\nremote = "{its}:{7000 + host}"\nkey_file = "{_key(hosts, host, peer)}"\n'
+            node += f'\n[[link]]\npeer = {peer}\nlocal = "{own}:{7000 + peer}"\nremote = "{its}:{7000 + host}"\n'
+            node += f'key_file = "{_key(hosts, host, peer)}"\n'
             routes += f'\n[[neighbour]]\nnode = {peer}\ninterface = "e{peer}"\nvia = ["{its}"]\n'
         for it in everyone:
             routes += f'\n[[destination]]\nnode = {it}\nprefixes = ["10.99.0.{it}/32"]\n'
@@ -92,7 +98,7 @@ def _start_babeld(hosts: Hosts, host: int, timing: str, program: str) -> subproc
 def _start_bird(hosts: Hosts, host: int, text: str) -> subprocess.Popen[str]:
     """bird, with a protocol."""
     common = (
-        f"router id 10.99.0.{host};\nprotocol device {{ }}\nprotocol direct {{ ipv4; interface \"lo\"; }}\n"
+        f'router id 10.99.0.{host};\nprotocol device {{ }}\nprotocol direct {{ ipv4; interface "lo"; }}\n'
         "protocol kernel { ipv4 { export where source != RTS_DEVICE; }; }\n"
     )
     name = _write(hosts, f"bird{host}.conf", common + text)
@@ -103,7 +109,9 @@ def _start_bird_babel(hosts: Hosts, host: int, timing: str, program: str) -> sub
     """bird with Babel."""
     more = f" hello interval {HELLO} s;" if timing == "equal" else ""
     export = "export where source = RTS_DEVICE || source = RTS_BABEL;"
-    return _start_bird(hosts, host, f'protocol babel {{ ipv4 {{ import all; {export} }}; interface "e*" {{ type wired;{more} }}; }}\n')
+    return _start_bird(
+        hosts, host, f'protocol babel {{ ipv4 {{ import all; {export} }}; interface "e*" {{ type wired;{more} }}; }}\n'
+    )
 
 
 def _start_bird_ospf(hosts: Hosts, host: int, timing: str, program: str) -> subprocess.Popen[str]:
@@ -120,7 +128,8 @@ def _start_none(hosts: Hosts, host: int, timing: str, program: str) -> subproces
 
 BOTH = ("default", "equal")
 PROTOCOLS = {
-    it.name: it for it in (
+    it.name: it
+    for it in (
         Protocol("tora", 84, ("default",), ("ip", "nft"), _start_tora("plain")),
         Protocol("tora-remembered", 84, ("default",), ("ip", "nft"), _start_tora("remembered")),
         Protocol("babeld", 42, BOTH, ("babeld",), _start_babeld),

@@ -15,19 +15,48 @@ from tora.table import Table, read_table, text_of
 
 TABLES = (
     ("the first packet", "start", "start", ("working_ms",)),
-    ("at rest", "rest", "rest", ("control_bytes_rate", "control_packets_rate", "processor_percent", "memory_mb", "stretch", "routes_left")),
-    ("`ip link set down`", "down", "fault", ("working_ms", "gap_ms", "lost", "tcp_stall_ms", "control_bytes_rate", "processor_percent")),
+    (
+        "at rest",
+        "rest",
+        "rest",
+        ("control_bytes_rate", "control_packets_rate", "processor_percent", "memory_mb", "stretch", "routes_left"),
+    ),
+    (
+        "`ip link set down`",
+        "down",
+        "fault",
+        ("working_ms", "gap_ms", "lost", "tcp_stall_ms", "control_bytes_rate", "processor_percent"),
+    ),
     ("its repair", "down", "repair", ("working_ms", "gap_ms", "lost", "stretch")),
-    ("silent loss of 100 %", "silent", "fault", ("working_ms", "gap_ms", "lost", "tcp_stall_ms", "control_bytes_rate", "processor_percent")),
+    (
+        "silent loss of 100 %",
+        "silent",
+        "fault",
+        ("working_ms", "gap_ms", "lost", "tcp_stall_ms", "control_bytes_rate", "processor_percent"),
+    ),
     ("its repair", "silent", "repair", ("working_ms", "gap_ms", "lost", "stretch")),
-    ("silent loss of 20 %", "lossy", "fault", ("gap_ms", "lost", "sent", "tcp_stall_ms", "control_bytes_rate", "processor_percent")),
+    (
+        "silent loss of 20 %",
+        "lossy",
+        "fault",
+        ("gap_ms", "lost", "sent", "tcp_stall_ms", "control_bytes_rate", "processor_percent"),
+    ),
     ("its repair", "lossy", "repair", ("lost", "stretch")),
     ("a host's daemons killed", "killed", "fault", ("working_ms", "gap_ms", "lost", "tcp_stall_ms")),
     ("the daemons started again", "killed", "repair", ("working_ms", "gap_ms", "lost", "stretch")),
 )
-MENDED = (("down", "fault", "link set down"), ("silent", "fault", "silent, 100 %"), ("killed", "fault", "daemons killed"), ("killed", "repair", "started again"))
-COST = (("control_bytes_rate", "control, B/s a host"), ("control_packets_rate", "control, packets/s a host"),
-        ("processor_percent", "processor, % a host"), ("memory_mb", "memory, MB a host"))
+MENDED = (
+    ("down", "fault", "link set down"),
+    ("silent", "fault", "silent, 100 %"),
+    ("killed", "fault", "daemons killed"),
+    ("killed", "repair", "started again"),
+)
+COST = (
+    ("control_bytes_rate", "control, B/s a host"),
+    ("control_packets_rate", "control, packets/s a host"),
+    ("processor_percent", "processor, % a host"),
+    ("memory_mb", "memory, MB a host"),
+)
 SMALLEST = 0.1  # ms, in place of 0 on a logarithmic axis
 
 
@@ -51,14 +80,23 @@ def tables(table: Table, statistic: str = "median") -> list[str]:
         part = chosen(table, fault, phase)
         if part is not None:
             told = [name for name in measures if part.frame[name].notna().any()]
-            lines += [f"## {title[0].upper()}{title[1:]}", "", *markdown_lines(summarize(part, told, statistic=statistic)), ""]
+            lines += [
+                f"## {title[0].upper()}{title[1:]}",
+                "",
+                *markdown_lines(summarize(part, told, statistic=statistic)),
+                "",
+            ]
     return lines
 
 
 @styled
 def mended(table: Table) -> Figure:
-    """How long no route works behind each fault, by protocol; of all topologies and sizes, each run a point of its protocol's median."""
-    figure, axes = panels_of(len(MENDED), "time until a route works again, ms: the median and its 95 % interval by order statistics, over runs")
+    """How long no route works behind each fault, by protocol; of all topologies and sizes, each run a point of its
+    protocol's median."""
+    figure, axes = panels_of(
+        len(MENDED),
+        "time until a route works again, ms: the median and its 95 % interval by order statistics, over runs",
+    )
     for panel, (fault, phase, title) in zip(axes, MENDED):
         part = chosen(table, fault, phase)
         if part is not None:
@@ -101,7 +139,12 @@ def _draw(panel: object, part: Table, measure: str, least: float) -> None:
             own[column] = own[column].clip(lower=least)
         line = Line(f"{text_of(size)} hosts", COLOURS[at % len(COLOURS)], DASHES[0], MARKS[at % len(MARKS)])
         draw_points(panel, places + 0.16 * at, own, line, join=False)
-    panel.set_xticks(range(len(kinds)), [name if timing == "default" else f"{name}\n{timing}" for name, timing in kinds], fontsize=7, rotation=20)
+    panel.set_xticks(
+        range(len(kinds)),
+        [name if timing == "default" else f"{name}\n{timing}" for name, timing in kinds],
+        fontsize=7,
+        rotation=20,
+    )
     panel.legend(fontsize=7)
 
 

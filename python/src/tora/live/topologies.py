@@ -37,7 +37,8 @@ class Network:
 
 
 def network(kind: str, nodes: int, seed: int) -> Network:
-    """The network of a kind, with the ends of its data drawn by the seed: at least half as far apart as the two that are farthest.
+    """The network of a kind, with the ends of its data drawn by the seed: at least half as far apart as the two that
+    are farthest.
 
     Parameters
     ----------
@@ -81,7 +82,8 @@ def _graph(kind: str, nodes: int, seed: int) -> Any:
 
 
 def cable_to_break(held: Network, path: list[int], rng: random.Random) -> tuple[tuple[int, int], bool]:
-    """A cable on a path, in the order of the path, and whether there is another way without it; one that leaves another way comes first."""
+    """A cable on a path, in the order of the path, and whether there is another way without it; one that leaves another
+    way comes first."""
     graph = held.graph()
     steps = list(zip(path, path[1:]))
     bridges = {frozenset(it) for it in networkx.bridges(graph)}
@@ -90,7 +92,8 @@ def cable_to_break(held: Network, path: list[int], rng: random.Random) -> tuple[
 
 
 def host_to_kill(held: Network, path: list[int], rng: random.Random) -> tuple[int, bool] | None:
-    """A host between the ends of a path, and whether there is another way without it; None where there is none between them."""
+    """A host between the ends of a path, and whether there is another way without it; None where there is none between
+    them."""
     between = path[1:-1]
     if not between:
         return None

@@ -1,6 +1,7 @@
 """Numbered packets: `send SOURCE DESTINATION MICROSECONDS FILE` and `receive ADDRESS FILE`, until a signal ends them.
 
-Both write records of 16 bytes into their file: the number of a packet, and when it was sent, in nanoseconds of the monotonic clock of
+Both write records of 16 bytes into their file: the number of a packet, and when it was sent, in nanoseconds of the
+monotonic clock of
 the machine.
 """
 from __future__ import annotations

@@ -13,7 +13,8 @@ from tora.program import Program
 from tora.routes.configuration import PROTOCOL, read
 
 LEVELS = ("error", "warn", "info", "debug")
-TEXT = f"""Runs `tora node` and keeps the routes of this host's kernel by the next hops that it finds, until a signal ends it.
+TEXT = f"""Runs `tora node` and keeps the routes of this host's kernel by the next hops that it finds, until a signal
+ends it.
 
 CONFIG is a file of TOML:
 
@@ -30,25 +31,40 @@ CONFIG is a file of TOML:
 and, where another value than this one is needed, in the first lines
   protocol = {PROTOCOL}    table = 254    metric = 32    device = "tora"
 
-A packet without a route goes into the TUN device of this name. The node is then asked for the route, and the packet is sent when
-it stands. A link ends at once where its interface goes down or loses its carrier, or its neighbour's address does not answer.
+A packet without a route goes into the TUN device of this name. The node is then asked for the route, and the packet
+is sent when it stands. A link ends at once where its interface goes down or loses its carrier, or its neighbour's
+address does not answer.
 The routes are gone within a second when this command or the node ends, `kill -9` included.
 """
-STATUSES = """Exit status: 0 where a signal ended it or all is done; 1 where the configuration is at fault or the kernel refuses;
-2 usage; 3 where the node has ended or does not answer. It needs root, or CAP_NET_ADMIN and CAP_NET_RAW."""
+STATUSES = """Exit status: 0 where a signal ended it or all is done; 1 where the configuration is at fault or the kernel
+refuses; 2 usage; 3 where the node has ended or does not answer. It needs root, or CAP_NET_ADMIN and CAP_NET_RAW."""
 
 
 def parser() -> argparse.ArgumentParser:
     """The parser of the command line."""
     found = argparse.ArgumentParser(
-        prog="tora-routes", description=TEXT, epilog=STATUSES, allow_abbrev=False, formatter_class=argparse.RawDescriptionHelpFormatter,
+        prog="tora-routes",
+        description=TEXT,
+        epilog=STATUSES,
+        allow_abbrev=False,
+        formatter_class=argparse.RawDescriptionHelpFormatter,
     )
     found.add_argument("config", metavar="CONFIG", help="the configuration")
     what = found.add_mutually_exclusive_group()
     what.add_argument("--check", action="store_true", help="read the configuration and the node's, and end")
     what.add_argument("--flush", action="store_true", help="take away the routes that a run may have left, and end")
-    found.add_argument("--program", metavar="PATH", help="the program tora; else the variable TORA, the repository's ./tora, or `tora` of the path")
-    found.add_argument("--log", metavar="LEVEL", choices=LEVELS, default="info", help=f"log what is of this level or graver: {', '.join(LEVELS)} (info)")
+    found.add_argument(
+        "--program",
+        metavar="PATH",
+        help="the program tora; else the variable TORA, the repository's ./tora, or `tora` of the path",
+    )
+    found.add_argument(
+        "--log",
+        metavar="LEVEL",
+        choices=LEVELS,
+        default="info",
+        help=f"log what is of this level or graver: {', '.join(LEVELS)} (info)",
+    )
     found.add_argument("--version", action="version", version=f"tora-routes {__version__}")
     return found
 
@@ -57,7 +73,9 @@ def main(words: Sequence[str] | None = None) -> int:
     """Does what the command line asks for; answers the exit status."""
     found = parser().parse_args(words)
     logging.basicConfig(
-        format="%(levelname)s %(message)s", level="WARNING" if found.log == "warn" else found.log.upper(), stream=sys.stderr,
+        format="%(levelname)s %(message)s",
+        level="WARNING" if found.log == "warn" else found.log.upper(),
+        stream=sys.stderr,
     )
     try:
         return _done(found)
@@ -76,7 +94,11 @@ def _done(found: argparse.Namespace) -> int:
     held = read(found.config)
     if found.check:
         count = sum(map(len, held.prefixes.values()))
-        print(f"tora-routes: {found.config}: ok, {len(held.neighbours)} neighbours, {len(held.prefixes)} destinations, {count} prefixes", file=sys.stderr)
+        print(
+            f"tora-routes: {found.config}: ok, {len(held.neighbours)} neighbours, "
+            f"{len(held.prefixes)} destinations, {count} prefixes",
+            file=sys.stderr,
+        )
         return 0
     try:
         from tora.routes import daemon

@@ -1,4 +1,5 @@
-"""Reads the configuration of `tora-routes`: a file of TOML that maps the numbers of nodes to addresses, prefixes and interfaces."""
+"""Reads the configuration of `tora-routes`: a file of TOML that maps the numbers of nodes to addresses, prefixes and
+interfaces."""
 from __future__ import annotations
 
 import dataclasses
@@ -28,7 +29,8 @@ NAME = re.compile(r"[^\s/:]{1,15}")
 
 @dataclasses.dataclass(frozen=True)
 class Neighbour:
-    """A neighbour: its number, the interface to it, and the addresses that it has there, at most one of each version of IP."""
+    """A neighbour: its number, the interface to it, and the addresses that it has there, at most one of each version of
+    IP."""
 
     node: int
     interface: str
@@ -120,7 +122,10 @@ class _Table:
         """The name of an interface."""
         value = self.word(key, default)
         if not NAME.fullmatch(value) or value in (".", ".."):
-            raise self.refused(key, f"`{shown(value)}` is no name of an interface: 1 to {MOST_NAME} characters without blank, `/` and `:`")
+            raise self.refused(
+                key,
+                f"`{shown(value)}` is no name of an interface: 1 to {MOST_NAME} characters without blank, `/` and `:`",
+            )
         return value
 
     def texts(self, key: str) -> list[str]:
@@ -152,7 +157,9 @@ class _Table:
             try:
                 network = ipaddress.ip_network(text)
             except ValueError:
-                raise self.refused(key, f"`{shown(text)}` is no prefix of IPv4 or IPv6, or has bits behind its length") from None
+                raise self.refused(
+                    key, f"`{shown(text)}` is no prefix of IPv4 or IPv6, or has bits behind its length"
+                ) from None
             if network.is_multicast:
                 raise self.refused(key, f"`{shown(text)}` is a prefix of groups")
             found.append(network)
@@ -181,8 +188,16 @@ def read(path: Path) -> Configuration:
         if neighbour.interface == device:
             raise _table_of(table, "neighbour", at).refused("interface", f"`{device}` is the TUN device of tora-routes")
     return Configuration(
-        name, node, own, source, table.number("protocol", 5, 255, PROTOCOL), table.number("table", 1, MOST_NODE, TABLE),
-        table.number("metric", 1, LAST_METRIC - 1, METRIC), device, neighbours, prefixes,
+        name,
+        node,
+        own,
+        source,
+        table.number("protocol", 5, 255, PROTOCOL),
+        table.number("table", 1, MOST_NODE, TABLE),
+        table.number("metric", 1, LAST_METRIC - 1, METRIC),
+        device,
+        neighbours,
+        prefixes,
     )
 
 
@@ -193,7 +208,9 @@ def _values(path: str) -> tuple[str, dict[str, Any]]:
     try:
         text = data.decode("utf-8")
     except UnicodeDecodeError as cause:
-        raise StudyError("the file is no text in UTF-8", file=path, line=data.count(b"\n", 0, cause.start) + 1) from None
+        raise StudyError(
+            "the file is no text in UTF-8", file=path, line=data.count(b"\n", 0, cause.start) + 1
+        ) from None
     try:
         return text, tomllib.loads(text)
     except tomllib.TOMLDecodeError as cause:
@@ -203,7 +220,8 @@ def _values(path: str) -> tuple[str, dict[str, Any]]:
 
 
 def _numbers(path: str) -> tuple[int, list[int], list[int]]:
-    """The numbers in the configuration of a node: its own, its neighbours and its destinations. What else it says the node itself checks."""
+    """The numbers in the configuration of a node: its own, its neighbours and its destinations. What else it says the
+    node itself checks."""
     text, values = _values(path)
     table = _Table(path, text, values)
     own = table.number("node", 1, MOST_NODE)

@@ -1,6 +1,7 @@
 """Keeps the routes of the kernel as a node of TORA finds its next hops.
 
-One loop waits for what the node prints, for what the kernel tells of interfaces and neighbours, for packets without a route, for the end
+One loop waits for what the node prints, for what the kernel tells of interfaces and neighbours, for packets without a
+route, for the end
 of the guard, and for signals.
 """
 from __future__ import annotations
@@ -25,7 +26,7 @@ from tora.routes.held import Held
 from tora.routes.kernel import Events, Kernel, RouteRefused
 from tora.routes.lines import Hops
 from tora.routes.packets import Holders, destination_of
-from tora.routes.requests import Requests
+from tora.routes.requests import AGAIN, Requests
 from tora.routes.table import Routes, changes, found_routes, last_routes
 from tora.routes.tunnel import Sender, Tunnel
 
@@ -57,7 +58,7 @@ class Daemon:
         self._selector = selectors.DefaultSelector()
         self._lines, self._errors = b"", b""
         self._is_ended, self._knows_cut = False, True
-        self._compare_at = self._look_at = 0.0
+        self._compare_at = self._compared = self._look_at = 0.0
         self._answer_by: float | None = None
 
     def run(self) -> None:
@@ -95,7 +96,12 @@ class Daemon:
         words = [*self._program.words, "node", self._held.node]
         try:
             node = subprocess.Popen(
-                words, stdin=subprocess.PIPE, stdout=subprocess.PIPE, stderr=subprocess.PIPE, bufsize=0, start_new_session=True,
+                words,
+                stdin=subprocess.PIPE,
+                stdout=subprocess.PIPE,
+                stderr=subprocess.PIPE,
+                bufsize=0,
+                start_new_session=True,
             )
         except OSError as cause:
             raise StudyError(cause.strerror or str(cause), file=words[0]) from None
@@ -108,9 +114,12 @@ class Daemon:
         """What the loop waits for."""
         assert self._node.stdout is not None and self._node.stderr is not None
         handlers: list[tuple[int, Callable[[], None]]] = [
-            (self._node.stdout.fileno(), self._on_lines), (self._node.stderr.fileno(), self._on_errors),
-            (self._events.fileno(), self._on_events), (self._tunnel.fileno(), self._on_packets),
-            (guard.fileno(), _on_guard), (signals.fileno(), self._on_signal),
+            (self._node.stdout.fileno(), self._on_lines),
+            (self._node.stderr.fileno(), self._on_errors),
+            (self._events.fileno(), self._on_events),
+            (self._tunnel.fileno(), self._on_packets),
+            (guard.fileno(), _on_guard),
+            (signals.fileno(), self._on_signal),
         ]
         for file, handler in handlers:
             self._selector.register(file, selectors.EVENT_READ, handler)
@@ -219,8 +228,8 @@ class Daemon:
             self._waiting.keep(node, packet, now)
             if self._requests.want(node, now):
                 self._tell(f"need {node}")
-            elif self._hops.hops.get(node) is not None:
-                self._send_waiting([node])  # it came as its route was set
+            if self._hops.hops.get(node) is not None:  # it came as its route was set, or something else took the route
+                self._compare_at = min(self._compare_at, max(now, self._compared + AGAIN))
 
     def _on_signal(self) -> None:
         """A signal asks for the end."""
@@ -252,7 +261,9 @@ class Daemon:
         """Sends the packets whose route stands now."""
         now = time.monotonic()
         for node in destinations:
-            if node not in self._waiting or not all((it, self._held.metric) in self._routes for it in self._held.prefixes[node]):
+            if node not in self._waiting or not all(
+                (it, self._held.metric) in self._routes for it in self._held.prefixes[node]
+            ):
                 continue
             for packet in self._waiting.take(node, now):
                 found = destination_of(packet)
@@ -273,7 +284,7 @@ class Daemon:
 
     def _compare(self, now: float) -> None:
         """Looks which routes the kernel has: it takes away those of an interface that goes down."""
-        self._compare_at = now + COMPARE
+        self._compare_at, self._compared = now + COMPARE, now
         last = last_routes(self._held)
         there = self._kernel.routes()
         self._routes = {place: it for place, it in there.items() if place not in last}
@@ -308,7 +319,9 @@ class Daemon:
 
 def flush(held: Configuration) -> int:
     """Takes away the routes that a run may have left; answers how many there were."""
-    with contextlib.closing(locked(held.table, held.protocol)), contextlib.closing(Kernel(held.table, held.protocol)) as kernel:
+    with contextlib.closing(locked(held.table, held.protocol)), contextlib.closing(
+        Kernel(held.table, held.protocol)
+    ) as kernel:
         return kernel.flush()
 
 

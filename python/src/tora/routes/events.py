@@ -35,7 +35,8 @@ class Interfaces:
         Parameters
         ----------
         message : mapping
-            As pyroute2 reads it: `event`, `index`, `flags`, `attrs` of a link; `event`, `ifindex`, `state`, `attrs` of a neighbour.
+            As pyroute2 reads it: `event`, `index`, `flags`, `attrs` of a link; `event`, `ifindex`, `state`, `attrs` of
+            a neighbour.
         """
         attributes = dict(message.get("attrs", ()))
         event = message.get("event")
@@ -62,7 +63,9 @@ class Interfaces:
         """Takes that a neighbour's address does not answer."""
         interface, address = self._names.get(int(message.get("ifindex", 0))), address_of(attributes.get("NDA_DST"))
         return sorted(
-            node for node, it in self._held.neighbours.items() if it.interface == interface and address is not None and address in it.via
+            node
+            for node, it in self._held.neighbours.items()
+            if it.interface == interface and address is not None and address in it.via
         )
 
 

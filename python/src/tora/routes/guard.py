@@ -1,7 +1,7 @@
 """A process of its own that takes the routes away when `tora-routes` ends in any way, `kill -9` included.
 
-It is a shell that reads a pipe, whose other end only `tora-routes` has: it reads the end of the pipe when that process is gone, and then
-lets `ip` (package iproute2) take the routes away. A shell takes a megabyte of memory where a second Python takes twenty.
+It is a shell that reads a pipe, whose other end only `tora-routes` has: it reads the end of the pipe when that process
+is gone, and then lets `ip` (package iproute2) take the routes away. A shell takes less memory than a second Python.
 """
 from __future__ import annotations
 
@@ -26,7 +26,7 @@ WAIT = 3.0  # seconds that an earlier guard has for its work
 
 
 def locked(table: int, protocol: int) -> socket.socket:
-    """A lock of the routes of a table and a protocol number, which one `tora-routes` of a network namespace has, and its guard.
+    """A lock of the routes of a table and a protocol number: one `tora-routes` of a network namespace has it.
 
     Raises
     ------
@@ -55,8 +55,11 @@ class Guard:
         if program is None:
             raise StudyError("the program `ip` is missing (package iproute2)")
         self._process = subprocess.Popen(
-            ["/bin/sh", "-c", SCRIPT, program, str(table), str(protocol)], stdin=subprocess.PIPE, pass_fds=[lock.fileno()],
-            start_new_session=True, cwd="/",
+            ["/bin/sh", "-c", SCRIPT, program, str(table), str(protocol)],
+            stdin=subprocess.PIPE,
+            pass_fds=[lock.fileno()],
+            start_new_session=True,
+            cwd="/",
         )
         self._end = os.pidfd_open(self._process.pid)
 

@@ -101,7 +101,10 @@ class Kernel:
     def _words(self, route: Route) -> dict[str, Any]:
         """What tells a route from others."""
         return {
-            "family": FAMILY[route.prefix.version], "dst": str(route.prefix), "table": self._table, "proto": self._protocol,
+            "family": FAMILY[route.prefix.version],
+            "dst": str(route.prefix),
+            "table": self._table,
+            "proto": self._protocol,
             "priority": route.metric,
         }
 
@@ -137,10 +140,15 @@ class Events:
 
 def _route(message: Mapping[str, Any], attributes: Mapping[str, Any], family: int, names: Mapping[int, str]) -> Route:
     """The route of a message."""
-    prefix = ipaddress.ip_network(f"{attributes.get('RTA_DST', ANY[socket.AddressFamily(family)])}/{message['dst_len']}")
+    prefix = ipaddress.ip_network(
+        f"{attributes.get('RTA_DST', ANY[socket.AddressFamily(family)])}/{message['dst_len']}"
+    )
     return Route(
-        prefix, names.get(attributes.get("RTA_OIF", 0), ""), attributes.get("RTA_PRIORITY", 0),
-        address_of(attributes.get("RTA_GATEWAY")), address_of(attributes.get("RTA_PREFSRC")),
+        prefix,
+        names.get(attributes.get("RTA_OIF", 0), ""),
+        attributes.get("RTA_PRIORITY", 0),
+        address_of(attributes.get("RTA_GATEWAY")),
+        address_of(attributes.get("RTA_PREFSRC")),
     )
 
 

@@ -26,7 +26,8 @@ class Holders:
             (it.version, it.prefixlen, int(it.network_address)): node for node, own in prefixes.items() for it in own
         }
         self._lengths = {
-            version: sorted({length for other, length, _ in self._nodes if other == version}, reverse=True) for version in BITS
+            version: sorted({length for other, length, _ in self._nodes if other == version}, reverse=True)
+            for version in BITS
         }
 
     def node_of(self, version: int, address: int) -> int | None:

@@ -9,7 +9,8 @@ from tora.routes.configuration import LAST_METRIC, Address, Configuration, Netwo
 
 @dataclasses.dataclass(frozen=True)
 class Route:
-    """A route: where to, at which interface, by which address, from which address, and how it is preferred (a lower metric first)."""
+    """A route: where to, at which interface, by which address, from which address, and how it is preferred (a lower
+    metric first)."""
 
     prefix: Network
     interface: str
@@ -63,12 +64,14 @@ def last_routes(held: Configuration) -> Routes:
     """The routes into the TUN device, which a packet takes where there is no other."""
     routes = [
         Route(prefix, held.device, LAST_METRIC, None, held.source_of(prefix.version))
-        for prefixes in held.prefixes.values() for prefix in prefixes
+        for prefixes in held.prefixes.values()
+        for prefix in prefixes
     ]
     return {it.place: it for it in routes}
 
 
 def changes(before: Mapping[Place, Route], after: Mapping[Place, Route]) -> tuple[list[Route], list[Route]]:
-    """What leads from one state to the other: the routes to set, each in place of one that may be there, and those to take away."""
+    """What leads from one state to the other: the routes to set, each in place of one that may be there, and those to
+    take away."""
     to_set = [route for place, route in after.items() if before.get(place) != route]
     return to_set, [route for place, route in before.items() if place not in after]

@@ -26,7 +26,9 @@ class Tunnel:
         except OSError as cause:
             raise StudyError(cause.strerror or str(cause), file=DEVICE) from None
         try:
-            fcntl.ioctl(self._file, TUNSETIFF, struct.pack("16sH22x", name.encode(), IFF_TUN | IFF_NO_PI | IFF_TUN_EXCL))
+            fcntl.ioctl(
+                self._file, TUNSETIFF, struct.pack("16sH22x", name.encode(), IFF_TUN | IFF_NO_PI | IFF_TUN_EXCL)
+            )
         except OSError as cause:
             os.close(self._file)
             raise StudyError(f"the device `{name}` can't be made: {cause.strerror}", file=DEVICE) from None
