@@ -92,7 +92,7 @@ class Phase:
     spare: bool
     packets: float
     bytes: float
-    processor: float
+    processor: float | None  # None where a daemon was killed, and its time with it
     memory: float
     busy: float
     stretch: float | None
@@ -231,7 +231,7 @@ class Experiment:
                 spare,
                 (sent.packets - counted.packets) / span,
                 (sent.bytes - counted.bytes) / span,
-                max(0.0, then.processor - used.processor) / span,
+                None if fault == "killed" else (then.processor - used.processor) / span,
                 then.memory,
                 (worked[0] - work[0]) / max(1.0, worked[1] - work[1]),
                 None if path is None or shortest is None else (len(path) - 1) / shortest,
@@ -287,7 +287,7 @@ class Experiment:
                     "stretch": it.stretch,
                     "control_bytes_rate": it.bytes / self.plan.nodes,
                     "control_packets_rate": it.packets / self.plan.nodes,
-                    "processor_percent": 100 * it.processor / self.plan.nodes,
+                    "processor_percent": None if it.processor is None else 100 * it.processor / self.plan.nodes,
                     "memory_mb": it.memory / self.plan.nodes / 1e6,
                     "busy": it.busy,
                     "routes_left": left,
