@@ -231,7 +231,7 @@ class Experiment:
                 spare,
                 (sent.packets - counted.packets) / span,
                 (sent.bytes - counted.bytes) / span,
-                None if fault == "killed" else (then.processor - used.processor) / span,
+                None if fault == "killed" and phase == "fault" else (then.processor - used.processor) / span,
                 then.memory,
                 (worked[0] - work[0]) / max(1.0, worked[1] - work[1]),
                 None if path is None or shortest is None else (len(path) - 1) / shortest,

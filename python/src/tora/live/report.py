@@ -4,8 +4,12 @@ from __future__ import annotations
 import pathlib
 
 import numpy as np
+import pandas as pd
+from matplotlib.axes import Axes
 from matplotlib.figure import Figure
 
+from tora import stats
+from tora.columns import SEED
 from tora.drawing import COLOURS, DASHES, MARKS, Line, draw_points, panels_of, styled, write_picture
 from tora.errors import UsageError
 from tora.files import write_file
@@ -95,12 +99,13 @@ def mended(table: Table) -> Figure:
     protocol's median."""
     figure, axes = panels_of(
         len(MENDED),
-        "time until a route works again, ms: the median and its 95 % interval by order statistics, over runs",
+        "time until a route works again, ms, of runs in which one does: "
+        "the median over seeds and its 95 % interval by order statistics",
     )
     for panel, (fault, phase, title) in zip(axes, MENDED):
         part = chosen(table, fault, phase)
         if part is not None:
-            _draw(panel, part, "working_ms", SMALLEST)
+            _draw(panel, table, part, "working_ms", SMALLEST)
             panel.set_yscale("log")
         panel.set_title(title, fontsize=9)
         panel.set_ylabel("ms")
@@ -110,29 +115,31 @@ def mended(table: Table) -> Figure:
 @styled
 def cost(table: Table) -> Figure:
     """What a protocol takes at rest."""
-    figure, axes = panels_of(len(COST), "at rest: the median and its 95 % interval by order statistics, over runs")
+    figure, axes = panels_of(len(COST), "at rest: the median over seeds and its 95 % interval by order statistics")
     part = chosen(table, "rest", "rest")
     if part is None:
         raise UsageError("there is no phase at rest", file=table.path)
     for panel, (name, label) in zip(axes, COST):
-        _draw(panel, part, name, 0.0)
+        _draw(panel, table, part, name, 0.0)
         panel.set_ylabel(label)
         panel.set_ylim(bottom=0)
     return figure
 
 
-def _draw(panel: object, part: Table, measure: str, least: float) -> None:
-    """A point for each protocol and timing, with one mark for each size."""
-    from matplotlib.axes import Axes
-
-    assert isinstance(panel, Axes)
-    pool = [name for name in ("topology",) if name in part.varied]
-    rows = summarize(part, [measure], statistic="median", pool=pool).rows
-    for name in ("protocol", "timing", "nodes"):
-        if name not in rows:
-            rows[name] = part.frame[name].iloc[0]
-    kinds = sorted({(it.protocol, it.timing) for it in rows.itertuples()})
-    for at, size in enumerate(sorted(set(rows["nodes"]))):
+def _draw(panel: Axes, table: Table, part: Table, measure: str, least: float) -> None:
+    """A point for each protocol and timing, with a mark for each size; a seed counts once, by its topologies' mean."""
+    rows = pd.DataFrame(
+        [
+            [*key, *stats.order_interval(runs.groupby(SEED)[measure].mean().dropna().to_numpy(dtype=float))]
+            for key, runs in part.groups(["protocol", "timing", "nodes"]).items()
+            if runs[measure].notna().any()
+        ],
+        columns=["protocol", "timing", "nodes", "value", "low", "high"],
+    )
+    # the same places and colours in each panel
+    kinds = sorted(set(zip(table.frame["protocol"], table.frame["timing"])))
+    sizes = sorted(set(table.frame["nodes"]))
+    for at, size in enumerate(sizes):
         own = rows[rows["nodes"] == size].copy()
         places = np.array([kinds.index(it) for it in zip(own["protocol"], own["timing"])], dtype=float)
         for column in ("value", "low", "high"):
@@ -145,6 +152,7 @@ def _draw(panel: object, part: Table, measure: str, least: float) -> None:
         fontsize=7,
         rotation=20,
     )
+    panel.set_xlim(-0.5, len(kinds) - 0.2)
     panel.legend(fontsize=7)
 
 
