@@ -13,7 +13,17 @@ from collections.abc import Callable, Iterator
 import pytest
 
 pytest.importorskip("pyroute2")
-if os.geteuid() != 0 or shutil.which("ip") is None or not os.path.exists("/dev/net/tun"):
+
+
+def is_able() -> bool:
+    """Whether this process can make a network namespace with a TUN device."""
+    if os.geteuid() != 0 or shutil.which("ip") is None or shutil.which("unshare") is None:
+        return False
+    words = ["unshare", "--net", "ip", "tuntap", "add", "probe", "mode", "tun"]
+    return subprocess.run(words, capture_output=True, check=False).returncode == 0
+
+
+if not is_able():
     pytest.skip("network namespaces need root, `ip` and /dev/net/tun", allow_module_level=True)
 
 SOURCES = pathlib.Path(__file__).parents[1] / "src"
@@ -197,14 +207,16 @@ def test_a_route_that_somebody_took_is_set_again_when_a_packet_needs_it(host: Ho
     until(lambda: host.routes() == sorted(BY_TWO + LAST_ONES))
 
 
-@pytest.mark.parametrize("whose", ["own", "node"])
-def test_kill_leaves_no_route(host: Host, whose: str) -> None:
+@pytest.mark.parametrize(
+    ("whose", "status", "told"),
+    [("own", -9, ""), ("node", 3, "the node has ended by signal 9"), ("guard", 1, "the guard process has ended")],
+)
+def test_kill_leaves_no_route(host: Host, whose: str, status: int, told: str) -> None:
     process = with_route(host)
-    os.kill(process.pid if whose == "own" else host.node(), signal.SIGKILL)
+    guard = subprocess.run(["pgrep", "-P", str(process.pid), "-x", "sh"], capture_output=True, text=True, check=True)
+    os.kill({"own": process.pid, "node": host.node(), "guard": int(guard.stdout)}[whose], signal.SIGKILL)
     assert until(lambda: host.routes() == []) < 1
-    assert process.wait(LAST) == (-9 if whose == "own" else 3)
-    if whose == "node":
-        assert process.stderr is not None and "tora-routes: the node has ended by signal 9" in process.stderr.read()
+    assert process.wait(LAST) == status and process.stderr is not None and told in process.stderr.read()
 
 
 def test_a_second_one_is_refused(host: Host) -> None:
