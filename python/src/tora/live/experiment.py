@@ -106,8 +106,8 @@ class Experiment:
         self.network: Network = network(plan.topology, plan.nodes, plan.seed)
         self.protocol = PROTOCOLS[plan.protocol]
         self.hosts = Hosts(self.network, folder)
-        self.rng = random.Random(plan.name)
         self.phases: list[Phase] = []
+        self.rng = random.Random()  # of a fault: which cable, which host
         self.daemons: dict[int, subprocess.Popen[str]] = {}
         self.client: subprocess.Popen[str] | None = None
         self.began = self.arrived_at = self.tcp_began = 0.0
@@ -155,7 +155,8 @@ class Experiment:
         return read_records(str(path)) if path.exists() else {}
 
     def _fault(self, fault: str) -> None:
-        """A fault on the way of the data, and its repair."""
+        """A fault on the way of the data, and its repair; where protocols have the same way, it is at the same place."""
+        self.rng = random.Random(f"{self.plan.topology} {self.plan.nodes} {self.plan.seed} {fault}")
         path = self.hosts.path()
         until = time.monotonic() + self.plan.most
         while path is None and time.monotonic() < until:
