@@ -16,7 +16,7 @@ from conftest import refusal
 from tora.errors import StudyError
 from tora.routes.cli import main
 from tora.routes.configuration import Configuration, Network, read
-from tora.routes.events import ABLE, FAILED, UP, Interfaces
+from tora.routes.events import Interfaces
 from tora.routes.held import MOST, Held
 from tora.routes.lines import Hops, hops_of
 from tora.routes.packets import Holders, destination_of
@@ -277,6 +277,10 @@ def test_the_longest_prefix_decides() -> None:
         4,
         None,
     ]
+
+
+# Flags of if.h: UP, BROADCAST, MULTICAST, and with a carrier RUNNING and LOWER_UP. Of neighbour.h: NUD_FAILED.
+UP, ABLE, FAILED = 0x1003, 0x11043, 0x20
 
 
 def link(index: int, name: str, flags: int, event: str = "RTM_NEWLINK") -> dict[str, Any]:

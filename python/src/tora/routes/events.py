@@ -7,9 +7,9 @@ from typing import Any
 
 from tora.routes.configuration import Address, Configuration
 
-UP, RUNNING = 0x1, 0x40  # flags of an interface (if.h): it is set up, and it has a carrier
+UP, LOWER_UP = 0x1, 0x10000  # flags of an interface (if.h): it is set up, and it has a carrier
 FAILED = 0x20  # a neighbour that does not answer (neighbour.h, NUD_FAILED)
-ABLE = UP | RUNNING
+ABLE = UP | LOWER_UP
 
 
 class Interfaces:
