@@ -256,7 +256,7 @@ check_keys() {
 }
 
 # What a node tells programs: `watch` tells its heights and next hops as they change, `json` its state, as docs/status.schema.json has
-# it where there is the module jsonschema (package python3-jsonschema). examples/set-routes makes routes of the lines.
+# it where there is the module jsonschema (package python3-jsonschema).
 check_status() {
   local program=$here/../crates/tora/out/tora n
   [ -x "$program" ] || return 0
@@ -285,9 +285,6 @@ import json, jsonschema, sys
 jsonschema.validate(*[json.load(open(it)) for it in sys.argv[1:]])
 ' "$work/state" "$here/../docs/status.schema.json"
   fi
-  "$here/../examples/set-routes" 10.1.2 <"$work/told" >"$work/routes"
-  printf 'route %s\n' 'flush 10.1.2.2/32' 'replace 10.1.2.2/32 via 10.1.2.2' >"$work/wanted"
-  agrees "$work/wanted" "$work/routes" 'what examples/set-routes makes of it'
 }
 
 # Each file has a licence, as the command reuse (package reuse) reads it.

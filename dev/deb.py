@@ -10,7 +10,7 @@ usage: ./tora deb [--unproved] [--twice] [--out DIR]
 
   tora           the program, its manual pages, completion, units for systemd, dissector, examples and documents
   ns3-tora       the module for ns-3 as sources and, where there is ns-3 (package libns3-dev), as a library
-  python3-tora   the package tora of Python, where the repository has the folder python
+  python3-tora   the package tora of Python with tora-study and tora-routes, where the repository has the folder python
 
 Nothing is compiled but the module. The version is that of the file VERSION, with the time and name of the commit where it ends in
 `-dev`; with `changed` where the tree has changes. All files have the time of the commit (SOURCE_DATE_EPOCH), so the same text, program
@@ -121,6 +121,13 @@ def stage(state, tree):
         if "/usr/local" in text or "./tora" in text:
             stop(f"examples/systemd/{unit} names a place that no package has", 1)
         write(f"{tree}/debian/{unit}", text)
+    text = read("examples/systemd/tora-routes@.service")
+    text = text.replace(" Copy it to /etc/systemd/system, and rt_protos.d/tora.conf to /etc/iproute2/rt_protos.d, by which `ip\n# route` names these routes.", "")
+    if "Copy it" in text:
+        stop("examples/systemd/tora-routes@.service says something else of its place", 1)
+    os.makedirs(f"{tree}/staged/units", exist_ok=True)
+    write(f"{tree}/staged/units/tora-routes@.service", text)
+    copy(f"{TOP}/examples/systemd/rt_protos.d/tora.conf", f"{tree}/staged/rt_protos.d/tora.conf")
     shutil.rmtree(f"{tree}/examples/systemd")
 
 

@@ -1,4 +1,4 @@
-"""Floods the nodes of examples/namespaces/run with forged frames until it is ended; it prints how many it has sent, each second."""
+"""Floods the nodes of examples/namespaces/attacked with forged frames until it is ended; it prints how many it has sent, each second."""
 import hashlib
 import hmac
 import random

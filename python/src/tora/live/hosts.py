@@ -1,0 +1,238 @@
+"""Hosts in network namespaces, the cables between them, faults of these, and counters."""
+from __future__ import annotations
+
+import contextlib
+import json
+import os
+import pathlib
+import signal
+import subprocess
+import time
+from collections.abc import Iterable, Sequence
+from typing import NamedTuple
+
+from tora.errors import StudyError
+from tora.live.topologies import Network
+from tora.live.traffic import PORT
+
+TCP_PORT = 5201
+FRAME = 14  # bytes of an Ethernet header, which the counters of an interface have and those of nftables do not
+COUNTERS = f"""table inet live {{
+  counter data {{ }}
+  chain out {{
+    type filter hook postrouting priority 300;
+    oifname "e*" udp dport {PORT} counter name data
+    oifname "e*" tcp dport {TCP_PORT} counter name data
+    oifname "e*" tcp sport {TCP_PORT} counter name data
+    oifname "e*" icmp type destination-unreachable counter name data
+  }}
+}}
+"""
+SYSCTLS = (
+    "net.ipv4.ip_forward=1 net.ipv6.conf.all.forwarding=1 net.ipv6.conf.default.accept_dad=0 "
+    "net.ipv4.conf.all.rp_filter=0 "
+    "net.ipv4.conf.default.rp_filter=0 net.ipv4.conf.all.send_redirects=0 net.ipv4.conf.default.send_redirects=0"
+)
+
+
+class Counted(NamedTuple):
+    """What all hosts have sent over their cables, without data."""
+
+    packets: int
+    bytes: int
+
+
+class Used(NamedTuple):
+    """What the daemons of all hosts have used: seconds of the processors, bytes of memory (each shared page divided by
+    its users)."""
+
+    processor: float
+    memory: int
+
+
+def run(words: Sequence[str], text: str | None = None, check: bool = True) -> str:
+    """Runs a command."""
+    found = subprocess.run(words, input=text, capture_output=True, text=True, check=False)
+    if check and found.returncode:
+        raise StudyError(f"`{' '.join(words)}` ends with status {found.returncode}: {found.stderr.strip()[-300:]}")
+    return found.stdout
+
+
+class Hosts:
+    """The hosts of a network. Host N has the address 10.99.0.N, and its interface to host K is eK."""
+
+    def __init__(self, network: Network, folder: pathlib.Path) -> None:
+        self.network, self.folder = network, folder
+        self._prefix = f"live-{os.getpid()}"
+        self._own: dict[int, int] = {}  # by the process that keeps a namespace its inode
+        self._others: set[int] = set()  # processes that are no daemons
+        self._anchors: dict[int, subprocess.Popen[str]] = {}
+        self.started: list[subprocess.Popen[str]] = []
+
+    def name(self, host: int) -> str:
+        """The name of a host's namespace."""
+        return f"{self._prefix}-{host}"
+
+    def address(self, host: int, peer: int) -> str:
+        """The address of a host at its cable to a peer."""
+        at = self.network.cables.index((min(host, peer), max(host, peer)))
+        return f"10.77.{at}.{1 if host < peer else 2}"
+
+    def set_up(self) -> None:
+        """Makes the namespaces and the cables."""
+        lines = []
+        for host in self.network.hosts:
+            run(["ip", "netns", "add", self.name(host)])
+            script = f"sysctl -qw {SYSCTLS} && nft -f - && echo && exec sleep infinity"
+            anchor = subprocess.Popen(
+                ["ip", "netns", "exec", self.name(host), "sh", "-c", script],
+                stdin=subprocess.PIPE,
+                stdout=subprocess.PIPE,
+                text=True,
+            )
+            assert anchor.stdin is not None and anchor.stdout is not None
+            anchor.stdin.write(COUNTERS)
+            anchor.stdin.close()
+            if anchor.stdout.readline() != "\n":
+                raise StudyError("a namespace can't be set up: sysctl or nft fails in it")
+            self._anchors[host] = anchor
+            self._others.add(anchor.pid)
+            self._own[os.stat(f"/proc/{anchor.pid}/ns/net").st_ino] = host
+        for a, b in self.network.cables:
+            lines.append(f"link add e{b} netns {self.name(a)} type veth peer name e{a} netns {self.name(b)}")
+        run(["ip", "-batch", "-"], "\n".join(lines) + "\n")
+        for host in self.network.hosts:
+            lines = ["link set lo up", f"address add 10.99.0.{host}/32 dev lo"]
+            for peer in self.network.neighbours(host):
+                lines += [f"address add {self.address(host, peer)}/24 dev e{peer}", f"link set e{peer} up"]
+            run(["ip", "-n", self.name(host), "-batch", "-"], "\n".join(lines) + "\n")
+
+    def start(self, host: int, words: Sequence[str], log: str, is_daemon: bool = True) -> subprocess.Popen[str]:
+        """Starts a process at a host, in the folder."""
+        with open(self.folder / log, "a") as sink:
+            process = subprocess.Popen(
+                ["ip", "netns", "exec", self.name(host), *words],
+                cwd=self.folder,
+                stdin=subprocess.DEVNULL,
+                stdout=sink,
+                stderr=sink,
+                text=True,
+                start_new_session=True,
+            )
+        self.started.append(process)
+        if not is_daemon:
+            self._others.add(process.pid)
+        return process
+
+    def daemons(self) -> dict[int, list[int]]:
+        """By the host its processes that are daemons."""
+        found: dict[int, list[int]] = {host: [] for host in self.network.hosts}
+        for name in os.listdir("/proc"):
+            if name.isdecimal() and int(name) not in self._others:
+                with contextlib.suppress(OSError):
+                    host = self._own.get(os.stat(f"/proc/{name}/ns/net").st_ino)
+                    if host is not None:
+                        found[host].append(int(name))
+        return found
+
+    def used(self) -> Used:
+        """What the daemons have used so far."""
+        processor, memory = 0, 0
+        for processes in self.daemons().values():
+            for process in processes:
+                with contextlib.suppress(OSError):
+                    for task in os.listdir(f"/proc/{process}/task"):
+                        processor += int(pathlib.Path(f"/proc/{process}/task/{task}/schedstat").read_text().split()[0])
+                    lines = pathlib.Path(f"/proc/{process}/smaps_rollup").read_text().splitlines()
+                    memory += 1024 * next(int(line.split()[1]) for line in lines if line.startswith("Pss:"))
+        return Used(processor / 1e9, memory)
+
+    def counted(self) -> Counted:
+        """What the hosts have sent over their cables so far, without data."""
+        packets = size = 0
+        for host, anchor in self._anchors.items():
+            for line in pathlib.Path(f"/proc/{anchor.pid}/net/dev").read_text().splitlines()[2:]:
+                name, cells = line.split(":")
+                if name.strip().startswith("e"):
+                    packets += int(cells.split()[9])
+                    size += int(cells.split()[8])
+            told = json.loads(run(["ip", "netns", "exec", self.name(host), "nft", "-j", "list", "counters"]))
+            for it in told["nftables"]:
+                if "counter" in it:
+                    packets -= it["counter"]["packets"]
+                    size -= it["counter"]["bytes"] + FRAME * it["counter"]["packets"]
+        return Counted(packets, size)
+
+    def path(self) -> list[int] | None:
+        """The hosts from the source to the destination by the routes of the kernels; None where there is no such
+        path."""
+        found, here = [self.network.source], self.network.source
+        target = f"10.99.0.{self.network.destination}"
+        while here != self.network.destination:
+            words = run(["ip", "-n", self.name(here), "route", "get", target], check=False).split()
+            name = words[words.index("dev") + 1] if "dev" in words else ""
+            if not name.startswith("e") or int(name[1:]) in found:
+                return None
+            here = int(name[1:])
+            found.append(here)
+        return found
+
+    def routes_left(self, number: int) -> int:
+        """How many routes of a protocol's number the kernels have."""
+        return sum(
+            len(
+                run(
+                    ["ip", "-n", self.name(host), version, "route", "show", "table", "all", "proto", str(number)]
+                ).splitlines()
+            )
+            for host in self.network.hosts
+            for version in ("-4", "-6")
+        )
+
+    def cable(self, a: int, b: int, state: str) -> None:
+        """Sets the interface of A to B up or down."""
+        run(["ip", "-n", self.name(a), "link", "set", f"e{b}", state])
+
+    def lose(self, a: int, b: int, percent: int) -> None:
+        """Loses so many of a hundred frames that come over a cable, either way, by nftables as they come in; 0 ends
+        that."""
+        rule = "" if percent == 100 else f"numgen random mod 100 < {percent} "
+        for here, there in ((a, b), (b, a)):
+            text = "delete table netdev loss\n"
+            if percent:
+                hook = f"type filter hook ingress device e{there} priority 0;"
+                text = f"table netdev loss {{\nchain in {{\n{hook}\n{rule}drop\n}}\n}}\n"
+            run(["ip", "netns", "exec", self.name(here), "nft", "-f", "-"], text)
+
+    def close(self) -> None:
+        """Ends all that runs in the namespaces, and takes them away."""
+        for processes in self.daemons().values():
+            for process in processes:
+                with contextlib.suppress(ProcessLookupError):
+                    os.kill(process, signal.SIGKILL)
+        for started in [*self.started, *self._anchors.values()]:
+            started.kill()
+            started.wait()
+        for host in self._anchors:
+            run(["ip", "netns", "del", self.name(host)], check=False)
+
+
+def end(processes: Iterable[subprocess.Popen[str]], seconds: float = 5.0) -> None:
+    """Asks processes to end, and ends those that do not."""
+    held = list(processes)
+    for process in held:
+        with contextlib.suppress(ProcessLookupError):
+            process.terminate()
+    until = time.monotonic() + seconds
+    for process in held:
+        try:
+            process.wait(max(0.0, until - time.monotonic()))
+        except subprocess.TimeoutExpired:
+            process.kill()
+            process.wait()
+
+
+def busy() -> tuple[float, float]:
+    """The seconds of all processors so far: those in which they worked, and all."""
+    cells = [int(it) for it in pathlib.Path("/proc/stat").read_text().split("\n", 1)[0].split()[1:9]]
+    return float(sum(cells) - cells[3] - cells[4]), float(sum(cells))
