@@ -10,15 +10,6 @@ use tora_sim::{SimError, Topology};
 /// What a node chooses and the answer, and what nodes 1 to 3 make of erased levels then.
 type Row = (Id, Erasure, Result<(), SimError>, [Erasure; 3]);
 
-/// Node 4 is none. The last choice of a node holds.
-const CHOICES: &[Row] = &[
-    (4, Remembered, Err(SimError::NoNode), [Plain, Plain, Plain]),
-    (2, Remembered, Ok(()), [Plain, Remembered, Plain]),
-    (1, Plain, Ok(()), [Plain, Remembered, Plain]),
-    (3, Remembered, Ok(()), [Plain, Remembered, Remembered]),
-    (2, Plain, Ok(()), [Plain, Plain, Remembered]),
-];
-
 fn chooses(rt: &impl Abort, topology: &mut Topology, rows: &[Row]) {
     for row in rows {
         let (n, erasure, answer, made) = row;
@@ -43,8 +34,16 @@ fn chooses(rt: &impl Abort, topology: &mut Topology, rows: &[Row]) {
 
 #[test]
 fn nodes_choose_what_they_make_of_erased_levels(rt: HostRuntime) {
+    // Node 4 is none, and the last choice of a node holds.
+    let choices: [Row; 5] = [
+        (4, Remembered, Err(SimError::NoNode), [Plain, Plain, Plain]),
+        (2, Remembered, Ok(()), [Plain, Remembered, Plain]),
+        (1, Plain, Ok(()), [Plain, Remembered, Plain]),
+        (3, Remembered, Ok(()), [Plain, Remembered, Remembered]),
+        (2, Plain, Ok(()), [Plain, Plain, Remembered]),
+    ];
     let mut topology = topology_of(&rt, rt.alloc(), &[(3, 2), (1, 2)], &[3]);
-    chooses(&rt, &mut topology, CHOICES);
+    chooses(&rt, &mut topology, &choices);
     let mut topology = topology_of(&rt, rt.alloc(), &[(3, 2), (1, 2)], &[3]);
     topology.set_erasure(Remembered);
     let row = (2, Plain, Ok(()), [Remembered, Plain, Remembered]);
