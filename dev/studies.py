@@ -12,6 +12,7 @@ for them, by the program of TORA, else of the repository. The picture of a page 
 chromium-driver and python3-selenium. Exit status: 0 where all is made or agrees; 1 where a table differs or a picture can't be made; 2 for usage.
 """
 import argparse
+import os
 import pathlib
 import re
 import subprocess
@@ -274,6 +275,18 @@ def draw_break():
         plots.write_picture(figure, STORED / f"break-{clock}.png", overwrite=True)
 
 
+def draw_storm():
+    """The packets of a recorded storm, over time."""
+    with tempfile.TemporaryDirectory() as work:
+        sim = ["sim", "--notice", "--channel", "delay=1-2", "--seed", "538", "--until", "400", "--trace", "storm.trace", str(TOP / "examples/storm/storm.sim")]
+        plot = ["plot", "packets", "storm.trace", "--destination", "4", "--rounds", "46-70", "-o", "storm.png"]
+        for words in ([os.environ.get("TORA", str(TOP / "tora")), *sim], [str(TOP / "python/tora-study"), *plot]):
+            done = subprocess.run(words, cwd=work, capture_output=True, text=True)
+            if done.returncode:
+                raise StudyError(f"no picture of a storm: {(done.stderr.strip().splitlines() or [words[0]])[-1]}", file="docs/studies/storm.png")
+        (STORED / "storm.png").write_bytes(pathlib.Path(work, "storm.png").read_bytes())
+
+
 def draw_page():
     """A page in a browser."""
     with tempfile.TemporaryDirectory() as work:
@@ -290,6 +303,9 @@ PICTURES = {
     "large.png": lambda: draw("large", "growth"),
     "ns3.png": lambda: draw("ns3", "comparison"),
     **{f"ns3-{size}.png": (lambda size=size: draw(f"ns3-{size}", "comparison", of="ns3-proved", nodes=SIZES[size][0], flows=SIZES[size][1])) for size in SIZES},
+    "storms.png": lambda: draw("storms", "storms"),
+    "storms-mended.png": lambda: draw("storms-mended", "storms"),
+    "storm.png": draw_storm,
     "break.png": draw_break,
     "page.png": draw_page,
 }
