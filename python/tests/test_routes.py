@@ -328,7 +328,7 @@ def test_a_route_prints_as_the_command_ip_prints_it() -> None:
 
 
 def test_the_configurations_of_the_page_are_read(tmp_path: pathlib.Path, monkeypatch: pytest.MonkeyPatch) -> None:
-    page = (pathlib.Path(__file__).parents[2] / "docs" / "real-hosts.md").read_text()
+    page = (pathlib.Path(__file__).parents[2] / "docs" / "how-to" / "real-hosts.md").read_text()
     blocks = [textwrap.dedent(it.split("```")[0]) for it in page.split("```toml\n")[1:]]
     monkeypatch.chdir(tmp_path)
     for name, text in zip(("1.toml", "routes-1.toml"), blocks, strict=True):

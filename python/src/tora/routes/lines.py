@@ -31,7 +31,7 @@ class Hops:
     def take(self, line: str) -> bool:
         """Reads a line that a node printed; answers whether a next hop has changed.
 
-        Lines of another kind are passed over, as `docs/stability.md` asks.
+        Lines of another kind are passed over, as `docs/reference/stability.md` asks.
 
         Raises
         ------
