@@ -1,7 +1,8 @@
 #!/usr/bin/env bash
 # Checks the page of `tora-study page` in a headless Chromium: what it draws is what the trace tells, and every control does what it says.
-# usage: dev/check-page.sh [--picture FILE.png] [--figures PAGE]
+# usage: dev/check-page.sh [--picture FILE.png] [--shot PAGE] [--figures PAGE]
 #   --picture FILE   keep a picture of the page in the round of a break
+#   --shot PAGE      in place of the checks: keep a picture of this page; behind a # stand the round and the destination, as in its address
 #   --figures PAGE   in place of the checks: how long this page takes to open, and how many pictures a second it draws
 # Needs Debian's packages chromium, chromium-driver and python3-selenium, and those that docs/how-to/install.md names.
 set -eu
@@ -14,7 +15,7 @@ stored=$here/../python/tests/stored
 work=$(mktemp -d)
 trap 'rm -rf "$work"' EXIT
 case " $* " in
-  *" --figures "*) ;;
+  *" --figures "* | *" --shot "*) ;;
   *)
     for run in 7-9 8-2; do "$here/../python/tora-study" page "$stored/$run.json" "$stored/$run.trace" -o "$work/$run.html" >/dev/null; done
     "$here/../python/tora-study" page "$stored/6-1.trace" -o "$work/6-1.html" >/dev/null

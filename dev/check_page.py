@@ -1,7 +1,7 @@
 #!/usr/bin/python3
 """Drives the pages of stored runs in a headless Chromium; check-page.sh makes them and calls it.
 
-  check_page.py --browser PATH --driver PATH [--picture FILE] [--figures PAGE] DIR
+  check_page.py --browser PATH --driver PATH [--picture FILE] [--shot PAGE] [--figures PAGE] DIR
 """
 import argparse
 import collections
@@ -319,14 +319,23 @@ def check_all(options):
 
 
 def main():
-    """Runs the checks, or takes figures."""
+    """Runs the checks, keeps a picture, or takes figures."""
     parser = argparse.ArgumentParser(description=__doc__, formatter_class=argparse.RawDescriptionHelpFormatter)
     parser.add_argument("--browser", required=True, help="the program chromium")
     parser.add_argument("--driver", required=True, help="the program chromedriver")
     parser.add_argument("--picture", metavar="FILE", help="keep a picture of a page")
+    parser.add_argument("--shot", metavar="PAGE", help="keep a picture of this page in place of the checks")
     parser.add_argument("--figures", metavar="PAGE", help="take the figures of this page in place of the checks")
     parser.add_argument("folder", metavar="DIR", help="where the pages are")
     options = parser.parse_args()
+    if options.shot:
+        if not options.picture:
+            parser.error("--shot needs --picture")
+        with Browser(options.browser, options.driver) as page:
+            page.size(1000, 620)
+            page.open(options.shot)
+            page.picture(options.picture)
+        return 0
     if options.figures:
         figures(options.browser, options.driver, options.figures)
         return 0

@@ -38,7 +38,8 @@ class Browser:
     def open(self, path):
         """Opens a page, and waits until it has drawn."""
         self.driver.get("about:blank")
-        self.driver.get("file://" + os.path.abspath(path))
+        file, mark, where = path.partition("#")
+        self.driver.get("file://" + os.path.abspath(file) + mark + where)
         for _ in range(200):
             if self.js("return Boolean(window.tora?.readyAt)"):
                 break

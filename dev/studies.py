@@ -275,16 +275,32 @@ def draw_break():
         plots.write_picture(figure, STORED / f"break-{clock}.png", overwrite=True)
 
 
+STORM = ["sim", "--notice", "--channel", "delay=1-2", "--seed", "538", "--until", "400", "--trace", "storm.trace", str(TOP / "examples/storm/storm.sim")]
+
+
+def run_all(work, name, *commands):
+    """Runs commands in a folder; the picture of this name is not made where one fails."""
+    for words in commands:
+        done = subprocess.run(words, cwd=work, capture_output=True, text=True)
+        if done.returncode:
+            raise StudyError(f"no picture: {(done.stderr.strip().splitlines() or [words[0]])[-1]}", file=f"docs/studies/{name}")
+
+
 def draw_storm():
     """The packets of a recorded storm, over time."""
     with tempfile.TemporaryDirectory() as work:
-        sim = ["sim", "--notice", "--channel", "delay=1-2", "--seed", "538", "--until", "400", "--trace", "storm.trace", str(TOP / "examples/storm/storm.sim")]
         plot = ["plot", "packets", "storm.trace", "--destination", "4", "--rounds", "46-70", "-o", "storm.png"]
-        for words in ([os.environ.get("TORA", str(TOP / "tora")), *sim], [str(TOP / "python/tora-study"), *plot]):
-            done = subprocess.run(words, cwd=work, capture_output=True, text=True)
-            if done.returncode:
-                raise StudyError(f"no picture of a storm: {(done.stderr.strip().splitlines() or [words[0]])[-1]}", file="docs/studies/storm.png")
+        run_all(work, "storm.png", [os.environ.get("TORA", str(TOP / "tora")), *STORM], [str(TOP / "python/tora-study"), *plot])
         (STORED / "storm.png").write_bytes(pathlib.Path(work, "storm.png").read_bytes())
+
+
+def draw_storm_page():
+    """A round of the recorded storm, in the page that plays its trace."""
+    with tempfile.TemporaryDirectory() as work:
+        page = ["page", "storm.trace", "-o", "storm.html"]
+        shot = [str(TOP / "dev/check-page.sh"), "--shot", "storm.html#round=59&destination=4", "--picture", "storm-page.png"]
+        run_all(work, "storm-page.png", [os.environ.get("TORA", str(TOP / "tora")), *STORM], [str(TOP / "python/tora-study"), *page], shot)
+        (STORED / "storm-page.png").write_bytes(pathlib.Path(work, "storm-page.png").read_bytes())
 
 
 def draw_page():
@@ -306,6 +322,7 @@ PICTURES = {
     "storms.png": lambda: draw("storms", "storms"),
     "storms-mended.png": lambda: draw("storms-mended", "storms"),
     "storm.png": draw_storm,
+    "storm-page.png": draw_storm_page,
     "break.png": draw_break,
     "page.png": draw_page,
 }

@@ -163,11 +163,19 @@ class Stage {
     pen.globalAlpha = 1;
   }
 
+  // While the page is paused, the packets that cross a link in one direction stand one behind another, the first of the round farthest.
   drawPackets(show) {
     const { pen, look, time, isPlaying, record } = show, { run } = this;
-    for (const { at, sender, to, name, time: sent } of this.packetsOf(show)) {
-      const part = isPlaying ? 0.2 + 0.6 * Math.min((time - sent) / 0.4, 1) : 0.62;
+    const packets = [...this.packetsOf(show)], count = new Map(), seen = new Map();
+    for (const { sender, to } of packets) {
+      for (const { node } of to) count.set(`${sender} ${node}`, (count.get(`${sender} ${node}`) ?? 0) + 1);
+    }
+    for (const { at, sender, to, name, time: sent } of packets) {
       for (const { node } of to) {
+        const way = `${sender} ${node}`, before = seen.get(way) ?? 0, all = count.get(way);
+        seen.set(way, before + 1);
+        const still = all === 1 ? 0.62 : 0.78 - 0.5 * before / (all - 1);
+        const part = isPlaying ? 0.2 + 0.6 * Math.min((time - sent) / 0.4, 1) : still;
         packet(pen, name, between(this.points[sender], this.points[node], part), (at === record ? 0.62 : 0.42) * look.rem, look);
         this.drawn.packets.push([name, run.nodes[sender], run.nodes[node]]);
       }
