@@ -1,8 +1,14 @@
-# For the scripts that measure beside the baseline: `. "$top/bench/baseline.sh" BASE` builds the baseline, a Cargo crate
-# `base` in the folder BASE, in a scratch folder `work` that is gone at the end, and sets `bin` to its program.
+# For the scripts that measure beside the baseline: `. "$top/bench/baseline.sh"` builds the baseline in a scratch folder
+# `work`, which is removed at the end. It sets `base` to the folder of the sources, which is bench/baseline or the folder
+# that BASE names (a Cargo crate `base`), and `bin` to the program.
+base=${BASE:-$top/bench/baseline}
 work=$(mktemp -d)
 trap 'rm -rf "$work"' EXIT
-cp -r "$1" "$work/base"
+cp -r "$base" "$work/base"
 chmod -R u+w "$work/base"
-(cd "$work/base" && cargo build --release --offline >/dev/null 2>&1)
+(cd "$work/base" && cargo build --release --offline >"$work/built" 2>&1) || {
+  echo "the baseline in $base does not build:" >&2
+  tail -n 5 "$work/built" >&2
+  exit 1
+}
 bin=$work/base/target/release/base

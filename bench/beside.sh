@@ -1,13 +1,12 @@
 #!/usr/bin/env bash
 # Times WHAT (core or codec) and the baseline's `bench` in turn, and prints the best of each.
-# usage: bench/beside.sh WHAT BASE [STEPS] [ROUNDS]
+# usage: [BASE=FOLDER] bench/beside.sh WHAT [STEPS] [ROUNDS]     BASE: other sources of the baseline than bench/baseline
 set -eu
 top=$(cd "$(dirname "$0")/.." && pwd)
 what=$1
-base=${2:?the folder of the baseline}
-steps=${3:-300000}
-rounds=${4:-5}
-. "$top/bench/baseline.sh" "$base"
+steps=${2:-300000}
+rounds=${3:-5}
+. "$top/bench/baseline.sh"
 (cd "$top/crates/tora_bench" && rt run >/dev/null 2>&1)
 for _ in $(seq "$rounds"); do
   "$top/crates/tora_bench/out/tora_bench" "$what" "$steps" >>"$work/ours"

@@ -3,7 +3,7 @@
 # largest table, which the baseline doesn't have; and the memory of a core with the least table, with that of the mixes, and
 # with the largest one.
 # The program crate `tora_bench` makes the inputs; the baseline makes inputs of the same kinds by its own generator.
-# usage: bench/core.sh BASE [STEPS] [ROUNDS]     BASE: the folder of the baseline's sources (a Cargo crate `base`)
+# usage: [BASE=FOLDER] bench/core.sh [STEPS] [ROUNDS]     BASE: other sources of the baseline than bench/baseline
 set -eu
 here=$(cd "$(dirname "$0")" && pwd)
 "$here/beside.sh" core "$@"

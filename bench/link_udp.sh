@@ -2,24 +2,24 @@
 # Packets of 32 bytes from one neighbour's thread to another over two UDP sockets of the loopback, at most 32 under way, in
 # batches of up to sixteen, beside yardsticks in C between two processes, in one run: ENet's batches (`enet`), TCP with a
 # write for each packet (`tcp`), and frames of one packet of the sizes of version 1 (`sw`: one under way; `w32`: 32 under way).
-# Beside them the same link with a key (`keyed`). Each line is a best of ROUNDS. The yardsticks are a C file outside this repository, and need ENet's header files.
-# usage: bench/link_udp.sh YARDSTICK [COUNT] [ROUNDS]     YARDSTICK: the folder of `link_bench.c`
+# Beside them the same link with a key (`keyed`). Each line is a best of ROUNDS. The yardsticks are bench/baseline/link/link_bench.c, or the
+# one in the folder YARDSTICK.
+# usage: [YARDSTICK=FOLDER] bench/link_udp.sh [COUNT] [ROUNDS]     needs ENet's header files (package libenet-dev)
 set -eu
 top=$(cd "$(dirname "$0")/.." && pwd)
-yardstick=${1:?the folder of link_bench.c}
-count=${2:-200000}
-rounds=${3:-5}
+count=${1:-200000}
+rounds=${2:-5}
 work=$(mktemp -d)
 trap 'rm -rf "$work"' EXIT
-gcc -O2 -o "$work/link_bench" "$yardstick/link_bench.c" -lenet
+gcc -O2 -w -o "$work/link_bench" "${YARDSTICK:-$top/bench/baseline/link}/link_bench.c" -lenet
 (cd "$top/crates/tora_bench_link" && rt run >/dev/null 2>&1)
 for _ in $(seq "$rounds"); do
   "$top/crates/tora_bench_link/out/tora_bench_link" link "$count" >>"$work/ours"
   "$top/crates/tora_bench_link/out/tora_bench_link" keyed "$count" >>"$work/keyed"
   for mode in enet tcp w32; do
-    timeout 60 "$work/link_bench" "$mode" "$count" 1000 >>"$work/$mode"
+    timeout 60 "$work/link_bench" "$mode" "$count" >>"$work/$mode"
   done
-  timeout 60 "$work/link_bench" sw "$((count / 4))" 1000 >>"$work/sw"
+  timeout 60 "$work/link_bench" sw "$((count / 4))" >>"$work/sw"
 done
 python3 - "$work" <<'P'
 import re

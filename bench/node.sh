@@ -2,14 +2,13 @@
 # A line of four processes on the loopback (the configurations of examples/line-of-four): the time from `need 4` at node 1
 # to a next hop there, three hops from the destination, as the median of RUNS; the time from `quit` to the end of a node; the time of a
 # repair (below); and the processor time of a node with two links, and of one with 32, that has nothing to do, over 30 s. Where BESIDE
-# names another build of the program, it is measured in turns with this one. Where LINK, the folder of a yardstick in C, is given,
-# `link_udp.sh` is run too.
+# names another build of the program, it is measured in turns with this one.
 #
 # A repair: nodes 1 to 8 in a line, with routes to node 8, and node 9 beside them, which has links to 1 and 8. The process of node 7 is
 # killed. From the moment when node 6 logs that its link to 7 is down to the moment when it has a next hop again, which is node 5, and
 # to the moment when node 2 has node 1 as its next hop, four nodes further on: the median of RUNS, 5 at most, since each waits for the
 # silence of the link. A program without the command `watch` has none.
-# usage: [BESIDE=PROGRAM] bench/node.sh [RUNS] [LINK]
+# usage: [BESIDE=PROGRAM] bench/node.sh [RUNS]
 set -eu
 top=$(cd "$(dirname "$0")/.." && pwd)
 runs=${1:-20}
@@ -209,6 +208,3 @@ for name, program in programs.items():
         print(f"{name}: from a link that is down to the next hop of that node {near:.2f} ms, to that of the fourth node behind it {far:.2f} ms (median of {len(repairs)})")
     print(f"{name}: an idle node with two links {results[name][0][2] * 100:.3f} % of a core, with {MOST_LINKS} links {star(program) * 100:.3f} %")
 P
-if [ $# -ge 2 ]; then
-  exec "$top/bench/link_udp.sh" "$2"
-fi

@@ -3,9 +3,9 @@
 
 raised.py FOLDER NODES NEIGHBOURS     FOLDER is src of the copy; NEIGHBOURS is 8, as they are, or 32
 
-The baseline has 64 nodes and 8 neighbours of each. It keeps sets of both as the bits of one number: that of nodes becomes a set
-of many numbers, as it has for link ends, and that of neighbours a number of 32 bits. A text that does not stand there as often as
-is told here is refused, so that no baseline is measured whose limits are raised in part.
+The baseline has 64 nodes, each with up to 8 neighbours. It keeps a set of nodes and a set of neighbours as the bits of one number each.
+In the copy a set of nodes has many numbers, as a set of link ends has, and a set of neighbours has 32 bits. The script refuses sources
+in which a text to be replaced does not occur as often as it expects, so that no baseline is measured with only some limits raised.
 """
 import os
 import re
@@ -16,14 +16,18 @@ def changes(nodes, neighbours):
     """By file: what is looked for, what stands in its place, and how often it is there."""
     mask = f"u{neighbours}"
     return {
-        "sim.rs": [
+        "sim/node.rs": [
             (r"const NODES: usize = \d+", f"const NODES: usize = {nodes}", 1),
             (r"const NEIGHBOURS: usize = \d+", f"const NEIGHBOURS: usize = {neighbours}", 1),
-            (r", Default\)\](\s*struct Bits\(\[u64; )(.*?)\]\);",
-             r")]\1\2]);\nimpl Default for Bits {\n    fn default() -> Bits {\n        Bits([0; \2])\n    }\n}", 1),
             (r"\bis_(current|pending): u8\b", rf"is_\1: {mask}", 2),
             (r"(fn send\(.*\) -> )u8\b", rf"\1{mask}", 1),
             (r"1u8 << \(x\.seat & 7\)", f"1{mask} << (x.seat & {neighbours - 1})", 1),
+        ],
+        "sim/bits.rs": [
+            (r", Default\)\](\s*pub\(super\) struct Bits\(pub\(super\) \[u64; )(.*?)\]\);",
+             r")]\1\2]);\nimpl Default for Bits {\n    fn default() -> Bits {\n        Bits([0; \2])\n    }\n}", 1),
+        ],
+        "sim.rs": [
             (r"\bturns: u64\b", "turns: Bits", 1),
             (r"\bturns: 0\b", "turns: Bits::default()", 1),
             (r"self\.turns \|= 1 << i;", "self.turns.add(i);", 1),
@@ -31,7 +35,7 @@ def changes(nodes, neighbours):
             (r"let mut turns = self\.turns;\s*while turns != 0 \{\s*let i = [^;]*;\s*turns &= [^;]*;(\s*while .*?\n {12}\})\n {8}\}",
              r"each!(self.turns, i, {\1\n        });", 1),
         ],
-        "lib.rs": [
+        "rules.rs": [
             (r"\[(Entry|None); 8\]", rf"[\1; {neighbours}]", 3),
             (r"\b(told|up): u8\b", rf"\1: {mask}", 7),
             (r"nb\.len\(\) > 8\b", f"nb.len() > {neighbours}", 1),

@@ -1,12 +1,11 @@
 #!/usr/bin/env bash
 # Lines per second and peak memory of `tora replay`, beside an unverified baseline, in one run.
-# usage: bench/replay.sh BASE [LINES] [ROUNDS]     BASE: the folder of the baseline's sources (a Cargo crate `base`)
+# usage: [BASE=FOLDER] bench/replay.sh [LINES] [ROUNDS]     BASE: other sources of the baseline than bench/baseline
 set -eu
 top=$(cd "$(dirname "$0")/.." && pwd)
-base=${1:?the folder of the baseline}
-lines=${2:-1000000}
-rounds=${3:-5}
-. "$top/bench/baseline.sh" "$base"
+lines=${1:-1000000}
+rounds=${2:-5}
+. "$top/bench/baseline.sh"
 "$top/tora" build >&2
 "$bin" gen-mix "$lines" 1 >"$work/mix.replay"
 echo "a mixed file of $lines lines, $(stat -c %s "$work/mix.replay") bytes"

@@ -12,16 +12,15 @@
 # Then the time of a datagram at 64 and at 1,024 nodes, which is to be at most 1.5 times:
 # in a grid, where no link is parted, for 2,000 and for 16,000 rounds of the larger one, and with moving nodes; and the same of each datagram more,
 # without the time in which the world is made. Both run with --large.
-# usage: bench/sim.sh [--large] BASE [REPEATS] [ROUNDS]     BASE: the folder of the baseline's sources (a Cargo crate `base`)
+# usage: [BASE=FOLDER] bench/sim.sh [--large] [REPEATS] [ROUNDS]     BASE: other sources of the baseline than bench/baseline
 #   --large   large worlds alone
 set -eu
 top=$(cd "$(dirname "$0")/.." && pwd)
 alone=''
 if [ "${1:-}" = --large ]; then alone=1; shift; fi
-base=${1:?the folder of the baseline}
-repeats=${2:-40}
-rounds=${3:-5}
-. "$top/bench/baseline.sh" "$base"
+repeats=${1:-40}
+rounds=${2:-5}
+. "$top/bench/baseline.sh"
 "$top/tora" build >&2
 program=$top/crates/tora/out/tora
 large=()

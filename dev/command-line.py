@@ -23,7 +23,7 @@ HEAD = """# Command line
 This page is what the commands print with `--help`; `dev/command-line.py` writes it.
 
 The option `-v` may also stand in front of a word.
-[The program](../formats.md#the-program) states what the options of `tora` do, to the letter.
+[The program](../formats.md#the-program) states what the options of `tora` do.
 """
 
 
@@ -74,6 +74,7 @@ def page(program):
         parts.append(section(2, f"tora-study {word}", [study, word]))
         if word == "plot":
             parts += [section(3, f"tora-study plot {it}", [study, word, it]) for it in words_of(help_of([study, word]))]
+    parts.append(section(2, "tora-routes", [TOP / "python/tora-routes"]))
     return "".join(parts)
 
 

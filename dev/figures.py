@@ -27,8 +27,8 @@ The newest figure of each bench, with the command that repeats it.
 - A ratio is the value of this program divided by the other one, both measured in turn in one run.
   Machines differ and change their speed: claim nothing from a ratio nearer to 1 than 1.5.
 - Compare seconds only within one row.
-- The baseline is an unverified Rust program for the same formats, with version 1 of frames; `BASE` is its folder.
-  The yardstick is a program in C that sends packets over a socket; `YARDSTICK` is its folder.
+- The baseline is `bench/baseline`, an unverified Rust program for the same formats, with version 1 of frames.
+  ENet and TCP are measured by `bench/baseline/link/link_bench.c`.
 """
 
 

@@ -115,6 +115,9 @@ check_python() {
   fi
   holds 'python3-tora is installed' 'apt-get install -y --no-install-recommends /packages/python3-tora_*.deb'
   holds 'Python imports it' 'cd / && python3 -c "import tora"'
+  for page in tora-routes.8 tora-study.1; do
+    holds "the page $page is there" "zcat /usr/share/man/man${page##*.}/$page.gz | grep -q '^.TH '"
+  done
 }
 
 # What stays behind when the packages go: configurations always, life files until tora is purged.

@@ -262,9 +262,8 @@ def make_tables(path, wanted, is_check):
 
 # ---- pictures
 
-def draw(name, kind, *, of=None, **wanted):
+def draw(name, kind, *, of=None, measures=(), **wanted):
     """A picture of a stored table."""
-    measures = GROWTH if kind == "growth" else ()
     plots.write_picture(plots.drawn(table(of or name, **wanted), kind, None, measures), STORED / f"{name}.png", overwrite=True)
 
 
@@ -316,9 +315,10 @@ def draw_page():
 PICTURES = {
     "study.png": lambda: draw("study", "overview"),
     "notice.png": lambda: draw("notice", "notice"),
-    "large.png": lambda: draw("large", "growth"),
+    "large.png": lambda: draw("large", "growth", measures=GROWTH),
     "ns3.png": lambda: draw("ns3", "comparison"),
     **{f"ns3-{size}.png": (lambda size=size: draw(f"ns3-{size}", "comparison", of="ns3-proved", nodes=SIZES[size][0], flows=SIZES[size][1])) for size in SIZES},
+    "ns3-delivery.png": lambda: draw("ns3-delivery", "comparison", of="ns3-proved", measures=("delivery", "control_rate"), nodes=50, flows=5),
     "storms.png": lambda: draw("storms", "storms"),
     "storms-mended.png": lambda: draw("storms-mended", "storms"),
     "storm.png": draw_storm,

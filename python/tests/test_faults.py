@@ -43,7 +43,7 @@ def test_values_and_rows_that_stand_twice(tmp_path: Path, refused) -> None:  # t
 
 
 def test_what_a_study_varies_or_sets_is_not_given_again(refused) -> None:  # type: ignore[no-untyped-def]
-    """Neither a seed nor a size behind the seeds, nor an option that varies."""
+    """Neither a seed nor a size after the seeds, nor an option that varies."""
     refused(2, "unrecognized arguments: --seed 30", "sweep", "s", "--nodes", 10, "--seeds", 2, "--seed", 30)
     refused(2, "--nodes stands twice", "sweep", "s", "--nodes", 10, "--seeds", 2, "--nodes", 30)
     refused(2, "--speed: it varies", "sweep", "s", "--nodes", 10, "--seeds", 2, "--vary", "speed=1-3,1-9", "--speed", "1-5")

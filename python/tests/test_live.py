@@ -61,7 +61,7 @@ def test_how_packets_fared() -> None:
     found = fared(sent, arrived, 2.0, 5.0)
     assert (found.sent, found.lost) == (300, 50)
     assert found.gap == pytest.approx(0.51) and found.working == pytest.approx(0.5)
-    arrived -= {205}  # the four packets behind it are no steady run
+    arrived -= {205}  # the four packets after it are no steady run
     assert fared(sent, arrived, 2.0, 5.0).working == pytest.approx(0.55)
     assert fared(sent, arrived, 1.0, 5.0).working == pytest.approx(0.55)  # a hundred packets arrive before
     assert fared(sent, set(sent) - {300}, 2.0, 5.0).working == pytest.approx(0.01)

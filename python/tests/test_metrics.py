@@ -30,7 +30,7 @@ def without_later(line: str) -> str:
 
 @pytest.mark.parametrize("name", ["study.csv", "traffic.csv"])
 def test_stored(name: str) -> None:
-    """The rows of the stored runs, with and without data packets, are the stored ones, and the new columns stand behind
+    """The rows of the stored runs, with and without data packets, are the stored ones, and the new columns stand after
     them.
     """
     load = Load.of("4", 2) if name == "traffic.csv" else None

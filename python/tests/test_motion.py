@@ -82,7 +82,7 @@ def test_positions(ways: list[Way]) -> None:
 
 
 def test_positions_at_the_ends() -> None:
-    """Before the first and behind the last way point a node rests; of two points at one time the later one holds."""
+    """Before the first and after the last way point a node rests; of two points at one time the later one holds."""
     way = [(1.0, 0.0, 0.0), (2.0, 1.0, 0.0), (2.0, 5.0, 0.0), (3.0, 6.0, 1.0)]
     times = [0.0, 1.0, 1.5, 2.0, 2.5, 3.0, 9.0]
     assert positions(way, np.array(times)).tolist() == [[0, 0], [0, 0], [0.5, 0], [5, 0], [5.5, 0.5], [6, 1], [6, 1]]

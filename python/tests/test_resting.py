@@ -12,7 +12,7 @@ from tora.metrics import measure, time_to_rest
 from tora.resting import quiet_ticks
 from tora.trace import Trace
 
-# 1 - 2 - 3. Node 1 asks for 3, the link 2 - 3 is parted behind round 20 and is noticed in round 70; the last clear is that of round 73.
+# 1 - 2 - 3. Node 1 asks for 3, the link 2 - 3 is parted after round 20 and is noticed in round 70; the last clear is that of round 73.
 TEXT = """\
 0 need 1 3
 1 up 1 2 1 1
@@ -56,7 +56,7 @@ def values(found: pd.DataFrame) -> dict[str, Any]:
 
 
 def test_after_a_parting(table: Table) -> None:
-    """The last change is the parting behind round 20, and not the same line again; three packets follow, the last one
+    """The last change is the parting after round 20, and not the same line again; three packets follow, the last one
     in round 73.
     """
     found, row = table(TEXT + LAST)

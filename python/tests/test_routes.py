@@ -158,7 +158,7 @@ def test_check_tells_what_the_configuration_has(
     configured: Callable[..., str], capsys: pytest.CaptureFixture[str]
 ) -> None:
     assert main(["--check", configured()]) == 0
-    assert capsys.readouterr().err.endswith("ok, 2 neighbours, 1 destinations, 3 prefixes\n")
+    assert capsys.readouterr().err.endswith("ok, 2 neighbours, 1 destination, 3 prefixes\n")
     assert main(["--check", configured('interface = "eth1"', "interface = 1")]) == 1
     assert "routes.toml:11: neighbour[2].interface: `1` is no text" in capsys.readouterr().err
     with pytest.raises(SystemExit) as caught:
@@ -228,7 +228,7 @@ def test_a_route_is_asked_for_as_long_as_it_is_wanted() -> None:
     assert requests.due(none, 11.0) == [4] and requests.due(none, 11.5) == []
     assert requests.due({4: 2}, 12.0) == [] and requests.next_time({4: 2}) is None
     assert requests.due(none, 12.0) == [4]
-    assert requests.due(none, 15.6) == [] and requests.next_time(none) is None  # five seconds behind the last packet
+    assert requests.due(none, 15.6) == [] and requests.next_time(none) is None  # five seconds after the last packet
     assert requests.want(4, 16.0)
 
 

@@ -234,6 +234,6 @@ def test_flush_takes_what_was_left(host: Host) -> None:
     assert (
         process.wait(LAST) == 0
         and process.stderr is not None
-        and process.stderr.read() == "tora-routes: 1 routes taken away\n"
+        and process.stderr.read() == "tora-routes: 1 route removed\n"
     )
     assert host.routes() == [] and "10.99.0.8" in host.ip("route show")

@@ -49,7 +49,7 @@ def test_negative_seed_is_refused() -> None:
         draw_partition(-1)
 
 
-# A ring of three nodes whose destination is cut off behind round 40; the trace of its 190 rounds that a program writes.
+# A ring of three nodes whose destination is cut off after round 40; the trace of its 190 rounds that a program writes.
 RING = "dests 99\nlink 1 2\nlink 2 3\nlink 3 1\nlink 1 99\nrounds 40\nneed 2 99\npart 1 99\nneed 3 99\nrounds 150\nrest\n"
 TRACE = """\
 40 need 2 99
@@ -68,7 +68,7 @@ TRACE = """\
 
 
 def program_with(folder: pathlib.Path, plain: str, remembered: str = "rest yes") -> Program:
-    """A program that writes the trace to the path behind `--trace`, and answers so under each choice."""
+    """A program that writes the trace to the path after `--trace`, and answers so under each choice."""
     (folder / "stored").write_text(TRACE)
     return program_that(folder, f"""\
 cp {folder}/stored "$(echo "$*" | sed 's/.*--trace \\([^ ]*\\) .*/\\1/')"
@@ -93,7 +93,7 @@ def test_mended_partition_has_one_event_more() -> None:
 
 
 def test_measures_of_a_run(tmp_path: pathlib.Path) -> None:
-    """The last change is the need behind round 40; a QRY, an UPD and a CLR follow, the last one in round 44. Nodes 2 and 3 are a loop."""
+    """The last change is the need after round 40; a QRY, an UPD and a CLR follow, the last one in round 44. Nodes 2 and 3 are a loop."""
     program = program_with(tmp_path, "rest no")
     row = rest_of(ring(1), "remembered", program)
     assert row == {"at_rest": 1, "rest_ticks": 4, "control_after_change": 3, "loops_at_rest": 1, "dead_ends_at_rest": 0}

@@ -48,8 +48,8 @@ REFUSED = {
     "": "1: the trace is empty",
     FIRST: "1: the trace is cut: its last record `end` is missing",
     FIRST + "1 need 1 2\n": "2: the trace is cut: its last record `end` is missing",
-    FIRST + "1 need 1 2\n" + LAST + "2 need 1 2\n": "4: the trace goes on behind its last record",
-    FIRST + "1 need 1 2\n" + LAST + LAST: "4: the trace goes on behind its last record",
+    FIRST + "1 need 1 2\n" + LAST + "2 need 1 2\n": "4: the trace goes on after its last record",
+    FIRST + "1 need 1 2\n" + LAST + LAST: "4: the trace goes on after its last record",
     FIRST + "3 need 1 2\n" + LAST: "3: the clock goes back from 3 to 2",
     FIRST + "1 need 1 2\n" + LAST.rstrip("\n"): "3: the line is cut",
     "1 need 1 2\n" + LAST: "2: no record of a trace",
@@ -271,7 +271,7 @@ def test_packets(written: Write) -> None:
 
 
 def test_rounds(written: Write) -> None:
-    """Records between rounds are of the next one, and so is all that stands behind them at their clock."""
+    """Records between rounds are of the next one, and so is all that stands after them at their clock."""
     trace = Trace.read(written("0 need 1 2\n1 qry 1 2 1\n1 part 1 2\n1 frames 1 0 0 0\n2 frames 1 0 0 0\n"))
     assert trace.rounds().tolist() == [1, 1, 2, 2, 2]
 
@@ -289,7 +289,7 @@ def test_rounds(written: Write) -> None:
     ],
 )
 def test_foreign(line: str, cause: str, written: Write) -> None:
-    """A record of what the scenario has not is told with its line, the first of several; behind the last round it does
+    """A record of what the scenario has not is told with its line, the first of several; after the last round it does
     not count.
     """
     text, scenario = random_trace(random.Random(1)), scenario_of(LINKS, FLOWS, ROUNDS)

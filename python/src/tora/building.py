@@ -213,7 +213,7 @@ def choose_flows(
 def simulation_lines(
     chosen: dict[str, Any], links: Sequence[Pair], contacts: Contacts, settings: Settings
 ) -> tuple[tuple[str, ...], int]:
-    """The lines of the simulation file, and how many declared links are parted behind the first round."""
+    """The lines of the simulation file, and how many declared links are parted after the first round."""
     known = {link: place for place, link in enumerate(links)}  # links ascend
     links_of, parts, mends = ([f"{word} {a} {b}" for a, b in links] for word in ("link", "part", "mend"))
     lines = ["dests " + ",".join(map(str, chosen["destinations"])), *links_of]

@@ -16,7 +16,7 @@ LOOPBACK = b"\x7f\0\0\1"
 def capture(path: Path, out: Path, *, overwrite: bool = False) -> int:
     """Writes the capture of a list of datagrams; answers how many there are.
 
-    Each line of the list is a datagram: its bytes in hexadecimal, and behind ``|`` words that are for the reader;
+    Each line of the list is a datagram: its bytes in hexadecimal, and after ``|`` words that are for the reader;
     blanks in the bytes don't matter. A line may be empty or begin with ``#``. Datagram number N goes from port 40012 of
     127.0.0.1 to port 40021 at N tenths of a second, so that the same list makes the same bytes.
 

@@ -151,9 +151,9 @@ def _add_storms(words: argparse._SubParsersAction[Parser]) -> None:
     """The word storms."""
     added = _add_word(
         words, "storms", "how networks come to rest after a partition",
-        "Draws a ring of 3 to 8 nodes from each seed, parts it from its destination, and asks 150 rounds behind the last event whether it is at rest;\n"
+        "Draws a ring of 3 to 8 nodes from each seed, parts it from its destination, and asks 150 rounds after the last event whether it is at rest;\n"
         "once where nodes forget the levels that they erased, and once where they remember them. Prints how many are not, the time to rest in ticks of\n"
-        "100 ms, control packets behind the last event, and loops and dead ends at rest: by the greatest delay of a datagram in rounds of 100 ms, and\n"
+        "100 ms, control packets after the last event, and loops and dead ends at rest: by the greatest delay of a datagram in rounds of 100 ms, and\n"
         f"by the size of the ring. docs/explanation/after-a-partition.md tells more.\n{PROGRAM}",
     )
     added.add_argument("--runs", metavar="NUMBER", action=Once, type=count, default=400, help="how many networks, of the seeds from 0 on (400)")
@@ -261,7 +261,7 @@ def _add_heights(kinds: argparse._SubParsersAction[Parser]) -> None:
     """The kind heights of the word plot."""
     kind = kinds.add_parser(
         "heights", help="heights around a break of a route", epilog=STATUSES,
-        description="Heights of a destination before, in and behind a break of a route, nodes where the scenario has them. Writes PREFIX-ROUND.png for each round.",
+        description="Heights of a destination before, in and after a break of a route, nodes where the scenario has them. Writes PREFIX-ROUND.png for each round.",
     )
     kind.add_argument("scenario", metavar="SCENARIO.json", help="what `make` wrote")
     kind.add_argument("trace", metavar="TRACE", help="what `run` wrote")

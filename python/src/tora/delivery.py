@@ -1,6 +1,6 @@
 """Data packets over the next hops of a run: how many come to their destination, what becomes of the others, and when.
 
-Each flow sends RATE packets a second: number k, from 0, in the first tick that ends behind k / RATE seconds. A packet
+Each flow sends RATE packets a second: number k, from 0, in the first tick that ends after k / RATE seconds. A packet
 is looked at in the tick in which it is sent, at its source, and then every HOP ticks, always at the end of the tick.
 What is found first ends it, and these are tried in this order:
 
@@ -57,7 +57,7 @@ class Load:
 
     @classmethod
     def of(cls, rate: str | float, hop: int = 1, ttl: int = 32) -> Load:
-        """The load of a rate, a number or its text, of up to nine digits and up to nine more behind a point.
+        """The load of a rate, a number or its text, of up to nine digits and up to nine more after a point.
 
         Raises
         ------
@@ -67,7 +67,7 @@ class Load:
         text = rate if isinstance(rate, str) else f"{rate:.9f}".rstrip("0").rstrip(".")
         if not re.fullmatch(r"[0-9]{1,9}(\.[0-9]{1,9})?", text) or not Fraction(text):
             told = f"`{shown(text)}` is no number of packets a second above 0"
-            raise UsageError(f"{told}, of up to nine digits and up to nine more behind a point", key="traffic")
+            raise UsageError(f"{told}, of up to nine digits and up to nine more after a point", key="traffic")
         return cls(Fraction(text), check_whole("hop", hop, 1, MOST_TICKS), check_whole("ttl", ttl, 1, MOST_TICKS))
 
     @classmethod

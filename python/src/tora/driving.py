@@ -1,6 +1,6 @@
 """Drives a world by `tora drive`, and compares it with `tora sim` of the same events.
 
-Each datagram that is not lost is delivered right behind the step that put it under way. A step is a round in which
+Each datagram that is not lost is delivered directly after the step that put it under way. A step is a round in which
 every link is parted: so the same events are a simulation file of `part` lines, `rounds 1` and `deliver` lines.
 """
 from __future__ import annotations
@@ -235,7 +235,7 @@ def _compare(
 
 
 def _say_all(running: Drive, lines: list[str], driven: Driven, loss: float, seed: int) -> Driven:
-    """Says the lines, and then steps, each with the deliveries behind it; counts datagrams."""
+    """Says the lines, and then steps, each with the deliveries after it; counts datagrams."""
     chance, sent, delivered = random.Random(seed), 0, 0
     for line in lines:
         running.say(line)

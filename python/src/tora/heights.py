@@ -1,6 +1,6 @@
 """Pictures of the heights of one destination around a break of a route, by networkx: nodes where the scenario has them.
 
-A break of a route is a round behind which a next hop is over a link that was parted in it. Black arrows are next hops; red and dashed ones
+A break of a route is a round after which a next hop is over a link that was parted in it. Black arrows are next hops; red and dashed ones
 are stale: over a parted link. Grey arrows lead from the higher to the lower height of two linked nodes, dotted lines to a node without a
 height. The colour of a node is its reference level; below its number stands its delta.
 """
@@ -89,7 +89,7 @@ def check_destination(scenario: Scenario, destination: int) -> None:
 
 
 def rounds_around(run: Run, destination: int, number: int) -> list[int]:
-    """The rounds before, in and behind a break of a route, by its number from 1."""
+    """The rounds before, in and after a break of a route, by its number from 1."""
     found = breaks(run, destination)
     if not 1 <= number <= len(found):
         raise UsageError(f"--break: destination {destination} has {len(found)} breaks of a route")

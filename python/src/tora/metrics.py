@@ -119,10 +119,10 @@ def time_to_rest(scenario: Scenario, trace: Trace, at_rest: bool | None = None) 
     -------
     DataFrame
         A row for each destination. `destination` (int64); `last_change` (int64): the tick of the last change of
-        topology or need, 0 where there is none; `last_control` (Int64): the tick of the last control packet behind it,
+        topology or need, 0 where there is none; `last_control` (Int64): the tick of the last control packet after it,
         missing where there is none; `rest_ticks` (Int64): from the one to the other, 0 where there is none;
         `control_after_change`, `query_after_change`, `update_after_change`, `clear_after_change` (int64): broadcasts
-        behind the last change; `loops_at_rest`, `dead_ends_at_rest` (Int64): loops of next hops, and nodes at which
+        after the last change; `loops_at_rest`, `dead_ends_at_rest` (Int64): loops of next hops, and nodes at which
         routes of flows end though a path stands; `is_at_rest` (bool): whether the destination is known to be at rest.
         Where it is not, `rest_ticks` and what stands at rest are missing.
     """

@@ -38,7 +38,7 @@ BY = ("available", "restore_median", "stretch_mean", "update")
 STORMS = {  # by measure its statistic and its label
     "at_rest": ("mean", "share of runs at rest"),
     "rest_ticks": ("q0.95", "95 of 100 runs are at rest within ticks (100 ms)"),
-    "control_after_change": ("mean", "control packets behind the last event"),
+    "control_after_change": ("mean", "control packets after the last event"),
     "loops_at_rest": ("mean", "loops of next hops at rest, of a run"),
     "dead_ends_at_rest": ("mean", "dead ends at rest, of a run"),
 }

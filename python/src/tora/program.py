@@ -33,7 +33,7 @@ class Finished:
 
 @dataclasses.dataclass(frozen=True)
 class Program:
-    """The program `tora`: the words of the command that starts it, behind which stand its own words.
+    """The program `tora`: the words of the command that starts it, after which stand its own words.
 
     Attributes
     ----------

@@ -49,7 +49,7 @@ class Reader:
         """Takes the next lines of the trace."""
         first, self.number = self.number + 1, self.number + len(lines)
         if self.digest is not None:
-            raise StudyError("the trace goes on behind its last record", file=self.path, line=first)
+            raise StudyError("the trace goes on after its last record", file=self.path, line=first)
         if first == 1 and lines[0].startswith(FIRST):
             self.header = Header.of_line(self.path, lines[0])
             lines, first = lines[1:], 2
@@ -76,7 +76,7 @@ class Reader:
         records, clock = [], self.clock
         for number, text in enumerate(lines, first):
             if self.digest is not None:
-                raise StudyError("the trace goes on behind its last record", file=self.path, line=number)
+                raise StudyError("the trace goes on after its last record", file=self.path, line=number)
             if self.is_end(text):
                 self.clock = clock
                 self.finish(text, number)
@@ -86,7 +86,7 @@ class Reader:
             records.append(record)
             rows[record.kind].append([clock, *_flat(record.kind, record.words)])
         if self.digest is not None:
-            raise StudyError("the trace goes on behind its last record", file=self.path, line=first + len(lines))
+            raise StudyError("the trace goes on after its last record", file=self.path, line=first + len(lines))
         arrays = {kind: np.array(some, np.int64) for kind, some in rows.items() if some}
         kinds = np.array([CODES[record.kind] for record in records], np.uint8)
         return np.array([record.clock for record in records], np.int64), kinds, arrays

@@ -10,7 +10,7 @@ from tora.errors import StudyError, shown
 Height = tuple[int, int, int, int, int]
 Value = int | Height | None
 
-# The fields behind the word of each kind of record: i an id, n a number, h a height or `-`, k an id or `-`.
+# The fields after the word of each kind of record: i an id, n a number, h a height or `-`, k an id or `-`.
 GRAMMAR = {
     "need": "ii", "part": "ii", "mend": "ii", "up": "iinn", "down": "iinn", "qry": "iin", "upd": "iinh",
     "clr": "iinni", "route": "iihk", "frames": "nnnn",

@@ -1,7 +1,7 @@
-"""When a network came to rest: the last control packets behind the last change, and what stands then.
+"""When a network came to rest: the last control packets after the last change, and what stands then.
 
 For a destination the last change is the last record that parts or mends a link, or the last need of the destination,
-whichever comes later. Control packets are QRY, UPD and CLR of the destination that were broadcast behind it.
+whichever comes later. Control packets are QRY, UPD and CLR of the destination that were broadcast after it.
 
 A destination is known to be at rest where, at the end of the run, nothing has happened for as long as something unseen
 may be under way: no link was parted, mended, stepped up or down, nothing was asked for, no control packet of the

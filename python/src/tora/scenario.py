@@ -55,7 +55,7 @@ class Scenario:
     contact_kept : float
         Share of the contact time that the declared links have.
     links_met, most_met, most_at_once, breaks : int
-        Links of the motion; most neighbours of a node in all, and at once; declared links that the motion parts behind
+        Links of the motion; most neighbours of a node in all, and at once; declared links that the motion parts after
         the first round.
     left_out : tuple of int
         Nodes without a declared link.

@@ -71,7 +71,7 @@ def static_of_trace(trace: Trace) -> dict[str, Any]:
 
 
 def _line_of(path: str, number: int, text: str, has_links: bool) -> tuple[str, list[int]]:
-    """The word of a line, and the numbers behind it; of a line that tells nothing of a scenario none."""
+    """The word of a line, and the numbers after it; of a line that tells nothing of a scenario none."""
     kind, *words = text.split(" ")
     letters = TELLING.get(kind)
     is_other = (letters is None and not has_links) or (number == 1) != (kind == "dests")

@@ -23,7 +23,7 @@ from tora.simulation import ERASURES, check_erasure
 from tora.trace import Trace
 
 DESTINATION = 99
-QUIET = 150  # rounds behind the last event
+QUIET = 150  # rounds after the last event
 DELAYS = (1, 2, 4, 8)  # greatest delays of a datagram, in rounds
 
 Link = tuple[int, int]
@@ -42,7 +42,7 @@ class Partition:
     delay : int
         Rounds of 100 ms that a datagram takes at most; it takes 1 at least.
     text : str
-        The simulation file: its last line asks whether everything is at rest, `QUIET` rounds behind the last event.
+        The simulation file: its last line asks whether everything is at rest, `QUIET` rounds after the last event.
     """
 
     seed: int
@@ -96,7 +96,7 @@ def rest_of(partition: Partition, erasure: str, program: Program, time_limit: fl
     Returns
     -------
     dict
-        By the columns of `tora.resting.COLUMNS` their values. Whether it is at rest, `QUIET` rounds behind its last event, is what the
+        By the columns of `tora.resting.COLUMNS` their values. Whether it is at rest, `QUIET` rounds after its last event, is what the
         program answers; where it is not, the time and what stands at rest are None, and control packets are those until the end.
 
     Raises
@@ -159,7 +159,7 @@ def storm_counts(table: pd.DataFrame, by: str = "delay_most") -> pd.DataFrame:
     DataFrame
         The column; ``erasure``; ``runs``; ``not_at_rest``, how many of them; ``rest_median`` and ``rest_95``, ticks that half and 95 % of the
         runs took at most to come to rest, infinite where that is one that did not; ``control_mean`` and ``control_most``, control packets
-        of a run behind its last change; ``loops`` and ``dead_ends`` at rest, by the runs that are.
+        of a run after its last change; ``loops`` and ``dead_ends`` at rest, by the runs that are.
     """
     rows = []
     for (value, erasure), runs in table.groupby([by, "erasure"], sort=True):

@@ -1,6 +1,6 @@
 """A study: runs of every size, every value that varies, and every seed. Its folder has ``study.json``, which says what it is.
 
-A run is named NODES-SEED, and behind it -NAME=VALUE for each option that varies; a study of a movement file has no sizes, and a run is named SEED.
+A run is named NODES-SEED, and after it -NAME=VALUE for each option that varies; a study of a movement file has no sizes, and a run is named SEED.
 """
 from __future__ import annotations
 

@@ -297,7 +297,7 @@ def _number(value: float) -> str:
 
 
 def text_lines(summary: Summary) -> list[str]:
-    """The summary as text: the header behind ``#``, and aligned columns."""
+    """The summary as text: the header after ``#``, and aligned columns."""
     cells = list(cells_of(summary))
     widths = [max(map(len, column)) for column in zip(*cells)]
     return [*(f"# {line}" for line in summary.header), *("  ".join(f"{cell:{width}}" for cell, width in zip(row, widths)).rstrip() for row in cells)]

@@ -65,7 +65,7 @@ class Trace:
         Raises
         ------
         StudyError
-            Where the trace is empty or cut, a line is no record, the clock goes back, or the trace goes on behind its
+            Where the trace is empty or cut, a line is no record, the clock goes back, or the trace goes on after its
             last record; with the line.
         """
         return cls(os.fspath(path), *read_parts(os.fspath(path)))
@@ -88,7 +88,7 @@ class Trace:
         """The round that each record is of, shape (records,).
 
         Records that stand between rounds carry the clock of the round that has ended, and are of the next one; all
-        others are of the round that ends at their clock, or, behind a record between rounds, of the next one, too.
+        others are of the round that ends at their clock, or, after a record between rounds, of the next one, too.
         """
         between = np.isin(self.kinds, [CODES[kind] for kind in BETWEEN])
         return np.maximum.accumulate(np.maximum(self.clocks + between, 1))

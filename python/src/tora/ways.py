@@ -1,6 +1,6 @@
 """Ways of nodes: lists of way points (seconds, x, y in metres).
 
-Between them a node moves on the line; it rests before and behind them.
+Between them a node moves on the line; it rests before and after them.
 """
 from __future__ import annotations
 

@@ -42,7 +42,7 @@ COLUMNS = (
     "routes_left",
 )
 START = 90.0  # seconds in which the first packet arrives
-SETTLE = 10.0  # seconds behind the first packet, and behind a repair
+SETTLE = 10.0  # seconds after the first packet, and after a repair
 STEADY_FOR = 3.0  # seconds that packets have to arrive until a phase ends
 LOSSY_FOR = 20.0  # seconds of a phase in which a fifth is lost
 

@@ -18,7 +18,7 @@ class Fared:
         The longest time from the sending of a packet that arrived to that of the next one that did.
     working : float or None
         How long no route works: from the sending of the first packet that was lost to the sending of the first of
-        `STEADY` packets behind
+        `STEADY` packets after
         it that arrived one after another. 0 where no packet was lost; None where none of these runs comes.
     """
 
@@ -38,7 +38,7 @@ def fared(sent: Mapping[int, float], arrived: set[int], begin: float, end: float
     arrived : set
         The numbers of the packets that arrived.
     begin, end : float
-        The first moment, and the first behind the last.
+        The first moment, and the first after the last.
     """
     numbers = sorted(number for number, moment in sent.items() if begin <= moment < end)
     lost = sum(number not in arrived for number in numbers)

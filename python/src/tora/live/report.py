@@ -95,7 +95,7 @@ def tables(table: Table, statistic: str = "median") -> list[str]:
 
 @styled
 def mended(table: Table) -> Figure:
-    """How long no route works behind each fault, by protocol; of all topologies and sizes, each run a point of its
+    """How long no route works after each fault, by protocol; of all topologies and sizes, each run a point of its
     protocol's median."""
     figure, axes = panels_of(
         len(MENDED),

@@ -225,5 +225,5 @@ def _read_scripts(path: str, text: str) -> Page:
     places = np.cumsum(np.array(samples, np.int64).reshape(run["samples"], width), axis=0).reshape(-1, len(run["nodes"]), 2) / 10
     held = [decoder.record(line) for line in range(1, run["records"] + 1)]
     if held and held[-1].clock > run["rounds"]:
-        raise ValueError("a record behind the last round")
+        raise ValueError("a record after the last round")
     return Page(run, places, held)

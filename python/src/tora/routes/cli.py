@@ -13,8 +13,8 @@ from tora.program import Program
 from tora.routes.configuration import PROTOCOL, read
 
 LEVELS = ("error", "warn", "info", "debug")
-TEXT = f"""Runs `tora node` and keeps the routes of this host's kernel by the next hops that it finds, until a signal
-ends it.
+TEXT = f"""Runs `tora node` and keeps the routes of this host's kernel by the next hops that it finds,
+until a signal ends it.
 
 CONFIG is a file of TOML:
 
@@ -31,13 +31,14 @@ CONFIG is a file of TOML:
 and, where another value than this one is needed, in the first lines
   protocol = {PROTOCOL}    table = 254    metric = 32    device = "tora"
 
-A packet without a route goes into the TUN device of this name. The node is then asked for the route, and the packet
-is sent when it stands. A link ends at once where its interface goes down or loses its carrier, or its neighbour's
-address does not answer.
-The routes are gone within a second when this command or the node ends, `kill -9` included.
+A packet without a route goes into the TUN device of this name. The node is then asked for the
+route, and the packet is sent when the route is there. A link ends at once when its interface goes
+down or loses its carrier, or when its neighbour's address does not answer.
+When this command or the node ends, even by `kill -9`, the routes are removed within a second.
 """
-STATUSES = """Exit status: 0 where a signal ended it or all is done; 1 where the configuration is at fault or the kernel
-refuses; 2 usage; 3 where the node has ended or does not answer. It needs root, or CAP_NET_ADMIN and CAP_NET_RAW."""
+STATUSES = """Exit status: 0 if a signal ended it or all is done; 1 if the configuration is at fault or the kernel
+refuses something; 2 usage; 3 if the node has ended or does not answer.
+It needs root, or CAP_NET_ADMIN and CAP_NET_RAW."""
 
 
 def parser() -> argparse.ArgumentParser:
@@ -52,7 +53,7 @@ def parser() -> argparse.ArgumentParser:
     found.add_argument("config", metavar="CONFIG", help="the configuration")
     what = found.add_mutually_exclusive_group()
     what.add_argument("--check", action="store_true", help="read the configuration and the node's, and end")
-    what.add_argument("--flush", action="store_true", help="take away the routes that a run may have left, and end")
+    what.add_argument("--flush", action="store_true", help="remove the routes that a run may have left, and end")
     found.add_argument(
         "--program",
         metavar="PATH",
@@ -89,14 +90,20 @@ def main(words: Sequence[str] | None = None) -> int:
         return 130
 
 
+def _counted(count: int, name: str) -> str:
+    """A count with the name of what is counted, in the plural but for one."""
+    plural = f"{name}es" if name.endswith("x") else f"{name}s"
+    return f"{count} {name if count == 1 else plural}"
+
+
 def _done(found: argparse.Namespace) -> int:
     """Does what the words ask for."""
     held = read(found.config)
     if found.check:
         count = sum(map(len, held.prefixes.values()))
         print(
-            f"tora-routes: {found.config}: ok, {len(held.neighbours)} neighbours, "
-            f"{len(held.prefixes)} destinations, {count} prefixes",
+            f"tora-routes: {found.config}: ok, {_counted(len(held.neighbours), 'neighbour')}, "
+            f"{_counted(len(held.prefixes), 'destination')}, {_counted(count, 'prefix')}",
             file=sys.stderr,
         )
         return 0
@@ -105,7 +112,7 @@ def _done(found: argparse.Namespace) -> int:
     except ImportError as cause:
         raise StudyError(f"the module {cause.name} is missing (package python3-pyroute2)") from None
     if found.flush:
-        print(f"tora-routes: {daemon.flush(held)} routes taken away", file=sys.stderr)
+        print(f"tora-routes: {_counted(daemon.flush(held), 'route')} removed", file=sys.stderr)
         return 0
     program = Program.find(found.program)
     if os.geteuid() != 0:

@@ -19,7 +19,7 @@ Network = ipaddress.IPv4Network | ipaddress.IPv6Network
 PROTOCOL = 84  # of the routes; no name of rt_protos of iproute2 has it
 TABLE = 254  # the main table
 METRIC = 32  # of a route that TORA found
-LAST_METRIC = 1 << 24  # of the route into the TUN device, behind every other route
+LAST_METRIC = 1 << 24  # of the route into the TUN device, after every other route
 DEVICE = "tora"
 MOST_NODE = (1 << 32) - 1
 MOST_NAME = 15  # characters of the name of an interface
@@ -158,7 +158,7 @@ class _Table:
                 network = ipaddress.ip_network(text)
             except ValueError:
                 raise self.refused(
-                    key, f"`{shown(text)}` is no prefix of IPv4 or IPv6, or has bits behind its length"
+                    key, f"`{shown(text)}` is no prefix of IPv4 or IPv6, or has bits after its length"
                 ) from None
             if network.is_multicast:
                 raise self.refused(key, f"`{shown(text)}` is a prefix of groups")

@@ -4,7 +4,7 @@ from __future__ import annotations
 from collections.abc import Mapping
 
 AGAIN = 1.0  # seconds between two requests for one destination
-WANTED_FOR = 5.0  # seconds behind the last packet in which a destination counts as asked for
+WANTED_FOR = 5.0  # seconds after the last packet in which a destination counts as asked for
 
 
 class Requests:

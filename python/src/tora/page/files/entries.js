@@ -15,7 +15,7 @@ class Entries {
     this.byNode = new Map([...this.rows.values()].map((row) => [row.node, row]));
   }
 
-  // The rows of the neighbours whose link is up, behind so many records.
+  // The rows of the neighbours whose link is up, after so many records.
   upTo(count) {
     if (count < this.at) this.clear();
     while (this.at < count) this.step();

@@ -73,7 +73,7 @@ class Summary {
     return (sums[to] - sums[from]) / (to - from);
   }
 
-  // The first of a list of rounds behind a time, and the last before it.
+  // The first of a list of rounds after a time, and the last before it.
   after(list, time) {
     return list.find((round) => round > time);
   }

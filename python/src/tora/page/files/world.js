@@ -63,7 +63,7 @@ class Film {
     this.kept.push(copy);
   }
 
-  // Brings a world to the moment behind so many records.
+  // Brings a world to the moment after so many records.
   seek(world, count) {
     const near = this.kept[Math.min(Math.floor(count / this.every), this.kept.length - 1)];
     if (count < world.at || near.at > world.at) world.copy(near);
