@@ -19,11 +19,13 @@ and where `./tora build --lib` built the library for C:
 
 Where the variable DESTDIR is set, it stands in front of each of these paths: for a package. Folders that are missing are made,
 and stay when the files go, but for share/tora. Each file takes its place whole. Exit status: 1 where a file can't be copied or
-removed, 2 for usage, and where the program is not built or is older than its sources.
+removed, 2 for usage, and where the program is not built, or it or the library is older than its sources.
 """
 import os
 import shutil
 import sys
+
+import library
 
 TOP = os.path.dirname(os.path.dirname(os.path.realpath(__file__)))
 PAGES = ["tora.1", "tora-drive.1", "tora-node.1", "tora-replay.1", "tora-sim.1", "tora.5"]
@@ -116,6 +118,9 @@ def main():
         return 2
     if len(words) > 1 or words and not os.path.isabs(words[0]):
         print(f"tora: {sys.argv[1]} takes one PREFIX, a path from the root on (--help)", file=sys.stderr)
+        return 2
+    if sys.argv[1] == "install" and os.path.exists(f"{TOP}/{LIBRARY[0][0]}") and not library.is_current():
+        print("tora: the library is older than its sources (./tora build --lib)", file=sys.stderr)
         return 2
     prefix = words[0] if words else "/usr/local"
     root = (os.environ.get("DESTDIR", "") + prefix).rstrip("/")

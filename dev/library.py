@@ -1,7 +1,7 @@
-"""Links the library for C from the archive of the crate tora_c: out/libtora.a, out/libtora.so.0, out/libtora.so and out/tora.h.
+"""Links the library for C from the archive of the crate tora_c: out/libtora.a, out/libtora.so.0 and out/libtora.so.
 
-Both have position independent code, and no symbol but `tora_*` is seen outside. The archive has one object: what the proved crate gives, and
-the few lines of the toolchain that call `malloc`, `realloc` and `free`.
+Both have position independent code, and no symbol but `tora_*` is seen outside. The archive has one object: what the proved
+crate gives, and the few lines of the toolchain that call `malloc`, `realloc` and `free`.
 """
 import os
 import shutil
@@ -47,6 +47,19 @@ def link(archive, folder):
     if os.path.lexists(link_name):
         os.remove(link_name)
     os.symlink(NAME, link_name)
+
+
+def is_current():
+    """Whether the library is there and no older than each source of the crates that it is made of."""
+    shared = f"{TOP}/out/{NAME}"
+    if not os.path.exists(shared):
+        return False
+    with open(f"{TOP}/crates.txt", encoding="utf-8") as text:
+        below = next(it.partition(":")[2].split() for it in text if it.startswith(f"{CRATE} "))
+    built = os.stat(shared).st_mtime
+    parts = [f"{TOP}/crates/{it}/{part}" for it in [*below, CRATE] for part in ("src", "specs", "proofs")]
+    files = [f"{folder}/{it}" for part in parts for folder, _, names in os.walk(part) for it in names if it.endswith((".rt", ".antt"))]
+    return all(os.stat(it).st_mtime <= built for it in files)
 
 
 def build():

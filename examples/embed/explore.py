@@ -5,8 +5,9 @@ usage: explore.py [--erasure plain|remembered] [--most STATES] [--replay DIR] NO
        explore.py 3 1-2,2-3,3-1 1 'need 3; cut 1 2'
 
 A world has the nodes 1 to NODES, links that are up at first, each a queue in both directions that keeps its order, and events: `need N`,
-`cut A B` (what is under way there is lost) and `mend A B`. Events come in their order. Else anything may happen next: the next event, or
-the delivery of the first packet of any queue. Each input comes at tick 1. Each state is looked at once, the nearest first.
+`cut A B` (what is under way there is lost), `mend A B`, and `rest`, which waits until nothing is under way. Events come in their order.
+Else anything may happen next: the next event, or the delivery of the first packet of any queue. Each input comes at tick 1. Each state is
+looked at once, the nearest first.
 
 Two states count as one where all heights in them are of one reflected level, and their deltas differ by a constant: the rules compare
 deltas of a level with each other alone, so what follows is the same. A circle of such states is an order that goes on until delta leaves
@@ -35,9 +36,10 @@ WORDS = {"link_up": "up", "link_down": "down", "need": "need", "packet": "from"}
 
 @dataclasses.dataclass
 class Node:
-    """A core, and of its state what its text does not show."""
+    """A core, its text, and of its state what the text does not show."""
 
     core: Core
+    text: str = ""
     told: frozenset[int] = frozenset()
     last: int = 0
     erased: bytes = b""
@@ -68,7 +70,7 @@ class World:
     def input(self, n: int, call: str, *words: int | bytes) -> None:
         """A node takes an input: it gets a core of its own, and what that sends goes into the queues."""
         old = self.nodes[n]
-        new = self.nodes[n] = Node(old.core.clone(), old.told, old.last, old.erased)
+        new = self.nodes[n] = Node(old.core.clone(), "", old.told, old.last, old.erased)
         sent: list[bytes] = getattr(new.core, call)(*words, NOW)
         heard = [it for it in words if isinstance(it, bytes) and it[1] == CLEAR]
         if call.startswith("link") or heard and ERASURE == Erasure.REMEMBERED:
@@ -77,7 +79,7 @@ class World:
             new.erased = next((it[8:20] for it in [*sent, *heard] if it[1] == CLEAR), new.erased)
         if any(it[1] == UPDATE for it in sent):
             new.told = frozenset(self.beside(n))
-        height = new.core.height(DESTINATION)
+        new.text, height = new.core.show(), new.core.height(DESTINATION)
         new.last = max(new.last, height.tau if height and height.oid == n else 0)
         if self.inputs is not None:
             self.inputs.append(" ".join([str(n), str(NOW), WORDS[call], *(it.hex() if isinstance(it, bytes) else str(it) for it in words)]))
@@ -86,7 +88,7 @@ class World:
 
     def key(self) -> tuple[object, ...]:
         """What tells two states apart."""
-        parts = [it.core.show() for n, it in self.nodes.items() if n != DESTINATION]
+        parts = [it.text for n, it in self.nodes.items() if n != DESTINATION]
         parts += [f"{pair} {shown(it)}" for pair, queue in sorted(self.queues.items()) for it in queue]
         found = [it for part in parts for it in HEIGHT.finditer(part)]
         if len({it[1] for it in found}) == 1 and found[0][1].endswith(",1"):
@@ -96,14 +98,15 @@ class World:
 
     def after(self, event: list[str]) -> World:
         """The state after an event."""
-        world, (a, *b) = dataclasses.replace(self, nodes={**self.nodes}, queues={**self.queues}, done=self.done + 1), map(int, event[1:])
+        world = dataclasses.replace(self, nodes={**self.nodes}, queues={**self.queues}, done=self.done + 1)
+        ends = [int(it) for it in event[1:]]
         if event[0] == "need":
-            world.input(a, "need", DESTINATION)
-            return world
-        world.links ^= {(min(a, b[0]), max(a, b[0]))}
-        for n, k in ((a, b[0]), (b[0], a)):
-            world.queues.pop((n, k), None)
-            world.input(n, "link_down" if event[0] == "cut" else "link_up", k)
+            world.input(ends[0], "need", DESTINATION)
+        if len(ends) == 2:
+            world.links ^= {(min(ends), max(ends))}
+            for n, k in (ends, ends[::-1]):
+                world.queues.pop((n, k), None)
+                world.input(n, "link_down" if event[0] == "cut" else "link_up", k)
         return world
 
     def delivered(self, a: int, b: int) -> World:
@@ -114,7 +117,9 @@ class World:
 
     def steps(self) -> list[tuple[str, World]]:
         """What may happen next, in words, and the state then."""
-        found = [(" ".join(EVENTS[self.done]), self.after(EVENTS[self.done]))] if self.done < len(EVENTS) else []
+        event = EVENTS[self.done] if self.done < len(EVENTS) else []
+        may = event and (event != ["rest"] or not any(self.queues.values()))
+        found = [(" ".join(event), self.after(event))] if may else []
         return found + [(f"deliver {a} {b} {shown(queue[0])}", self.delivered(a, b)) for (a, b), queue in self.queues.items() if queue]
 
     def followed(self, steps: list[str]) -> World:

@@ -1,7 +1,7 @@
 """TORA's rules for one node in the own process, by the shared library `libtora`: no program is started.
 
->>> from tora.lib import Core
->>> with Core(3, neighbours=[2, 4], destinations=[4]) as core:    # doctest: +SKIP
+>>> import tora
+>>> with tora.Core(3, neighbours=[2, 4], destinations=[4]) as core:    # doctest: +SKIP
 ...     core.link_up(4, now=1)
 ...     core.need(4, now=2)
 ...     core.height(4)
