@@ -1,8 +1,9 @@
 #!/usr/bin/env python3
 """Proves and builds the program `tora`, and before it each crate that it stands on.
 
-usage: ./tora build [--jobs N] [CRATE ..]
+usage: ./tora build [--lib] [--jobs N] [CRATE ..]
 
+  --lib       builds the library for C in place of the program: out/libtora.a and out/libtora.so.0
   --jobs N    uses at most N processors, from 1 to 1024, in place of all
   CRATE ..    proves these crates and those below them, in place of `tora`
 
@@ -27,6 +28,8 @@ import tempfile
 import threading
 import time
 from concurrent.futures import FIRST_COMPLETED, ThreadPoolExecutor, wait
+
+import library
 
 TOP = os.path.dirname(os.path.dirname(os.path.realpath(__file__)))
 PROGRAM = "tora"
@@ -177,7 +180,12 @@ def build(crate, jobs):
         os.makedirs(f"{crate.folder}/out", exist_ok=True)
         flags = ["--jobs", str(jobs)]
         try:
-            status = crate.run(flags, ["--version"]) if crate.is_program else crate.build_rlib(flags, anew=False)
+            if crate.is_program:
+                status = crate.run(flags, ["--version"])
+            elif crate.is_static:
+                status = crate.build_static(flags)
+            else:
+                status = crate.build_rlib(flags, anew=False)
         except SystemExit as ended:
             status = ended.code
         crate.out.seek(0)
@@ -192,7 +200,7 @@ def busy(jobs):
 def build_all(rtlib, crates, lanes, times):
     """Builds crates side by side, and tells each as it ends."""
     behind = longest_behind(crates, times.weights)
-    built = {it.name for it in crates if not it.is_program and it.is_built()}
+    built = {it.name for it in crates if it.makes_rlib() and it.is_built()}
     left = sorted((it for it in crates if it.name not in built), key=lambda it: -behind[it.name])
     is_anew = crates[-1].name == PROGRAM and not built and not any(it.has_kept() for it in crates)
     start, memory, running = time.time(), 0.85 * free(rtlib), {}
@@ -244,7 +252,8 @@ def main():
     if {"-h", "--help"} & {*sys.argv[1:]}:
         print(text)
         return 0
-    words = argparse.ArgumentParser(prog="./tora build", usage="./tora build [--jobs N] [CRATE ..]", add_help=False)
+    words = argparse.ArgumentParser(prog="./tora build", usage="./tora build [--lib] [--jobs N] [CRATE ..]", add_help=False)
+    words.add_argument("--lib", action="store_true")
     words.add_argument("--jobs")
     words.add_argument("crates", nargs="*")
     asked = words.parse_args()
@@ -258,7 +267,7 @@ def main():
         signal.signal(it, lambda number, _: stop("broken off; ./tora build goes on from here", 128 + number))
     found = {it.name: it for it in rtlib.crates_below(f"{TOP}/crates")}
     wanted = []
-    for name in asked.crates or [PROGRAM]:
+    for name in [*asked.crates, *[library.CRATE] * asked.lib] or [PROGRAM]:
         if name not in found or found[name].is_program and name != PROGRAM:
             stop(f"no library {name} in crates.txt" if name not in found else f"{name} is a program of its own: run `rt run` in its folder")
         wanted += [it for it in [*found[name].below(), found[name]] if it not in wanted]
@@ -271,6 +280,11 @@ def main():
     if found[PROGRAM] in wanted:
         # an edit made since the start is newer than the program
         os.utime(f"{found[PROGRAM].folder}/out/{PROGRAM}", (start, start))
+    if asked.lib:
+        try:
+            library.build()
+        except OSError as error:
+            stop(error)
     say(f"{wanted[-1].name} is proved and built ({round(time.time() - start)} s)")
     for it in held:
         os.close(it)

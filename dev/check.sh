@@ -101,6 +101,16 @@ check_usage() {
   refuses 2 'required' "$here/oracle.py" agree FILE
 }
 
+# The library for C, where it is built.
+check_library() {
+  if [ ! -e "$here/../out/libtora.so.0" ]; then
+    echo "check: the library for C is not built (./tora build --lib); dev/check-lib.sh is left out"
+    return
+  fi
+  holds 'the library for C' "$here/check-lib.sh"
+  tail -n 1 "$work/out"
+}
+
 # The dissector, on the capture of python/tests/stored/frames.list: of a port that is decoded as tora, and by the bytes alone.
 check_dissector() {
   local frames=../../python/tests/stored/frames
@@ -124,7 +134,7 @@ check_install() {
   local copy=$work/copy root=$work/root tora=$work/copy/tora program=$work/copy/crates/tora/out/tora
   mkdir -p "$copy/crates/tora/src" "$copy/crates/tora/out" "$copy/dev" "$copy/docs" "$root/usr/share/tora"
   cp ../../tora ../../crates.txt "$copy/"
-  cp -R "$here"/{install.py,installed.sh,tora.lua,completion} "$copy/dev/"
+  cp -R "$here"/{install.py,library.py,installed.sh,tora.lua,completion} "$copy/dev/"
   cp -R ../../docs/man "$copy/docs/"
   refuses 2 'the program is not built' "$tora" install
   refuses 2 'the program is not built' "$tora" deb
@@ -314,6 +324,7 @@ check_usage
 check_forms
 check_dissector
 check_install
+check_library
 check_completion
 check_licence
 check_ns3

@@ -11,13 +11,21 @@ usage: ./tora install [PREFIX]       copies them to PREFIX (/usr/local without i
   PREFIX/share/zsh/site-functions/_tora            completion for zsh
   PREFIX/share/tora/tora.lua                       the dissector for Wireshark
 
+and where `./tora build --lib` built the library for C:
+
+  PREFIX/lib/libtora.a, libtora.so.0, libtora.so   the library
+  PREFIX/include/tora.h                            its header
+  PREFIX/lib/pkgconfig/tora.pc                     how to compile with it: pkg-config --cflags --libs tora
+
 Where the variable DESTDIR is set, it stands in front of each of these paths: for a package. Folders that are missing are made,
 and stay when the files go, but for share/tora. Each file takes its place whole. Exit status: 1 where a file can't be copied or
-removed, 2 for usage, and where the program is not built or is older than its sources.
+removed, 2 for usage, and where the program is not built, or it or the library is older than its sources.
 """
 import os
 import shutil
 import sys
+
+import library
 
 TOP = os.path.dirname(os.path.dirname(os.path.realpath(__file__)))
 PAGES = ["tora.1", "tora-drive.1", "tora-node.1", "tora-replay.1", "tora-sim.1", "tora.5"]
@@ -30,6 +38,14 @@ FILES = [
     ("dev/completion/_tora", "share/zsh/site-functions/_tora", 0o644),
     ("dev/tora.lua", "share/tora/tora.lua", 0o644),
 ]
+# The library for C: the same, where it is built. The name of the last one is a link, and tora.pc is made with the PREFIX in it.
+LIBRARY = [
+    ("out/libtora.so.0", "lib/libtora.so.0", 0o644),
+    ("out/libtora.a", "lib/libtora.a", 0o644),
+    ("include/tora.h", "include/tora.h", 0o644),
+]
+LINK, LINKED = "lib/libtora.so", "libtora.so.0"
+PACKAGE, PACKAGE_SOURCE = "lib/pkgconfig/tora.pc", "include/tora.pc.in"
 # The folder that is the program's alone.
 OWN = "share/tora"
 
@@ -47,14 +63,40 @@ def copy(source, target, mode):
             os.remove(part)
 
 
-def install(root):
+def write(text, target, mode):
+    """Puts a file of this text in place at once."""
+    os.makedirs(os.path.dirname(target), exist_ok=True)
+    with open(f"{target}.part-{os.getpid()}", "w") as out:
+        out.write(text)
+    os.chmod(out.name, mode)
+    os.replace(out.name, target)
+
+
+def install_library(root, prefix):
+    """Puts the library for C in place; `tora.pc` names the prefix that the files have in the end."""
+    for source, place, mode in LIBRARY:
+        copy(f"{TOP}/{source}", f"{root}/{place}", mode)
+        print(f"{root}/{place}")
+    part = f"{root}/{LINK}.part-{os.getpid()}"
+    os.symlink(LINKED, part)
+    os.replace(part, f"{root}/{LINK}")
+    print(f"{root}/{LINK}")
+    with open(f"{TOP}/{PACKAGE_SOURCE}") as text, open(f"{TOP}/VERSION") as version:
+        told = text.read().replace("@PREFIX@", prefix).replace("@VERSION@", version.read().strip())
+    write(told, f"{root}/{PACKAGE}", 0o644)
+    print(f"{root}/{PACKAGE}")
+
+
+def install(root, prefix):
     for source, place, mode in FILES:
         copy(f"{TOP}/{source}", f"{root}/{place}", mode)
         print(f"{root}/{place}")
+    if os.path.exists(f"{TOP}/{LIBRARY[0][0]}"):
+        install_library(root, prefix)
 
 
-def uninstall(root):
-    for _, place, _ in FILES:
+def uninstall(root, _prefix):
+    for place in [*(it for _, it, _ in [*FILES, *LIBRARY]), LINK, PACKAGE]:
         try:
             os.remove(f"{root}/{place}")
             print(f"{root}/{place} is removed")
@@ -77,10 +119,13 @@ def main():
     if len(words) > 1 or words and not os.path.isabs(words[0]):
         print(f"tora: {sys.argv[1]} takes one PREFIX, a path from the root on (--help)", file=sys.stderr)
         return 2
+    if sys.argv[1] == "install" and os.path.exists(f"{TOP}/{LIBRARY[0][0]}") and not library.is_current():
+        print("tora: the library is older than its sources (./tora build --lib)", file=sys.stderr)
+        return 2
     prefix = words[0] if words else "/usr/local"
     root = (os.environ.get("DESTDIR", "") + prefix).rstrip("/")
     try:
-        (install if sys.argv[1] == "install" else uninstall)(root)
+        (install if sys.argv[1] == "install" else uninstall)(root, prefix)
         sys.stdout.flush()
     except OSError as error:
         print(f"tora: {error.filename or 'standard output'}: {error.strerror}", file=sys.stderr)

@@ -18,6 +18,7 @@
 #![tactic(auto)]
 
 mod changes;
+mod copies;
 mod destination;
 mod erasure;
 mod errors;

@@ -28,14 +28,14 @@ use tora_height::{Entry, Id};
 /// that has a height has a lower neighbour.
 #[derive(Debug, Drop)]
 pub struct Core {
-    me: Id,
-    erasure: Erasure,
-    neighbours: Vec<Id>,
-    up: Vec<Id>,
-    destinations: ArrayVec<Id, MOST_DESTINATIONS>,
-    views: Vec<Destination>,
+    pub(crate) me: Id,
+    pub(crate) erasure: Erasure,
+    pub(crate) neighbours: Vec<Id>,
+    pub(crate) up: Vec<Id>,
+    pub(crate) destinations: ArrayVec<Id, MOST_DESTINATIONS>,
+    pub(crate) views: Vec<Destination>,
     /// Where the neighbours and the destinations may stand.
-    hints: TableHints,
+    pub(crate) hints: TableHints,
 }
 
 impl Model for Core {

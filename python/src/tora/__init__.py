@@ -15,14 +15,15 @@ from typing import TYPE_CHECKING, Any
 from tora.errors import StudyError, UsageError
 
 if TYPE_CHECKING:
+    from tora.lib import Core
     from tora.run import Run
     from tora.scenario import Scenario
     from tora.trace import Trace
 
-__all__ = ["Run", "Scenario", "StudyError", "Trace", "UsageError"]
+__all__ = ["Core", "Run", "Scenario", "StudyError", "Trace", "UsageError"]
 __version__ = "1.0.0.dev0"
 
-MODULES = {"Run": "tora.run", "Scenario": "tora.scenario", "Trace": "tora.trace"}
+MODULES = {"Core": "tora.lib", "Run": "tora.run", "Scenario": "tora.scenario", "Trace": "tora.trace"}
 
 
 def __getattr__(name: str) -> Any:

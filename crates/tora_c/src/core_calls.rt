@@ -1,0 +1,154 @@
+//! The calls that make a core, let it go, and step it.
+ghost use Rattle.std.specs.Prelude.{◌≡◌, ◌⊎◌, IfErr, IfOk, MatchOption, None, OnOk, Some};
+ghost use Rattle.tora_core.specs.declared.Input.{Input};
+ghost use Rattle.tora_c.specs.CoreNode.{bytes_after, bytes_code, erasure_of, first_node, held_after, held_code, new_refusal};
+
+use crate::codes::{MEMORY, NULL, OK, packet_code};
+use crate::core_handle::CoreHandle;
+use crate::core_node::CoreNode;
+use std::alloc::Global;
+use tora_core::Input;
+use tora_packet::decode;
+
+/// A node in a block of its own. An error is its code.
+fn boxed(alloc: Global, node: CoreNode) -> Result<Box<CoreNode, Global>, u32>
+    ensures value { IfOk result (λ b. b.value ≡ node) }
+    ensures memory { IfErr result (λ code. code ≡ MEMORY) }
+{
+    match Box::new(alloc, node) {
+        Ok(node) => Ok(node),
+        Err(_) => Err(MEMORY),
+    }
+}
+
+/// Makes the core of node `me` at `core`, in the place of what was there: no link is up.
+#[unsafe(no_mangle)]
+pub extern "C" fn tora_core_new(
+    alloc: Global,
+    core: &mut CoreHandle,
+    me: u32,
+    neighbours: &[u32],
+    destinations: &[u32],
+    erasure: u32,
+) -> u32
+    ensures made { result ≡ OK → MatchOption (erasure_of erasure) ⊥ (λ e. core.new.held ≡ Some (first_node e me neighbours.now destinations.now)) }
+    ensures kept { ¬ (result ≡ OK) → core.new.held ≡ core.old.held }
+    ensures code { MatchOption (new_refusal me neighbours.now destinations.now erasure) ((result ≡ OK) ⊎ (result ≡ MEMORY)) (λ code. result ≡ code) }
+{
+    let node = match CoreNode::new(alloc, me, neighbours, destinations, erasure) {
+        Ok(node) => node,
+        Err(code) => return code,
+    };
+    match boxed(alloc, node) {
+        Ok(node) => {
+            core.put(alloc, node);
+            OK
+        }
+        Err(code) => code,
+    }
+}
+
+/// Lets the core go, and leaves the handle null.
+#[unsafe(no_mangle)]
+pub extern "C" fn tora_core_free(alloc: Global, core: &mut CoreHandle)
+    ensures { core.new.held ≡ None }
+{
+    if let Some(node) = core.take(alloc) {
+        drop(node);
+    }
+}
+
+/// A second block with the state of a first. An error is its code.
+fn cloned(alloc: Global, node: &CoreNode) -> Result<Box<CoreNode, Global>, u32>
+    ensures value { IfOk result (λ b. b.value ≡ node.now) }
+    ensures memory { IfErr result (λ code. code ≡ MEMORY) }
+{
+    match node.try_clone(alloc) {
+        Ok(second) => boxed(alloc, second),
+        Err(code) => Err(code),
+    }
+}
+
+/// Makes a second core at `out` with the state of `core`, in the place of what was there.
+#[unsafe(no_mangle)]
+pub extern "C" fn tora_core_clone(alloc: Global, core: &mut CoreHandle, out: &mut CoreHandle) -> u32
+    ensures same { core.new.held ≡ core.old.held }
+    ensures made { result ≡ OK → out.new.held ≡ core.old.held }
+    ensures kept { ¬ (result ≡ OK) → out.new.held ≡ out.old.held }
+    ensures code { MatchOption core.old.held (result ≡ NULL) (λ _. (result ≡ OK) ⊎ (result ≡ MEMORY)) }
+{
+    let Some(node) = core.take(alloc) else {
+        return NULL;
+    };
+    let second = cloned(alloc, &node);
+    core.put(alloc, node);
+    match second {
+        Ok(second) => {
+            out.put(alloc, second);
+            OK
+        }
+        Err(code) => code,
+    }
+}
+
+fn step(alloc: Global, core: &mut CoreHandle, input: Input, now: u64) -> u32
+    ensures code { result ≡ held_code core.old.held input }
+    ensures held { core.new.held ≡ held_after core.old.held input now }
+{
+    let Some(mut node) = core.take(alloc) else {
+        return NULL;
+    };
+    let code = node.step(input, now);
+    core.put(alloc, node);
+    code
+}
+
+/// The link to neighbour `k` came up at the tick `now`.
+#[unsafe(no_mangle)]
+pub extern "C" fn tora_core_link_up(alloc: Global, core: &mut CoreHandle, k: u32, now: u64) -> u32
+    ensures code { result ≡ held_code core.old.held (Input.LinkUp k) }
+    ensures held { core.new.held ≡ held_after core.old.held (Input.LinkUp k) now }
+{
+    step(alloc, core, Input::LinkUp(k), now)
+}
+
+/// The link to neighbour `k` went down at the tick `now`.
+#[unsafe(no_mangle)]
+pub extern "C" fn tora_core_link_down(alloc: Global, core: &mut CoreHandle, k: u32, now: u64) -> u32
+    ensures code { result ≡ held_code core.old.held (Input.LinkDown k) }
+    ensures held { core.new.held ≡ held_after core.old.held (Input.LinkDown k) now }
+{
+    step(alloc, core, Input::LinkDown(k), now)
+}
+
+/// A route to destination `d` is needed at the tick `now`.
+#[unsafe(no_mangle)]
+pub extern "C" fn tora_core_need(alloc: Global, core: &mut CoreHandle, d: u32, now: u64) -> u32
+    ensures code { result ≡ held_code core.old.held (Input.Need d) }
+    ensures held { core.new.held ≡ held_after core.old.held (Input.Need d) now }
+{
+    step(alloc, core, Input::Need(d), now)
+}
+
+/// These bytes came from neighbour `k` at the tick `now`.
+#[unsafe(no_mangle)]
+pub extern "C" fn tora_core_packet(
+    alloc: Global,
+    core: &mut CoreHandle,
+    k: u32,
+    bytes: &[u8],
+    now: u64,
+) -> u32
+    ensures code { result ≡ bytes_code core.old.held k bytes.now }
+    ensures held { core.new.held ≡ bytes_after core.old.held k bytes.now now }
+{
+    let Some(mut node) = core.take(alloc) else {
+        return NULL;
+    };
+    let code = match decode(bytes) {
+        Ok(packet) => node.step(Input::Packet(k, packet), now),
+        Err(error) => packet_code(error),
+    };
+    core.put(alloc, node);
+    code
+}
