@@ -9,7 +9,7 @@ use crate::kept_frames::{KeptFrame, KeptFrames};
 use crate::last_hellos::LastHellos;
 use std::alloc::{AllocError, Global};
 use std::marker::Model;
-use tora_frame::{BorrowedBody, BorrowedFrame, Header, Version};
+use tora_frame::{BorrowedBody, BorrowedFrame, Header};
 use tora_height::Id;
 
 /// So many frames are kept beside twice as many as there are datagrams, before those that no datagram has are let go.
@@ -48,16 +48,6 @@ impl Datagrams {
             frames: KeptFrames::new(alloc),
             places: Vec::new(alloc),
             hellos: Vec::new(alloc),
-        }
-    }
-
-    /// Reads what a HELLO of the link end at a place is compared with as it is pushed, so that it is at hand by then. The number says nothing. It
-    /// is to be kept, since a read of which nothing is kept is left out.
-    #[inline(always)]
-    pub fn prefetch(&self, end: usize) -> u64 {
-        match self.hellos.get(end) {
-            Some(last) => u64::from(last.place(Version::Two)),
-            None => 0,
         }
     }
 

@@ -136,7 +136,7 @@ impl Sim {
             return Err(SimError::NotPossible);
         }
         self.ahead
-            .on_pull(&self.links, &self.plains, self.clock, &self.datagrams, at);
+            .on_pull(&self.links, &self.plains, self.clock, at);
         self.quiet = 0;
         if !self.links[at].pull() {
             return Err(SimError::Memory);
@@ -314,13 +314,8 @@ impl Sim {
     fn read_receivers(&mut self)
         ensures { self.new ≡ self.old }
     {
-        self.ahead.on_frame(
-            &self.links,
-            &self.keys,
-            &self.nodes,
-            &self.hints,
-            &self.datagrams,
-        );
+        self.ahead
+            .on_frame(&self.links, &self.keys, &self.nodes, &self.hints);
     }
 
     /// A datagram is handed to its receiver as `deliver` has it, where it is known to be a HELLO and the receive isn't armed, and says whether it
