@@ -1,9 +1,3 @@
 pub mod EachItem
 pub mod KeptFrames
 pub mod SentFrames
-pub mod PlaceLists
-pub mod Unpacking
-pub mod Packings
-pub mod PackedLists
-pub mod SamePackets
-pub mod RecentLaws

@@ -1,12 +1,11 @@
 -- Datagrams as places of frames that are kept, where more frames come behind those.
-use Rattle.std.proofs.Common.{◌≡◌, ℕ, zero, suc, ◌+◌, ◌-◌, ◌<◌, ◌≤◌, ◌^◌, Bool, true, false, List, [], ◌∷◌, ◌++◌, length, take, drop, slice_get, Some, None, Option, refl, sym, ap, ◌∙◌, subst, arith, length-append, append-nil}
+use Rattle.std.proofs.Common.{◌≡◌, ℕ, zero, suc, ◌+◌, ◌<◌, List, [], ◌∷◌, ◌++◌, length, take, drop, slice_get, Some, None, Option, refl, sym, ap, ◌∙◌, subst, arith, length-append, append-nil}
 use Rattle.std.specs.Prelude.{option_to_list}
 use Rattle.std.specs.List.{cons_option}
 use Rattle.std.proofs.lemmas.List.Elements.{filter_map-append}
 use Rattle.tora_frame.specs.FrameParts.{FrameParts}
-use Rattle.tora_datagrams.specs.Datagrams.{DatagramList, HasRoom, IsMore}
-use Rattle.tora_datagrams.specs.Places.{PlaceList}
-use Rattle.tora_datagrams.specs.SentFrames.{AreWithin, HasRooms, sent_frames}
+use Rattle.tora_datagrams.specs.Datagrams.{IsMore}
+use Rattle.tora_datagrams.specs.SentFrames.{AreWithin, sent_frames}
 
 -- within the list there is an item
 pub item_at : {A : Type 0} (xs : List A) (n : ℕ) → n < length xs → (x : A) × (slice_get xs n ≡ Some x)
@@ -75,21 +74,22 @@ module _ (frames after : List FrameParts) (places : List ℕ) (place : ℕ) (fra
       subst (λ (xs : List FrameParts). AreWithin xs (places ++ place ∷ [])) (sym more.1)
       (within_more frames more.0 places place h (subst (λ (xs : List FrameParts). place < length xs) more.1 (within after place frame is)))
 
+-- no frame came
+pub no_more : (frames : List FrameParts) → IsMore frames frames
+no_more frames = ([], sym (append-nil frames))
+
 -- two datagrams more, whose frames stand among those that are kept
 module _ (frames : List FrameParts) (places : List ℕ) (one two : ℕ) (first second : FrameParts) (is : slice_get frames one ≡ Some first) (is' : slice_get frames two ≡ Some second) (h : AreWithin frames places) where
-  no_more : IsMore frames frames
-  no_more = ([], sym (append-nil frames))
-
   within_one : AreWithin frames (places ++ one ∷ [])
-  within_one = all_within frames frames places one first no_more is h
+  within_one = all_within frames frames places one first (no_more frames) is h
 
   pub two_more : sent_frames frames ((places ++ one ∷ []) ++ two ∷ []) ≡ (sent_frames frames places ++ first ∷ []) ++ second ∷ []
   two_more =
-      one_more frames frames (places ++ one ∷ []) two second no_more is' within_one
-      ∙ ap (λ (fs : List FrameParts). fs ++ second ∷ []) (one_more frames frames places one first no_more is h)
+      one_more frames frames (places ++ one ∷ []) two second (no_more frames) is' within_one
+      ∙ ap (λ (fs : List FrameParts). fs ++ second ∷ []) (one_more frames frames places one first (no_more frames) is h)
 
   pub both_within : AreWithin frames ((places ++ one ∷ []) ++ two ∷ [])
-  both_within = all_within frames frames (places ++ one ∷ []) two second no_more is' within_one
+  both_within = all_within frames frames (places ++ one ∷ []) two second (no_more frames) is' within_one
 
 -- ---- the first datagrams are let go
 
@@ -113,29 +113,3 @@ take_next [] zero = refl
 take_next [] (suc n) = let e : suc n + 1 ≡ suc (suc n) = omega arith in rw e refl
 take_next (x ∷ xs) zero = refl
 take_next (x ∷ xs) (suc n) = let e : suc n + 1 ≡ suc (n + 1) = omega arith in rw e (ap (λ (ys : List FrameParts). x ∷ ys) (take_next xs n))
-
--- ---- room
-
-rooms_less : (room after : ℕ) (frames new : DatagramList) (places rest : PlaceList) → after ≡ room - 1 → new ≡ frames → rest.places + 1 ≡ places.places → HasRooms room frames places → HasRooms after new rest
-rooms_less room after frames new places rest less same left h =
-    let many = h.0 in (
-      omega (arith, less, left, many),
-      λ some. subst (λ (d : DatagramList). HasRoom d × (length d.items < 2 ^ 32)) (sym same) (h.1 (omega (arith, less, some))),
-    )
-
-rooms_none : (after : ℕ) (new : DatagramList) (rest : PlaceList) → after ≡ 0 → HasRooms after new rest
-rooms_none after new rest none = (omega (arith, none), λ some. absurd (omega (arith, none, some)))
-
--- behind a datagram, as far as it is known that no frame came and that there is one place less
-pub rooms_behind : (room after : ℕ) (frames new : DatagramList) (places rest : PlaceList) (kept left : Bool) → (kept ≡ true → left ≡ true → after ≡ room - 1) → (kept ≡ false → after ≡ 0) → (left ≡ false → after ≡ 0) → (kept ≡ true → new ≡ frames)
-    → (left ≡ true → rest.places + 1 ≡ places.places) → HasRooms room frames places → HasRooms after new rest
-rooms_behind room after frames new places rest true true known frame place same less h = rooms_less room after frames new places rest (known refl refl) (same refl) (less refl) h
-rooms_behind room after frames new places rest true false known frame place same less h = rooms_none after new rest (place refl)
-rooms_behind room after frames new places rest false left known frame place same less h = rooms_none after new rest (frame refl)
-
--- where there is room for some more only behind a datagram that took one place, there is room for no more than there are places
-pub rooms_with : (room after places rest : ℕ) (left : Bool) → (0 < after → (after + 1 ≡ room) × (left ≡ true)) → (left ≡ true → rest + 1 ≡ places) → room ≤ places → after ≤ rest
-rooms_with room zero places rest left known less within = omega (arith)
-rooms_with room (suc after) places rest left known less within =
-    let some : 0 < suc after = omega (arith) in
-    omega (arith, (known some).0, less (known some).1, within)

@@ -1,6 +1,2 @@
 pub mod Datagrams
-pub mod Places
-pub mod Words
-pub mod Packing
 pub mod SentFrames
-pub mod Recents

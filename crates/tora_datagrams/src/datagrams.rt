@@ -1,81 +1,53 @@
 //! The datagrams that were sent.
-ghost use Rattle.std.specs.Prelude.{◌≡◌, ◌-◌, ◌+◌, ◌<◌, ◌^◌, ◌∷◌, ◌++◌, [], true, false, length, drop, option_map, option_to_list, slice_get, vec_len, vec_capacity, Some, IfOk, IfSome, OnOk};
+ghost use Rattle.std.specs.Prelude.{◌≡◌, ◌<◌, ◌∷◌, ◌++◌, [], true, false, length, drop, option_map, option_to_list, slice_get, Some, IfOk, IfSome, OnOk};
 ghost use Rattle.tora_frame.specs.FrameParts.{IsHeader, frame_of};
 ghost use Rattle.tora_frame.specs.declared.parts.Body.{Body};
-ghost use Rattle.tora_datagrams.specs.Datagrams.{DatagramList, HasRoom, IsMore, way_of};
-ghost use Rattle.tora_datagrams.specs.Recents.{AreHellos, told_header};
+ghost use Rattle.tora_datagrams.specs.Datagrams.{DatagramList, HasRoom, way_of};
 
-use crate::kept_frames::{Guess, KeptFrames};
-use crate::places::Places;
-use crate::recents::{LastHello, RecentFrame, Recents, recent_hello, recent_of};
+use crate::first_items::let_go;
+use crate::kept_frames::{KeptFrame, KeptFrames};
+use crate::last_hellos::LastHellos;
 use std::alloc::{AllocError, Global};
 use std::marker::Model;
-use tora_frame::{BorrowedBody, BorrowedFrame, Header, Version};
+use tora_frame::{BorrowedBody, BorrowedFrame, Header};
 use tora_height::Id;
-
-/// The most frames that are kept: the place of each fits 32 bits.
-const MOST_FRAMES: usize = 0xffff_ffff;
 
 /// So many frames are kept beside twice as many as there are datagrams, before those that no datagram has are let go.
 const MOST_UNUSED: usize = 1024;
 
-/// So many headers of datagrams are let go behind a pass.
-const MANY_RECENTS: usize = 256;
-
 /// All datagrams that were ever sent, in order, but for the first ones that were let go.
 ///
-/// Most of them say what one before them said, as every HELLO does but the first of a life, and every DATA frame that is sent again: such a
-/// frame is kept once where it is found, and a datagram is the place of its frame, in three bytes up to the first place that needs four. Where the frame of a datagram may stand already is a guess: where
-/// the last one of its form stands that this link end sent; what stands there is compared with it whole, so a wrong guess costs memory and
-/// nothing else.
+/// Most of them are HELLOs that say what the last one of their link end said: such a frame is kept once, and a datagram is the place of its
+/// frame, in four bytes.
 #[derive(Drop)]
 pub struct Datagrams {
     frames: KeptFrames,
-    places: Places,
-    /// Of each link end the HELLOs that it sent last, one of either version: they are compared here, as frames and their headers lie elsewhere.
-    hellos: Vec<LastHello>,
-    /// The headers of the datagrams that were sent last, which are the ones that are delivered.
-    recents: Recents,
-    /// Of so many link ends, the first ones, what they sent last has its places.
-    ends: usize,
-    /// For so many more it is known that there is room, as long as they say what others said: so that it is asked of one number, and not of five
-    /// lists each time.
-    room: usize,
+    /// Of each datagram the place of its frame.
+    places: Vec<u32>,
+    /// Of each link end where its last HELLOs may stand among the frames.
+    hellos: Vec<LastHellos>,
 }
 
 impl Model for Datagrams {
-    ghost use Rattle.std.specs.Prelude.{◌<◌, length};
-    ghost use Rattle.std.specs.List.{AllByRecursion};
     ghost use Rattle.tora_datagrams.specs.Datagrams.{DatagramList};
-    ghost use Rattle.tora_datagrams.specs.Recents.{AreHellos, AreRecent};
-    ghost use Rattle.tora_datagrams.specs.SentFrames.{sent_frames, sent_list, AreWithin, HasRooms};
+    ghost use Rattle.tora_datagrams.specs.SentFrames.{AreWithin, sent_list};
 
     ghost Value = { DatagramList };
 
     ghost view = { λ d. sent_list d.frames d.places };
 
-    ghost invariant = { λ d. AreWithin d.frames.items d.places.items × AreHellos d.hellos.items d.frames.items × AreRecent d.recents.first d.recents.frames.items (sent_frames d.frames.items d.places.items) × HasRooms d.room d.frames d.places };
+    ghost invariant = { λ d. AreWithin d.frames.items d.places.items };
 }
 
 impl Datagrams {
-    /// Reads what a frame of the link end at a place is compared with as it is pushed, so that it is at hand by then. The number says nothing. It is to
-    /// be kept, since a read of which nothing is kept is left out.
-    #[inline(always)]
-    pub fn prefetch(&self, end: usize) -> u64 {
-        self.frames.prefetch(end)
-    }
-
     /// No datagrams.
     pub fn new(alloc: Global) -> Datagrams
         ensures { result.items ≡ [] }
     {
         Datagrams {
             frames: KeptFrames::new(alloc),
-            places: Places::new(alloc),
+            places: Vec::new(alloc),
             hellos: Vec::new(alloc),
-            recents: Recents::new(alloc),
-            ends: 0,
-            room: 0,
         }
     }
 
@@ -89,54 +61,18 @@ impl Datagrams {
     /// Makes room for one more, which the link end at a place sends.
     ///
     /// # Errors
-    /// Want of memory, or as many frames as can be kept.
+    /// Want of memory, or as many frames or packets as can be kept.
     #[inline(always)]
     pub fn reserve(&mut self, end: usize) -> Result<(), AllocError>
         ensures items { self.new.items ≡ self.old.items }
         ensures room { OnOk result (HasRoom self.new) }
     {
-        if end >= self.ends {
-            self.make_ends(end)?;
-        }
-        if self.room > 0 {
-            return Ok(());
-        }
-        self.make_room()
-    }
-
-    /// Makes room for one more, and counts for how many there is room then.
-    ///
-    /// # Errors
-    /// Want of memory, or as many frames as can be kept.
-    #[inline(never)]
-    fn make_room(&mut self) -> Result<(), AllocError>
-        ensures items { self.new.items ≡ self.old.items }
-        ensures room { OnOk result (HasRoom self.new) }
-    {
-        self.room = 0;
-        if self.frames.len() >= MOST_FRAMES {
-            return Err(AllocError);
+        if end >= self.hellos.len() {
+            self.hellos
+                .resize(end.saturating_add(1), LastHellos::none())?;
         }
         self.frames.reserve()?;
-        self.places.reserve()?;
-        self.recents.reserve()?;
-        self.room = self.places.left().min(self.recents.left());
-        Ok(())
-    }
-
-    /// Makes places for what a link end sends last, and those before it.
-    ///
-    /// # Errors
-    /// Want of memory.
-    #[inline(never)]
-    fn make_ends(&mut self, end: usize) -> Result<(), AllocError>
-        ensures { self.new.items ≡ self.old.items }
-    {
-        self.room = 0;
-        self.frames.make_ends(end)?;
-        make_hellos(&mut self.hellos, &self.frames, end)?;
-        self.ends = end.saturating_add(1);
-        Ok(())
+        self.places.reserve(1)
     }
 
     /// Appends a datagram that the link end at a place sends to the one that may stand at the place `far_end`. There must be room for it.
@@ -147,22 +83,24 @@ impl Datagrams {
     {
         match frame.body() {
             BorrowedBody::Hello => self.push_hello(end, far_end, frame.header()),
-            BorrowedBody::Data(..) => self.push_frame(end, far_end, frame),
-            BorrowedBody::Ack(_) => self.push_frame(end, far_end, frame),
+            BorrowedBody::Data(..) => {
+                self.push_frame(far_end, frame);
+            }
+            BorrowedBody::Ack(_) => {
+                self.push_frame(far_end, frame);
+            }
         }
     }
 
-    /// Appends any datagram so.
+    /// Appends a datagram whose frame is kept now, and tells where it stands among the frames.
     #[inline(always)]
-    fn push_frame(&mut self, end: usize, far_end: u32, frame: &BorrowedFrame<'_>)
+    fn push_frame(&mut self, far_end: u32, frame: &BorrowedFrame<'_>) -> u32
         requires { HasRoom self.old }
         ensures { self.new.items ≡ self.old.items ++ frame.now ∷ [] }
     {
-        let place = place_of(&mut self.frames, end, frame);
-        let is_left = self.places.push(place);
-        self.room = room_with(self.room, &self.frames, is_left);
-        self.recents
-            .push(self.places.len(), recent_of(frame, far_end));
+        let place = self.frames.push(far_end, frame);
+        self.places.push_reserved(place);
+        place
     }
 
     /// Appends a HELLO of this header that the link end at a place sends to the one that may stand at the place `far_end`. There must be room for
@@ -173,38 +111,44 @@ impl Datagrams {
         requires valid { IsHeader header.now }
         ensures { self.new.items ≡ self.old.items ++ frame_of header.now Body.Hello ∷ [] }
     {
-        let (place, is_kept) = hello_place(&mut self.frames, &mut self.hellos, end, header);
-        let is_left = self.places.push(place);
-        self.room = room_behind(self.room, is_kept, is_left);
-        self.recents
-            .push(self.places.len(), recent_hello(header, far_end));
+        match found_hello(&self.frames, &self.hellos, end, header) {
+            Some(place) => self.places.push_reserved(place),
+            None => self.push_new_hello(end, far_end, header),
+        }
     }
 
-    /// Appends two HELLOs of these headers, one after the other, that the link end at a place sends to the one that may stand at the place
-    /// `far_end`, where both are known to be the last ones that it sent, and it is known that there is room for both; and answers whether it
-    /// did. Else nothing is changed.
+    /// Appends a HELLO whose frame is kept now.
+    #[inline(never)]
+    fn push_new_hello(&mut self, end: usize, far_end: u32, header: &Header)
+        requires room { HasRoom self.old }
+        requires valid { IsHeader header.now }
+        ensures { self.new.items ≡ self.old.items ++ frame_of header.now Body.Hello ∷ [] }
+    {
+        let frame = BorrowedFrame::hello(*header);
+        let place = self.push_frame(far_end, &frame);
+        note_hello(&mut self.hellos, end, header, place);
+    }
+
+    /// Appends two HELLOs of these headers, one after the other, that the link end at a place sends, where both say what its last ones said
+    /// and there is room for two; and answers whether it did. Else nothing is changed.
     #[inline(always)]
-    pub fn push_pair(&mut self, end: usize, far_end: u32, first: &Header, second: &Header) -> bool
+    pub fn push_pair(&mut self, end: usize, _far_end: u32, first: &Header, second: &Header) -> bool
         requires first { IsHeader first.now }
         requires second { IsHeader second.now }
         ensures items { result ≡ true → self.new.items ≡ (self.old.items ++ frame_of first.now Body.Hello ∷ []) ++ frame_of second.now Body.Hello ∷ [] }
         ensures same { result ≡ false → self.new ≡ self.old }
     {
-        if self.room < 2 {
+        if self.places.capacity() - self.places.len() < 2 {
             return false;
         }
-        let Some((one, two)) = found_pair(&self.hellos, &self.frames, end, first, second) else {
+        let Some(one) = found_hello(&self.frames, &self.hellos, end, first) else {
             return false;
         };
-        if !self.places.push_pair(one, two) {
+        let Some(two) = found_hello(&self.frames, &self.hellos, end, second) else {
             return false;
-        }
-        self.room -= 2;
-        self.recents.push_pair(
-            self.places.len(),
-            recent_hello(first, far_end),
-            recent_hello(second, far_end),
-        );
+        };
+        self.places.push_reserved(one);
+        self.places.push_reserved(two);
         true
     }
 
@@ -213,69 +157,42 @@ impl Datagrams {
     pub fn get(&self, place: usize) -> Option<BorrowedFrame<'_>>
         ensures { result ≡ slice_get self.now.items place }
     {
-        let Some(at) = self.places.get(place) else {
+        let Some(at) = place_at(&self.places, place) else {
             return None;
         };
-        match self.recents.get(place) {
-            Some(recent) => self.frames.get_with(at as usize, recent.header()),
-            None => self.frames.get(at as usize),
-        }
+        self.frames.get(at as usize)
     }
 
-    /// What is told of the datagram that stands behind so many others, where it is known to be a HELLO, as most of those are that were sent
-    /// last.
+    /// The datagram that stands behind so many others, if it is a HELLO.
     #[inline(always)]
-    pub fn hello(&self, place: usize) -> Option<&RecentFrame>
-        ensures hello { IfSome result (λ told. slice_get self.now.items place ≡ Some (frame_of (told_header told.now) Body.Hello)) }
-        ensures valid { IfSome result (λ told. IsHeader (told_header told.now)) }
+    pub fn hello(&self, place: usize) -> Option<&KeptFrame>
+        ensures hello { IfSome result (λ kept. slice_get self.now.items place ≡ Some (frame_of kept.now.header Body.Hello)) }
+        ensures valid { IfSome result (λ kept. IsHeader kept.now.header) }
     {
-        let Some(recent) = self.recents.get(place) else {
+        let Some(at) = place_at(&self.places, place) else {
             return None;
         };
-        if recent.is_hello { Some(recent) } else { None }
+        self.frames.hello(at as usize)
     }
 
     /// Where the link end may stand to which the datagram goes that stands behind so many others: a guess.
     #[inline(always)]
     pub fn far_end(&self, place: usize) -> usize {
-        match self.recents.get(place) {
-            Some(recent) => recent.far_end as usize,
+        match place_at(&self.places, place) {
+            Some(at) => self.frames.far_end(at as usize) as usize,
             None => 0,
         }
     }
 
-    /// From which node to which the datagram goes that stands behind so many others: only its frame's header is looked at.
+    /// From which node to which the datagram goes that stands behind so many others.
     #[inline(always)]
     pub fn way(&self, place: usize) -> Option<(Id, Id)>
         ensures { result ≡ option_map way_of (slice_get self.now.items place) }
     {
-        if let Some(recent) = self.recents.get(place) {
-            return Some(recent.way());
-        }
-        self.kept_way(place)
-    }
-
-    /// The same, by the frame that is kept.
-    #[inline(never)]
-    fn kept_way(&self, place: usize) -> Option<(Id, Id)>
-        ensures { result ≡ option_map way_of (slice_get self.now.items place) }
-    {
-        let Some(at) = self.places.get(place) else {
+        let Some(at) = place_at(&self.places, place) else {
             return None;
         };
         self.frames.way(at as usize)
-    }
-
-    /// Lets the headers go of the datagrams that were sent last, where they are many: those that were delivered are seldom asked for again, so
-    /// that the next ones stand where memory is at hand.
-    #[inline(always)]
-    pub fn forget_recents(&mut self)
-        ensures { self.new.items ≡ self.old.items }
-    {
-        if self.recents.frames.len() < MANY_RECENTS {
-            return;
-        }
-        self.recents.clear(self.places.len());
     }
 
     /// Lets the first datagrams go, so many or all. What they took is for those to come: their places, and their frames once those that no
@@ -291,9 +208,7 @@ impl Datagrams {
     fn forget_places(&mut self, many: usize)
         ensures { self.new.items ≡ drop many self.old.items }
     {
-        self.room = 0;
-        self.places.forget_first(many);
-        self.recents.clear(self.places.len());
+        let_go(&mut self.places, many);
     }
 
     /// Keeps only the frames that datagrams have, where most of those that are kept are of none. Where memory for them is refused, all stays as
@@ -341,182 +256,38 @@ impl Datagrams {
     }
 }
 
-/// Makes places for the HELLOs of a link end.
-///
-/// # Errors
-/// Want of memory.
+/// The place of the frame of the datagram that stands behind so many others.
 #[inline(always)]
-fn make_hellos(
-    hellos: &mut Vec<LastHello>,
-    _frames: &KeptFrames,
-    end: usize,
-) -> Result<(), AllocError>
-    requires { AreHellos hellos.old.items _frames.now.items }
-    ensures { AreHellos hellos.new.items _frames.now.items }
+fn place_at(places: &Vec<u32>, at: usize) -> Option<u32>
+    ensures { result ≡ slice_get places.now.items at }
 {
-    let behind = end.saturating_add(1);
-    if hellos.len() < behind {
-        hellos.resize(behind, LastHello::none())?;
-    }
-    Ok(())
+    places.get(at).copied()
 }
 
-/// The place of a HELLO that is known to be kept.
+/// The place of a HELLO of this header, if the last one of its version that the link end at a place sent says the same.
 #[inline(always)]
 fn found_hello(
-    hellos: &[LastHello],
-    _frames: &KeptFrames,
+    frames: &KeptFrames,
+    hellos: &[LastHellos],
     end: usize,
     header: &Header,
 ) -> Option<u32>
-    requires { AreHellos hellos.now _frames.now.items }
-    ensures { IfSome result (λ place. slice_get _frames.now.items place ≡ Some (frame_of header.now Body.Hello)) }
+    ensures { IfSome result (λ place. slice_get frames.now.items place ≡ Some (frame_of header.now Body.Hello)) }
 {
     let Some(last) = hellos.get(end) else {
         return None;
     };
-    last.place(header)
-}
-
-/// The places of two HELLOs that are both known to be kept.
-#[inline(always)]
-fn found_pair(
-    hellos: &[LastHello],
-    _frames: &KeptFrames,
-    end: usize,
-    first: &Header,
-    second: &Header,
-) -> Option<(u32, u32)>
-    requires { AreHellos hellos.now _frames.now.items }
-    ensures first { IfSome result (λ places. slice_get _frames.now.items places.0 ≡ Some (frame_of first.now Body.Hello)) }
-    ensures second { IfSome result (λ places. slice_get _frames.now.items places.1 ≡ Some (frame_of second.now Body.Hello)) }
-{
-    let Some(one) = found_hello(hellos, _frames, end, first) else {
+    let place = last.place(header.version);
+    let Some(kept) = frames.hello(place as usize) else {
         return None;
     };
-    let Some(two) = found_hello(hellos, _frames, end, second) else {
-        return None;
-    };
-    Some((one, two))
+    let is_same = kept.header() == *header;
+    if is_same { Some(place) } else { None }
 }
 
-/// The place of a HELLO of this header, whose frame is kept now if it was not the last one of its version that its link end sent; and whether it
-/// was.
-#[inline(always)]
-fn hello_place(
-    frames: &mut KeptFrames,
-    hellos: &mut Vec<LastHello>,
-    end: usize,
-    header: &Header,
-) -> (u32, bool)
-    requires room { HasRoom frames.old }
-    requires places { length frames.old.items < 2 ^ 32 }
-    requires valid { IsHeader header.now }
-    requires hellos { AreHellos hellos.old.items frames.old.items }
-    ensures is { slice_get frames.new.items result.0 ≡ Some (frame_of header.now Body.Hello) }
-    ensures more { IsMore frames.old.items frames.new.items }
-    ensures hellos { AreHellos hellos.new.items frames.new.items }
-    ensures same { result.1 ≡ true → frames.new ≡ frames.old }
-{
-    if let Some(place) = found_hello(hellos, frames, end, header) {
-        return (place, true);
-    }
-    // By value, and put together by its fields: where it lies in memory for a call, or what fills it up is moved as well, each HELLO is written
-    // there and read from there.
-    let header = recent_hello(header, 0).header();
-    (keep_hello(frames, hellos, end, header), false)
-}
-
-/// For how many more it is known that there is room, behind one for which there was: one less, if there is room for a frame, as where none came,
-/// and one place less.
-#[inline(always)]
-fn room_behind(room: usize, is_ready: bool, is_left: bool) -> usize
-    ensures less { is_ready ≡ true → is_left ≡ true → result ≡ room - 1 }
-    ensures frame { is_ready ≡ false → result ≡ 0 }
-    ensures place { is_left ≡ false → result ≡ 0 }
-{
-    if is_ready && is_left {
-        room.saturating_sub(1)
-    } else {
-        0
-    }
-}
-
-/// The same behind one whose frame may have come: whether there is room for a frame more is asked of the frames.
-#[inline(always)]
-fn room_with(room: usize, frames: &KeptFrames, is_left: bool) -> usize
-    ensures less { 0 < result → (result + 1 ≡ room) × (is_left ≡ true) }
-    ensures room { 0 < result → HasRoom frames.now × (length frames.now.items < 2 ^ 32) }
-{
-    let is_ready = frames.is_ready() && frames.len() < MOST_FRAMES;
-    room_behind(room, is_ready, is_left)
-}
-
-/// Keeps the frame of a HELLO of this header, and that it is the last one.
-#[inline(never)]
-fn keep_hello(
-    frames: &mut KeptFrames,
-    hellos: &mut Vec<LastHello>,
-    end: usize,
-    header: Header,
-) -> u32
-    requires room { HasRoom frames.old }
-    requires places { length frames.old.items < 2 ^ 32 }
-    requires valid { IsHeader header }
-    requires hellos { AreHellos hellos.old.items frames.old.items }
-    ensures is { slice_get frames.new.items result ≡ Some (frame_of header Body.Hello) }
-    ensures more { IsMore frames.old.items frames.new.items }
-    ensures hellos { AreHellos hellos.new.items frames.new.items }
-{
-    let place = frames.len() as u32;
-    let frame = BorrowedFrame::hello(header);
-    frames.push(end, &frame);
+/// Notes where the last HELLO of its version stands that the link end at a place sends.
+fn note_hello(hellos: &mut Vec<LastHellos>, end: usize, header: &Header, place: u32) {
     if end < hellos.len() {
-        hellos[end] = hellos[end].with_hello(&header, place);
+        hellos[end] = hellos[end].with_place(header.version, place);
     }
-    place
-}
-
-/// The mark of a frame: the last bits of the number of a DATA frame and of the count of an ACK.
-#[inline(always)]
-fn mark_of(frame: &BorrowedFrame<'_>) -> u32 {
-    let number = match frame.body() {
-        BorrowedBody::Data(number, _, _) => number,
-        BorrowedBody::Ack(count) => count,
-        BorrowedBody::Hello => 0,
-    };
-    (number % 0x1_0000_0000) as u32
-}
-
-/// The place of a frame that is kept, if the guess is right. A frame of another mark is another, so that what is kept isn't looked at for it.
-#[inline(always)]
-fn found(frames: &KeptFrames, end: usize, mark: u32, frame: &BorrowedFrame<'_>) -> Option<u32>
-    ensures { IfSome result (λ place. slice_get frames.now.items place ≡ Some frame.now) }
-{
-    let Some(last) = frames.guess(end, frame) else {
-        return None;
-    };
-    if last.mark != mark {
-        return None;
-    }
-    let is_same = frames.is_at(last.place as usize, frame);
-    if is_same { Some(last.place) } else { None }
-}
-
-/// The place of a frame that a link end sends, which is kept now if it was not.
-#[inline(always)]
-fn place_of(frames: &mut KeptFrames, end: usize, frame: &BorrowedFrame<'_>) -> u32
-    requires room { HasRoom frames.old }
-    requires places { length frames.old.items < 2 ^ 32 }
-    ensures is { slice_get frames.new.items result ≡ Some frame.now }
-    ensures more { IsMore frames.old.items frames.new.items }
-{
-    let mark = mark_of(frame);
-    if let Some(place) = found(frames, end, mark, frame) {
-        return place;
-    }
-    let place = frames.len() as u32;
-    frames.push(end, frame);
-    frames.note_guess(end, frame, Guess { place, mark });
-    place
 }

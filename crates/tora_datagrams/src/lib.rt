@@ -1,8 +1,8 @@
-//! The datagrams that were sent in a simulated world, each in few bytes.
+//! The datagrams that were sent in a simulated world.
 //!
 //! A world of the prefix law keeps every datagram, so that each can be delivered late, twice or never. `Datagrams` keeps them
-//! in the order in which they were sent: each frame once, and of each datagram the place of its frame, packed where places
-//! repeat. What is read is what was sent, frame by frame. Own profile.
+//! in the order in which they were sent: of each the place of its frame, where a HELLO that a link end says again is kept once.
+//! What is read is what was sent, frame by frame. Own profile.
 //!
 //! ```rust
 //! let mut datagrams = Datagrams::new(alloc);
@@ -19,19 +19,10 @@ mod datagrams;
 mod first_items;
 mod gone_datagrams;
 mod kept_frames;
-mod packed_block;
-mod packed_places;
-mod packing;
-mod places;
-mod recents;
+mod last_hellos;
 mod room;
-mod same_frames;
-mod same_packets;
-mod short_place;
-mod split_number;
-mod words;
 
 pub use datagrams::Datagrams;
 pub use gone_datagrams::{FirstDatagrams, GoneDatagrams};
-pub use recents::RecentFrame;
+pub use kept_frames::{KeptBody, KeptFrame};
 pub use room::reserve_one;

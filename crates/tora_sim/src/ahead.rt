@@ -13,7 +13,6 @@ use crate::links::far_end_at;
 use crate::nodes::NodeSlot;
 use crate::stills::Stills;
 use std::alloc::Global;
-use tora_datagrams::Datagrams;
 use tora_frame::{BorrowedBody, BorrowedFrame};
 use tora_height::Id;
 
@@ -90,10 +89,9 @@ impl Ahead {
         keys: &[(Id, Id)],
         nodes: &[NodeSlot],
         hints: &Hints,
-        datagrams: &Datagrams,
     ) {
         if self.came >= self.read && self.read < self.far_ends.len() {
-            self.read_receivers(links, keys, nodes, hints, datagrams);
+            self.read_receivers(links, keys, nodes, hints);
         }
         self.came = self.came.saturating_add(1);
     }
@@ -106,15 +104,12 @@ impl Ahead {
         keys: &[(Id, Id)],
         nodes: &[NodeSlot],
         hints: &Hints,
-        datagrams: &Datagrams,
     ) {
         let behind = self.far_ends.len().min(self.read.saturating_add(AT_ONCE));
         let mut word = self.word;
         for place in self.read..behind {
             let at = far_end_at(&self.far_ends, place) as usize;
-            word ^= read_end(links, at)
-                ^ datagrams.prefetch(at)
-                ^ read_home(keys, nodes, hints, at);
+            word ^= read_end(links, at) ^ read_home(keys, nodes, hints, at);
         }
         self.read = behind;
         self.word = word;
@@ -148,36 +143,22 @@ impl Ahead {
     /// A cargo is pulled at the link end at a place: where the pulls of those before it are all that were read of, reads ahead of the next ones, this one
     /// among them, and of the frames that follow. Which ends may have a cargo is told by the ticks before which they are plain.
     #[inline(always)]
-    pub fn on_pull(
-        &mut self,
-        links: &[LinkSlot],
-        plains: &Stills,
-        now: u64,
-        datagrams: &Datagrams,
-        at: usize,
-    ) {
+    pub fn on_pull(&mut self, links: &[LinkSlot], plains: &Stills, now: u64, at: usize) {
         if at >= self.pulled {
-            self.read_pulls(links, plains, now, datagrams, at);
+            self.read_pulls(links, plains, now, at);
         }
     }
 
     /// Reads ahead of the pulls from the link end at a place on.
     #[inline(never)]
-    fn read_pulls(
-        &mut self,
-        links: &[LinkSlot],
-        plains: &Stills,
-        now: u64,
-        datagrams: &Datagrams,
-        first: usize,
-    ) {
+    fn read_pulls(&mut self, links: &[LinkSlot], plains: &Stills, now: u64, first: usize) {
         let mut word = self.word;
         let mut at = first;
         for _ in 0..AT_ONCE {
             if at >= links.len() {
                 break;
             }
-            word ^= links[at].prefetch() ^ datagrams.prefetch(at);
+            word ^= links[at].prefetch();
             at = next_due(plains, now, at + 1);
         }
         self.pulled = at;

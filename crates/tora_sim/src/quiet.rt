@@ -42,7 +42,6 @@ impl Sim {
         if self.clock < self.quiet {
             return;
         }
-        self.datagrams.forget_recents();
         look_at_ends::<Settling>(&self.links, &mut self.stills, self.clock);
         look_at_ends::<Marking>(&self.links, &mut self.plains, self.clock);
         self.idle = find_idle(self.idle, &self.nodes);

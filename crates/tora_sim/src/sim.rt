@@ -136,7 +136,7 @@ impl Sim {
             return Err(SimError::NotPossible);
         }
         self.ahead
-            .on_pull(&self.links, &self.plains, self.clock, &self.datagrams, at);
+            .on_pull(&self.links, &self.plains, self.clock, at);
         self.quiet = 0;
         if !self.links[at].pull() {
             return Err(SimError::Memory);
@@ -297,7 +297,7 @@ impl Sim {
     }
 
     /// A datagram is handed to its receiver, unless the receive is armed to fail. Until when nothing is to be done at the end that takes it in
-    /// is asked at once, while the end is at hand. Of a HELLO that was sent lately the header alone is looked at.
+    /// is asked at once, while the end is at hand. Of a HELLO the header alone is looked at.
     #[inline(always)]
     pub(crate) fn deliver(&mut self, i: u64) -> Result<(), SimError>
         ensures { Does self.old (Deliver i) result self.new }
@@ -314,16 +314,11 @@ impl Sim {
     fn read_receivers(&mut self)
         ensures { self.new ≡ self.old }
     {
-        self.ahead.on_frame(
-            &self.links,
-            &self.keys,
-            &self.nodes,
-            &self.hints,
-            &self.datagrams,
-        );
+        self.ahead
+            .on_frame(&self.links, &self.keys, &self.nodes, &self.hints);
     }
 
-    /// A datagram is handed to its receiver as `deliver` has it, where it is known to be a HELLO and the receive isn't armed, and says whether it
+    /// A datagram is handed to its receiver as `deliver` has it, where it is a HELLO and the receive isn't armed, and says whether it
     /// was; else nothing is changed.
     #[inline(always)]
     fn deliver_hello(&mut self, i: u64) -> bool
@@ -542,7 +537,7 @@ pub fn numbered(datagrams: &Datagrams, i: u64) -> Option<BorrowedFrame<'_>>
     datagrams.get(place)
 }
 
-/// The header of the datagram of a number from 1 on, where it is known to be a HELLO, and where the link end may stand to which it goes: a
+/// The header of the datagram of a number from 1 on, if it is a HELLO, and where the link end may stand to which it goes: a
 /// guess.
 #[inline(always)]
 fn numbered_hello(datagrams: &Datagrams, i: u64) -> Option<(Header, usize)>

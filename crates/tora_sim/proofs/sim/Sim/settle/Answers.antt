@@ -1,6 +1,3 @@
-use Rattle.std.proofs.Common.{List, sym, subst}
-use Rattle.tora_frame.specs.FrameParts.{FrameParts}
-use Rattle.tora_sim.specs.Store.{IsStore, state_of}
 use Rattle.tora_sim.proofs.sim.Sim.settle.Goals as goal
 
 pub look_at_ends-requires : goal.look_at_ends-requires
@@ -20,6 +17,4 @@ quiet_until-until-requires-clause-still c = c.look_at_ends.ensures
 
 pub invariant_of-self : goal.invariant_of-self
 invariant_of-self c =
-    let s = c.self.inside in
-    let store : IsStore (state_of s.topology s.times s.clock s.nodes.items s.links.items c.forget_recents.new.self.items) = subst (λ (items : List FrameParts). IsStore (state_of s.topology s.times s.clock s.nodes.items s.links.items items)) (sym c.forget_recents.ensures) c.self.invariant.0 in
-    (store, c.quiet_until-until.ensures, c.look_at_ends.ensures, c.self.invariant.3, c.look_at_ends-2.ensures, c.self.invariant.5, c.self.invariant.6, c.find_idle-self-inside.ensures)
+    (c.self.invariant.0, c.quiet_until-until.ensures, c.look_at_ends.ensures, c.self.invariant.3, c.look_at_ends-2.ensures, c.self.invariant.5, c.self.invariant.6, c.find_idle-self-inside.ensures)

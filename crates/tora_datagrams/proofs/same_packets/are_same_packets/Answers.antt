@@ -1,6 +1,0 @@
-use Rattle.std.proofs.Common.{rules}
-use Rattle.std.proofs.lemmas.Slice.Eq.{slice_eq-Decides}
-use Rattle.tora_datagrams.proofs.same_packets.are_same_packets.Goals as goal
-
-pub returns : goal.returns
-returns c = (slice_eq-Decides (λ a b. (search rules, search rules)) c.args.a.now c.args.b.now c.eq.result c.eq.ensures)
