@@ -1,5 +1,5 @@
 //! The rows of the core's seat, one for each neighbour.
-ghost use Rattle.std.specs.Prelude.{◌≡◌, ◌<◌, ◌≤◌, ℕ, List, length, false, Option, IfOk, slice_get, map};
+ghost use Rattle.std.specs.Prelude.{◌≡◌, ◌<◌, ◌≤◌, ℕ, List, length, false, Option, None, Some, IfOk, slice_get, map, if◌then◌else◌};
 ghost use Rattle.tora_core.specs.Numbers.{has_number, has_repeat};
 ghost use Rattle.tora_core.specs.CoreRun.{CoreView};
 ghost use Rattle.tora_seat.specs.Serving.{after_cuts_tried, after_broadcast, after_broadcasts, first_cut, is_current};
@@ -129,6 +129,13 @@ fn is_cut(core: &Core, row: &LinkRow) -> bool
         return false;
     }
     core.is_up(row.neighbour)
+}
+
+/// What is pending of a life whose cut was offered.
+pub fn left_pending(is_put: bool, life: Life) -> Option<Life>
+    ensures { result ≡ (if is_put then None else Some life) }
+{
+    if is_put { None } else { Some(life) }
 }
 
 /// Whether it is the current life.
