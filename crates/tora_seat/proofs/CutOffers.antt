@@ -58,9 +58,9 @@ place_is ks k = go (nat_lt (found k ks) (length ks)) refl
     go true t = let lt : found k ks < length ks = grind (arith, nat_tests) in found_there ks k lt
     go false t = let le : length ks ≤ found k ks = grind (arith, nat_tests) in found_none ks k le
 
-pub place_so : (n k : ℕ) (numbers ks : List ℕ) (o : Option ℕ) → o ≡ position (λ m. nat_eq m n) numbers → n ≡ k → numbers ≡ ks → MatchOption o (has_number k ks ≡ false) (λ place. slice_get ks place ≡ Some k)
-place_so n k numbers ks o e a b =
-    subst (λ (x : Option ℕ). MatchOption x (has_number k ks ≡ false) (λ place. slice_get ks place ≡ Some k)) (sym (e ∙ ap (λ (i : ℕ). position (λ m. nat_eq m i) numbers) a ∙ ap (position (λ m. nat_eq m k)) b)) (place_is ks k)
+pub place_so : (k : ℕ) (numbers ks : List ℕ) (o : Option ℕ) → o ≡ position (λ m. nat_eq m k) numbers → numbers ≡ ks → MatchOption o (has_number k ks ≡ false) (λ place. slice_get ks place ≡ Some k)
+place_so k numbers ks o e same =
+    subst (λ (x : Option ℕ). MatchOption x (has_number k ks ≡ false) (λ place. slice_get ks place ≡ Some k)) (sym (e ∙ ap (position (λ m. nat_eq m k)) same)) (place_is ks k)
 
 -- a number at a place is in the list
 at_in : (ks : List ℕ) (i k : ℕ) → slice_get ks i ≡ Some k → has_number k ks ≡ true

@@ -1,5 +1,5 @@
 //! The rows of the core's seat, one for each neighbour.
-ghost use Rattle.std.specs.Prelude.{◌≡◌, ◌<◌, ◌≤◌, ℕ, List, length, false, Option, None, Some, IfOk, slice_get, map, if◌then◌else◌};
+ghost use Rattle.std.specs.Prelude.{◌≡◌, ◌<◌, ◌≤◌, ℕ, List, length, false, Option, None, Some, IfOk, slice_get, map, position, ◌==◌, if◌then◌else◌};
 ghost use Rattle.tora_core.specs.Numbers.{has_number, has_repeat};
 ghost use Rattle.tora_core.specs.CoreRun.{CoreView};
 ghost use Rattle.tora_seat.specs.Serving.{after_cuts_tried, after_broadcast, after_broadcasts, first_cut, is_current};
@@ -109,6 +109,13 @@ pub fn row_at(rows: &[LinkRow], place: usize) -> Option<LinkRow>
     ensures { result ≡ slice_get rows.now place }
 {
     rows.get(place).copied()
+}
+
+/// The place of a neighbour, from 0 on, if it is one of these.
+pub fn place_in(neighbours: &[Id], k: Id) -> Option<usize>
+    ensures { result ≡ position (λ n. n == k) neighbours.now }
+{
+    neighbours.iter().position(|n| *n == k)
 }
 
 /// The neighbour of the first row whose link is up at the core without a current life.

@@ -9,12 +9,13 @@ ghost use Rattle.tora_seat.specs.Offers.{AreOffered, Follows};
 ghost use Rattle.tora_seat.specs.Rows.{SeatView, neighbours_of, current_of, pending_of, state_of, serving_at, first_seat};
 ghost use Rattle.tora_seat.specs.Bodies.{IsSettled, SeatGoes, StepsQuietly};
 
-use crate::rows::{broadcast_all, first_cut, is_current, left_pending, new_rows, row_at, try_cuts};
+use crate::rows::{
+    broadcast_all, first_cut, is_current, left_pending, new_rows, place_in, row_at, try_cuts,
+};
 use crate::{Answer, Cargo, Item, LinkRow, OutLanes, Stepped, What};
 use std::alloc::{AllocError, Global};
 use std::marker::Model;
 use tora_arq::Life;
-use tora_core::numbers::place_of;
 use tora_core::{Core, Input, Sends};
 use tora_height::Id;
 use tora_packet::Packet;
@@ -361,7 +362,7 @@ impl BareSeat {
         ensures { MatchOption result (has_number k self.now.core.neighbours ≡ false)
             (λ place. slice_get self.now.core.neighbours place ≡ Some k) }
     {
-        place_of(k, self.core.neighbours())
+        place_in(self.core.neighbours(), k)
     }
 
     /// Offers the cut of a life to the lane of the neighbour at a place; where it is handed back, it is pending.
