@@ -274,10 +274,10 @@ check_status() {
     printf 'node = %d\ndests = [2]\nlife_dir = "%s"\n[[link]]\npeer = %d\nlocal = 4080%d\nremote = 4080%d\n' $n "$work/status$n" $((3 - n)) $n $((3 - n)) >"$work/$n.toml"
   done
   sleep 4 | "$program" node "$work/2.toml" >/dev/null 2>&1 &
-  (echo watch; sleep 2.5; echo json; echo need 9) | "$program" node "$work/1.toml" >"$work/told" 2>/dev/null
+  (echo watch; sleep 2.5; echo json; echo need 9; echo cut 2) | "$program" node "$work/1.toml" >"$work/told" 2>/dev/null
   wait
   grep -v '^{' "$work/told" >"$work/lines" || true
-  printf '%s\n' 'height 2 -' 'hop 2 -' 'hop 2 2' 'refused 5' >"$work/wanted"
+  printf '%s\n' 'height 2 -' 'hop 2 -' 'hop 2 2' 'refused 5' 'hop 2 -' >"$work/wanted"
   agrees "$work/wanted" "$work/lines" 'what a watched node prints'
   grep '^{' "$work/told" >"$work/state" || true
   holds 'the state of a node is a line of JSON' python3 -c '

@@ -20,7 +20,7 @@ SECTIONS = {"Replay": [MANUAL, HELP], "Simulation files": [MANUAL, HELP], "Drivi
 SENTENCES = {
     "Replay": ["node I links LIST dests LIST", "send HEX", "bad N", "refused N", "to D height H flag F hop K"],
     "Simulation files": ["dests LIST", "link A B", "old N", "erasure N WORD"],
-    "Commands and log of a node": ["need D", "show", "json", "watch", "quit", "help"],
+    "Commands and log of a node": ["need D", "cut K", "show", "json", "watch", "quit", "help"],
     "What a node tells programs": ["height D H", "hop D K"],
 }
 

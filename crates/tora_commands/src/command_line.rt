@@ -120,6 +120,7 @@ leaves the loopback needs a key; both of its ends have the same.
 
 Commands on standard input, each a line:
   need D             a route to destination D is needed
+  cut K              ends the life of the link to K at once
   show               prints the table
   json               prints the state of the node as a line of JSON
   watch              prints heights and next hops, and each change of them:

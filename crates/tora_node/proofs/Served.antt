@@ -66,6 +66,7 @@ told_since : (told : Option (List Told)) (what : What) (core : CoreView) → is_
 told_since told (Tells.Status Asked.Watch) core e = inr refl
 told_since told (Tells.Status Asked.Json) core e = inl e
 told_since told (Tells.Need d) core e = inl (still_told told core e)
+told_since told (Tells.Cut k) core e = inl (still_told told core e)
 told_since told (Tells.Up life) core e = inl (still_told told core e)
 told_since told (Tells.Packet life packet) core e = inl (still_told told core e)
 told_since told (Tells.Down life reason) core e = inl (still_told told core e)
@@ -184,6 +185,7 @@ module _ {A B : Type 0} (f : A → B) where
   may_tell_more Tells.Show h = tt
   may_tell_more (Tells.Status status) h = tt
   may_tell_more (Tells.Need d) h = f h
+  may_tell_more (Tells.Cut k) h = f h
   may_tell_more (Tells.Up life) h = f h
   may_tell_more (Tells.Packet life packet) h = f h
   may_tell_more (Tells.Down life reason) h = f h

@@ -21,6 +21,7 @@ asked_in line = if nat_lt 4096 (length line) then Asks.Unknown else asked_by lin
 -- what is put for a line, and then what is put behind it: nothing behind quit
 abbrev pub put_for : Command → List What → List What
 put_for (Asks.Need d) behind = Tells.Need d ∷ behind
+put_for (Asks.Cut k) behind = Tells.Cut k ∷ behind
 put_for Asks.Show behind = Tells.Show ∷ behind
 put_for (Asks.Status status) behind = Tells.Status status ∷ behind
 put_for Asks.Quit behind = Tells.Quit ∷ []

@@ -1,4 +1,4 @@
--- What a line asks of a node: `show`, `json`, `watch`, `quit`, or `need D`, with D in decimal digits.
+-- What a line asks of a node: `show`, `json`, `watch`, `quit`, `need D` or `cut K`, with D and K in decimal digits.
 use Rattle.std.specs.Prelude.{ℕ, Bool, ◌==◌, ◌&&◌, if◌then◌else◌, codes, is_some, List, length, Option, Some, None}
 use Rattle.tora_lines.specs.Fronts.{after}
 use Rattle.tora_lines.specs.Words.{id_of}
@@ -15,9 +15,19 @@ abbrev pub need_of : Option ℕ → Command
 need_of None = Asks.Unknown
 need_of (Some d) = Asks.Need d
 
-abbrev pub need_in : Option (List ℕ) → Command
-need_in None = Asks.Unknown
-need_in (Some digits) = need_of (id_of digits)
+-- the end of the current life of the neighbour that the digits spell
+abbrev pub cut_of : Option ℕ → Command
+cut_of None = Asks.Unknown
+cut_of (Some k) = Asks.Cut k
+
+abbrev pub cut_in : Option (List ℕ) → Command
+cut_in None = Asks.Unknown
+cut_in (Some digits) = cut_of (id_of digits)
+
+-- what stands behind `need `, or else behind `cut `
+abbrev pub need_or_cut_in : Option (List ℕ) → Option (List ℕ) → Command
+need_or_cut_in None other = cut_in other
+need_or_cut_in (Some digits) other = need_of (id_of digits)
 
 -- what a line asks
 unfoldable pub asked_by : List ℕ → Command
@@ -26,4 +36,4 @@ asked_by line =
     else (if is_word (codes "json") line then Asks.Status Of.Json
     else (if is_word (codes "watch") line then Asks.Status Of.Watch
     else (if is_word (codes "quit") line then Asks.Quit
-    else need_in (after (codes "need ") line))))
+    else need_or_cut_in (after (codes "need ") line) (after (codes "cut ") line))))

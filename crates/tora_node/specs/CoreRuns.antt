@@ -74,6 +74,7 @@ reply_text told now Tells.Show answer s = show_text s.core
 reply_text told now (Tells.Status Asked.Json) answer s = json_text now s
 reply_text told now (Tells.Status Asked.Watch) answer s = state_text s.core
 reply_text told now (Tells.Need d) answer s = refused_text answer ++ news_text told s.core
+reply_text told now (Tells.Cut k) answer s = news_text told s.core
 reply_text told now (Tells.Up life) answer s = news_text told s.core
 reply_text told now (Tells.Packet life packet) answer s = news_text told s.core
 reply_text told now (Tells.Down life reason) answer s = news_text told s.core
@@ -92,6 +93,7 @@ abbrev pub told_after : Option (List Told) → What → CoreView → Option (Lis
 told_after told (Tells.Status Asked.Watch) core = Some (all_told core)
 told_after told (Tells.Status Asked.Json) core = told
 told_after told (Tells.Need d) core = told_anew told core
+told_after told (Tells.Cut k) core = told_anew told core
 told_after told (Tells.Up life) core = told_anew told core
 told_after told (Tells.Packet life packet) core = told_anew told core
 told_after told (Tells.Down life reason) core = told_anew told core
@@ -128,6 +130,7 @@ abbrev pub MayTell : Type 0 → What → Type 0
 MayTell watched Tells.Show = Unit {0}
 MayTell watched (Tells.Status status) = Unit {0}
 MayTell watched (Tells.Need d) = watched
+MayTell watched (Tells.Cut k) = watched
 MayTell watched (Tells.Up life) = watched
 MayTell watched (Tells.Packet life packet) = watched
 MayTell watched (Tells.Down life reason) = watched

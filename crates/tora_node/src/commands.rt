@@ -1,7 +1,8 @@
 //! The commands of a running node, one a line.
-ghost use Rattle.std.specs.Prelude.{◌≡◌, ◌<◌, ◌≤◌, ◌++◌, ◌∷◌, [], ℕ, List, IfOk, IfErr, IfSome, true, length, take};
+ghost use Rattle.std.specs.Prelude.{◌≡◌, ◌<◌, ◌≤◌, ◌++◌, ◌∷◌, [], ℕ, List, IfOk, IfErr, IfSome, true, length, take, codes};
+ghost use Rattle.tora_lines.specs.Fronts.{after};
 ghost use Rattle.std.specs.Io.KnownBytes.{Consumes};
-ghost use Rattle.tora_node.specs.CommandText.{asked_by};
+ghost use Rattle.tora_node.specs.CommandText.{asked_by, cut_in};
 ghost use Rattle.tora_node.specs.CommandRuns.{asked_in, put_for, put_from, IsLine, Commands};
 ghost use Rattle.tora_node.specs.CommandSteps.{Holds, DidPut, PutsAll, PutsLast, is_gone, EndsReading};
 
@@ -22,7 +23,7 @@ use tora_seat::Status;
 pub const LONGEST_COMMAND: usize = 4096;
 
 /// What the log says of the commands.
-const COMMANDS: &str = "commands are `need D`, `show`, `json`, `watch`, `quit` and `help`";
+const COMMANDS: &str = "commands are `need D`, `cut K`, `show`, `json`, `watch`, `quit` and `help`";
 
 /// How many bytes one read asks for at most.
 const CHUNK: usize = 512;
@@ -32,6 +33,8 @@ const CHUNK: usize = 512;
 pub enum Command {
     /// A route to a destination.
     Need(Id),
+    /// The end of the life that is current at a neighbour.
+    Cut(Id),
     /// The lines of the core's table.
     Show,
     /// What of the core is to be told to a program: `json` or `watch`.
@@ -42,12 +45,13 @@ pub enum Command {
     Unknown,
 }
 
-/// What a line asks: `show`, `json`, `watch`, `quit`, or `need D`, where D is a number from 1 to 2^32 - 1 in decimal digits, without a sign
-/// and without leading zeros.
+/// What a line asks: `show`, `json`, `watch`, `quit`, `need D` or `cut K`, where D and K are numbers from 1 to 2^32 - 1 in decimal digits,
+/// without a sign and without leading zeros.
 #[tactic(auto, unfolding(crate::specs::CommandText::asked_by))]
 pub fn command_of(line: &[u8]) -> Command
     ensures exact { result ≡ asked_by line.now }
     ensures above { (d : ℕ) → result ≡ Command.Need d → 0 < d }
+    ensures above_cut { (k : ℕ) → result ≡ Command.Cut k → 0 < k }
 {
     if is_word(b"show", line) {
         return Command::Show;
@@ -62,9 +66,24 @@ pub fn command_of(line: &[u8]) -> Command
         return Command::Quit;
     }
     match after(b"need ", line) {
-        None => Command::Unknown,
+        None => cut_asked(line),
         Some(digits) => match id(digits) {
             Some(d) => Command::Need(d),
+            None => Command::Unknown,
+        },
+    }
+}
+
+/// What a line asks that is none of the others: `cut K`.
+fn cut_asked(line: &[u8]) -> Command
+    ensures exact { result ≡ cut_in (after (codes "cut ") line.now) }
+    ensures cut { (d : ℕ) → result ≡ Command.Need d → ⊥ }
+    ensures above { (k : ℕ) → result ≡ Command.Cut k → 0 < k }
+{
+    match after(b"cut ", line) {
+        None => Command::Unknown,
+        Some(digits) => match id(digits) {
+            Some(k) => Command::Cut(k),
             None => Command::Unknown,
         },
     }
@@ -167,6 +186,7 @@ fn put<R: Wait + Log, C: Clock>(
 {
     let what = match command {
         Command::Need(d) => What::Need(d),
+        Command::Cut(k) => What::Cut(k),
         Command::Show => What::Show,
         Command::Status(status) => What::Status(status),
         Command::Quit => What::Quit,

@@ -190,6 +190,7 @@ fn reply<W: Write>(
         What::Status(Status::Json) => print_json(alloc, seat, item.now, writer),
         What::Status(Status::Watch) => begin_watch(alloc, seat, watch, writer),
         What::Need(_) => answer_need(alloc, seat, answer, watch, writer),
+        What::Cut(_) => print_news(alloc, seat, watch, writer),
         What::Up(_) => print_news(alloc, seat, watch, writer),
         What::Packet(_, _) => print_news(alloc, seat, watch, writer),
         What::Down(_, _) => print_news(alloc, seat, watch, writer),

@@ -29,7 +29,12 @@ module _ (answers : Answers) where
   calm_broadcasts ks [] v = record { core = refl; inputs = refl }
   calm_broadcasts ks (p ∷ ps) v = calm_by v (after_broadcast answers p ks v) (after_broadcasts answers ks ps (after_broadcast answers p ks v)) (calm_broadcast p ks v) (calm_broadcasts ks ps (after_broadcast answers p ks v))
 
-  calm_cut : (v : Serving) (j : ℕ) (o : Option Life) → Calm v (after_cut_tried answers v j o)
+  -- a cut that is tried leaves the current lives
+  pub tried_current : (v : Serving) (j : ℕ) (o : Option Life) → (after_cut_tried answers v j o).seat.current ≡ v.seat.current
+  tried_current v j None = refl
+  tried_current v j (Some l) = cond_both (answers v.offers j) _ _ (λ (x : Serving). x.seat.current ≡ v.seat.current) (λ _. refl) (λ _. refl)
+
+  pub calm_cut : (v : Serving) (j : ℕ) (o : Option Life) → Calm v (after_cut_tried answers v j o)
   calm_cut v j None = record { core = refl; inputs = refl }
   calm_cut v j (Some l) = cond_both (answers v.offers j) _ _ (Calm v) (λ _. record { core = refl; inputs = refl }) (λ _. record { core = refl; inputs = refl })
 

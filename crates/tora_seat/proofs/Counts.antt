@@ -11,11 +11,11 @@ use Rattle.tora_core.specs.CoreRun.{CoreView, refusal_of, up_after, sends_of}
 use Rattle.tora_seat.specs.declared.what.What.{What}
 use Rattle.tora_seat.specs.declared.what.What.TheVariants as Tells
 use Rattle.tora_seat.specs.declared.item.Item.{Item}
-use Rattle.tora_seat.specs.Serving.{SeatState, Serving, Answers, with_current, after_cuts_tried, after_broadcasts, accepting, after_answer, after_step, first_cut, after_settling, after_input, after_down, after_old_down, after_up, after_link_item, after_other_item, after_item_of, begin_serving, serving_of, is_current}
+use Rattle.tora_seat.specs.Serving.{SeatState, Serving, Answers, with_current, with_pending, after_cuts_tried, after_broadcasts, accepting, after_answer, after_step, first_cut, after_settling, after_input, after_down, after_old_down, after_cut_asked, after_life_cut, after_up, after_link_item, after_other_item, after_item_of, begin_serving, serving_of, is_current}
 use Rattle.tora_seat.proofs.Places.{turned}
 use Rattle.tora_core.proofs.AfterInputs.{has-with, same-neighbours}
 use Rattle.tora_seat.proofs.Ups.{core_accepted, one_if, count_up, count_most, count_drops}
-use Rattle.tora_seat.proofs.Calm.{calm_broadcasts, calm_cuts}
+use Rattle.tora_seat.proofs.Calm.{calm_broadcasts, calm_cut, calm_cuts}
 
 -- one that comes is counted once
 count_same : (ks up : List ℕ) (j : ℕ) → has_number j ks ≡ false → count_up ks (with_number j up) ≡ count_up ks up
@@ -114,6 +114,13 @@ module _ (answers : Answers) (ks : List ℕ) (apart : has_repeat ks ≡ false) w
   old_down_few m v k now None h = h
   old_down_few m v k now (Some l) h = down_few m v k now h
 
+  life_cut_few : (m : ℕ) (v : Serving) (k now : ℕ) (cur : Option Life) → Few m v → Few m (after_life_cut answers ks k now v cur)
+  life_cut_few m v k now None h = h
+  life_cut_few m v k now (Some l) h =
+      let w = after_cut_asked answers v k l in
+      let c = calm_cut answers (with_pending v k (Some l)) k (Some l) in
+      down_few m w k now (same_few m v w c.core c.inputs h)
+
   up_few : (m : ℕ) (v : Serving) (k : ℕ) (l : Life) (now : ℕ) → Few m v → Few (m + 2) (after_up answers ks k l now v)
   up_few m v k l now h = let w : Serving = with_current v k (Some l) in input_few m w (In.LinkUp k) now (same_few m v w refl refl h)
 
@@ -129,6 +136,7 @@ module _ (answers : Answers) (ks : List ℕ) (apart : has_repeat ks ≡ false) w
       (λ _. few_more m (m + 2) (after_down answers ks k now v) (omega arith) (down_few m v k now h))
       (λ _. cond_both (is_current life (v.seat.pending k)) _ _ (Few (m + 2)) (λ _. few_more m (m + 2) _ (omega arith) (record { near = h.near; few = h.few })) (λ _. few_more m (m + 2) v (omega arith) h))
   link_few m v k now (Tells.Need d) h = few_more (m + 1) (m + 2) (after_input answers ks (In.Need d) now v) (omega arith) (input_few m v (In.Need d) now h)
+  link_few m v k now (Tells.Cut j) h = few_more m (m + 2) v (omega arith) h
   link_few m v k now Tells.Beat h = few_more m (m + 2) v (omega arith) h
   link_few m v k now Tells.Show h = few_more m (m + 2) _ (omega arith) (record { near = h.near; few = h.few })
   link_few m v k now (Tells.Status status) h = few_more m (m + 2) _ (omega arith) (record { near = h.near; few = h.few })
@@ -140,6 +148,10 @@ module _ (answers : Answers) (ks : List ℕ) (apart : has_repeat ks ≡ false) w
   other_few m v now (Tells.Packet life packet) h = few_more m (m + 2) v (omega arith) h
   other_few m v now (Tells.Down life reason) h = few_more m (m + 2) v (omega arith) h
   other_few m v now (Tells.Need d) h = few_more (m + 1) (m + 2) (after_input answers ks (In.Need d) now v) (omega arith) (input_few m v (In.Need d) now h)
+  other_few m v now (Tells.Cut k) h =
+      cond_both (has_number k ks) _ _ (Few (m + 2))
+      (λ _. few_more m (m + 2) (after_life_cut answers ks k now v (v.seat.current k)) (omega arith) (life_cut_few m v k now (v.seat.current k) h))
+      (λ _. few_more m (m + 2) v (omega arith) h)
   other_few m v now Tells.Beat h = few_more m (m + 2) v (omega arith) h
   other_few m v now Tells.Show h = few_more m (m + 2) _ (omega arith) (record { near = h.near; few = h.few })
   other_few m v now (Tells.Status status) h = few_more m (m + 2) _ (omega arith) (record { near = h.near; few = h.few })

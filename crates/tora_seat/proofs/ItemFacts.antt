@@ -326,7 +326,7 @@ module _ (answers : Answers) (ks : List ℕ) (k : ℕ) (first : SeatState) (serv
         put = ap (packets_put k) e ∙ put-push k v.offers o ∙ ap₂ (λ xs ys. xs ++ ys) s.put (cut_if (nat_eq j k) put);
       }
 
-  start_cut : (v : Serving) (j : ℕ) (o : Option Life) → Started v → Started (after_cut_tried answers v j o)
+  pub start_cut : (v : Serving) (j : ℕ) (o : Option Life) → Started v → Started (after_cut_tried answers v j o)
   start_cut v j None s = s
   start_cut v j (Some l) s =
       cond_both (answers v.offers j) _ _ Started

@@ -11,9 +11,9 @@ use Rattle.tora_seat.specs.declared.what.What.TheVariants as Tells
 use Rattle.tora_seat.specs.declared.item.Item.{Item}
 use Rattle.tora_seat.specs.declared.answer.Answer.{Answer}
 use Rattle.tora_seat.specs.declared.answer.Answer.TheVariants as Says
-use Rattle.tora_seat.specs.Serving.{SeatState, Serving, Answers, Step, with_pending, after_cuts_tried, after_up, after_down, after_old_down, after_link_item, after_other_item, after_item_of, begin_serving, serving_of, is_current}
+use Rattle.tora_seat.specs.Serving.{SeatState, Serving, Answers, Step, with_pending, after_cuts_tried, after_up, after_down, after_old_down, after_cut_asked, after_life_cut, after_link_item, after_other_item, after_item_of, begin_serving, serving_of, is_current}
 use Rattle.tora_seat.specs.SeatLaws.{IsInStep, has_back, packets_put, broadcast_to, has_link_down, Begins, life_brought, life_served, HasNoGap, EndsAtBack}
-use Rattle.tora_seat.proofs.ItemFacts.{Stands, Keeps, Ended, Started, started, keeps_start, ended_start, input_ends, down_ends, forget_off, forget_on, down_off, up_off, up_on}
+use Rattle.tora_seat.proofs.ItemFacts.{Stands, Keeps, Ended, Started, started, keeps_start, ended_start, input_ends, start_cut, down_ends, forget_off, forget_on, down_off, up_off, up_on}
 use Rattle.tora_seat.proofs.Histories.{begins_same}
 
 module _ (answers : Answers) (ks : List ℕ) (k : ℕ) (first : SeatState) (inside : has_number k ks ≡ true) (apart : has_repeat ks ≡ false) (near : first.core.neighbours ≡ ks) (in_step : is_some (first.current k) ≡ has_number k first.core.up) where
@@ -46,6 +46,36 @@ module _ (answers : Answers) (ks : List ℕ) (k : ℕ) (first : SeatState) (insi
         go None c = absurd (false≢true (sym (ap (is_current life) (same ∙ c)) ∙ e))
         go (Some l) c = down_ends answers ks k first (first.current k) inside apart v now (s (first.current k)) near (sym in_step ∙ ap is_some c)
 
+    -- a life that is asked to be cut is tried to be cut, and no more, before it is over
+    asked : (served : Option Life) (j : ℕ) (l : Life) → Started answers ks k first served inside apart (after_cut_asked answers v j l)
+    asked served j l =
+        let h = s served in
+        start_cut answers ks k first served inside apart (with_pending v j (Some l)) j (Some l)
+        (record { core = h.core; current = h.current; inputs = h.inputs; life = h.life; quiet = h.quiet; none = h.none; put = h.put })
+
+    cut_off : (j now : ℕ) → nat_eq j k ≡ false → (cur : Option Life) → Fine (first.current k) (after_life_cut answers ks j now v cur)
+    cut_off j now off None = still
+    cut_off j now off (Some l) =
+        let w = after_cut_asked answers v j l in
+        down_off answers ks k first (first.current k) inside apart w j now off
+        (keeps_start answers ks k first (first.current k) inside apart w (asked (first.current k) j l) near in_step (inl refl))
+
+    cut_on : (now : ℕ) → Fine (first.current k) (after_life_cut answers ks k now v (v.seat.current k))
+    cut_on now = go (first.current k) refl (v.seat.current k) (ap (λ (f : ℕ → Option Life). f k) (s (first.current k)).current)
+      where
+        go : (was : Option Life) → first.current k ≡ was → (cur : Option Life) → cur ≡ first.current k → Fine (first.current k) (after_life_cut answers ks k now v cur)
+        go was e None c = still
+        go None e (Some l) c = absurd (let y : Some l ≡ None = c ∙ e in cc)
+        go (Some m) e (Some l) c =
+            down_ends answers ks k first (first.current k) inside apart (after_cut_asked answers v k l) now (asked (first.current k) k l) near (sym in_step ∙ ap is_some e)
+
+    on_cut : (j now : ℕ) → Fine (first.current k) (after_life_cut answers ks j now v (v.seat.current j))
+    on_cut j now =
+        ⊎_elim
+        (λ (e : nat_eq j k ≡ true). subst (λ x. Fine (first.current k) (after_life_cut answers ks x now v (v.seat.current x))) (sym (eqb-true j k e)) (cut_on now))
+        (λ (e : nat_eq j k ≡ false). cut_off j now e (v.seat.current j))
+        (cases_Bool (nat_eq j k))
+
     link_on : (what : What) (now : ℕ) → Fine (life_brought k (Some k) what (first.current k)) (after_link_item answers ks k now what v)
     unfolding after_link_item
     link_on (Tells.Up life) now =
@@ -63,6 +93,7 @@ module _ (answers : Answers) (ks : List ℕ) (k : ℕ) (first : SeatState) (insi
         (λ _. ended_start answers ks k first (first.current k) inside apart (with_pending v k None) (s (first.current k)).none (forget_on answers ks k first (first.current k) inside apart v None (s (first.current k)).none keeps))
         (λ _. still))
     link_on (Tells.Need d) now = input_ends answers ks k first (first.current k) inside apart v (In.Need d) now refl (λ e. absurd (false≢true e)) keeps
+    link_on (Tells.Cut j) now = still
     link_on Tells.Beat now = still
     link_on Tells.Show now = answered (first.current k) v Says.Show still
     link_on (Tells.Status status) now = answered (first.current k) v Says.Show still
@@ -85,6 +116,7 @@ module _ (answers : Answers) (ks : List ℕ) (k : ℕ) (first : SeatState) (insi
         (λ _. ended_start answers ks k first (first.current k) inside apart (with_pending v j None) (s (first.current k)).none (forget_off answers ks k first (first.current k) inside apart v j None off keeps))
         (λ _. still))
     link_off j (Tells.Need d) now off = input_ends answers ks k first (first.current k) inside apart v (In.Need d) now refl (λ e. absurd (false≢true e)) keeps
+    link_off j (Tells.Cut i) now off = still
     link_off j Tells.Beat now off = still
     link_off j Tells.Show now off = answered (first.current k) v Says.Show still
     link_off j (Tells.Status status) now off = answered (first.current k) v Says.Show still
@@ -96,6 +128,7 @@ module _ (answers : Answers) (ks : List ℕ) (k : ℕ) (first : SeatState) (insi
     other (Tells.Packet life packet) now = still
     other (Tells.Down life reason) now = still
     other (Tells.Need d) now = input_ends answers ks k first (first.current k) inside apart v (In.Need d) now refl (λ e. absurd (false≢true e)) keeps
+    other (Tells.Cut j) now = cond_both (has_number j ks) _ _ (Fine (first.current k)) (λ _. on_cut j now) (λ _. still)
     other Tells.Beat now = still
     other Tells.Show now = answered (first.current k) v Says.Show still
     other (Tells.Status status) now = answered (first.current k) v Says.Show still

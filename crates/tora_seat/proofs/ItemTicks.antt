@@ -8,11 +8,12 @@ use Rattle.tora_arq.specs.declared.life.Life.{Life}
 use Rattle.tora_core.specs.declared.Input.{Input}
 use Rattle.tora_core.specs.declared.Input.TheVariants as In
 use Rattle.tora_core.specs.declared.errors.StepError.{StepError}
+use Rattle.tora_core.specs.Numbers.{has_number}
 use Rattle.tora_core.specs.CoreRun.{refusal_of, sends_of}
 use Rattle.tora_seat.specs.declared.what.What.{What}
 use Rattle.tora_seat.specs.declared.what.What.TheVariants as Tells
 use Rattle.tora_seat.specs.declared.item.Item.{Item}
-use Rattle.tora_seat.specs.Serving.{SeatState, Serving, Answers, with_current, after_cut_tried, after_cuts_tried, after_sent, after_broadcast, after_broadcasts, accepting, after_answer, after_step, first_cut, after_settling, after_input, is_current, after_old_down, after_link_item, after_other_item, after_item_of, begin_serving, serving_of}
+use Rattle.tora_seat.specs.Serving.{SeatState, Serving, Answers, with_current, with_pending, after_cut_tried, after_cuts_tried, after_sent, after_broadcast, after_broadcasts, accepting, after_answer, after_step, first_cut, after_settling, after_input, is_current, after_old_down, after_cut_asked, after_life_cut, after_link_item, after_other_item, after_item_of, begin_serving, serving_of}
 
 -- an input that has this tick
 abbrev pub HasTick : ℕ → Input × ℕ → Type 0
@@ -78,6 +79,12 @@ module _ (answers : Answers) (tick : ℕ) where
   old_down_follows js k v None h = h
   old_down_follows js k v (Some l) h = input_follows js (In.LinkDown k) (with_current v k None) h
 
+  life_cut_follows : (js : List ℕ) (k : ℕ) (v : Serving) (o : Option Life) → Follows v → Follows (after_life_cut answers js k tick v o)
+  life_cut_follows js k v None h = h
+  life_cut_follows js k v (Some l) h =
+      let w = after_cut_asked answers v k l in
+      input_follows js (In.LinkDown k) (with_current w k None) (cut_follows (with_pending v k (Some l)) k (Some l) h)
+
   link_item_follows : (js : List ℕ) (k : ℕ) (what : What) (v : Serving) → Follows v → Follows (after_link_item answers js k tick what v)
   unfolding after_link_item
   link_item_follows js k (Tells.Up l) v h =
@@ -89,6 +96,7 @@ module _ (answers : Answers) (tick : ℕ) where
       cond_both (is_current l (v.seat.current k)) _ _ Follows (λ _. input_follows js (In.LinkDown k) (with_current v k None) h)
       (λ _. cond_both (is_current l (v.seat.pending k)) _ _ Follows (λ _. h) (λ _. h))
   link_item_follows js k (Tells.Need d) v h = input_follows js (In.Need d) v h
+  link_item_follows js k (Tells.Cut j) v h = h
   link_item_follows js k Tells.Beat v h = h
   link_item_follows js k Tells.Show v h = h
   link_item_follows js k (Tells.Status status) v h = h
@@ -97,6 +105,7 @@ module _ (answers : Answers) (tick : ℕ) where
   other_item_follows : (js : List ℕ) (what : What) (v : Serving) → Follows v → Follows (after_other_item answers js tick what v)
   unfolding after_other_item
   other_item_follows js (Tells.Need d) v h = input_follows js (In.Need d) v h
+  other_item_follows js (Tells.Cut k) v h = cond_both (has_number k js) _ _ Follows (λ _. life_cut_follows js k v (v.seat.current k) h) (λ _. h)
   other_item_follows js (Tells.Up l) v h = h
   other_item_follows js (Tells.Packet l p) v h = h
   other_item_follows js (Tells.Down l r) v h = h

@@ -14,6 +14,7 @@ pub mod ItemFacts
 pub mod ItemLaws
 pub mod Counts
 mod CutLinks
+mod CutOffers
 mod RelationLeads
 mod RelationHolds
 mod CutsGoDown

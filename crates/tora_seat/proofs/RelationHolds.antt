@@ -1,12 +1,12 @@
 -- The relation of serving holds of what the definition computes, whatever is answered.
-use Rattle.std.proofs.Common.{◌≡◌, ℕ, zero, suc, ◌≤◌, Bool, List, [], ◌∷◌, length, Option, Some, None, slice_get, refl, sym, ap, ◌∙◌, subst, arith}
+use Rattle.std.proofs.Common.{◌≡◌, ℕ, zero, suc, ◌≤◌, Bool, true, false, List, [], ◌∷◌, length, Option, Some, None, slice_get, refl, sym, ap, ◌∙◌, subst, arith}
 use Rattle.std.proofs.lemmas.Bool.{cond_both}
 use Rattle.tora_packet.specs.declared.Packet.{Packet}
 use Rattle.tora_arq.specs.declared.life.Life.{Life}
 use Rattle.tora_core.specs.declared.Input.{Input}
 use Rattle.tora_core.specs.declared.Input.TheVariants as In
 use Rattle.tora_core.specs.declared.errors.StepError.{StepError}
-use Rattle.tora_core.specs.Numbers.{IsAscending}
+use Rattle.tora_core.specs.Numbers.{IsAscending, has_number}
 use Rattle.tora_core.specs.CoreRun.{CoreView, refusal_of, sends_of}
 use Rattle.tora_seat.specs.declared.what.What.{What}
 use Rattle.tora_seat.specs.declared.what.What.TheVariants as Tells
@@ -15,11 +15,12 @@ use Rattle.tora_seat.specs.declared.cargo.Cargo.{Cargo}
 use Rattle.tora_seat.specs.Offers.{AreOffered, Follows, answers_in}
 use Rattle.tora_seat.specs.Rows.{SeatView, state_of, serving_at}
 use Rattle.tora_seat.proofs.Chains.{follows_back}
-use Rattle.tora_seat.specs.Serving.{SeatState, Serving, Offer, Answers, with_current, after_cut_tried, after_cuts_tried, after_sent, after_broadcast, after_broadcasts, accepting, after_answer, after_step, first_cut, after_settling, after_input, is_current, after_down, after_old_down, after_up, after_link_item, after_other_item, after_item_of, begin_serving, serving_of}
-use Rattle.tora_seat.specs.Serves.{ForEach, TriesCut, no_cut, cut_put, cut_back, Sends, no_life, packet_put, packet_back, SendsToEach, Steps, refused, accepted, IsCut, GoDown, Settles, noting, Does, first_life, next_life, packet_stepped, packet_passed_over, life_ended, cut_forgotten, end_passed_over, no_link_up, no_link_packet, no_link_down, need, beat, show, status, quit, Serves}
+use Rattle.tora_seat.specs.Serving.{SeatState, Serving, Offer, Answers, with_current, with_pending, after_cut_tried, after_cuts_tried, after_sent, after_broadcast, after_broadcasts, accepting, after_answer, after_step, first_cut, after_settling, after_input, is_current, after_down, after_old_down, after_life_cut, after_up, after_link_item, after_other_item, after_item_of, begin_serving, serving_of}
+use Rattle.tora_seat.specs.Serves.{ForEach, TriesCut, no_cut, cut_put, cut_back, Sends, no_life, packet_put, packet_back, SendsToEach, Steps, refused, accepted, IsCut, GoDown, Settles, noting, Does, first_life, next_life, packet_stepped, packet_passed_over, life_ended, cut_forgotten, end_passed_over, no_link_up, no_link_packet, no_link_down, life_cut, no_life_cut, no_neighbour_cut, link_cuts_none, need, beat, show, status, quit, Serves}
 use Rattle.tora_seat.proofs.Ups.{count_up, count_most, first_cut_none}
 use Rattle.tora_seat.proofs.CutLinks.{current-is, current-not, first-is, first-none}
-use Rattle.tora_seat.proofs.RelationLeads.{step_near, step_drops, settles_near, cuts_core}
+use Rattle.tora_seat.proofs.RelationLeads.{step_near, step_drops, settles_near, cut_core, cuts_core}
+use Rattle.tora_seat.proofs.ItemFacts.{put_at}
 
 module _ (answers : Answers) where
   cut_holds : (v : Serving) (k : ℕ) → TriesCut v k (after_cut_tried answers v k (v.seat.pending k))
@@ -101,6 +102,15 @@ module _ (answers : Answers) where
             let next : Serving = with_current between k (Some life) in
             next_life old e down (input_holds next (In.LinkUp k) (settles_near ks now u (In.LinkDown k) between down ∙ near))
 
+        life_cut_holds : (k : ℕ) → has_number k ks ≡ true → (o : Option Life) → v.seat.current k ≡ o → Does ks now v None (Tells.Cut k) (after_life_cut answers ks k now v o)
+        life_cut_holds k m None e = no_life_cut e
+        life_cut_holds k m (Some life) e =
+            let asked : Serving = with_pending v k (Some life) in
+            let tried = after_cut_tried answers asked k (Some life) in
+            let tries : TriesCut asked k tried = subst (λ o. TriesCut asked k (after_cut_tried answers asked k o)) (put_at v.seat.pending k (Some life)) (cut_holds asked k) in
+            let u : Serving = with_current tried k None in
+            life_cut m e tries (input_holds u (In.LinkDown k) (ap (λ (c : CoreView). c.neighbours) (cut_core asked k tries) ∙ near))
+
         link_holds : (k : ℕ) (what : What) → Does ks now v (Some k) what (after_link_item answers ks k now what v)
         unfolding after_link_item
         link_holds k (Tells.Up life) = up_holds k life (v.seat.current k) refl
@@ -115,6 +125,7 @@ module _ (answers : Answers) where
             (λ t. cut_forgotten (current-not life (v.seat.current k) f) (current-is life (v.seat.pending k) t))
             (λ g. end_passed_over (current-not life (v.seat.current k) f) (current-not life (v.seat.pending k) g)))
         link_holds k (Tells.Need d) = need (input_holds v (In.Need d) near)
+        link_holds k (Tells.Cut j) = link_cuts_none
         link_holds k Tells.Beat = beat
         link_holds k Tells.Show = show
         link_holds k (Tells.Status asked) = status
@@ -126,6 +137,8 @@ module _ (answers : Answers) where
         other_holds (Tells.Packet life packet) = no_link_packet
         other_holds (Tells.Down life reason) = no_link_down
         other_holds (Tells.Need d) = need (input_holds v (In.Need d) near)
+        other_holds (Tells.Cut k) =
+            cond_both (has_number k ks) _ _ (Does ks now v None (Tells.Cut k)) (λ m. life_cut_holds k m (v.seat.current k) refl) (λ off. no_neighbour_cut off)
         other_holds Tells.Beat = beat
         other_holds Tells.Show = show
         other_holds (Tells.Status asked) = status

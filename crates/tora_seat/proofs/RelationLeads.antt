@@ -1,5 +1,6 @@
 -- What stands in the relation of serving is what the definition computes, with the offers read back as answers.
 use Rattle.std.proofs.Common.{◌≡◌, ℕ, zero, suc, ◌<◌, ◌≤◌, true, false, List, [], ◌∷◌, ◌++◌, length, Option, Some, None, slice_get, if◌then◌else◌, refl, sym, ap, ◌∙◌, subst, append_assoc, append-nil, arith}
+use Rattle.std.proofs.lemmas.Bool.{cond_both}
 use Rattle.tora_packet.specs.declared.Packet.{Packet}
 use Rattle.tora_core.specs.declared.Input.{Input}
 use Rattle.tora_core.specs.declared.Input.TheVariants as In
@@ -9,14 +10,15 @@ use Rattle.tora_seat.specs.declared.what.What.{What}
 use Rattle.tora_seat.specs.declared.item.Item.{Item}
 use Rattle.tora_seat.specs.declared.cargo.Cargo.TheVariants as Gives
 use Rattle.tora_seat.specs.declared.answer.Answer.TheVariants as Says
-use Rattle.tora_seat.specs.Serving.{SeatState, Serving, Offer, Answers, offered, with_current, with_pending, after_cut_tried, after_cuts_tried, after_sent, after_broadcast, after_broadcasts, accepting, after_answer, after_step, first_cut, after_settling, after_input, is_current, after_down, after_old_down, after_up, after_packet, after_link_item, after_other_item, after_item_of, begin_serving, serving_of}
+use Rattle.tora_seat.specs.Serving.{SeatState, Serving, Offer, Answers, offered, with_current, with_pending, after_cut_tried, after_cuts_tried, after_sent, after_broadcast, after_broadcasts, accepting, after_answer, after_step, first_cut, after_settling, after_input, is_current, after_down, after_old_down, after_cut_asked, after_life_cut, after_up, after_packet, after_link_item, after_other_item, after_item_of, begin_serving, serving_of}
 use Rattle.tora_seat.specs.Offers.{Follows, answers_in}
-use Rattle.tora_seat.specs.Serves.{ForEach, TriesCut, no_cut, cut_put, cut_back, Sends, no_life, packet_put, packet_back, SendsToEach, Steps, refused, accepted, IsCut, GoDown, Settles, noting, Does, first_life, next_life, packet_stepped, packet_passed_over, life_ended, cut_forgotten, end_passed_over, no_link_up, no_link_packet, no_link_down, need, beat, show, status, quit, Serves}
+use Rattle.tora_seat.specs.Serves.{ForEach, TriesCut, no_cut, cut_put, cut_back, Sends, no_life, packet_put, packet_back, SendsToEach, Steps, refused, accepted, IsCut, GoDown, Settles, noting, Does, first_life, next_life, packet_stepped, packet_passed_over, life_ended, cut_forgotten, end_passed_over, no_link_up, no_link_packet, no_link_down, life_cut, no_life_cut, no_neighbour_cut, link_cuts_none, need, beat, show, status, quit, Serves}
 use Rattle.tora_seat.proofs.Chains.{follows_split, follows_back}
 use Rattle.tora_seat.proofs.Goings.{cuts_cons, cuts_nil, sents_cons, sents_nil, packets_cons, packets_nil}
 use Rattle.tora_seat.proofs.Steps.{step_is, settling_done, settling_more}
 use Rattle.tora_core.proofs.AfterInputs.{same-neighbours}
 use Rattle.tora_seat.proofs.Ups.{core_accepted, down_accepted, count_up, count_most, count_drops}
+use Rattle.tora_seat.proofs.ItemFacts.{put_at}
 use Rattle.tora_seat.proofs.CutLinks.{is-current, not-current, least-first, none-first}
 
 -- ---- what is done leads from one serving to another
@@ -100,7 +102,7 @@ broadcasts_lead ks (packet ∷ packets) v w h =
 
 -- ---- the core changes by inputs alone
 
-cut_core : (v : Serving) (k : ℕ) {w : Serving} → TriesCut v k w → w.seat.core ≡ v.seat.core
+pub cut_core : (v : Serving) (k : ℕ) {w : Serving} → TriesCut v k w → w.seat.core ≡ v.seat.core
 cut_core v k (no_cut e) = refl
 cut_core v k (cut_put life e) = refl
 cut_core v k (cut_back life e) = refl
@@ -229,6 +231,25 @@ module _ (ks : List ℕ) (up : IsAscending ks) (now : ℕ) (v : Serving) (near :
       (λ answers.
       ap (λ b. if b then after_down answers ks k now v else if is_current life (v.seat.pending k) then with_pending v k None else v) (not-current life (v.seat.current k) n)
       ∙ ap (λ b. if b then with_pending v k None else v) (not-current life (v.seat.pending k) m))
+  does_lead (life_cut {k} {life} {tried} {w} m e t s) =
+      let asked : Serving = with_pending v k (Some life) in
+      let u : Serving = with_current tried k None in
+      let near' : tried.seat.core.neighbours ≡ ks = ap (λ (c : CoreView). c.neighbours) (cut_core asked k t) ∙ near in
+      let first : Leads (λ answers. after_cut_asked answers v k life) v tried =
+      leads_from (λ answers. after_cut_tried answers asked k (asked.seat.pending k)) (λ answers. after_cut_asked answers v k life) v asked tried refl
+      (λ answers. ap (after_cut_tried answers asked k) (sym (put_at v.seat.pending k (Some life)))) (cut_leads asked k t) in
+      let second : Leads (λ answers. after_down answers ks k now tried) tried w =
+      leads_from (λ answers. after_input answers ks (In.LinkDown k) now u) (λ answers. after_down answers ks k now tried) tried u w refl (λ answers. refl) (settles_lead ks up now u (In.LinkDown k) w near' s) in
+      lead_as (λ answers. after_down answers ks k now (after_cut_asked answers v k life)) (λ answers. if has_number k ks then after_life_cut answers ks k now v (v.seat.current k) else v) v w
+      (λ answers. ap (λ b. if b then after_life_cut answers ks k now v (v.seat.current k) else v) m ∙ ap (after_life_cut answers ks k now v) e)
+      (lead_on (λ answers. after_cut_asked answers v k life) (λ answers x. after_down answers ks k now x) v tried w first second)
+  does_lead (no_life_cut {k} e) =
+      quiet (λ answers. if has_number k ks then after_life_cut answers ks k now v (v.seat.current k) else v) v v refl
+      (λ answers. ap (λ o. if has_number k ks then after_life_cut answers ks k now v o else v) e ∙ cond_both (has_number k ks) v v (λ x. x ≡ v) (λ _. refl) (λ _. refl))
+  does_lead (no_neighbour_cut {k} e) =
+      quiet (λ answers. if has_number k ks then after_life_cut answers ks k now v (v.seat.current k) else v) v v refl
+      (λ answers. ap (λ b. if b then after_life_cut answers ks k now v (v.seat.current k) else v) e)
+  does_lead (link_cuts_none {j} {k}) = quiet (λ answers. v) v v refl (λ answers. refl)
   does_lead no_link_up = quiet (λ answers. v) v v refl (λ answers. refl)
   does_lead no_link_packet = quiet (λ answers. v) v v refl (λ answers. refl)
   does_lead no_link_down = quiet (λ answers. v) v v refl (λ answers. refl)

@@ -60,10 +60,10 @@ set_current_is rows place k row life different is e =
     let b = keep_row rows place row new (row_at rows place k row is).0 (ap (λ (r : LinkRow). r.neighbour) e) in
     record { same = a.0; current_is = a.1; pending_is = b.1 (ap (λ (r : LinkRow). r.pending) e) }
 
-pub forget_pending_is : (rows : List LinkRow) (place k : ℕ) (row : LinkRow) → has_repeat (neighbours_of rows) ≡ false → slice_get (neighbours_of rows) place ≡ Some k → row ≡ get_or rows place row →
-    IsSet rows (set rows place (record row { pending = None })) (current_of rows) (put_one (pending_of rows) k None)
-forget_pending_is rows place k row different is e =
-    let new : LinkRow = record row { pending = None } in
+pub forget_pending_is : (rows : List LinkRow) (place k : ℕ) (row : LinkRow) (life : Option Life) → has_repeat (neighbours_of rows) ≡ false → slice_get (neighbours_of rows) place ≡ Some k → row ≡ get_or rows place row →
+    IsSet rows (set rows place (record row { pending = life })) (current_of rows) (put_one (pending_of rows) k life)
+forget_pending_is rows place k row life different is e =
+    let new : LinkRow = record row { pending = life } in
     let a = set_row rows place k row new different is (ap (λ (r : LinkRow). r.neighbour) e) in
     let b = keep_row rows place row new (row_at rows place k row is).0 (ap (λ (r : LinkRow). r.neighbour) e) in
     record { same = a.0; current_is = b.0 (ap (λ (r : LinkRow). r.current) e); pending_is = a.2 }
@@ -135,10 +135,10 @@ pub set_seat : (s t : SeatView) (place k room : ℕ) (row : LinkRow) (life : Opt
 set_seat s t place k room row life e h is at =
     set_current_is s.rows place k row life (ap has_repeat h.neighbours ∙ h.different) (ap (λ xs. slice_get xs place) h.neighbours ∙ ap (λ (x : SeatView). slice_get x.core.neighbours place) e ∙ is) at
 
-pub forget_seat : (s t : SeatView) (place k room : ℕ) (row : LinkRow) {p q : Bool} → s ≡ t → IsSeat s.core s.rows room p q → slice_get t.core.neighbours place ≡ Some k → row ≡ get_or s.rows place row →
-    IsSet s.rows (set s.rows place (record row { pending = None })) (current_of s.rows) (put_one (pending_of s.rows) k None)
-forget_seat s t place k room row e h is at =
-    forget_pending_is s.rows place k row (ap has_repeat h.neighbours ∙ h.different) (ap (λ xs. slice_get xs place) h.neighbours ∙ ap (λ (x : SeatView). slice_get x.core.neighbours place) e ∙ is) at
+pub forget_seat : (s t : SeatView) (place k room : ℕ) (row : LinkRow) (life : Option Life) {p q : Bool} → s ≡ t → IsSeat s.core s.rows room p q → slice_get t.core.neighbours place ≡ Some k → row ≡ get_or s.rows place row →
+    IsSet s.rows (set s.rows place (record row { pending = life })) (current_of s.rows) (put_one (pending_of s.rows) k life)
+forget_seat s t place k room row life e h is at =
+    forget_pending_is s.rows place k row life (ap has_repeat h.neighbours ∙ h.different) (ap (λ xs. slice_get xs place) h.neighbours ∙ ap (λ (x : SeatView). slice_get x.core.neighbours place) e ∙ is) at
 
 pub seat_set : (core : CoreView) (rows new : List LinkRow) (room : ℕ) (f g : ℕ → Option Life) (mark : Bool) {p q : Bool} → IsSeat core rows room p q → IsSet rows new f g → (mark ≡ false → any_pending new ≡ false) → IsSeat core new room mark true
 seat_set core rows new room f g mark h q none = record { neighbours = q.same ∙ h.neighbours; different = h.different; has_room = h.has_room; none_pending = none; none_cut = λ e. absurd (true≢false e) }
@@ -156,10 +156,10 @@ set_serves s t new k life e q now before =
     subst (λ (x : SeatView). with_current (serving_at now x before) k life ≡ serving_at now (record s { rows = new }) before) e
     (ap₂ (λ (f g : ℕ → Option Life). record (serving_at now s before) { seat = record { core = s.core; current = f; pending = g } }) q.current_is q.pending_is)
 
-pub forget_serves : (s t : SeatView) (new : List LinkRow) (k : ℕ) → s ≡ t → IsSet s.rows new (current_of s.rows) (put_one (pending_of s.rows) k None) → (now : ℕ) (before : List Offer) →
-    with_pending (serving_at now t before) k None ≡ serving_at now (record s { rows = new }) before
-forget_serves s t new k e q now before =
-    subst (λ (x : SeatView). with_pending (serving_at now x before) k None ≡ serving_at now (record s { rows = new }) before) e
+pub forget_serves : (s t : SeatView) (new : List LinkRow) (k : ℕ) (life : Option Life) → s ≡ t → IsSet s.rows new (current_of s.rows) (put_one (pending_of s.rows) k life) → (now : ℕ) (before : List Offer) →
+    with_pending (serving_at now t before) k life ≡ serving_at now (record s { rows = new }) before
+forget_serves s t new k life e q now before =
+    subst (λ (x : SeatView). with_pending (serving_at now x before) k life ≡ serving_at now (record s { rows = new }) before) e
     (ap₂ (λ (f g : ℕ → Option Life). record (serving_at now s before) { seat = record { core = s.core; current = f; pending = g } }) q.current_is q.pending_is)
 
 -- ---- a new seat
@@ -173,7 +173,7 @@ none_below : (n : ℕ) (ks : List ℕ) → AllByRecursion (λ (m : ℕ). n < m) 
 none_below n [] h = refl
 none_below n (k ∷ ks) h = ap (λ b. b || has_number n ks) (ne_eqb k n (λ e. absurd (omega (arith, e, h.0)))) ∙ none_below n ks h.1
 
-ascending_differ : (ks : List ℕ) → IsAscending ks → has_repeat ks ≡ false
+pub ascending_differ : (ks : List ℕ) → IsAscending ks → has_repeat ks ≡ false
 ascending_differ [] h = refl
 ascending_differ (k ∷ ks) h = ap (λ b. b || has_repeat ks) (none_below k ks h.0) ∙ ascending_differ ks h.1
 

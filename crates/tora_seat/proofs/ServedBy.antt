@@ -8,13 +8,14 @@ use Rattle.tora_arq.specs.declared.life.Life.{Life}
 use Rattle.tora_core.specs.declared.Input.{Input}
 use Rattle.tora_core.specs.declared.Input.TheVariants as In
 use Rattle.tora_core.specs.declared.errors.StepError.{StepError}
+use Rattle.tora_core.specs.Numbers.{has_number}
 use Rattle.tora_core.specs.CoreRun.{CoreView, refusal_of, core_after, sends_of}
 use Rattle.tora_seat.specs.declared.what.What.{What}
 use Rattle.tora_seat.specs.declared.what.What.TheVariants as Tells
 use Rattle.tora_seat.specs.declared.item.Item.{Item}
 use Rattle.tora_seat.specs.declared.cargo.Cargo.{Cargo}
 use Rattle.tora_seat.specs.declared.cargo.Cargo.TheVariants as Gives
-use Rattle.tora_seat.specs.Serving.{SeatState, Serving, Offer, Answers, with_current, after_cut_tried, after_cuts_tried, after_sent, after_broadcast, after_broadcasts, accepting, after_answer, after_step, first_cut, after_settling, after_input, is_current, after_old_down, after_link_item, after_other_item, after_item_of, begin_serving, serving_of}
+use Rattle.tora_seat.specs.Serving.{SeatState, Serving, Offer, Answers, with_current, with_pending, after_cut_tried, after_cuts_tried, after_sent, after_broadcast, after_broadcasts, accepting, after_answer, after_step, first_cut, after_settling, after_input, is_current, after_old_down, after_cut_asked, after_life_cut, after_link_item, after_other_item, after_item_of, begin_serving, serving_of}
 
 -- an offer behind others, and the lane's answer to it
 abbrev pub Offering : Answers → (List Offer → CoreView → List (Input × ℕ) → Type 0) → Type 0
@@ -85,6 +86,12 @@ module _ (answers : Answers) (Holds : List Offer → CoreView → List (Input ×
   old_down_follows js k now v None h = h
   old_down_follows js k now v (Some l) h = input_follows js (In.LinkDown k) now (with_current v k None) h
 
+  life_cut_follows : (js : List ℕ) (k now : ℕ) (v : Serving) (o : Option Life) → Follows v → Follows (after_life_cut answers js k now v o)
+  life_cut_follows js k now v None h = h
+  life_cut_follows js k now v (Some l) h =
+      let w = after_cut_asked answers v k l in
+      input_follows js (In.LinkDown k) now (with_current w k None) (cut_follows (with_pending v k (Some l)) k (Some l) h)
+
   link_item_follows : (js : List ℕ) (k now : ℕ) (what : What) (v : Serving) → Follows v → Follows (after_link_item answers js k now what v)
   unfolding after_link_item
   link_item_follows js k now (Tells.Up l) v h =
@@ -96,6 +103,7 @@ module _ (answers : Answers) (Holds : List Offer → CoreView → List (Input ×
       cond_both (is_current l (v.seat.current k)) _ _ Follows (λ _. input_follows js (In.LinkDown k) now (with_current v k None) h)
       (λ _. cond_both (is_current l (v.seat.pending k)) _ _ Follows (λ _. h) (λ _. h))
   link_item_follows js k now (Tells.Need d) v h = input_follows js (In.Need d) now v h
+  link_item_follows js k now (Tells.Cut j) v h = h
   link_item_follows js k now Tells.Beat v h = h
   link_item_follows js k now Tells.Show v h = h
   link_item_follows js k now (Tells.Status status) v h = h
@@ -104,6 +112,7 @@ module _ (answers : Answers) (Holds : List Offer → CoreView → List (Input ×
   other_item_follows : (js : List ℕ) (now : ℕ) (what : What) (v : Serving) → Follows v → Follows (after_other_item answers js now what v)
   unfolding after_other_item
   other_item_follows js now (Tells.Need d) v h = input_follows js (In.Need d) now v h
+  other_item_follows js now (Tells.Cut k) v h = cond_both (has_number k js) _ _ Follows (λ _. life_cut_follows js k now v (v.seat.current k) h) (λ _. h)
   other_item_follows js now (Tells.Up l) v h = h
   other_item_follows js now (Tells.Packet l p) v h = h
   other_item_follows js now (Tells.Down l r) v h = h

@@ -7,6 +7,7 @@ use Rattle.tora_arq.specs.declared.life.Life.{Life}
 use Rattle.tora_core.specs.declared.Input.{Input}
 use Rattle.tora_core.specs.declared.Input.TheVariants as In
 use Rattle.tora_core.specs.declared.errors.StepError.{StepError}
+use Rattle.tora_core.specs.Numbers.{has_number}
 use Rattle.tora_core.specs.CoreRun.{CoreView, refusal_of, core_after, sends_of}
 use Rattle.tora_arq.specs.declared.reason.Reason.{Reason}
 use Rattle.tora_seat.specs.declared.cargo.Cargo.{Cargo}
@@ -16,7 +17,7 @@ use Rattle.tora_seat.specs.declared.what.What.{What}
 use Rattle.tora_seat.specs.declared.what.What.TheVariants as Tells
 use Rattle.tora_seat.specs.declared.answer.Answer.TheVariants as Says
 use Rattle.tora_seat.specs.declared.rows.LinkRow.{LinkRow}
-use Rattle.tora_seat.specs.Serving.{Offer, Answers, Serving, SeatState, accepting, after_answer, after_step, after_broadcasts, after_settling, first_cut, after_input, with_pending, after_cuts_tried, after_up, after_down, after_old_down, after_packet, after_link_item, after_other_item, after_item_of, begin_serving, serving_of, is_current}
+use Rattle.tora_seat.specs.Serving.{Offer, Answers, Serving, SeatState, accepting, after_answer, after_step, after_broadcasts, after_settling, first_cut, after_input, with_pending, after_cuts_tried, after_up, after_down, after_old_down, after_life_cut, after_packet, after_link_item, after_other_item, after_item_of, begin_serving, serving_of, is_current}
 use Rattle.tora_seat.specs.Offers.{AreOffered, Follows}
 use Rattle.tora_seat.specs.Rows.{SeatView, neighbours_of, current_of, pending_of, steps_of, state_of, serving_at}
 use Rattle.tora_seat.specs.Bodies.{RowsGo, SeatGoes}
@@ -237,6 +238,10 @@ link_beat_is : (answers : Answers) (ks : List ℕ) (k now : ℕ) (v : Serving) �
 unfolding after_link_item
 link_beat_is answers ks k now v = refl
 
+link_cut_is : (answers : Answers) (ks : List ℕ) (k now j : ℕ) (v : Serving) → after_link_item answers ks k now (Tells.Cut j) v ≡ v
+unfolding after_link_item
+link_cut_is answers ks k now j v = refl
+
 link_show_is : (answers : Answers) (ks : List ℕ) (k now : ℕ) (v : Serving) → after_link_item answers ks k now Tells.Show v ≡ record v { answer = Says.Show }
 unfolding after_link_item
 link_show_is answers ks k now v = refl
@@ -255,6 +260,7 @@ is_idle (Tells.Up life) = true
 is_idle (Tells.Packet life packet) = true
 is_idle (Tells.Down life reason) = true
 is_idle (Tells.Need d) = false
+is_idle (Tells.Cut k) = false
 is_idle Tells.Beat = true
 is_idle Tells.Show = false
 is_idle (Tells.Status status) = false
@@ -266,6 +272,7 @@ other_idle_is answers ks now (Tells.Up life) v e = refl
 other_idle_is answers ks now (Tells.Packet life packet) v e = refl
 other_idle_is answers ks now (Tells.Down life reason) v e = refl
 other_idle_is answers ks now (Tells.Need d) v e = absurd (false≢true e)
+other_idle_is answers ks now (Tells.Cut k) v e = absurd (false≢true e)
 other_idle_is answers ks now Tells.Beat v e = refl
 other_idle_is answers ks now Tells.Show v e = absurd (false≢true e)
 other_idle_is answers ks now (Tells.Status status) v e = absurd (false≢true e)
@@ -274,6 +281,10 @@ other_idle_is answers ks now Tells.Quit v e = absurd (false≢true e)
 other_need_is : (answers : Answers) (ks : List ℕ) (now : ℕ) (d : ℕ) (v : Serving) → after_other_item answers ks now (Tells.Need d) v ≡ after_input answers ks (In.Need d) now v
 unfolding after_other_item
 other_need_is answers ks now d v = refl
+
+other_cut_is : (answers : Answers) (ks : List ℕ) (now k : ℕ) (v : Serving) → after_other_item answers ks now (Tells.Cut k) v ≡ (if has_number k ks then after_life_cut answers ks k now v (v.seat.current k) else v)
+unfolding after_other_item
+other_cut_is answers ks now k v = refl
 
 other_show_is : (answers : Answers) (ks : List ℕ) (now : ℕ) (v : Serving) → after_other_item answers ks now Tells.Show v ≡ record v { answer = Says.Show }
 unfolding after_other_item
@@ -321,6 +332,9 @@ module _ {O : Type 0} (did_offer : O → ℕ → Cargo → Bool → O → Type 0
       seat_as did_offer next (λ answers ks. after_other_item answers ks now what) now s outs new after
       (λ answers before. ap (λ w. after_other_item answers s.core.neighbours now w (serving_at now s before)) e ∙ f answers s.core.neighbours (serving_at now s before))
 
+  pub other_cut_goes : (what : What) (k : ℕ) → what ≡ Tells.Cut k → SeatGoes did_offer (λ answers ks v. if has_number k ks then after_life_cut answers ks k now v (v.seat.current k) else v) now s outs new after → SeatGoes did_offer (λ answers ks. after_other_item answers ks now what) now s outs new after
+  other_cut_goes what k e = other_goes what (Tells.Cut k) (λ answers ks v. if has_number k ks then after_life_cut answers ks k now v (v.seat.current k) else v) e (λ answers ks v. other_cut_is answers ks now k v)
+
   pub other_need_goes : (what : What) (d : ℕ) → what ≡ Tells.Need d → SeatGoes did_offer (λ answers ks. after_input answers ks (In.Need d) now) now s outs new after → SeatGoes did_offer (λ answers ks. after_other_item answers ks now what) now s outs new after
   other_need_goes what d e = other_goes what (Tells.Need d) (λ answers ks. after_input answers ks (In.Need d) now) e (λ answers ks v. other_need_is answers ks now d v)
 
@@ -329,6 +343,10 @@ module _ {O : Type 0} (did_offer : O → ℕ → Cargo → Bool → O → Type 0
   pub link_beat_goes : (k : ℕ) (what : What) → what ≡ Tells.Beat → SeatGoes did_offer (λ answers ks. after_link_item answers ks k now what) now s outs s outs
   link_beat_goes k what e =
       link_goes did_offer now s outs s outs k what Tells.Beat (λ answers ks v. v) e (λ answers ks v. link_beat_is answers ks k now v) (seat_still did_offer (λ answers ks v. v) now s outs s refl (λ answers before. refl))
+
+  pub link_cut_goes : (k : ℕ) (what : What) (j : ℕ) → what ≡ Tells.Cut j → SeatGoes did_offer (λ answers ks. after_link_item answers ks k now what) now s outs s outs
+  link_cut_goes k what j e =
+      link_goes did_offer now s outs s outs k what (Tells.Cut j) (λ answers ks v. v) e (λ answers ks v. link_cut_is answers ks k now j v) (seat_still did_offer (λ answers ks v. v) now s outs s refl (λ answers before. refl))
 
   pub link_show_goes : (k : ℕ) (what : What) (same : SeatView) → same ≡ s → what ≡ Tells.Show → SeatGoes did_offer (λ answers ks. after_link_item answers ks k now what) now s outs (record same { answer = Says.Show }) outs
   link_show_goes k what same q e =

@@ -87,6 +87,7 @@ life_brought k (Some j) (Tells.Packet other packet) life = life
 life_brought k (Some j) (Tells.Down other reason) life = life
 life_brought k (Some j) Tells.Beat life = life
 life_brought k (Some j) (Tells.Need d) life = life
+life_brought k (Some j) (Tells.Cut other) life = life
 life_brought k (Some j) Tells.Show life = life
 life_brought k (Some j) (Tells.Status status) life = life
 life_brought k (Some j) Tells.Quit life = life

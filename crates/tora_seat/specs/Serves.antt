@@ -101,6 +101,13 @@ pub data Does (ks : List ℕ) (now : ℕ) (v : Serving) : Option ℕ → What �
   no_link_up : {life : Life} → Does ks now v None (Tells.Up life) v
   no_link_packet : {life : Life} {packet : Packet} → Does ks now v None (Tells.Packet life packet) v
   no_link_down : {life : Life} {reason : Reason} → Does ks now v None (Tells.Down life reason) v
+  -- a seat that is no link asks for the cut of a neighbour: where a life of it is current, its cut is pending and tried once, and the life is over
+  life_cut : {k : ℕ} {life : Life} {tried w : Serving} → has_number k ks ≡ true → v.seat.current k ≡ Some life → TriesCut (with_pending v k (Some life)) k tried
+      → Settles ks now (with_current tried k None) (In.LinkDown k) w → Does ks now v None (Tells.Cut k) w
+  no_life_cut : {k : ℕ} → v.seat.current k ≡ None → Does ks now v None (Tells.Cut k) v
+  no_neighbour_cut : {k : ℕ} → has_number k ks ≡ false → Does ks now v None (Tells.Cut k) v
+  -- a link cuts no life: it tells the end of its own
+  link_cuts_none : {j k : ℕ} → Does ks now v (Some j) (Tells.Cut k) v
   -- what any seat may tell
   need : {seat : Option ℕ} {d : ℕ} {w : Serving} → Settles ks now v (In.Need d) w → Does ks now v seat (Tells.Need d) w
   beat : {seat : Option ℕ} → Does ks now v seat Tells.Beat v

@@ -141,6 +141,15 @@ abbrev pub after_old_down : Answers → List ℕ → ℕ → ℕ → Serving →
 after_old_down answers ks k now v None = v
 after_old_down answers ks k now v (Some life) = after_down answers ks k now v
 
+-- the cut of a neighbour's current life is pending, and is tried once
+abbrev pub after_cut_asked : Answers → Serving → ℕ → Life → Serving
+after_cut_asked answers v k life = after_cut_tried answers (with_pending v k (Some life)) k (Some life)
+
+-- the current life of a neighbour is cut, and is over; where it has none, nothing happens
+abbrev pub after_life_cut : Answers → List ℕ → ℕ → ℕ → Serving → Option Life → Serving
+after_life_cut answers ks k now v None = v
+after_life_cut answers ks k now v (Some life) = after_down answers ks k now (after_cut_asked answers v k life)
+
 abbrev pub after_up : Answers → List ℕ → ℕ → Life → ℕ → Serving → Serving
 after_up answers ks k life now v = after_input answers ks (In.LinkUp k) now (with_current v k (Some life))
 
@@ -157,6 +166,7 @@ after_link_item answers ks k now (Tells.Down life reason) v =
     else if is_current life (v.seat.pending k) then with_pending v k None
     else v
 after_link_item answers ks k now (Tells.Need d) v = after_input answers ks (In.Need d) now v
+after_link_item answers ks k now (Tells.Cut j) v = v
 after_link_item answers ks k now Tells.Beat v = v
 after_link_item answers ks k now Tells.Show v = record v { answer = Says.Show }
 after_link_item answers ks k now (Tells.Status status) v = record v { answer = Says.Show }
@@ -168,6 +178,7 @@ after_other_item answers ks now (Tells.Up life) v = v
 after_other_item answers ks now (Tells.Packet life packet) v = v
 after_other_item answers ks now (Tells.Down life reason) v = v
 after_other_item answers ks now (Tells.Need d) v = after_input answers ks (In.Need d) now v
+after_other_item answers ks now (Tells.Cut k) v = if has_number k ks then after_life_cut answers ks k now v (v.seat.current k) else v
 after_other_item answers ks now Tells.Beat v = v
 after_other_item answers ks now Tells.Show v = record v { answer = Says.Show }
 after_other_item answers ks now (Tells.Status status) v = record v { answer = Says.Show }

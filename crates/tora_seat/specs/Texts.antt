@@ -13,12 +13,13 @@ use Rattle.tora_seat.specs.declared.cargo.Cargo.TheVariants as Gives
 use Rattle.tora_seat.specs.declared.answer.Answer.{Answer}
 use Rattle.tora_seat.specs.declared.answer.Answer.TheVariants as Says
 
--- a word, and behind it the life, the packet, the reason or the destination
+-- a word, and behind it the life, the packet, the reason, the destination or the neighbour
 abbrev pub written_what : What → List ℕ
 written_what (Tells.Up life) = codes "up " ++ written_life life
 written_what (Tells.Packet life packet) = codes "packet " ++ written_life life ++ codes " " ++ written_packet packet
 written_what (Tells.Down life reason) = codes "down " ++ written_life life ++ codes " " ++ written_reason reason
 written_what (Tells.Need d) = codes "need " ++ decimal d
+written_what (Tells.Cut k) = codes "cut " ++ decimal k
 written_what Tells.Beat = codes "beat"
 written_what Tells.Show = codes "show"
 written_what (Tells.Status Asked.Json) = codes "json"

@@ -2,7 +2,7 @@
 use crate::{Answer, Cargo, Item, Status, What};
 use std::fmt;
 
-/// A word, and behind it the life, the packet, the reason or the destination; of a status its own word.
+/// A word, and behind it the life, the packet, the reason, the destination or the neighbour; of a status its own word.
 impl fmt::Display for What {
     ghost use Rattle.std.specs.Prelude.{Some};
     ghost use Rattle.tora_seat.specs.Texts.{written_what};
@@ -18,6 +18,10 @@ impl fmt::Display for What {
             What::Need(d) => {
                 let d = *d;
                 write!(f, "need {d}")
+            }
+            What::Cut(k) => {
+                let k = *k;
+                write!(f, "cut {k}")
             }
             What::Show => f.write_str("show"),
             What::Status(status) => match status {

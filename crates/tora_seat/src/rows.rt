@@ -1,5 +1,5 @@
 //! The rows of the core's seat, one for each neighbour.
-ghost use Rattle.std.specs.Prelude.{◌≡◌, ◌<◌, ◌≤◌, ℕ, List, length, false, Option, IfOk, slice_get, map};
+ghost use Rattle.std.specs.Prelude.{◌≡◌, ◌<◌, ◌≤◌, ℕ, List, length, false, Option, None, Some, IfOk, slice_get, map, position, ◌==◌, if◌then◌else◌};
 ghost use Rattle.tora_core.specs.Numbers.{has_number, has_repeat};
 ghost use Rattle.tora_core.specs.CoreRun.{CoreView};
 ghost use Rattle.tora_seat.specs.Serving.{after_cuts_tried, after_broadcast, after_broadcasts, first_cut, is_current};
@@ -111,6 +111,13 @@ pub fn row_at(rows: &[LinkRow], place: usize) -> Option<LinkRow>
     rows.get(place).copied()
 }
 
+/// The place of a neighbour, from 0 on, if it is one of these.
+pub fn place_in(neighbours: &[Id], k: Id) -> Option<usize>
+    ensures { result ≡ position (λ n. n == k) neighbours.now }
+{
+    neighbours.iter().position(|n| *n == k)
+}
+
 /// The neighbour of the first row whose link is up at the core without a current life.
 pub fn first_cut(core: &Core, rows: &[LinkRow]) -> Option<Id>
     ensures { result ≡ first_cut_of core.now rows.now }
@@ -129,6 +136,13 @@ fn is_cut(core: &Core, row: &LinkRow) -> bool
         return false;
     }
     core.is_up(row.neighbour)
+}
+
+/// What is pending of a life whose cut was offered.
+pub fn left_pending(is_put: bool, life: Life) -> Option<Life>
+    ensures { result ≡ (if is_put then None else Some life) }
+{
+    if is_put { None } else { Some(life) }
 }
 
 /// Whether it is the current life.

@@ -1,16 +1,18 @@
 //! The core's seat, but for the list in which a step's packets stand.
-ghost use Rattle.std.specs.Prelude.{true, ◌≡◌, ◌<◌, ◌≤◌, ◌+◌, ◌*◌, ℕ, List, length, [], Option, None, Some, IfOk, IfSome, MatchOption, slice_get, map, is_some, if◌then◌else◌};
-ghost use Rattle.tora_core.specs.Numbers.{has_repeat, IsAscending};
+ghost use Rattle.std.specs.Prelude.{true, false, ◌≡◌, ◌<◌, ◌≤◌, ◌+◌, ◌*◌, ℕ, List, length, [], Option, None, Some, IfOk, IfSome, MatchOption, slice_get, map, is_some, if◌then◌else◌};
+ghost use Rattle.tora_core.specs.Numbers.{has_number, has_repeat, IsAscending};
 ghost use Rattle.tora_core.specs.CoreRun.{up_after};
 ghost use Rattle.tora_core.specs.declared.Input.TheVariants as In;
-ghost use Rattle.tora_seat.specs.Serving.{Answers, Offer, first_cut, with_current, with_pending, after_cuts_tried, after_step, after_settling, after_input, after_down, after_old_down, after_up, after_packet, after_link_item, after_other_item, after_item_of, serving_of, is_current};
+ghost use Rattle.tora_seat.specs.Serving.{Answers, Offer, first_cut, with_current, with_pending, after_cuts_tried, after_step, after_settling, after_input, after_down, after_old_down, after_cut_asked, after_life_cut, after_up, after_packet, after_link_item, after_other_item, after_item_of, serving_of, is_current};
 ghost use Rattle.tora_seat.specs.Serves.{Serves};
 ghost use Rattle.tora_seat.specs.Offers.{AreOffered, Follows};
 ghost use Rattle.tora_seat.specs.Rows.{SeatView, neighbours_of, current_of, pending_of, state_of, serving_at, first_seat};
 ghost use Rattle.tora_seat.specs.Bodies.{IsSettled, SeatGoes, StepsQuietly};
 
-use crate::rows::{broadcast_all, first_cut, is_current, new_rows, row_at, try_cuts};
-use crate::{Answer, Item, LinkRow, OutLanes, Stepped, What};
+use crate::rows::{
+    broadcast_all, first_cut, is_current, left_pending, new_rows, place_in, row_at, try_cuts,
+};
+use crate::{Answer, Cargo, Item, LinkRow, OutLanes, Stepped, What};
 use std::alloc::{AllocError, Global};
 use std::marker::Model;
 use tora_arq::Life;
@@ -212,17 +214,17 @@ impl BareSeat {
         row.current = life;
     }
 
-    /// Forgets the pending cut of the neighbour at a place.
-    fn forget_pending(&mut self, place: usize, k: Id)
+    /// Gives the neighbour at a place another life whose cut is pending, or none.
+    fn set_pending(&mut self, place: usize, k: Id, life: Option<Life>)
         requires { slice_get self.old.core.neighbours place ≡ Some k }
         ensures rest { self.new ≡ record self.old { rows = self.new.rows } }
         ensures set { (now : ℕ) (before : List Offer)
-            → with_pending (serving_at now self.old before) k None ≡ serving_at now self.new before }
+            → with_pending (serving_at now self.old before) k life ≡ serving_at now self.new before }
     {
         self.has_pending = true;
         self.has_cut = true;
         let row = &mut self.rows[place];
-        row.pending = None;
+        row.pending = life;
     }
 
     /// The current life of the neighbour at a place is over.
@@ -351,7 +353,66 @@ impl BareSeat {
         if is_current(life, &self.current(place)) {
             self.on_end(place, k, now, sends, outs);
         } else if is_current(life, &self.pending(place)) {
-            self.forget_pending(place, k);
+            self.set_pending(place, k, None);
+        }
+    }
+
+    /// The place of a neighbour, from 0 on in ascending order, if it is one.
+    fn place(&self, k: Id) -> Option<usize>
+        ensures { MatchOption result (has_number k self.now.core.neighbours ≡ false)
+            (λ place. slice_get self.now.core.neighbours place ≡ Some k) }
+    {
+        place_in(self.core.neighbours(), k)
+    }
+
+    /// Offers the cut of a life to the lane of the neighbour at a place; where it is handed back, it is pending.
+    fn ask_cut<O: OutLanes>(&mut self, place: usize, k: Id, life: Life, now: u64, outs: &mut O)
+        requires place { slice_get self.old.core.neighbours place ≡ Some k }
+        requires lanes { length self.old.core.neighbours ≤ O.count outs.old }
+        ensures count { O.count outs.new ≡ O.count outs.old }
+        ensures rest { self.new ≡ record self.old { rows = self.new.rows } }
+        ensures goes { SeatGoes O.did_offer (λ answers ks v. after_cut_asked answers v k life)
+            now self.old outs.old self.new outs.new }
+    {
+        let _me = self.core().me();
+        let is_put = outs.offer(place, Cargo::Cut(life));
+        self.set_pending(place, k, left_pending(is_put, life));
+    }
+
+    /// Cuts the current life of the neighbour at a place, if there is one.
+    fn on_cut_at<O: OutLanes>(
+        &mut self,
+        place: usize,
+        k: Id,
+        now: u64,
+        sends: &mut Sends,
+        outs: &mut O,
+    )
+        requires place { slice_get self.old.core.neighbours place ≡ Some k }
+        requires lanes { length self.old.core.neighbours ≤ O.count outs.old }
+        requires room { length self.old.inputs ≤ 0 }
+        ensures count { O.count outs.new ≡ O.count outs.old }
+        ensures goes { SeatGoes O.did_offer
+            (λ answers ks v. after_life_cut answers ks k now v (v.seat.current k))
+            now self.old outs.old self.new outs.new }
+    {
+        if let Some(life) = self.current(place) {
+            self.ask_cut(place, k, life, now, outs);
+            self.on_end(place, k, now, sends, outs);
+        }
+    }
+
+    /// Cuts the current life of a neighbour, if it is one and has one.
+    fn on_cut<O: OutLanes>(&mut self, k: Id, now: u64, sends: &mut Sends, outs: &mut O)
+        requires lanes { length self.old.core.neighbours ≤ O.count outs.old }
+        requires room { length self.old.inputs ≤ 0 }
+        ensures count { O.count outs.new ≡ O.count outs.old }
+        ensures goes { SeatGoes O.did_offer
+            (λ answers ks v. if has_number k ks then after_life_cut answers ks k now v (v.seat.current k) else v)
+            now self.old outs.old self.new outs.new }
+    {
+        if let Some(place) = self.place(k) {
+            self.on_cut_at(place, k, now, sends, outs);
         }
     }
 
@@ -378,6 +439,7 @@ impl BareSeat {
             What::Packet(life, packet) => self.on_packet(place, k, life, packet, now, sends, outs),
             What::Down(life, _) => self.on_down(place, k, life, now, sends, outs),
             What::Need(d) => self.take_in_calm(&Input::Need(*d), now, sends, outs),
+            What::Cut(_) => {}
             What::Beat => {}
             What::Show => self.answer = Answer::Show,
             What::Status(_) => self.answer = Answer::Show,
@@ -395,6 +457,7 @@ impl BareSeat {
     {
         match what {
             What::Need(d) => self.take_in_calm(&Input::Need(*d), now, sends, outs),
+            What::Cut(k) => self.on_cut(*k, now, sends, outs),
             What::Show => self.answer = Answer::Show,
             What::Status(_) => self.answer = Answer::Show,
             What::Quit => self.answer = Answer::Quit,

@@ -17,6 +17,8 @@ pub enum What {
     Beat,
     /// A route to a destination is needed.
     Need(Id),
+    /// The current life of a neighbour is to end at once, as where its carrier is lost.
+    Cut(Id),
     /// The core is to be shown.
     Show,
     /// The core is to be told to a program.

@@ -7,11 +7,12 @@ use Rattle.tora_arq.specs.declared.life.Life.{Life}
 use Rattle.tora_core.specs.declared.Input.{Input}
 use Rattle.tora_core.specs.declared.Input.TheVariants as In
 use Rattle.tora_core.specs.declared.errors.StepError.{StepError}
+use Rattle.tora_core.specs.Numbers.{has_number}
 use Rattle.tora_core.specs.CoreRun.{refusal_of, sends_of}
 use Rattle.tora_seat.specs.declared.what.What.{What}
 use Rattle.tora_seat.specs.declared.what.What.TheVariants as Tells
 use Rattle.tora_seat.specs.declared.item.Item.{Item}
-use Rattle.tora_seat.specs.Serving.{SeatState, Parcel, Step, Serving, Answers, with_current, after_cut_tried, after_cuts_tried, after_sent, after_broadcast, after_broadcasts, accepting, after_answer, after_step, first_cut, after_settling, after_input, is_current, after_down, after_old_down, after_link_item, after_other_item, after_item_of, begin_serving, serving_of}
+use Rattle.tora_seat.specs.Serving.{SeatState, Parcel, Step, Serving, Answers, with_current, with_pending, after_cut_tried, after_cuts_tried, after_sent, after_broadcast, after_broadcasts, accepting, after_answer, after_step, first_cut, after_settling, after_input, is_current, after_down, after_old_down, after_cut_asked, after_life_cut, after_link_item, after_other_item, after_item_of, begin_serving, serving_of}
 
 -- no packet was stepped, or one of the neighbour at this place
 abbrev pub AreStepsAt : List ℕ → ℕ → List Step → Type 0
@@ -72,6 +73,10 @@ module _ (answers : Answers) (ks : List ℕ) where
   old_down_same v k now None = refl
   old_down_same v k now (Some l) = down_same v k now
 
+  life_cut_same : (v : Serving) (k now : ℕ) (cur : Option Life) → Same v (after_life_cut answers ks k now v cur)
+  life_cut_same v k now None = refl
+  life_cut_same v k now (Some l) = down_same (after_cut_asked answers v k l) k now ∙ cut_same (with_pending v k (Some l)) k (Some l)
+
   -- none yet, or one of neighbour k
   abbrev OneOf : ℕ → List Step → Type 0
   OneOf k steps = (steps ≡ []) ⊎ ((p : Parcel) × (steps ≡ record { from = k; parcel = p } ∷ []))
@@ -91,6 +96,7 @@ module _ (answers : Answers) (ks : List ℕ) where
       (λ _. inl (down_same v k now ∙ e))
       (λ _. cond_both (is_current life (v.seat.pending k)) _ _ (λ (x : Serving). OneOf k x.steps) (λ _. inl e) (λ _. inl e))
   link_one v k now (Tells.Need d) e = inl (input_same v (In.Need d) now ∙ e)
+  link_one v k now (Tells.Cut j) e = inl e
   link_one v k now Tells.Beat e = inl e
   link_one v k now Tells.Show e = inl e
   link_one v k now (Tells.Status status) e = inl e
@@ -102,6 +108,7 @@ module _ (answers : Answers) (ks : List ℕ) where
   other_none v now (Tells.Packet life packet) e = e
   other_none v now (Tells.Down life reason) e = e
   other_none v now (Tells.Need d) e = input_same v (In.Need d) now ∙ e
+  other_none v now (Tells.Cut k) e = cond_both (has_number k ks) _ _ (λ (x : Serving). x.steps ≡ []) (λ _. life_cut_same v k now (v.seat.current k) ∙ e) (λ _. e)
   other_none v now Tells.Beat e = e
   other_none v now Tells.Show e = e
   other_none v now (Tells.Status status) e = e

@@ -25,6 +25,7 @@ life_of_what (Tells.Packet life packet) = None
 life_of_what (Tells.Down life reason) = None
 life_of_what Tells.Beat = None
 life_of_what (Tells.Need d) = None
+life_of_what (Tells.Cut k) = None
 life_of_what Tells.Show = None
 life_of_what (Tells.Status status) = None
 life_of_what Tells.Quit = None

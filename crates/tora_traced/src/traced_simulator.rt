@@ -49,6 +49,7 @@ fn life_of_what(what: &What) -> Option<Life>
         What::Down(_, _) => None,
         What::Beat => None,
         What::Need(_) => None,
+        What::Cut(_) => None,
         What::Show => None,
         What::Status(_) => None,
         What::Quit => None,

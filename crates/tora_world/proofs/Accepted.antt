@@ -15,7 +15,7 @@ use Rattle.tora_seat.specs.declared.answer.Answer.TheVariants as Says
 use Rattle.tora_seat.specs.declared.item.Item.{Item}
 use Rattle.tora_seat.specs.declared.cargo.Cargo.{Cargo}
 use Rattle.tora_seat.specs.declared.cargo.Cargo.TheVariants as Gives
-use Rattle.tora_seat.specs.Serving.{SeatState, Offer, Parcel, Step, Serving, Answers, put_one, with_current, after_cut_tried, after_cuts_tried, after_sent, after_broadcast, after_broadcasts, accepting, after_answer, after_step, first_cut, after_settling, after_input, is_current, after_down, after_old_down, after_up, after_packet, after_link_item, after_other_item, after_item_of, begin_serving, serving_of, put_to, stepped_from}
+use Rattle.tora_seat.specs.Serving.{SeatState, Offer, Parcel, Step, Serving, Answers, put_one, with_current, with_pending, after_cut_tried, after_cuts_tried, after_sent, after_broadcast, after_broadcasts, accepting, after_answer, after_step, first_cut, after_settling, after_input, is_current, after_down, after_old_down, after_cut_asked, after_life_cut, after_up, after_packet, after_link_item, after_other_item, after_item_of, begin_serving, serving_of, put_to, stepped_from}
 use Rattle.tora_world.specs.Lists.{parcel_of, Each}
 use Rattle.tora_world.specs.Refusals.{packet_in, packets_accepted, packets_in}
 use Rattle.tora_world.proofs.PacketLists.{same_true}
@@ -25,7 +25,7 @@ use Rattle.tora_seat.specs.Serves.{IsCut}
 use Rattle.tora_world.specs.Layers.{CoreLaws, SeatLaws}
 use Rattle.tora_world.proofs.LinksUp.{up_accepted, down_accepted}
 use Rattle.tora_world.proofs.OwnHeights.{IsOwnView, IsSentBy, views_own, sends_own}
-use Rattle.tora_seat.proofs.Calm.{accepted_step, accepted_up}
+use Rattle.tora_seat.proofs.Calm.{tried_current, accepted_step, accepted_up}
 
 accepted-push : (k : ℕ) (is : List (Input × ℕ)) (input : Input) (now : ℕ) → packets_accepted k (is ++ (input, now) ∷ []) ≡ packets_accepted k is ++ packet_in k input
 accepted-push k [] input now = append-nil (packet_in k input)
@@ -235,6 +235,15 @@ module _ (cores : CoreLaws) (seats : SeatLaws) (n : ℕ) (ks : List ℕ) (answer
   down_done : (v : Serving) (k now : ℕ) (l : Life) → has_number k ks ≡ true → v.seat.current k ≡ Some l → Sound v → Done (after_down answers ks k now v)
   down_done v k now l m on h = input_done (with_current v k None) (In.LinkDown k) now h.near (down_step v k now l m on h)
 
+  -- the current life of a neighbour is cut
+  life_cut_done : (v : Serving) (k now : ℕ) (o : Option Life) → has_number k ks ≡ true → v.seat.current k ≡ o → Done v → Done (after_life_cut answers ks k now v o)
+  life_cut_done v k now None m e d = d
+  life_cut_done v k now (Some l) m e d =
+      let asked : Serving = with_pending v k (Some l) in
+      let h = d.sound in
+      down_done (after_cut_asked answers v k l) k now l m (ap (λ (f : ℕ → Option Life). f k) (tried_current answers asked k (Some l)) ∙ e)
+      (cut_sound asked k (Some l) (record { near = h.near; up = h.up; silent = h.silent; agreed = h.agreed; own = h.own; sends = h.sends }))
+
   down_off : (v : Serving) (k now : ℕ) (l : Life) → has_number k ks ≡ true → v.seat.current k ≡ Some l → Sound v → has_number k (after_down answers ks k now v).seat.core.up ≡ false
   unfolding after_input
   down_off v k now l m on h =
@@ -293,6 +302,7 @@ module _ (cores : CoreLaws) (seats : SeatLaws) (n : ℕ) (ks : List ℕ) (answer
       (λ _. record { sound = record { near = d.sound.near; up = d.sound.up; silent = d.sound.silent; agreed = d.sound.agreed; own = d.sound.own; sends = d.sound.sends }; settled = λ j c. d.settled j (record { neighbour = c.neighbour; up = c.up; none = c.none }) })
       (λ _. d))
   link_item_done v k now (Tells.Need m) i from excuse d = need_done v m now (excuse m refl) d.sound
+  link_item_done v k now (Tells.Cut j) m from excuse d = d
   link_item_done v k now Tells.Beat m from excuse d = d
   link_item_done v k now Tells.Show m from excuse d = record { sound = record { near = d.sound.near; up = d.sound.up; silent = λ e q. absurd (cc); agreed = d.sound.agreed; own = d.sound.own; sends = d.sound.sends }; settled = λ j c. d.settled j (record { neighbour = c.neighbour; up = c.up; none = c.none }) }
   link_item_done v k now (Tells.Status status) m from excuse d = record { sound = record { near = d.sound.near; up = d.sound.up; silent = λ e q. absurd (cc); agreed = d.sound.agreed; own = d.sound.own; sends = d.sound.sends }; settled = λ j c. d.settled j (record { neighbour = c.neighbour; up = c.up; none = c.none }) }
@@ -301,6 +311,7 @@ module _ (cores : CoreLaws) (seats : SeatLaws) (n : ℕ) (ks : List ℕ) (answer
   other_item_done : (v : Serving) (now : ℕ) (what : What) → ((d : ℕ) → what ≡ Tells.Need d → (e : StepError) → refusal_of v.seat.core (In.Need d) ≡ Some e → Excuse e) → Done v → Done (after_other_item answers ks now what v)
   unfolding after_other_item
   other_item_done v now (Tells.Need m) excuse d = need_done v m now (excuse m refl) d.sound
+  other_item_done v now (Tells.Cut k) excuse d = cond_both (has_number k ks) _ _ Done (λ m. life_cut_done v k now (v.seat.current k) m refl d) (λ _. d)
   other_item_done v now (Tells.Up l) excuse d = d
   other_item_done v now (Tells.Packet l p) excuse d = d
   other_item_done v now (Tells.Down l r) excuse d = d

@@ -30,6 +30,7 @@ arrival_in (Tells.Packet l p) = PacketComes l p
 arrival_in (Tells.Down l r) = OtherComes
 arrival_in Tells.Beat = OtherComes
 arrival_in (Tells.Need d) = OtherComes
+arrival_in (Tells.Cut k) = OtherComes
 arrival_in Tells.Show = OtherComes
 arrival_in (Tells.Status status) = OtherComes
 arrival_in Tells.Quit = OtherComes

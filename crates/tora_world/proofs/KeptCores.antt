@@ -25,7 +25,7 @@ use Rattle.tora_seat.specs.declared.what.What.TheVariants as Tells
 use Rattle.tora_seat.specs.declared.item.Item.{Item}
 use Rattle.tora_seat.specs.declared.cargo.Cargo.{Cargo}
 use Rattle.tora_seat.specs.declared.cargo.Cargo.TheVariants as Gives
-use Rattle.tora_seat.specs.Serving.{SeatState, Offer, Serving, Answers, with_current, after_cut_tried, after_cuts_tried, after_sent, after_broadcast, after_broadcasts, accepting, after_answer, after_step, first_cut, after_settling, after_input, is_current, after_old_down, after_link_item, after_other_item, after_item_of, begin_serving, serving_of, put_to}
+use Rattle.tora_seat.specs.Serving.{SeatState, Offer, Serving, Answers, with_current, with_pending, after_cut_tried, after_cuts_tried, after_sent, after_broadcast, after_broadcasts, accepting, after_answer, after_step, first_cut, after_settling, after_input, is_current, after_old_down, after_cut_asked, after_life_cut, after_link_item, after_other_item, after_item_of, begin_serving, serving_of, put_to}
 use Rattle.tora_world.specs.declared.event.Event.{Event}
 use Rattle.tora_world.specs.Topology.{Topology, neighbours_of, new_core}
 use Rattle.tora_world.specs.Lists.{parcel_of, Each}
@@ -174,6 +174,12 @@ module _ (t : Topology) (n : ℕ) (keeps : KeepsLaws t n) (ks : List ℕ) (answe
   old_fine v k now None h = h
   old_fine v k now (Some l) h = input_fine (with_current v k None) (In.LinkDown k) now tt (current_fine v k None h)
 
+  life_cut_fine : (v : Serving) (k now : ℕ) (o : Option Life) → Fine v → Fine (after_life_cut answers ks k now v o)
+  life_cut_fine v k now None h = h
+  life_cut_fine v k now (Some l) h =
+      let w = after_cut_asked answers v k l in
+      input_fine (with_current w k None) (In.LinkDown k) now tt (current_fine w k None (cut_fine (with_pending v k (Some l)) k (Some l) (record { core = h.core; sends = h.sends })))
+
   link_item_fine : (v : Serving) (k now : ℕ) (what : What) → ((l : Life) (p : Packet) → what ≡ Tells.Packet l p → is_current l (v.seat.current k) ≡ true → IsPacket p) → Fine v → Fine (after_link_item answers ks k now what v)
   unfolding after_link_item
   link_item_fine v k now (Tells.Up l) from h =
@@ -188,6 +194,7 @@ module _ (t : Topology) (n : ℕ) (keeps : KeepsLaws t n) (ks : List ℕ) (answe
       (λ _. input_fine (with_current v k None) (In.LinkDown k) now tt (current_fine v k None h))
       (λ _. cond_both (is_current l (v.seat.pending k)) _ _ Fine (λ _. record { core = h.core; sends = h.sends }) (λ _. h))
   link_item_fine v k now (Tells.Need d) from h = input_fine v (In.Need d) now tt h
+  link_item_fine v k now (Tells.Cut j) from h = h
   link_item_fine v k now Tells.Beat from h = h
   link_item_fine v k now Tells.Show from h = record { core = h.core; sends = h.sends }
   link_item_fine v k now (Tells.Status status) from h = record { core = h.core; sends = h.sends }
@@ -196,6 +203,7 @@ module _ (t : Topology) (n : ℕ) (keeps : KeepsLaws t n) (ks : List ℕ) (answe
   other_item_fine : (v : Serving) (now : ℕ) (what : What) → Fine v → Fine (after_other_item answers ks now what v)
   unfolding after_other_item
   other_item_fine v now (Tells.Need d) h = input_fine v (In.Need d) now tt h
+  other_item_fine v now (Tells.Cut k) h = cond_both (has_number k ks) _ _ Fine (λ _. life_cut_fine v k now (v.seat.current k) h) (λ _. h)
   other_item_fine v now (Tells.Up l) h = h
   other_item_fine v now (Tells.Packet l p) h = h
   other_item_fine v now (Tells.Down l r) h = h

@@ -12,7 +12,7 @@ use Rattle.tora_core.specs.CoreRun.{CoreView, is_from, refusal_of, core_after, c
 use Rattle.tora_seat.specs.declared.what.What.{What}
 use Rattle.tora_seat.specs.declared.what.What.TheVariants as Tells
 use Rattle.tora_seat.specs.declared.item.Item.{Item}
-use Rattle.tora_seat.specs.Serving.{SeatState, Parcel, Step, Serving, Answers, put_one, with_current, after_cut_tried, after_cuts_tried, after_sent, after_broadcast, after_broadcasts, accepting, after_answer, after_step, first_cut, after_settling, after_input, is_current, after_down, after_old_down, after_up, after_packet, after_link_item, after_other_item, after_item_of, begin_serving, serving_of, stepped_from}
+use Rattle.tora_seat.specs.Serving.{SeatState, Parcel, Step, Serving, Answers, put_one, with_current, with_pending, after_cut_tried, after_cuts_tried, after_sent, after_broadcast, after_broadcasts, accepting, after_answer, after_step, first_cut, after_settling, after_input, is_current, after_down, after_old_down, after_cut_asked, after_life_cut, after_up, after_packet, after_link_item, after_other_item, after_item_of, begin_serving, serving_of, stepped_from}
 use Rattle.tora_seat.specs.Serves.{IsCut}
 use Rattle.tora_world.specs.Lists.{parcel_of, packet_where, packets_of}
 use Rattle.tora_world.specs.Layers.{CoreLaws, SeatLaws}
@@ -21,7 +21,7 @@ use Rattle.tora_world.proofs.Events.{put_one_here, put_one_there}
 use Rattle.tora_world.proofs.LinksUp.{up_accepted, down_accepted}
 use Rattle.tora_world.proofs.Cores.{core_after-push}
 use Rattle.tora_world.proofs.Accepted.{current_is, at_in}
-use Rattle.tora_seat.proofs.Calm.{accepted_step, accepted_up}
+use Rattle.tora_seat.proofs.Calm.{tried_current, accepted_step, accepted_up}
 
 -- ---- the packets of a neighbour that a core has accepted since its link came up last
 
@@ -208,6 +208,14 @@ module _ (cores : CoreLaws) (seats : SeatLaws) (ks : List ℕ) (answers : Answer
   down_done : (ss : List Step) (v : Serving) (k now : ℕ) (l : Life) → has_number k ks ≡ true → v.seat.current k ≡ Some l → Sound ss v → Sound ss (after_down answers ks k now v)
   down_done ss v k now l m on h = input_sound ss (with_current v k None) (In.LinkDown k) now (down_step ss v k now l m on h)
 
+  -- the current life of a neighbour is cut
+  life_cut_sound : (ss : List Step) (v : Serving) (k now : ℕ) (o : Option Life) → has_number k ks ≡ true → v.seat.current k ≡ o → Sound ss v → Sound ss (after_life_cut answers ks k now v o)
+  life_cut_sound ss v k now None m e h = h
+  life_cut_sound ss v k now (Some l) m e h =
+      let asked : Serving = with_pending v k (Some l) in
+      down_done ss (after_cut_asked answers v k l) k now l m (ap (λ (f : ℕ → Option Life). f k) (tried_current answers asked k (Some l)) ∙ e)
+      (cut_sound ss asked k (Some l) (record { near = h.near; up = h.up; stepped = h.stepped; follows = h.follows; same = h.same }))
+
   down_off : (ss : List Step) (v : Serving) (k now : ℕ) (l : Life) → has_number k ks ≡ true → v.seat.current k ≡ Some l → Sound ss v → has_number k (after_down answers ks k now v).seat.core.up ≡ false
   unfolding after_input
   down_off ss v k now l m on h =
@@ -298,6 +306,7 @@ module _ (cores : CoreLaws) (seats : SeatLaws) (ks : List ℕ) (answers : Answer
       (λ _. record { ss = []; sound = record { near = h.near; up = h.up; stepped = h.stepped; follows = h.follows; same = h.same } })
       (λ _. record { ss = []; sound = h }))
   link_item_done v k now (Tells.Need d) m from fresh settled h = record { ss = []; sound = need_sound [] v d now h }
+  link_item_done v k now (Tells.Cut j) m from fresh settled h = record { ss = []; sound = h }
   link_item_done v k now Tells.Beat m from fresh settled h = record { ss = []; sound = h }
   link_item_done v k now Tells.Show m from fresh settled h = record { ss = []; sound = record { near = h.near; up = h.up; stepped = h.stepped; follows = h.follows; same = h.same } }
   link_item_done v k now (Tells.Status status) m from fresh settled h = record { ss = []; sound = record { near = h.near; up = h.up; stepped = h.stepped; follows = h.follows; same = h.same } }
@@ -306,6 +315,8 @@ module _ (cores : CoreLaws) (seats : SeatLaws) (ks : List ℕ) (answers : Answer
   other_item_done : (v : Serving) (now : ℕ) (what : What) → Sound [] v → Done (after_other_item answers ks now what v)
   unfolding after_other_item
   other_item_done v now (Tells.Need d) h = record { ss = []; sound = need_sound [] v d now h }
+  other_item_done v now (Tells.Cut k) h =
+      cond_both (has_number k ks) _ _ Done (λ m. record { ss = []; sound = life_cut_sound [] v k now (v.seat.current k) m refl h }) (λ _. record { ss = []; sound = h })
   other_item_done v now (Tells.Up l) h = record { ss = []; sound = h }
   other_item_done v now (Tells.Packet l p) h = record { ss = []; sound = h }
   other_item_done v now (Tells.Down l r) h = record { ss = []; sound = h }

@@ -17,7 +17,7 @@ use Rattle.tora_seat.specs.declared.answer.Answer.TheVariants as Says
 use Rattle.tora_seat.specs.declared.item.Item.{Item}
 use Rattle.tora_seat.specs.declared.cargo.Cargo.{Cargo}
 use Rattle.tora_seat.specs.declared.cargo.Cargo.TheVariants as Gives
-use Rattle.tora_seat.specs.Serving.{SeatState, Parcel, Serving, Answers, put_one, offered, with_current, with_pending, after_cut_tried, after_cuts_tried, after_sent, after_broadcast, after_broadcasts, accepting, after_answer, after_step, first_cut, after_settling, after_input, is_current, after_down, after_old_down, after_up, after_link_item, after_other_item, after_item_of, begin_serving, serving_of, put_to}
+use Rattle.tora_seat.specs.Serving.{SeatState, Parcel, Serving, Answers, put_one, offered, with_current, with_pending, after_cut_tried, after_cuts_tried, after_sent, after_broadcast, after_broadcasts, accepting, after_answer, after_step, first_cut, after_settling, after_input, is_current, after_down, after_old_down, after_cut_asked, after_life_cut, after_up, after_link_item, after_other_item, after_item_of, begin_serving, serving_of, put_to}
 use Rattle.tora_world.specs.Lists.{packets_of, parcels_in, parcel_of, Begins}
 use Rattle.tora_world.specs.Gaps.{is_link_up, with_sends, broadcast_from, life_told}
 use Rattle.tora_world.proofs.PacketLists.{same_true, of-push, only_same, only_other, begins_refl, begins_trans, begins_append}
@@ -27,7 +27,7 @@ use Rattle.tora_world.proofs.Serving.{offer_parcels, nothing_more, no_cut, no_ba
 use Rattle.tora_world.specs.Layers.{CoreLaws, SeatLaws}
 use Rattle.tora_seat.specs.Serves.{IsCut}
 use Rattle.tora_world.proofs.LinksUp.{up_same, up_gone, up_accepted, down_accepted}
-use Rattle.tora_seat.proofs.Calm.{calm_broadcasts, accepted_step}
+use Rattle.tora_seat.proofs.Calm.{calm_broadcasts, tried_current, accepted_step}
 
 -- by the life that is current: what is still to be sent of it, or what was sent of the life that came up last
 abbrev pub Now : (Life → Type 0) → Option Life → List Packet → List Packet → Bool → Option Life → List Parcel → Option Life → Type 0
@@ -479,10 +479,36 @@ module _ (cores : CoreLaws) (seats : SeatLaws) (answers : Answers) (ks : List �
       down t (inr e) =
           input_done o (parcels_in base) (with_current v j None) (In.LinkDown j) now refl (λ d. absurd (true≢false (sym d ∙ e))) (other_current o (parcels_in base) v j None e (inv_start o seat v s w))
   link_item_done o seat v s w j now (Tells.Need d) fresh = input_done o (parcels_in base) v (In.Need d) now refl (λ x. absurd (true≢false (sym x))) (inv_start o seat v s w)
+  link_item_done o seat v s w j now (Tells.Cut i) fresh = done_start o seat v s w
   link_item_done o seat v s w j now Tells.Beat fresh = done_start o seat v s w
   link_item_done o seat v s w j now Tells.Show fresh = done_start o seat (record v { answer = Says.Show }) (record { core = s.core; current = s.current; inputs = s.inputs; xs = s.xs }) w
   link_item_done o seat v s w j now (Tells.Status status) fresh = done_start o seat (record v { answer = Says.Show }) (record { core = s.core; current = s.current; inputs = s.inputs; xs = s.xs }) w
   link_item_done o seat v s w j now Tells.Quit fresh = done_start o seat (record v { answer = Says.Quit }) (record { core = s.core; current = s.current; inputs = s.inputs; xs = s.xs }) w
+
+  -- the current life of a neighbour is cut
+  life_cut_done : (o : Option Life) (seat : SeatState) (v : Serving) → Started seat v → Whole o seat → (j now : ℕ) (cur : Option Life) → v.seat.current j ≡ cur → Done o (parcels_in base) (after_life_cut answers ks j now v cur)
+  life_cut_done o seat v s w j now None e = done_start o seat v s w
+  life_cut_done o seat v s w j now (Some l) e = go (cases_Bool (nat_eq j k))
+    where
+      asked : Serving
+      asked = with_pending v j (Some l)
+
+      v' : Serving
+      v' = after_cut_asked answers v j l
+
+      s' : Started seat v'
+      s' = start_cut seat asked j (Some l) (record { core = s.core; current = s.current; inputs = s.inputs; xs = s.xs })
+
+      on : v'.seat.current j ≡ Some l
+      on = ap (λ (f : ℕ → Option Life). f j) (tried_current answers asked j (Some l)) ∙ e
+
+      go : (nat_eq j k ≡ true) ⊎ (nat_eq j k ≡ false) → Done o (parcels_in base) (after_down answers ks j now v')
+      go (inl t) =
+          let q : j ≡ k = eqb-true j k t in
+          subst (λ x. Done o (parcels_in base) (after_down answers ks x now v')) (sym q)
+          (down_done o o (parcels_in base) (parcels_in base) v' now l (subst (λ x. v'.seat.current x ≡ Some l) q on) (λ i z. z) (λ i no. ap (packets_of i) s'.xs) (inv_start o seat v' s' w)).0
+      go (inr t) =
+          input_done o (parcels_in base) (with_current v' j None) (In.LinkDown j) now refl (λ d. absurd (true≢false (sym d ∙ t))) (other_current o (parcels_in base) v' j None t (inv_start o seat v' s' w))
 
   other_item_done : (o : Option Life) (seat : SeatState) (v : Serving) → Started seat v → Whole o seat → (now : ℕ) (what : What) → Done o (parcels_in base) (after_other_item answers ks now what v)
   unfolding after_other_item
@@ -490,6 +516,8 @@ module _ (cores : CoreLaws) (seats : SeatLaws) (answers : Answers) (ks : List �
   other_item_done o seat v s w now (Tells.Packet l p) = done_start o seat v s w
   other_item_done o seat v s w now (Tells.Down l r) = done_start o seat v s w
   other_item_done o seat v s w now (Tells.Need d) = input_done o (parcels_in base) v (In.Need d) now refl (λ x. absurd (true≢false (sym x))) (inv_start o seat v s w)
+  other_item_done o seat v s w now (Tells.Cut j) =
+      cond_both (has_number j ks) _ _ (Done o (parcels_in base)) (λ _. life_cut_done o seat v s w j now (v.seat.current j) refl) (λ _. done_start o seat v s w)
   other_item_done o seat v s w now Tells.Beat = done_start o seat v s w
   other_item_done o seat v s w now Tells.Show = done_start o seat (record v { answer = Says.Show }) (record { core = s.core; current = s.current; inputs = s.inputs; xs = s.xs }) w
   other_item_done o seat v s w now (Tells.Status status) = done_start o seat (record v { answer = Says.Show }) (record { core = s.core; current = s.current; inputs = s.inputs; xs = s.xs }) w

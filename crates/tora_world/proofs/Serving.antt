@@ -8,17 +8,18 @@ use Rattle.tora_arq.specs.declared.life.Life.{Life}
 use Rattle.tora_core.specs.declared.Input.{Input}
 use Rattle.tora_core.specs.declared.Input.TheVariants as In
 use Rattle.tora_core.specs.declared.errors.StepError.{StepError}
+use Rattle.tora_core.specs.Numbers.{has_number}
 use Rattle.tora_core.specs.CoreRun.{refusal_of, sends_of}
 use Rattle.tora_seat.specs.declared.what.What.{What}
 use Rattle.tora_seat.specs.declared.what.What.TheVariants as Tells
 use Rattle.tora_seat.specs.declared.item.Item.{Item}
 use Rattle.tora_seat.specs.declared.cargo.Cargo.{Cargo}
 use Rattle.tora_seat.specs.declared.cargo.Cargo.TheVariants as Gives
-use Rattle.tora_seat.specs.Serving.{Offer, Parcel, Step, Serving, Answers, offered, with_current, with_pending, after_cut_tried, after_cuts_tried, after_sent, after_broadcast, after_broadcasts, accepting, after_answer, after_step, first_cut, after_settling, after_input, is_current, after_down, after_old_down, after_packet, after_link_item, after_other_item, after_item_of, begin_serving, serving_of, put_to, stepped_from}
+use Rattle.tora_seat.specs.Serving.{Offer, Parcel, Step, Serving, Answers, offered, with_current, with_pending, after_cut_tried, after_cuts_tried, after_sent, after_broadcast, after_broadcasts, accepting, after_answer, after_step, first_cut, after_settling, after_input, is_current, after_down, after_old_down, after_cut_asked, after_life_cut, after_packet, after_link_item, after_other_item, after_item_of, begin_serving, serving_of, put_to, stepped_from}
 use Rattle.tora_world.specs.Lists.{parcels_in, parcel_of}
 use Rattle.tora_world.specs.LinkMachine.{MachineStep, machine_after, made}
 use Rattle.tora_world.specs.LinkMachine.MachineStep.{Take, Close}
-use Rattle.tora_world.specs.MachineRun.{steps_of_end, steps_of_link_item, steps_of_item, steps_of_cargo, steps_of_offers, steps_of_turn}
+use Rattle.tora_world.specs.MachineRun.{steps_of_end, steps_of_link_item, steps_of_other_item, steps_of_item, steps_of_cargo, steps_of_offers, steps_of_turn}
 use Rattle.tora_world.specs.World.{World, Choice, settings, neighbours, after_serving, after_turn}
 use Rattle.tora_world.proofs.PacketLists.{at_pair, same_true, same_refl}
 use Rattle.tora_world.proofs.Invariant.{Arrival, EndView, arrival_of, AllEndsFollow, Seen, seen_at_other}
@@ -344,30 +345,13 @@ module _ (w : World) (seen : Seen) (n : ℕ) where
       go true t = down_keeps before answers lane' ks k now v l q (is_current_true l (v.seat.current k) t) passed
       go false t = cond_both (is_current l (v.seat.pending k)) _ _ (Served before lane') (λ _. pending_quiet before lane' v k None passed) (λ _. passed)
   link_item_keeps before answers lane lane' k now (Tells.Need m) front v q g = input_keeps before answers lane' ks (In.Need m) now v (pass_keeps before lane lane' k (Tells.Need m) front v refl g)
+  link_item_keeps before answers lane lane' k now (Tells.Cut j) front v q g = pass_keeps before lane lane' k (Tells.Cut j) front v refl g
   link_item_keeps before answers lane lane' k now Tells.Beat front v q g = pass_keeps before lane lane' k Tells.Beat front v refl g
   link_item_keeps before answers lane lane' k now Tells.Show front v q g = pass_keeps before lane lane' k Tells.Show front v refl g
   link_item_keeps before answers lane lane' k now (Tells.Status status) front v q g = pass_keeps before lane lane' k (Tells.Status status) front v refl g
   link_item_keeps before answers lane lane' k now Tells.Quit front v q g = pass_keeps before lane lane' k Tells.Quit front v refl g
 
-  other_item_keeps : (before : List MachineStep) (answers : Answers) (lane lane' : List Item) (now : ℕ) (what : What) → ((b : ℕ) → arrivals_of ks b lane' ≡ arrivals_of ks b lane) →
-      (v : Serving) → Served before lane v → Served before lane' (after_other_item answers ks now what v)
-  unfolding after_other_item
-  other_item_keeps before answers lane lane' now what e v g = go what
-    where
-      past : Served before lane' v
-      past = served_same (made (steps_of_offers n v.offers) before) lane lane' v v (λ b. ap (λ s. seen_at b v s) (e b)) g
-
-      go : (x : What) → Served before lane' (after_other_item answers ks now x v)
-      go (Tells.Need m) = input_keeps before answers lane' ks (In.Need m) now v past
-      go (Tells.Up l) = past
-      go (Tells.Packet l p) = past
-      go (Tells.Down l r) = past
-      go Tells.Beat = past
-      go Tells.Show = past
-      go (Tells.Status status) = past
-      go Tells.Quit = past
-
-  -- the cuts that are tried first change no current life, and are no steps
+  -- a cut that is tried changes no current life, and is no step
   cut_quiet : (answers : Answers) (v : Serving) (j : ℕ) (o : Option Life) → SendsNothingYet v → SendsNothingYet (after_cut_tried answers v j o) × ((after_cut_tried answers v j o).seat.current ≡ v.seat.current)
   cut_quiet answers v j None q = (q, refl)
   cut_quiet answers v j (Some l) q =
@@ -382,6 +366,37 @@ module _ (w : World) (seen : Seen) (n : ℕ) where
           go [] q again = again q e
           go (y ∷ ys) q again = absurd (cc)
 
+  life_cut_keeps : (before : List MachineStep) (answers : Answers) (lane : List Item) (js : List ℕ) (k now : ℕ) (v : Serving) (o : Option Life) → SendsNothingYet v → v.seat.current k ≡ o → Served before lane v → Served (made (steps_of_end n k o) before) lane (after_life_cut answers js k now v o)
+  life_cut_keeps before answers lane js k now v None q e g = g
+  life_cut_keeps before answers lane js k now v (Some life) q e g =
+      let asked : Serving = with_pending v k (Some life) in
+      let c = cut_quiet answers asked k (Some life) q in
+      down_keeps before answers lane js k now (after_cut_asked answers v k life) life c.0 (ap (λ (f : ℕ → Option Life). f k) c.1 ∙ e)
+      (cut_tried_keeps before answers lane asked k (Some life) (pending_quiet before lane v k (Some life) g))
+
+  other_item_keeps : (before : List MachineStep) (answers : Answers) (lane lane' : List Item) (now : ℕ) (what : What) → ((b : ℕ) → arrivals_of ks b lane' ≡ arrivals_of ks b lane) →
+      (v : Serving) → SendsNothingYet v → Served before lane v → Served (made (steps_of_other_item n ks v.seat.current what) before) lane' (after_other_item answers ks now what v)
+  unfolding after_other_item
+  other_item_keeps before answers lane lane' now what e v q g = go what
+    where
+      past : Served before lane' v
+      past = served_same (made (steps_of_offers n v.offers) before) lane lane' v v (λ b. ap (λ s. seen_at b v s) (e b)) g
+
+      cut : (k : ℕ) (b : Bool) → Served (made (if b then steps_of_end n k (v.seat.current k) else []) before) lane' (if b then after_life_cut answers ks k now v (v.seat.current k) else v)
+      cut k true = life_cut_keeps before answers lane' ks k now v (v.seat.current k) q refl past
+      cut k false = past
+
+      go : (x : What) → Served (made (steps_of_other_item n ks v.seat.current x) before) lane' (after_other_item answers ks now x v)
+      go (Tells.Cut k) = cut k (has_number k ks)
+      go (Tells.Need m) = input_keeps before answers lane' ks (In.Need m) now v past
+      go (Tells.Up l) = past
+      go (Tells.Packet l p) = past
+      go (Tells.Down l r) = past
+      go Tells.Beat = past
+      go Tells.Show = past
+      go (Tells.Status status) = past
+      go Tells.Quit = past
+
   cuts_quiet : (answers : Answers) (js : List ℕ) (v : Serving) → SendsNothingYet v → SendsNothingYet (after_cuts_tried answers js v) × ((after_cuts_tried answers js v).seat.current ≡ v.seat.current)
   unfolding after_cuts_tried
   cuts_quiet answers [] v q = (q, refl)
@@ -391,21 +406,24 @@ module _ (w : World) (seen : Seen) (n : ℕ) where
       (b.0, b.1 ∙ a.1)
 
   pub serving_keeps : (before : List MachineStep) (answers : Answers) (item : Item) (items : List Item) → Served before (item ∷ items) (begin_serving (w.seats n)) →
-      Served (made (steps_of_item n (slice_get ks item.seat) (w.seats n).current item.what) before) items (serving_of answers ks (w.seats n) item)
+      Served (made (steps_of_item n ks (slice_get ks item.seat) (w.seats n).current item.what) before) items (serving_of answers ks (w.seats n) item)
   unfolding serving_of
   serving_keeps before answers item items g = go (slice_get ks item.seat) refl
     where
       v : Serving
       v = after_cuts_tried answers ks (begin_serving (w.seats n))
 
-      go : (o : Option ℕ) → slice_get ks item.seat ≡ o → Served (made (steps_of_item n o (w.seats n).current item.what) before) items (after_item_of answers ks o item.now item.what (after_cuts_tried answers ks (begin_serving (w.seats n))))
+      go : (o : Option ℕ) → slice_get ks item.seat ≡ o → Served (made (steps_of_item n ks o (w.seats n).current item.what) before) items (after_item_of answers ks o item.now item.what (after_cuts_tried answers ks (begin_serving (w.seats n))))
       go (Some k) e =
           let q = cuts_quiet answers ks (begin_serving (w.seats n)) refl in
           subst (λ (f : ℕ → Option Life). Served (made (steps_of_link_item n k (f k) item.what) before) items (after_link_item answers ks k item.now item.what (after_cuts_tried answers ks (begin_serving (w.seats n))))) q.1
           (link_item_keeps before answers (item ∷ items) items k item.now item.what (λ b. ap (λ s. arrivals_in b s item.what ++ arrivals_of ks b items) e) (after_cuts_tried answers ks (begin_serving (w.seats n))) q.0
           (cuts_tried_keep before answers (item ∷ items) ks (begin_serving (w.seats n)) g))
-      go None e = other_item_keeps before answers (item ∷ items) items item.now item.what (λ b. sym (ap (λ s. arrivals_in b s item.what ++ arrivals_of ks b items) e)) (after_cuts_tried answers ks (begin_serving (w.seats n)))
-          (cuts_tried_keep before answers (item ∷ items) ks (begin_serving (w.seats n)) g)
+      go None e =
+          let q = cuts_quiet answers ks (begin_serving (w.seats n)) refl in
+          subst (λ (f : ℕ → Option Life). Served (made (steps_of_other_item n ks f item.what) before) items (after_other_item answers ks item.now item.what (after_cuts_tried answers ks (begin_serving (w.seats n))))) q.1
+          (other_item_keeps before answers (item ∷ items) items item.now item.what (λ b. sym (ap (λ s. arrivals_in b s item.what ++ arrivals_of ks b items) e)) (after_cuts_tried answers ks (begin_serving (w.seats n))) q.0
+          (cuts_tried_keep before answers (item ∷ items) ks (begin_serving (w.seats n)) g))
 
   -- the world before the item is taken
   begins : (steps : List MachineStep) (items : List Item) → w.items n ≡ items → AllEndsFollow steps (end_views w) w.datagrams seen → Served steps items (begin_serving (w.seats n))
@@ -426,5 +444,5 @@ module _ (w : World) (seen : Seen) (n : ℕ) where
   turn_keeps steps c g [] q = g
   turn_keeps steps c g (item ∷ items) q =
       subst (λ ss. AllEndsFollow ss (end_views (after_turn w c n (item ∷ items))) w.datagrams seen)
-      (sym (made-append (steps_of_item n (slice_get ks item.seat) (w.seats n).current item.what) (steps_of_offers n (serving_of c.answers ks (w.seats n) item).offers) steps))
+      (sym (made-append (steps_of_item n ks (slice_get ks item.seat) (w.seats n).current item.what) (steps_of_offers n (serving_of c.answers ks (w.seats n) item).offers) steps))
       (serving_keeps steps c.answers item items (begins steps (item ∷ items) q g))

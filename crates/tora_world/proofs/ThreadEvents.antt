@@ -33,6 +33,7 @@ arrival_silent (Tells.Packet l p) h = absurd h
 arrival_silent (Tells.Down l r) h = absurd h
 arrival_silent Tells.Beat h = refl
 arrival_silent (Tells.Need d) h = refl
+arrival_silent (Tells.Cut k) h = refl
 arrival_silent Tells.Show h = refl
 arrival_silent (Tells.Status status) h = refl
 arrival_silent Tells.Quit h = refl

@@ -13,13 +13,14 @@ use Rattle.tora_world.specs.World.{World, Choice, settings, with_end, with_item,
 
 -- ---- what happens
 
--- an item that brings no life up or down and no packet
+-- an item that is told by no link end: it brings no life up or down and no packet
 abbrev pub TellsNoLife : What → Type 0
 TellsNoLife (Tells.Up life) = ⊥
 TellsNoLife (Tells.Packet life packet) = ⊥
 TellsNoLife (Tells.Down life reason) = ⊥
 TellsNoLife Tells.Beat = Unit {0}
 TellsNoLife (Tells.Need d) = Unit {0}
+TellsNoLife (Tells.Cut k) = Unit {0}
 TellsNoLife Tells.Show = Unit {0}
 TellsNoLife (Tells.Status status) = Unit {0}
 TellsNoLife Tells.Quit = Unit {0}

@@ -10,6 +10,7 @@ use Rattle.tora_seat.specs.declared.what.What.TheVariants as Tells
 use Rattle.tora_seat.specs.declared.item.Item.{Item}
 use Rattle.tora_seat.specs.declared.cargo.Cargo.{Cargo}
 use Rattle.tora_seat.specs.declared.cargo.Cargo.TheVariants as Gives
+use Rattle.tora_core.specs.Numbers.{has_number}
 use Rattle.tora_seat.specs.Serving.{Offer, is_current, serving_of}
 use Rattle.tora_world.specs.declared.event.Event.{Event}
 use Rattle.tora_world.specs.declared.event.Event.TheVariants.{Need, Tick, Open, Pull, Transmit, Deliver, Pump, CoreTurn, Arm, Restart}
@@ -47,14 +48,27 @@ steps_of_link_item n k current (Tells.Packet life packet) = if is_current life c
 steps_of_link_item n k current (Tells.Down life reason) = if is_current life current then Close n k life ∷ [] else []
 steps_of_link_item n k current Tells.Beat = []
 steps_of_link_item n k current (Tells.Need d) = []
+steps_of_link_item n k current (Tells.Cut j) = []
 steps_of_link_item n k current Tells.Show = []
 steps_of_link_item n k current (Tells.Status status) = []
 steps_of_link_item n k current Tells.Quit = []
 
--- an item of a seat that is no link
-abbrev pub steps_of_item : ℕ → Option ℕ → (ℕ → Option Life) → What → List MachineStep
-steps_of_item n None current what = []
-steps_of_item n (Some k) current what = steps_of_link_item n k (current k) what
+-- an item of a seat that is no link: a cut closes the life that is current at that neighbour
+abbrev pub steps_of_other_item : ℕ → List ℕ → (ℕ → Option Life) → What → List MachineStep
+steps_of_other_item n ks current (Tells.Up life) = []
+steps_of_other_item n ks current (Tells.Packet life packet) = []
+steps_of_other_item n ks current (Tells.Down life reason) = []
+steps_of_other_item n ks current Tells.Beat = []
+steps_of_other_item n ks current (Tells.Need d) = []
+steps_of_other_item n ks current (Tells.Cut k) = if has_number k ks then steps_of_end n k (current k) else []
+steps_of_other_item n ks current Tells.Show = []
+steps_of_other_item n ks current (Tells.Status status) = []
+steps_of_other_item n ks current Tells.Quit = []
+
+-- an item of either kind of seat, where these are the neighbours
+abbrev pub steps_of_item : ℕ → List ℕ → Option ℕ → (ℕ → Option Life) → What → List MachineStep
+steps_of_item n ks None current what = steps_of_other_item n ks current what
+steps_of_item n ks (Some k) current what = steps_of_link_item n k (current k) what
 
 -- a packet that is put into the lane: Send; one that is handed back ends its life: Close
 abbrev pub steps_of_cargo : ℕ → ℕ → Cargo → Bool → List MachineStep
@@ -70,7 +84,7 @@ steps_of_offers n (o ∷ offers) = steps_of_cargo n o.to o.cargo o.put ++ steps_
 abbrev pub steps_of_turn : World → Choice → ℕ → List Item → List MachineStep
 steps_of_turn w c n [] = []
 steps_of_turn w c n (item ∷ items) =
-    steps_of_item n (slice_get (neighbours w n) item.seat) (w.seats n).current item.what
+    steps_of_item n (neighbours w n) (slice_get (neighbours w n) item.seat) (w.seats n).current item.what
     ++ steps_of_offers n (serving_of c.answers (neighbours w n) (w.seats n) item).offers
 
 -- a Restart loses each current life: Close

@@ -14,8 +14,9 @@ use Rattle.tora_life.specs.LifeRun.{LifeDisk, IsFloor, IsFloorOfOpen}
 use Rattle.tora_life.specs.Numbers.{value_of}
 use Rattle.tora_life.specs.State.{MayLeave}
 use Rattle.tora_seat.specs.declared.what.What.TheVariants as Tells
+use Rattle.tora_seat.specs.declared.cargo.Cargo.TheVariants as Gives
 use Rattle.tora_world.specs.declared.event.Event.{Event}
-use Rattle.tora_world.specs.declared.event.Event.TheVariants.{Open, Transmit, Deliver, Pump, CoreTurn, Restart}
+use Rattle.tora_world.specs.declared.event.Event.TheVariants.{Open, Pull, Transmit, Deliver, Pump, CoreTurn, Restart}
 use Rattle.tora_world.specs.declared.sim_error.SimError.TheVariants as Refused
 use Rattle.tora_world.specs.LinkMachine.MachineStep.{Draw, Send, Close}
 use Rattle.tora_world.specs.World.{World, Choice, refusal_of}
@@ -93,6 +94,23 @@ pub record CutsOne : Type 0 where
   pub steps : machine_steps (behind upping 0 telling_down) start [] ≡ Close 1 2 life ∷ Send 1 2 life update ∷ bound_steps
   -- an end that is not bound has nothing to cut
   pub none : ((left (Open 1 2 ∷ []) 0 (CutsBound 1 2 ∷ [])).ends 1 2).phase ≡ Unbound 1
+
+-- ---- a cut that is asked for
+
+-- node 1 is asked to cut the life to node 2, and its core takes that
+abbrev pub asking_cut : List FreeEvent
+asking_cut = Puts 1 1 (Tells.Cut 2) tt ∷ Happens (CoreTurn 1) ∷ []
+
+pub record AsksForCut : Type 0 where
+  -- the life is over at the core, whose link is down: the machine closes the life
+  pub over : ((left upping 0 asking_cut).seats 1).current 2 ≡ None
+  pub down : ((left upping 0 asking_cut).seats 1).core.up ≡ []
+  pub steps : machine_steps (behind upping 0 asking_cut) start [] ≡ Close 1 2 life ∷ Send 1 2 life update ∷ bound_steps
+  -- its cut is put behind what was sent in it, and the end goes down as it takes the cut
+  pub cargoes : (left upping 0 asking_cut).cargoes 1 2 ≡ Gives.Packet life update ∷ Gives.Cut life ∷ []
+  pub closed : ((left upping 0 (asking_cut ++ Happens (Pull 1 2) ∷ Happens (Pull 1 2) ∷ [])).ends 1 2).phase ≡ Closed
+  -- where no life is current, nothing is put
+  pub none : (left [] 0 asking_cut).cargoes 1 2 ≡ []
 
 -- ---- a life file that is another one than before
 

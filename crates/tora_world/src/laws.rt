@@ -18,7 +18,7 @@ ghost use Rattle.tora_world.specs.LinkMachine.MachineStep.{Draw, Bind, Send, Tak
 ghost use Rattle.tora_arq.specs.Lives.{reversed};
 ghost use Rattle.tora_world.specs.WorkedEvents.{ArmedCalls, Lanes, AreRefused, StartsAnew};
 ghost use Rattle.tora_world.specs.FreeWorld.FreeEvent.{TicksEnd};
-ghost use Rattle.tora_world.specs.WorkedFreeEvents.{left, TicksOne, PumpsOverOne, PutsBeats, CutsOne, ChangesOne, StartsOne};
+ghost use Rattle.tora_world.specs.WorkedFreeEvents.{left, TicksOne, PumpsOverOne, PutsBeats, CutsOne, AsksForCut, ChangesOne, StartsOne};
 ghost use Rattle.tora_world.specs.Worked.{pair, start, life, update, binding, meeting, met, bound_steps, restart, ending, ended_steps, second_life, meeting_again, met_again, asking, start_elsewhere, refusal, handed_back};
 
 use tora_arq::{
@@ -209,6 +209,8 @@ pub fn worked_free_events_hold()
     ensures puts { PutsBeats }
     // The bound life is cut: its end goes down, and then its link at the core.
     ensures cuts { CutsOne }
+    // A cut is asked for: the life is over at the core, and its end goes down as it takes the cut.
+    ensures asks { AsksForCut }
     // After a change of its life file an end is opened with another number.
     ensures changes { ChangesOne }
     // A node starts anew: its core, ends and lanes are those of a restart, and its life files are as they were.

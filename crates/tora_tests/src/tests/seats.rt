@@ -184,6 +184,51 @@ fn life_is_cut_where_its_lane_is_short_of_room(rt: HostRuntime) {
     }
 }
 
+/// The cut of the life to 2 is asked for, while that to 3 goes on; a second one, and one of a node that is no neighbour, do nothing.
+const CUT_NOW: &[Step] = &[
+    Serves(1, Told::Up(SECOND)),
+    Counts(10),
+    Serves(2, Told::Cut(9)),
+    Offers(&[]),
+    Hands(&[]),
+    Serves(2, Told::Cut(2)),
+    Offers(&[(0, Given::Cut(FIRST), true)]),
+    Hands(&[Handed::Down(2)]),
+    Lives(0, None),
+    Cuts(0, None),
+    Lives(1, Some(SECOND)),
+    Serves(2, Told::Cut(2)),
+    Offers(&[]),
+    Hands(&[]),
+    Serves(0, Told::Packet(FIRST, 4)),
+    Steps(None),
+];
+
+#[test]
+fn cut_that_is_asked_for_ends_its_life_at_once(rt: HostRuntime) {
+    let (mut seat, mut lanes) = needing(&rt, rt.alloc(), 0);
+    runs(&rt, &mut seat, &mut lanes, CUT_NOW);
+}
+
+/// The same where the lane to 2 is full: the link is down, and the cut is pending until there is room.
+const CUT_LATER: &[Step] = &[
+    Serves(2, Told::Cut(2)),
+    Offers(&[(0, Given::Cut(FIRST), false)]),
+    Hands(&[Handed::Down(2)]),
+    Lives(0, None),
+    Cuts(0, Some(FIRST)),
+    Fills(255),
+    Serves(2, Beat),
+    Offers(&[(0, Given::Cut(FIRST), true)]),
+    Cuts(0, None),
+];
+
+#[test]
+fn cut_that_is_asked_for_waits_for_room(rt: HostRuntime) {
+    let (mut seat, mut lanes) = needing(&rt, rt.alloc(), 256);
+    runs(&rt, &mut seat, &mut lanes, CUT_LATER);
+}
+
 /// A packet of the current life, and one of another.
 const STEPPED: &[Step] = &[
     Serves(0, Told::Packet(FIRST, 4)),

@@ -57,7 +57,7 @@ class Daemon:
         self._routes: Routes = {}
         self._selector = selectors.DefaultSelector()
         self._lines, self._errors = b"", b""
-        self._is_ended, self._knows_cut = False, True
+        self._is_ended = False
         self._compare_at = self._compared = self._look_at = 0.0
         self._answer_by: float | None = None
 
@@ -174,7 +174,7 @@ class Daemon:
             self._apply()
 
     def _on_errors(self) -> None:
-        """Hands on what the node says on standard error; that it has no command `cut` is told once."""
+        """Hands on what the node says on standard error."""
         assert self._node.stderr is not None
         data = os.read(self._node.stderr.fileno(), 1 << 16)
         if not data:
@@ -183,13 +183,7 @@ class Daemon:
             return
         *lines, self._errors = (self._errors + data).split(b"\n")
         for line in lines:
-            told = line.decode("utf-8", "replace")
-            if '"cut ' in told and "is no command" in told:
-                if self._knows_cut:
-                    self._knows_cut = False
-                    log.warning("this node has no command `cut`: a link that lost its carrier ends only by its silence")
-            else:
-                log.info("node: %s", told)
+            log.info("node: %s", line.decode("utf-8", "replace"))
 
     def _on_events(self) -> None:
         """Reads what the kernel tells, and cuts the links that ended by it."""

@@ -16,6 +16,7 @@ pub enum Told {
     Packet(Life, Id),
     Beat,
     Need(Id),
+    Cut(Id),
 }
 
 /// A cargo; a packet is the query for a destination.
@@ -71,6 +72,7 @@ fn serves(rt: &impl Abort, seat: &mut CoreSeat, lanes: &mut TestLanes, at: usize
         Told::Packet(life, d) => What::Packet(life, query_for(rt, d)),
         Told::Beat => What::Beat,
         Told::Need(d) => What::Need(d),
+        Told::Cut(k) => What::Cut(k),
     };
     let item = Item {
         seat: at,

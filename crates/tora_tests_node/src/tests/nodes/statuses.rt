@@ -32,6 +32,14 @@ const LAST_ITEMS: [(usize, What); 4] = [
     (2, What::Quit),
 ];
 
+/// The same, where the life of the link to 4 is cut and has not fallen silent.
+const CUT_ITEMS: [(usize, What); 4] = [
+    (2, What::Need(9)),
+    (2, What::Status(Status::Json)),
+    (2, What::Cut(4)),
+    (2, What::Quit),
+];
+
 /// What is printed for them.
 const TEXT: &str = "\
 height 4 -
@@ -55,20 +63,26 @@ fn put_one<R: Wait + Abort>(rt: &R, ports: &mut [InPort], now: u64, seat: usize,
     sees_at(rt, is_put, "an item is put", &now);
 }
 
-/// Puts the items.
-fn put_all<R: Wait + Abort>(rt: &R, ports: &mut [InPort]) {
+/// Puts the items, these as the last ones.
+fn put_all<R: Wait + Abort>(rt: &R, ports: &mut [InPort], last: &[(usize, What)]) {
     let asks = there(rt, Packet::qry(4).ok(), "a query");
     for (at, (seat, what)) in FIRST_ITEMS.iter().enumerate() {
         put_one(rt, ports, 5 + at as u64, *seat, what);
     }
     put_one(rt, ports, 8, 0, &What::Packet(LIFE_TO_2, asks));
-    for (at, (seat, what)) in LAST_ITEMS.iter().enumerate() {
+    for (at, (seat, what)) in last.iter().enumerate() {
         put_one(rt, ports, 9 + at as u64, *seat, what);
     }
 }
 
 /// Runs the core of node 3 over the items that these lanes have, and sees what it prints.
-fn is_told<R: Wait + Abort>(rt: &R, alloc: Global, core: Core, made: Lanes) -> Option<NodeError> {
+fn is_told<R: Wait + Abort>(
+    rt: &R,
+    alloc: Global,
+    core: Core,
+    made: Lanes,
+    last: &[(usize, What)],
+) -> Option<NodeError> {
     let Lanes {
         core: port,
         command,
@@ -80,7 +94,7 @@ fn is_told<R: Wait + Abort>(rt: &R, alloc: Global, core: Core, made: Lanes) -> O
         ports.push(port).ok()?;
     }
     ports.push(command).ok()?;
-    put_all(rt, &mut ports);
+    put_all(rt, &mut ports, last);
     let seat = CoreSeat::new(alloc, core).ok()?;
     as_many(rt, outs.len(), seat.core().neighbours().len());
     let mut page = Page {
@@ -95,13 +109,22 @@ fn is_told<R: Wait + Abort>(rt: &R, alloc: Global, core: Core, made: Lanes) -> O
     end.fault
 }
 
-#[test]
-fn programs_are_told_the_state_and_its_changes(rt: HostRuntime) {
-    let alloc = rt.alloc();
-    if let (Ok(core), Ok(made)) = (Core::new(alloc, 3, &[2, 4], &[4]), lanes(&rt, alloc, 2)) {
-        match is_told(&rt, alloc, core, made) {
+/// Sees what programs are told, these items being the last ones.
+fn is_told_of<R: Wait + Abort>(rt: &R, alloc: Global, last: &[(usize, What)]) {
+    if let (Ok(core), Ok(made)) = (Core::new(alloc, 3, &[2, 4], &[4]), lanes(rt, alloc, 2)) {
+        match is_told(rt, alloc, core, made, last) {
             None => {}
-            Some(fault) => same(&rt, &fault, &NodeError::Memory, "no memory"),
+            Some(fault) => same(rt, &fault, &NodeError::Memory, "no memory"),
         }
     }
+}
+
+#[test]
+fn programs_are_told_the_state_and_its_changes(rt: HostRuntime) {
+    is_told_of(&rt, rt.alloc(), &LAST_ITEMS);
+}
+
+#[test]
+fn programs_are_told_what_a_cut_changes(rt: HostRuntime) {
+    is_told_of(&rt, rt.alloc(), &CUT_ITEMS);
 }

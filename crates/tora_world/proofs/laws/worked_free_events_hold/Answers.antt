@@ -27,6 +27,10 @@ pub returns-clause-cuts : goal.returns-clause-cuts
 unfolding after_release after_packet after_packets on_data on_matched on_frame_in on_frame after_tick on_submit after_cut on_transmit_in on_transmit ready_run first_due after_join new_level after_erase after_link_loss after_update_loss slot_bound number_of slot_of slot_filled word_of long_of tag_read tag_of after_cuts_tried after_broadcast after_broadcasts after_step after_settling after_input after_link_item after_other_item serving_of effect_by world_by after_schedule height_fault
 returns-clause-cuts c = record { current = refl; closed = refl; waits = refl; over = refl; down = refl; steps = refl; none = refl }
 
+pub returns-clause-asks : goal.returns-clause-asks
+unfolding after_release after_packet after_packets on_data on_matched on_frame_in on_frame after_tick on_submit after_cut on_transmit_in on_transmit ready_run first_due after_join new_level after_erase after_link_loss after_update_loss slot_bound number_of slot_of slot_filled word_of long_of tag_read tag_of after_cuts_tried after_broadcast after_broadcasts after_step after_settling after_input after_link_item after_other_item serving_of effect_by world_by after_schedule height_fault
+returns-clause-asks c = record { over = refl; down = refl; steps = refl; cargoes = refl; closed = refl; none = refl }
+
 pub returns-clause-changes : goal.returns-clause-changes
 unfolding after_release after_packet after_packets on_data on_matched on_frame_in on_frame after_tick on_submit after_cut on_transmit_in on_transmit ready_run first_due after_join new_level after_erase after_link_loss after_update_loss slot_bound number_of slot_of slot_filled word_of long_of tag_read tag_of after_cuts_tried after_broadcast after_broadcasts after_step after_settling after_input after_link_item after_other_item serving_of effect_by world_by after_schedule height_fault
 returns-clause-changes c = record { as_it_was = refl; changed = refl; steps = refl }

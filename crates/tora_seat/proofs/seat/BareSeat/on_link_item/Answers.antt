@@ -1,5 +1,5 @@
 use Rattle.tora_seat.specs.Rows.{SeatView}
-use Rattle.tora_seat.proofs.Steps.{link_up_goes, link_packet_goes, link_down_goes, link_need_goes, link_beat_goes, link_show_goes, link_status_goes, link_quit_goes}
+use Rattle.tora_seat.proofs.Steps.{link_up_goes, link_packet_goes, link_down_goes, link_need_goes, link_beat_goes, link_cut_goes, link_show_goes, link_status_goes, link_quit_goes}
 use Rattle.tora_seat.proofs.seat.BareSeat.on_link_item.Goals as goal
 
 pub returns-in-Up-clause-goes : goal.returns-in-Up-clause-goes
@@ -13,6 +13,9 @@ returns-in-Down-clause-goes g c = link_down_goes g.O.OutLanes.did_offer c.args.n
 
 pub returns-in-Need-clause-goes : goal.returns-in-Need-clause-goes
 returns-in-Need-clause-goes g c = link_need_goes g.O.OutLanes.did_offer c.args.now c.args.self.now c.args.outs.now c.take_in_calm.new.self c.take_in_calm.new.outs c.args.k c.args.what.now c.in-Need.d c.in-Need.is c.take_in_calm.ensures.goes
+
+pub returns-in-Cut-clause-goes : goal.returns-in-Cut-clause-goes
+returns-in-Cut-clause-goes g c = link_cut_goes g.O.OutLanes.did_offer c.args.now c.args.self.now c.args.outs.now c.args.k c.args.what.now _ c.in-Cut.is
 
 pub returns-in-Beat-clause-goes : goal.returns-in-Beat-clause-goes
 returns-in-Beat-clause-goes g c = link_beat_goes g.O.OutLanes.did_offer c.args.now c.args.self.now c.args.outs.now c.args.k c.args.what.now c.in-Beat.is

@@ -1,10 +1,13 @@
 use Rattle.std.proofs.Common.{refl}
 use Rattle.tora_seat.specs.Rows.{SeatView}
-use Rattle.tora_seat.proofs.Steps.{other_need_goes, other_idle_goes, other_show_goes, other_status_goes, other_quit_goes}
+use Rattle.tora_seat.proofs.Steps.{other_need_goes, other_cut_goes, other_idle_goes, other_show_goes, other_status_goes, other_quit_goes}
 use Rattle.tora_seat.proofs.seat.BareSeat.on_other_item.Goals as goal
 
 pub returns-in-Need-clause-goes : goal.returns-in-Need-clause-goes
 returns-in-Need-clause-goes g c = other_need_goes g.O.OutLanes.did_offer c.args.now c.args.self.now c.args.outs.now c.take_in_calm.new.self c.take_in_calm.new.outs c.args.what.now c.in-Need.d c.in-Need.is c.take_in_calm.ensures.goes
+
+pub returns-in-Cut-clause-goes : goal.returns-in-Cut-clause-goes
+returns-in-Cut-clause-goes g c = other_cut_goes g.O.OutLanes.did_offer c.args.now c.args.self.now c.args.outs.now c.on_cut.new.self c.on_cut.new.outs c.args.what.now c.in-Cut.k c.in-Cut.is c.on_cut.ensures.goes
 
 pub returns-in-Show-clause-goes : goal.returns-in-Show-clause-goes
 returns-in-Show-clause-goes g c =
