@@ -40,7 +40,8 @@ def link(archive, folder):
         run("ar", "rcs", static, whole)
         with open(names, "w") as out:
             out.write(SYMBOLS)
-        run(compiler, "-shared", "-o", shared, whole, f"-Wl,-soname,{NAME}", f"-Wl,--version-script,{names}", "-Wl,-z,text,-z,defs,-z,now")
+        flags = [f"-Wl,-soname,{NAME}", f"-Wl,--version-script,{names}", "-Wl,-z,text,-z,defs,-z,now"]
+        run(compiler, "-shared", "-o", shared, whole, *flags)
         for it in static, shared:
             os.replace(it, f"{folder}/{os.path.basename(it)}")
     link_name = f"{folder}/libtora.so"
@@ -58,8 +59,8 @@ def is_current():
         below = next(it.partition(":")[2].split() for it in text if it.startswith(f"{CRATE} "))
     built = os.stat(shared).st_mtime
     parts = [f"{TOP}/crates/{it}/{part}" for it in [*below, CRATE] for part in ("src", "specs", "proofs")]
-    files = [f"{folder}/{it}" for part in parts for folder, _, names in os.walk(part) for it in names if it.endswith((".rt", ".antt"))]
-    return all(os.stat(it).st_mtime <= built for it in files)
+    files = [f"{folder}/{it}" for part in parts for folder, _, names in os.walk(part) for it in names]
+    return all(os.stat(it).st_mtime <= built for it in files if it.endswith((".rt", ".antt")))
 
 
 def build():

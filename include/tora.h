@@ -6,10 +6,11 @@
  *   cc program.c $(pkg-config --cflags --libs tora)
  *
  * A CORE
- *   A `tora_core` keeps a node's own height for each destination of its table, the heights that its neighbours told, and
- *   which links are up. It takes inputs, one after the other: a link came up, a link went down, a packet came from a
- *   neighbour, a route is needed. Each has the moment at which it came. After an input that was not refused it has a list
- *   of packets: the host broadcasts each of them to every neighbour whose link is up. The library sends nothing itself.
+ *   A `tora_core` keeps a node's own height for each destination of its table, the heights that its neighbours
+ *   told, and which links are up. It takes inputs, one after the other: a link came up, a link went down, a packet
+ *   came from a neighbour, a route is needed. Each has the moment at which it came. After an input that was not
+ *   refused it has a list of packets: the host broadcasts each of them to every neighbour whose link is up. The
+ *   library sends nothing itself.
  *
  * ORDER OF CALLS
  *   tora_core core = TORA_CORE_NULL;
@@ -20,30 +21,33 @@
  *   tora_core_free(&core);                        in the end
  *
  * UNITS
- *   `now` and `tau` count ticks of 100 ms, from any start. `now` should not fall from one input to the next; a core is safe
- *   where it does. The number of a node is from 1 to 2^32 - 1. Lengths and rooms are in bytes, places count from 0.
+ *   `now` and `tau` count ticks of 100 ms, from any start. `now` should not fall from one input to the next; a core
+ *   is safe where it does. The number of a node is from 1 to 2^32 - 1. Lengths and rooms are in bytes, places count
+ *   from 0.
  *   The bytes of a packet are 8 (a query), 32 (an update) or 20 (a clear), in network byte order.
  *
  * OWNERSHIP
- *   A `tora_core` holds one pointer, and is made, read and freed by these calls alone. It begins as TORA_CORE_NULL. What it
- *   holds is freed by `tora_core_free`, which leaves it null, and by a call that puts another core in its place. A copy of
- *   the struct is no second core: use `tora_core_clone`, and never both copies. The library keeps no pointer to what a
- *   caller hands in, and memory comes from `malloc`, `realloc` and `free`.
+ *   A `tora_core` holds one pointer, and is made, read and freed by these calls alone. It begins as TORA_CORE_NULL.
+ *   What it holds is freed by `tora_core_free`, which leaves it null, and by a call that puts another core in its
+ *   place. A copy of the struct is no second core: use `tora_core_clone`, and never both copies. The library keeps
+ *   no pointer to what a caller hands in, and memory comes from `malloc`, `realloc` and `free`.
  *
  * ERRORS
- *   Each call but `tora_core_free` answers a code, TORA_OK (0) where it did what it says. Where it answers another one it
- *   changed nothing: neither the core nor what the pointers lead to, but for the `length` of TORA_ROOM. A handle that is
- *   null is answered by TORA_NULL, also after `tora_core_free`.
- *   A pointer is never NULL, but that to an array may be where its count is 0. What pointers lead to does not overlap.
+ *   Each call but `tora_core_free` answers a code, TORA_OK (0) where it did what it says. Where it answers another
+ *   one it changed nothing: neither the core nor what the pointers lead to, but for the `length` of TORA_ROOM. A
+ *   handle that is null is answered by TORA_NULL, also after `tora_core_free`.
+ *   A pointer is never NULL, but that to an array may be where its count is 0. What pointers lead to does not
+ *   overlap.
  *
  * THREADS
- *   The library has no state of its own. Threads may use different cores at once. One core is used by one thread at a time;
- *   it may go to another thread by whatever orders the two, as a lock. No call is made from a signal handler.
+ *   The library has no state of its own. Threads may use different cores at once. One core is used by one thread at
+ *   a time; it may go to another thread by whatever orders the two, as a lock. No call is made from a signal
+ *   handler.
  *
  * PROVED
- *   For any calls with pointers as above: what each call answers and changes is what the rules of TORA say, no memory is
- *   read or written outside of what it is given, nothing overflows, and each call ends. The header itself, the C compiler
- *   and the C library are not part of the proof.
+ *   For any calls with pointers as above: what each call answers and changes is what the rules of TORA say, no
+ *   memory is read or written outside of what it is given, nothing overflows, and each call ends. The header
+ *   itself, the C compiler and the C library are not part of the proof.
  */
 #ifndef TORA_H
 #define TORA_H
@@ -73,7 +77,7 @@ extern "C" {
 #define TORA_UNKNOWN_NEIGHBOUR 11u    /* the input is refused: the neighbour is not one of the core */
 #define TORA_ALREADY_UP 12u           /* the input is refused: the link that comes up is up */
 #define TORA_NOT_UP 13u               /* the input is refused: the link is not up */
-#define TORA_WRONG_SENDER 14u         /* the input is refused: the update has the height of another node than its sender */
+#define TORA_WRONG_SENDER 14u         /* the input is refused: the height of the update is not that of its sender */
 #define TORA_UNKNOWN_DESTINATION 15u  /* the input is refused: the table does not have the needed destination */
 #define TORA_PACKET_SHORT 21u         /* the bytes spell no packet: there are too few */
 #define TORA_PACKET_LONG 22u          /* .. there are too many */
@@ -105,7 +109,7 @@ typedef struct {
     uint32_t id;    /* the node whose height it is */
 } tora_height;
 
-/* The version of the calls of the library that is loaded: TORA_ABI_VERSION, unless it is another one than this header's. */
+/* The version of the calls of the library that is loaded: TORA_ABI_VERSION where it is that of this header. */
 uint32_t tora_abi_version(void);
 
 /*
@@ -115,9 +119,9 @@ uint32_t tora_abi_version(void);
 uint32_t tora_version(uint8_t *text, size_t room, size_t *length);
 
 /*
- * Makes the core of node `me`: no link is up, and no height is known but that of `me` for itself. The neighbours are those
- * to which there may ever be a link, at most 255; the destinations are at most 64, and `me` may be one. They stand in any
- * order. What `core` held is freed.
+ * Makes the core of node `me`: no link is up, and no height is known but that of `me` for itself. The neighbours
+ * are those to which there may ever be a link, at most 255; the destinations are at most 64, and `me` may be one.
+ * They stand in any order. What `core` held is freed.
  * In this order: TORA_CHOICE, TORA_ZERO, TORA_TOO_MANY, TORA_REPEATED, TORA_OWN_ID, TORA_MEMORY.
  */
 uint32_t tora_core_new(tora_core *core, uint32_t me, const uint32_t *neighbours, size_t neighbour_count,
@@ -127,8 +131,8 @@ uint32_t tora_core_new(tora_core *core, uint32_t me, const uint32_t *neighbours,
 void tora_core_free(tora_core *core);
 
 /*
- * Makes a second core at `out` with the state of `core`, and what it sent last. What `out` held is freed; `out` is another
- * handle than `core`.
+ * Makes a second core at `out` with the state of `core`, and what it sent last. What `out` held is freed; `out` is
+ * another handle than `core`.
  * TORA_NULL where `core` is null, TORA_MEMORY.
  */
 uint32_t tora_core_clone(tora_core *core, tora_core *out);
@@ -146,9 +150,9 @@ uint32_t tora_core_link_up(tora_core *core, uint32_t k, uint64_t now);
 uint32_t tora_core_link_down(tora_core *core, uint32_t k, uint64_t now);
 
 /*
- * These bytes, all of one packet, came from neighbour `k` at the tick `now`. Between two nodes packets keep their order, and
- * none is lost or repeated while the link is up: the host owes it. A packet for a destination that the table does not have
- * changes nothing, and is no error.
+ * These bytes, all of one packet, came from neighbour `k` at the tick `now`. Between two nodes packets keep their
+ * order, and none is lost or repeated while the link is up: the host owes it. A packet for a destination that the
+ * table does not have changes nothing, and is no error.
  * TORA_NULL, TORA_PACKET_SHORT to TORA_PACKET_HEIGHT, TORA_UNKNOWN_NEIGHBOUR, TORA_NOT_UP, TORA_WRONG_SENDER.
  */
 uint32_t tora_core_packet(tora_core *core, uint32_t k, const uint8_t *bytes, size_t length, uint64_t now);
@@ -176,7 +180,8 @@ uint32_t tora_core_height(tora_core *core, uint32_t d, tora_height *height);
 
 /*
  * Writes the height that neighbour `k` told for destination `d`.
- * TORA_NULL, TORA_UNKNOWN where the table does not have it or the link is not up, TORA_ABSENT where the height is NULL.
+ * TORA_NULL, TORA_UNKNOWN where the table does not have it or the link is not up, TORA_ABSENT where the height is
+ * NULL.
  */
 uint32_t tora_core_entry(tora_core *core, uint32_t d, uint32_t k, tora_height *height);
 
@@ -193,9 +198,9 @@ uint32_t tora_core_flag(tora_core *core, uint32_t d, uint32_t *flag);
 uint32_t tora_core_is_up(tora_core *core, uint32_t k, uint32_t *up);
 
 /*
- * Writes the whole core as text, and its length: for each destination a line "to D height H flag F hop K", and then one
- * "via K H S" for each neighbour whose link is up, as `tora replay` shows them. It ends with no zero byte. To learn the
- * length alone, hand in a room of 0.
+ * Writes the whole core as text, and its length: for each destination a line "to D height H flag F hop K", and then
+ * one "via K H S" for each neighbour whose link is up, as `tora replay` shows them. It ends with no zero byte. To
+ * learn the length alone, hand in a room of 0.
  * TORA_NULL, TORA_MEMORY, TORA_ROOM.
  */
 uint32_t tora_core_show(tora_core *core, uint8_t *text, size_t room, size_t *length);

@@ -1,21 +1,21 @@
 #!/usr/bin/env python3
-"""All orders of deliveries of a small world, by the proved rules: how many states there are, and whether an order goes on for ever.
+"""All orders of deliveries of a small world, by proved rules: how many states there are, and if an order never ends.
 
 usage: explore.py [--erasure plain|remembered] [--most STATES] [--replay DIR] NODES LINKS DESTINATION EVENTS
        explore.py 3 1-2,2-3,3-1 1 'need 3; cut 1 2'
 
-A world has the nodes 1 to NODES, links that are up at first, each a queue in both directions that keeps its order, and events: `need N`,
-`cut A B` (what is under way there is lost), `mend A B`, and `rest`, which waits until nothing is under way. Events come in their order.
-Else anything may happen next: the next event, or the delivery of the first packet of any queue. Each input comes at tick 1. Each state is
-looked at once, the nearest first.
+A world has the nodes 1 to NODES, links that are up at first, each a queue in both directions that keeps its order,
+and events: `need N`, `cut A B` (what is under way there is lost), `mend A B`, and `rest`, which waits until nothing
+is under way. Events come in their order. Else anything may happen next: the next event, or the delivery of the
+first packet of any queue. Each input comes at tick 1. Each state is looked at once, the nearest first.
 
-Two states count as one where all heights in them are of one reflected level, and their deltas differ by a constant: the rules compare
-deltas of a level with each other alone, so what follows is the same. A circle of such states is an order that goes on until delta leaves
-its range of 2^30. A circle that is found is followed 100 times. With --replay that is written as a file for `tora replay` for each
-node, DIR/N.replay.
+Two states count as one where all heights in them are of one reflected level, and their deltas differ by a constant:
+the rules compare deltas of a level with each other alone, so what follows is the same. A circle of such states is
+an order that goes on until delta leaves its range of 2^30. A circle that is found is followed 100 times. With
+--replay that is written as a file for `tora replay` for each node, DIR/N.replay.
 
-A core's text has all of its state but who was told the own height, the last level that the node defined, and the level that it erased
-last. These follow from what it sent and took, and are kept beside it.
+A core's text has all of its state but who was told the own height, the last level that the node defined, and the
+level that it erased last. These follow from what it sent and took, and are kept beside it.
 """
 from __future__ import annotations
 
@@ -55,7 +55,7 @@ def shown(packet: bytes) -> str:
 
 @dataclasses.dataclass
 class World:
-    """A state: the nodes, the links that are up, what is under way, how many events came, and the inputs so far where they are wanted."""
+    """A state: the nodes, the links that are up, what is under way, how many events came; inputs, where wanted."""
 
     nodes: dict[int, Node]
     links: frozenset[tuple[int, int]]
@@ -82,7 +82,8 @@ class World:
         new.text, height = new.core.show(), new.core.height(DESTINATION)
         new.last = max(new.last, height.tau if height and height.oid == n else 0)
         if self.inputs is not None:
-            self.inputs.append(" ".join([str(n), str(NOW), WORDS[call], *(it.hex() if isinstance(it, bytes) else str(it) for it in words)]))
+            told = [it.hex() if isinstance(it, bytes) else str(it) for it in words]
+            self.inputs.append(" ".join([str(n), str(NOW), WORDS[call], *told]))
         for k in self.beside(n):
             self.queues[n, k] = (*self.queues.get((n, k), ()), *sent)
 
@@ -94,7 +95,8 @@ class World:
         if len({it[1] for it in found}) == 1 and found[0][1].endswith(",1"):
             least = min(int(it[2]) for it in found)
             parts = [HEIGHT.sub(lambda it: f"{it[1]} {int(it[2]) - least} {it[3]}", part) for part in parts]
-        return self.done, self.links, tuple(parts), repr([(sorted(it.told), it.last, it.erased) for it in self.nodes.values()])
+        beside = [(sorted(it.told), it.last, it.erased) for it in self.nodes.values()]
+        return self.done, self.links, tuple(parts), repr(beside)
 
     def after(self, event: list[str]) -> World:
         """The state after an event."""
@@ -120,7 +122,9 @@ class World:
         event = EVENTS[self.done] if self.done < len(EVENTS) else []
         may = event and (event != ["rest"] or not any(self.queues.values()))
         found = [(" ".join(event), self.after(event))] if may else []
-        return found + [(f"deliver {a} {b} {shown(queue[0])}", self.delivered(a, b)) for (a, b), queue in self.queues.items() if queue]
+        for (a, b), queue in self.queues.items():
+            found += [(f"deliver {a} {b} {shown(queue[0])}", self.delivered(a, b))] if queue else []
+        return found
 
     def followed(self, steps: list[str]) -> World:
         """The state after steps that were told in words."""
@@ -133,7 +137,7 @@ class World:
 
 @dataclasses.dataclass
 class Graph:
-    """The states that were reached, by number: the step that led to each first, the steps from it, and how many rest."""
+    """The states that were reached, by number: the first step to each, the steps from each, and how many rest."""
 
     ways: list[tuple[int, str]]
     follows: list[list[tuple[int, str]]]
@@ -215,7 +219,8 @@ def main(most: int, folder: str | None) -> None:
         world = world.followed(found[1])
     print(f"an order goes on for ever: after {len(found[0])} steps, {len(found[1])} that repeat")
     print(*found[0], "again and again:", *found[1], sep="\n")
-    print("after 100 times:", *(f"node {n} {it.core.height(DESTINATION) or '-'}" for n, it in world.nodes.items()), sep="\n")
+    heights = [f"node {n} {it.core.height(DESTINATION) or '-'}" for n, it in world.nodes.items()]
+    print("after 100 times:", *heights, sep="\n")
     for n in NODES if folder else ():
         lines = [it.partition(" ")[2] for it in first.inputs if it.startswith(f"{n} ")]
         head = f"node {n} links {','.join(map(str, beside[n]))} dests {DESTINATION}"

@@ -50,7 +50,8 @@ static void print(uint32_t node) {
     uint32_t hop;
     printf("node %u ", (unsigned)node);
     if (tora_core_height(&cores[node], DESTINATION, &h) == TORA_OK)
-        printf("(%llu,%u,%u,%d,%u)", (unsigned long long)h.tau, (unsigned)h.oid, (unsigned)h.r, (int)h.delta, (unsigned)h.id);
+        printf("(%llu,%u,%u,%d,%u)", (unsigned long long)h.tau, (unsigned)h.oid, (unsigned)h.r, (int)h.delta,
+               (unsigned)h.id);
     else
         printf("-");
     if (tora_core_next_hop(&cores[node], DESTINATION, &hop) == TORA_OK) printf(" hop %u\n", (unsigned)hop);
@@ -68,7 +69,8 @@ int main(void) {
     if (failed("need", tora_core_need(&cores[1], DESTINATION, 1)) || broadcast(1)) return 1;
     for (; first < behind; first++) {
         struct packet it = queue[first % MOST];
-        if (failed("packet", tora_core_packet(&cores[it.to], it.from, it.bytes, it.length, 2)) || broadcast(it.to)) return 1;
+        if (failed("packet", tora_core_packet(&cores[it.to], it.from, it.bytes, it.length, 2))) return 1;
+        if (broadcast(it.to)) return 1;
     }
     for (node = 1; node <= NODES; node++) {
         print(node);

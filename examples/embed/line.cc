@@ -13,19 +13,23 @@
 #include <tora.h>
 
 using Packet = std::vector<std::uint8_t>;
+using Ids = std::vector<std::uint32_t>;
 
 // The rules of one node. It is moved, and never copied.
 class Core {
 public:
-    Core(std::uint32_t me, const std::vector<std::uint32_t> &neighbours, const std::vector<std::uint32_t> &destinations) {
-        done(tora_core_new(&handle, me, neighbours.data(), neighbours.size(), destinations.data(), destinations.size(), TORA_PLAIN));
+    Core(std::uint32_t me, const Ids &neighbours, const Ids &destinations) {
+        done(tora_core_new(&handle, me, neighbours.data(), neighbours.size(), destinations.data(), destinations.size(),
+                           TORA_PLAIN));
     }
     Core(Core &&other) noexcept : handle(std::exchange(other.handle, TORA_CORE_NULL)) {}
     Core(const Core &) = delete;
     Core &operator=(const Core &) = delete;
     ~Core() { tora_core_free(&handle); }
 
-    std::vector<Packet> link_up(std::uint32_t k, std::uint64_t now) { return after(tora_core_link_up(&handle, k, now)); }
+    std::vector<Packet> link_up(std::uint32_t k, std::uint64_t now) {
+        return after(tora_core_link_up(&handle, k, now));
+    }
     std::vector<Packet> need(std::uint32_t d, std::uint64_t now) { return after(tora_core_need(&handle, d, now)); }
     std::vector<Packet> packet(std::uint32_t k, const Packet &bytes, std::uint64_t now) {
         return after(tora_core_packet(&handle, k, bytes.data(), bytes.size(), now));
@@ -71,7 +75,7 @@ private:
 int main() {
     const std::uint32_t nodes = 4, destination = 4;
     auto beside = [&](std::uint32_t node) {
-        std::vector<std::uint32_t> found;
+        Ids found;
         if (node > 1) found.push_back(node - 1);
         if (node < nodes) found.push_back(node + 1);
         return found;

@@ -63,7 +63,10 @@ def test_clones_go_their_own_ways() -> None:
 
 @pytest.mark.parametrize(
     ("me", "neighbours", "destinations", "code"),
-    [(0, [1], [1], 6), (1, [0], [1], 6), (1, [2], [0], 6), (1, range(2, 258), [1], 2), (1, [2], range(1, 66), 2), (1, [2, 2], [1], 3), (1, [1], [1], 4)],
+    [
+        (0, [1], [1], 6), (1, [0], [1], 6), (1, [2], [0], 6), (1, range(2, 258), [1], 2), (1, [2], range(1, 66), 2),
+        (1, [2, 2], [1], 3), (1, [1], [1], 4),
+    ],
 )
 def test_cores_that_are_refused(me: int, neighbours: list[int], destinations: list[int], code: int) -> None:
     with pytest.raises(LibraryError) as caught:
@@ -120,10 +123,12 @@ def test_a_handle_of_null_is_answered() -> None:
     library, handle, height = lib.library(), lib._Handle(), lib._Height()
     size, number = ctypes.c_size_t(), ctypes.c_uint32()
     calls = [
-        library.tora_core_clone(handle, lib._Handle()), library.tora_core_link_up(handle, 1, 1), library.tora_core_link_down(handle, 1, 1),
-        library.tora_core_need(handle, 1, 1), library.tora_core_packet(handle, 1, None, 0, 1), library.tora_core_sent_count(handle, size),
+        library.tora_core_clone(handle, lib._Handle()), library.tora_core_link_up(handle, 1, 1),
+        library.tora_core_link_down(handle, 1, 1), library.tora_core_need(handle, 1, 1),
+        library.tora_core_packet(handle, 1, None, 0, 1), library.tora_core_sent_count(handle, size),
         library.tora_core_sent(handle, 0, None, 0, size), library.tora_core_height(handle, 1, height),
-        library.tora_core_entry(handle, 1, 1, height), library.tora_core_next_hop(handle, 1, number), library.tora_core_flag(handle, 1, number),
+        library.tora_core_entry(handle, 1, 1, height), library.tora_core_next_hop(handle, 1, number),
+        library.tora_core_flag(handle, 1, number),
         library.tora_core_is_up(handle, 1, number), library.tora_core_show(handle, None, 0, size),
     ]
     library.tora_core_free(handle)
@@ -133,7 +138,8 @@ def test_a_handle_of_null_is_answered() -> None:
 @pytest.mark.parametrize("words", [["line.py"], ["explore.py", "3", "1-2,2-3", "1", "need 3; cut 1 2"]])
 def test_examples(words: list[str]) -> None:
     environment = {**os.environ, "TORA_LIBRARY": lib.library()._name}
-    ran = subprocess.run([sys.executable, EXAMPLES / "embed" / words[0], *words[1:]], capture_output=True, text=True, env=environment, check=True)
+    command = [sys.executable, EXAMPLES / "embed" / words[0], *words[1:]]
+    ran = subprocess.run(command, capture_output=True, text=True, env=environment, check=True)
     assert ran.stdout == (EXAMPLES / "embed" / f"{pathlib.Path(words[0]).stem}.expected").read_text()
 
 
@@ -154,7 +160,8 @@ def replay_file(draw: random.Random) -> list[str]:
             bytes([1, 3, 0, 0]) + d.to_bytes(4, "big") + level[0].to_bytes(8, "big") + level[1].to_bytes(4, "big"),
             draw.randbytes(draw.randint(1, 40)),
         ])
-        lines.append(draw.choice([f"{now} up {k}"] * 3 + [f"{now} down {k}", f"{now} need {d}", f"{now} show"] + [f"{now} from {k} {packet.hex()}"] * 6))
+        others = [f"{now} down {k}", f"{now} need {d}", f"{now} show"]
+        lines.append(draw.choice([f"{now} up {k}"] * 3 + others + [f"{now} from {k} {packet.hex()}"] * 6))
     return [*lines, f"{now} show"]
 
 
@@ -170,7 +177,10 @@ def answers(lines: list[str], erasure: Erasure) -> str:
                 if word == "show":
                     told.append(core.show())
                     continue
-                sent = core.packet(int(rest[0]), bytes.fromhex(rest[1]), int(now)) if word == "from" else calls[word](int(rest[0]), int(now))
+                if word == "from":
+                    sent = core.packet(int(rest[0]), bytes.fromhex(rest[1]), int(now))
+                else:
+                    sent = calls[word](int(rest[0]), int(now))
                 told += [f"send {it.hex()}\n" for it in sent]
             except RefusedError as error:
                 told.append(f"refused {error.code - 10}\n")
@@ -185,9 +195,8 @@ def test_random_replays(program: Program, erasure: Erasure) -> None:
     kinds = set()
     for _ in range(500):
         lines = replay_file(draw)
-        ran = subprocess.run(
-            [*program.words, "replay", "--erasure", erasure.name.lower()], input="\n".join([*lines, ""]), capture_output=True, text=True, check=True
-        )
+        command = [*program.words, "replay", "--erasure", erasure.name.lower()]
+        ran = subprocess.run(command, input="\n".join([*lines, ""]), capture_output=True, text=True, check=True)
         assert answers(lines, erasure) == ran.stdout, "\n".join(lines)
         kinds |= {" ".join(it.split()[:2]) if it[0] in "rb" else it[:8] for it in ran.stdout.splitlines()}
     assert {"refused 1", "refused 2", "refused 3", "refused 4", "refused 5", "bad 1", "send 010", "bad 6"} <= kinds

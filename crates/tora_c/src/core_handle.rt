@@ -43,7 +43,7 @@ impl CoreHandle {
     }
 
     /// The block, unless the handle is null.
-    fn into_raw(self, alloc: Global) -> Option<RawBox<CoreNode, Global>>
+    pub fn into_raw(self, alloc: Global) -> Option<RawBox<CoreNode, Global>>
         ensures { MatchOption result (self.held ≡ None) (λ raw. self.held ≡ Some raw.value) }
     {
         let CoreHandle { at } = self;

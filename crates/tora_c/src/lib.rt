@@ -42,3 +42,47 @@ pub extern "C" fn tora_version(text: &mut [u8], len: &mut usize) -> u32
 {
     write(VERSION.as_bytes(), text, len)
 }
+
+#[cfg(test)]
+mod tests {
+    use crate::codes::{NULL, OK, ROOM};
+    use crate::core_calls::{
+        tora_core_clone, tora_core_free, tora_core_link_up, tora_core_need, tora_core_new,
+    };
+    use crate::core_handle::CoreHandle;
+    use crate::core_readers::{tora_core_sent_count, tora_core_show};
+    use std::alloc::Global;
+
+    // Only C lets a handle go by forgetting it.
+    fn let_go(alloc: Global, handle: CoreHandle) {
+        if let Some(raw) = handle.into_raw(alloc) {
+            drop(raw.into_box());
+        }
+    }
+
+    #[test]
+    fn a_clone_shows_the_same(rt: HostRuntime) {
+        let alloc = rt.alloc();
+        let (mut core, mut second) = (CoreHandle::null(), CoreHandle::null());
+        let (mut count, mut len) = (0, 0);
+        let early = tora_core_need(alloc, &mut core, 4, 1);
+        let made = tora_core_new(alloc, &mut core, 3, &[2], &[4], 0);
+        let up = tora_core_link_up(alloc, &mut core, 2, 1);
+        let need = tora_core_need(alloc, &mut core, 4, 1);
+        let cloned = tora_core_clone(alloc, &mut core, &mut second);
+        tora_core_free(alloc, &mut core);
+        let mut text = [0; 64];
+        let counted = tora_core_sent_count(alloc, &mut second, &mut count);
+        let short = tora_core_show(alloc, &mut second, &mut [], &mut len);
+        let shown = tora_core_show(alloc, &mut second, &mut text, &mut len);
+        tora_core_free(alloc, &mut second);
+        let late = tora_core_need(alloc, &mut second, 4, 1);
+        let_go(alloc, core);
+        let_go(alloc, second);
+        assert_eq!(rt; (early, late), (NULL, NULL));
+        assert_eq!(rt; (made, up, need, cloned), (OK, OK, OK, OK));
+        assert_eq!(rt; (counted, short, shown), (OK, ROOM, OK));
+        assert_eq!(rt; (count, len), (1, 40));
+        assert!(rt; text.starts_with(b"to 4 height - flag 1 hop -\nvia 2 - none\n"));
+    }
+}

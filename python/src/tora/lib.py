@@ -6,8 +6,8 @@
 ...     core.need(4, now=2)
 ...     core.height(4)
 
-The library is that which TORA_LIBRARY names, else the first of these that is there: `libtora.so.0` beside this file, in `out`
-of the repository, or where the system looks for libraries. A `Core` is used by one thread at a time.
+The library is that which TORA_LIBRARY names, else the first of these that is there: `libtora.so.0` beside this file, in
+`out` of the repository, or where the system looks for libraries. A `Core` is used by one thread at a time.
 """
 from __future__ import annotations
 
@@ -180,9 +180,11 @@ def _opened(paths: tuple[str, ...]) -> ctypes.CDLL:
                 raise NoLibraryError(OK, f"{path}: it has no call {name}")
             call.argtypes, call.restype = types, None if name == "tora_core_free" else c_uint32
         if library.tora_abi_version() != ABI_VERSION:
-            raise NoLibraryError(OK, f"{path}: its calls are of version {library.tora_abi_version()}, and not {ABI_VERSION}")
+            version = library.tora_abi_version()
+            raise NoLibraryError(OK, f"{path}: its calls are of version {version}, and not {ABI_VERSION}")
         return library
-    raise NoLibraryError(OK, f"there is no library tora at {', '.join(paths)}; ./tora build --lib builds it, TORA_LIBRARY names it")
+    where = ", ".join(paths)
+    raise NoLibraryError(OK, f"there is no library tora at {where}; ./tora build --lib builds it, TORA_LIBRARY names it")
 
 
 def library() -> ctypes.CDLL:
@@ -306,9 +308,10 @@ class Core:
         return self._step(self._library.tora_core_need(self._handle, _within("d", d, GREATEST_ID), tick))
 
     def packet(self, k: int, packet: bytes, now: int) -> list[bytes]:
-        """The bytes of a packet came from neighbour `k` at the tick `now`: the packets to every neighbour whose link is up."""
+        """A packet came from neighbour `k` at the tick `now`: the packets to every neighbour whose link is up."""
         spelled, tick = (c_uint8 * len(packet)).from_buffer_copy(packet), _within("now", now, GREATEST_TICK)
-        return self._step(self._library.tora_core_packet(self._handle, _within("k", k, GREATEST_ID), spelled, len(packet), tick))
+        sender = _within("k", k, GREATEST_ID)
+        return self._step(self._library.tora_core_packet(self._handle, sender, spelled, len(packet), tick))
 
     def sent(self) -> list[bytes]:
         """The packets that the last input gave which was not refused."""
@@ -329,7 +332,8 @@ class Core:
     def height(self, d: int) -> Height | None:
         """The own height for destination `d`; None where it is NULL."""
         found = _Height()
-        return self._height(self._library.tora_core_height(self._handle, _within("d", d, GREATEST_ID), byref(found)), found)
+        code = self._library.tora_core_height(self._handle, _within("d", d, GREATEST_ID), byref(found))
+        return self._height(code, found)
 
     def entry(self, d: int, k: int) -> Height | None:
         """The height that neighbour `k` told for destination `d`; None where it is NULL."""
