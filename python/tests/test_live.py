@@ -87,6 +87,8 @@ def test_plans() -> None:
     assert [
         it.name for it in plans("--protocols", "tora babeld", "--seeds", "1", "--nodes", "10", "--topologies", "ring")
     ] == ["tora-default-ring-10-1", "babeld-default-ring-10-1", "babeld-equal-ring-10-1"]
+    words = ("--seeds", "1", "--nodes", "10", "--topologies", "ring", "--timings", "default")
+    assert {it.protocol for it in plans("--protocols", "bird", *words)} == {"bird-babel", "bird-ospf"}
     assert "--protocols: `ripd` is none of tora" in refusal(lambda: plans("--protocols", "ripd"))
     assert "--protocols: `tora` stands twice" in refusal(lambda: plans("--protocols", "tora tora"))
     assert "--nodes: `65` is none of" in refusal(lambda: plans("--nodes", "65"))

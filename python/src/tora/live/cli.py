@@ -23,7 +23,7 @@ from tora.errors import StudyError, UsageError
 from tora.files import write_file
 
 from tora.live.experiment import COLUMNS, FAULTS, Experiment, Plan
-from tora.live.protocols import PROTOCOLS
+from tora.live.protocols import GROUPS, PROTOCOLS
 from tora.live.topologies import KINDS, network
 from tora.program import Program
 
@@ -38,8 +38,8 @@ def parser() -> argparse.ArgumentParser:
     found.add_argument("out", metavar="OUT", help="the folder of what is measured")
     found.add_argument(
         "--protocols",
-        default="tora babeld bird-babel bird-ospf",
-        help=f"of {', '.join(PROTOCOLS)} (tora babeld bird-babel bird-ospf)",
+        default="tora babeld bird",
+        help=f"of {', '.join(PROTOCOLS)}; bird is bird-babel and bird-ospf (tora babeld bird)",
     )
     found.add_argument(
         "--timings",
@@ -81,7 +81,8 @@ def words_of(text: str, key: str, known: Sequence[str]) -> list[str]:
 
 def plans(found: argparse.Namespace) -> Iterator[Plan]:
     """The runs, one seed after another, so that a comparison that is broken off has whole seeds."""
-    protocols = words_of(found.protocols, "--protocols", list(PROTOCOLS))
+    told = " ".join(part for word in found.protocols.split() for part in GROUPS.get(word, (word,)))
+    protocols = words_of(told, "--protocols", list(PROTOCOLS))
     timings = words_of(found.timings, "--timings", ("default", "equal"))
     topologies = words_of(found.topologies, "--topologies", KINDS)
     sizes = [int(it) for it in words_of(found.nodes, "--nodes", [str(it) for it in range(4, 65)])]

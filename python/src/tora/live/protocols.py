@@ -127,6 +127,7 @@ def _start_none(hosts: Hosts, host: int, timing: str, program: str) -> subproces
 
 
 BOTH = ("default", "equal")
+GROUPS = {"bird": ("bird-babel", "bird-ospf")}  # words that stand for several protocols
 PROTOCOLS = {
     it.name: it
     for it in (
