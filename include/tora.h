@@ -86,7 +86,7 @@ extern "C" {
 #define TORA_PACKET_RESERVED 25u      /* .. a byte that has to be zero is not */
 #define TORA_PACKET_HEIGHT 26u        /* .. the destination, the height or the level is out of range */
 
-/* What becomes of erased reference levels: all nodes of a network make the same choice. */
+/* What becomes of erased reference levels. Nodes of both choices may be neighbours: their packets are the same. */
 #define TORA_PLAIN 0u       /* a clear erases heights of its level (the default of the program) */
 #define TORA_REMEMBERED 1u  /* an update of the level that was erased last is withdrawn, too */
 
