@@ -1,0 +1,21 @@
+//! What has changed at a router.
+use tora_arq::Reason;
+use tora_height::Id;
+
+/// What has changed at a router. Own profile.
+#[derive(Clone, Copy, Debug, PartialEq, Eq)]
+pub enum Change {
+    /// The link to this neighbour is up.
+    LinkUp(Id),
+    /// The link to this neighbour is down, for this reason.
+    LinkDown(Id, Reason),
+    /// The next hop to this destination is another one, or there is none now.
+    NextHop(Id, Option<Id>),
+}
+
+/// What has changed at a link last.
+#[derive(Clone, Copy, Debug, PartialEq, Eq)]
+pub enum News {
+    Up,
+    Down(Reason),
+}

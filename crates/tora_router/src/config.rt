@@ -1,0 +1,17 @@
+//! What a router is to be.
+use tora_arq::Times;
+use tora_core::{CoreLimits, Erasure};
+use tora_height::Id;
+
+/// What a router is to be, beside its neighbours and destinations. Own profile.
+#[derive(Clone, Copy, Debug, PartialEq, Eq)]
+pub struct Config {
+    /// The number of its node, not 0.
+    pub me: Id,
+    /// The times of its link ends, each at least 1.
+    pub times: Times,
+    /// What it makes of erased levels.
+    pub erasure: Erasure,
+    /// The most neighbours and destinations.
+    pub limits: CoreLimits,
+}

@@ -1,0 +1,26 @@
+//! A node without threads, sockets and clocks, for programs that bring their own.
+//!
+//! [`Router`] is the core of a node with its link ends. Its host hands in the datagrams that came and the tick, and asks for the datagrams to be
+//! sent. Own profile.
+#![tactic(auto)]
+
+mod change;
+mod config;
+mod hop;
+mod intake;
+mod link;
+mod links;
+mod making;
+mod router;
+mod router_error;
+mod tally;
+
+pub use change::Change;
+pub use config::Config;
+pub use intake::Intake;
+pub use router::Router;
+pub use router_error::RouterError;
+pub use tally::Tally;
+
+/// The greatest life number. Own profile.
+pub const GREATEST_LIFE: u64 = 1 << 62;

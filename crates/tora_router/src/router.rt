@@ -1,0 +1,347 @@
+//! A router.
+ghost use Rattle.std.specs.Prelude.{◌≡◌, ◌<◌, ◌≤◌, ◌++◌, ◌*◌, ℕ, Bool, true, false, Err, IfErr, IfOk, IfNone, IfSome, MatchOption, None, OnOk, Some, drop, is_some, length, map, option_map, string_bytes, slice_get};
+ghost use Rattle.tora_arq.specs.Settings.{IsTimes};
+ghost use Rattle.tora_core.specs.CoreRun.{CoreView, entry_of, flag_of, height_of, hop_of};
+ghost use Rattle.tora_core.specs.ShowText.{show_text};
+ghost use Rattle.tora_frame.specs.FrameGrammar.{frame_reading, frame_spelling};
+ghost use Rattle.tora_frame.specs.FrameParts.{FrameParts};
+ghost use Rattle.tora_seat.specs.Rows.{SeatView};
+ghost use Rattle.tora_router.specs.Links.{at_place, event_of, first_in, to_peer, tally_of};
+ghost use Rattle.tora_router.specs.Refusals.{router_refusal};
+ghost use Rattle.tora_router.specs.Router.{RouterView, router_of, first_router, router_with, after_item, after_first_event, after_events, settled, ticked_at, ticked_before, after_tick, intake_from, after_datagram, need_result, after_need, after_cut, frame_in, after_poll_datagram, change_in, after_poll_change, IsNextDue, serving, datagram_of, result_of};
+
+use crate::hop::{Hop, poll_hops};
+use crate::links::Links;
+use crate::making::{early_refusal, new_hops, new_links};
+use crate::{Change, Config, Intake, RouterError, Tally};
+use std::alloc::Global;
+use std::marker::Model;
+use tora_arq::Times;
+use tora_core::{Core, CoreError, StepError};
+use tora_frame::LONGEST_FRAME;
+use tora_height::{Entry, Id};
+use tora_seat::{Answer, CoreSeat, Item, What, what_of};
+
+/// A node without threads, sockets and clocks. Own profile.
+///
+/// Its host hands in what happens, and asks what is to be done. With the tick `now` of 100 ms a host does this, in this order:
+/// 1. `on_datagram` with each datagram that came, and the neighbour that it came from;
+/// 2. `on_tick`, at the tick `next_due` at the latest;
+/// 3. `need` where a route is wanted, `cut` where a link was lost;
+/// 4. `poll_datagram` until it gives `None`, and sends each datagram;
+/// 5. `poll_change` until it gives `None`, where it wants to know.
+///
+/// Any other order is safe. Whatever comes in is served before a call returns, so that nothing waits inside between two calls. Only `new` and `show`
+/// take memory. A router never gives the same life number twice; the host keeps `next_life`, and makes a router anew with a number that none
+/// was given from on.
+///
+/// ```rust
+/// let config = Config { me: 1, times: Times::STANDARD, erasure: Erasure::Plain, limits: CoreLimits::STANDARD };
+/// let mut router = Router::new(alloc, &config, &[2], &[9], 1)?;
+/// let mut room = [0u8; LONGEST_FRAME];
+/// let mut now = 0;
+/// router.on_tick(now);
+/// while let Some((peer, length)) = router.poll_datagram(now, &mut room) {
+///     send(peer, &room[..length]);
+/// }
+/// now = router.next_due();
+/// ```
+#[derive(Drop)]
+pub struct Router {
+    seat: CoreSeat,
+    links: Links,
+    hops: Vec<Hop>,
+    next_life: u64,
+}
+
+impl Model for Router {
+    ghost use Rattle.tora_router.specs.Router.{RouterView, IsRouter};
+
+    ghost Value = { RouterView };
+
+    ghost view = { λ r. record { seat = r.seat; links = r.links; hops = r.hops.items; next_life = r.next_life } };
+
+    ghost invariant = { λ r. IsRouter r.seat r.links };
+}
+
+impl Router {
+    /// The router of node `config.me` with these neighbours and destinations, in any order. Its link ends are closed until the first tick. The life
+    /// numbers that it gives them are drawn from `first_life` on, 1 to `GREATEST_LIFE`: the host answers for it that none of those was ever given to
+    /// an end of this node.
+    ///
+    /// # Errors
+    /// In this order: `Id` where a number is 0, `Times` where a time is 0, `Life` where the first life number is out of range, `TooMany`
+    /// neighbours or destinations, `Repeated` within one list, `OwnId` where the node is among its neighbours, `Memory`.
+    pub fn new(
+        alloc: Global,
+        config: &Config,
+        neighbours: &[Id],
+        destinations: &[Id],
+        first_life: u64,
+    ) -> Result<Router, RouterError>
+        ensures value { IfOk result (λ router. router_of router ≡ first_router config.now neighbours.now destinations.now first_life) }
+        ensures accepted { OnOk result (router_refusal config.now neighbours.now destinations.now first_life ≡ None) }
+        ensures refused { MatchOption (router_refusal config.now neighbours.now destinations.now first_life)
+            (IfErr result (λ e. e ≡ RouterError.Memory)) (λ e. result ≡ Err e) }
+    {
+        let _config = *config;
+        if let Some(error) = early_refusal(config, neighbours, destinations, first_life) {
+            return Err(error);
+        }
+        let (me, erasure, limits) = (config.me, config.erasure, config.limits);
+        match Core::with_erasure(alloc, erasure, limits, me, neighbours, destinations) {
+            Ok(core) => match Router::with_core(alloc, core, config.times, first_life) {
+                Some(router) => Ok(router),
+                None => Err(RouterError::Memory),
+            },
+            Err(error) => Err(RouterError::of_core(error)),
+        }
+    }
+
+    /// The router of a core with no link up; `None` for want of memory.
+    fn with_core(alloc: Global, core: Core, times: Times, first_life: u64) -> Option<Router>
+        requires { IsTimes times }
+        ensures { IfSome result (λ router. router_of router ≡ router_with core times first_life) }
+    {
+        let Some(links) = new_links(alloc, &core, times) else {
+            return None;
+        };
+        let Ok(hops) = new_hops(alloc, core.destinations()) else {
+            return None;
+        };
+        let Ok(seat) = CoreSeat::new(alloc, core) else {
+            return None;
+        };
+        Some(Router {
+            seat,
+            links,
+            hops,
+            next_life: first_life,
+        })
+    }
+
+    /// Serves an item. Its cargoes are handed to the link ends at once.
+    fn serve(&mut self, item: &Item) -> Answer
+        ensures served { router_of self.new ≡ after_item (router_of self.old) item.entry.now }
+        ensures answer { result ≡ (serving (router_of self.old) item.entry.now).answer }
+    {
+        self.seat.serve(item, &mut self.links)
+    }
+
+    /// Serves the first event of the first link that has one, and says whether there was one.
+    fn serve_event(&mut self, now: u64) -> bool
+        ensures served { router_of self.new ≡ after_first_event now (router_of self.old) }
+        ensures answer { result ≡ is_some (first_in event_of self.old.links) }
+    {
+        let Some((seat, event)) = self.links.poll() else {
+            return false;
+        };
+        let what = what_of(event);
+        let item = Item {
+            seat,
+            number: 0,
+            now,
+            what,
+        };
+        let _ = self.serve(&item);
+        true
+    }
+
+    /// Serves events until none waits.
+    fn settle(&mut self, now: u64)
+        ensures settled { router_of self.new ≡ settled now (router_of self.old) }
+        ensures none { first_in event_of self.new.links ≡ None }
+    {
+        'events: while self.serve_event(now) {}
+    }
+
+    /// Hands the tick to the link at a place, whose end is opened with the next life number where it is closed.
+    fn tick_at(&mut self, place: usize, now: u64)
+        requires { place < length self.old.links }
+        ensures ticked { router_of self.new ≡ ticked_at place now (router_of self.old) }
+        ensures count { length self.new.links ≡ length self.old.links }
+    {
+        if self.links.tick(place, self.next_life, now) {
+            self.next_life += 1;
+        }
+    }
+
+    /// Takes the tick `now`: each closed link end is opened with the next life number, and a life in which nothing was heard for too long ends.
+    pub fn on_tick(&mut self, now: u64)
+        ensures router { router_of self.new ≡ after_tick now (router_of self.old) }
+        ensures settled { first_in event_of self.new.links ≡ None }
+    {
+        for place in 0..self.links.count() {
+            self.tick_at(place, now);
+        }
+        self.settle(now);
+    }
+
+    /// Takes in a datagram of any bytes that came from a neighbour at the tick `now`. One of a node that is no neighbour changes nothing.
+    pub fn on_datagram(&mut self, peer: Id, datagram: &[u8], now: u64) -> Intake
+        ensures intake { result ≡ intake_from peer now (frame_reading datagram.now) (router_of self.old) }
+        ensures router { router_of self.new ≡ after_datagram peer now (frame_reading datagram.now) (router_of self.old) }
+        ensures settled { first_in event_of self.old.links ≡ None → first_in event_of self.new.links ≡ None }
+    {
+        let Some(place) = self.links.place(peer) else {
+            return Intake::NoNeighbour;
+        };
+        let intake = self.links.hear(place, datagram, now);
+        self.settle(now);
+        intake
+    }
+
+    /// Asks for a route to a destination.
+    ///
+    /// # Errors
+    /// `UnknownDestination` where the table does not have it.
+    pub fn need(&mut self, destination: Id, now: u64) -> Result<(), StepError>
+        ensures answer { result ≡ need_result (router_of self.old) destination now }
+        ensures router { router_of self.new ≡ after_need destination now (router_of self.old) }
+        ensures settled { first_in event_of self.new.links ≡ None }
+    {
+        let item = Item {
+            seat: self.links.count(),
+            number: 0,
+            now,
+            what: What::Need(destination),
+        };
+        let answer = self.serve(&item);
+        self.settle(now);
+        result_of(answer)
+    }
+
+    /// Ends the life of the link to a neighbour, if it has one, as where the radio lost it. Says whether there is such a neighbour.
+    pub fn cut(&mut self, peer: Id, now: u64) -> bool
+        ensures answer { result ≡ is_some (first_in (to_peer peer) self.old.links) }
+        ensures router { router_of self.new ≡ after_cut peer now (router_of self.old) }
+        ensures settled { first_in event_of self.old.links ≡ None → first_in event_of self.new.links ≡ None }
+    {
+        let Some(place) = self.links.place(peer) else {
+            return false;
+        };
+        self.links.cut(place);
+        self.settle(now);
+        true
+    }
+
+    /// Spells the next datagram to be sent at the tick `now` at the front of `out`, which has `LONGEST_FRAME` bytes at least. Answers the neighbour
+    /// that it is for, and how many bytes it has. `None` only where none is due; then nothing is changed.
+    ///
+    /// The datagram counts as sent.
+    pub fn poll_datagram(&mut self, now: u64, out: &mut [u8]) -> Option<(Id, usize)>
+        requires { LONGEST_FRAME ≤ length out.old }
+        ensures datagram { result ≡ option_map (datagram_of (router_of self.old)) (frame_in now (router_of self.old)) }
+        ensures bytes { IfSome (frame_in now (router_of self.old)) (λ (found : ℕ × FrameParts). out.new ≡ frame_spelling found.1 ++ drop (length (frame_spelling found.1)) out.old) }
+        ensures within { IfSome result (λ (sent : ℕ × ℕ). sent.1 ≤ length out.new) }
+        ensures router { router_of self.new ≡ after_poll_datagram now (router_of self.old) }
+        ensures none { IfNone result ((self.new ≡ self.old) × (out.new ≡ out.old)) }
+    {
+        let Some((place, count)) = self.links.send(now, out) else {
+            return None;
+        };
+        Some((self.links.peer(place), count))
+    }
+
+    /// What has changed and was not told yet: at a link first, and then a next hop. `None` only where all was told.
+    ///
+    /// Of each link the last change is told, and of each destination the next hop where it is not the one that was told last.
+    pub fn poll_change(&mut self) -> Option<Change>
+        ensures change { result ≡ change_in (router_of self.old) }
+        ensures router { router_of self.new ≡ after_poll_change (router_of self.old) }
+    {
+        if let Some((_, change)) = self.links.poll_news() {
+            return Some(change);
+        }
+        let (_, change) = poll_hops(&mut self.hops, self.seat.core())?;
+        Some(change)
+    }
+
+    /// The tick before which no datagram is due and a tick changes nothing, unless something else happens at the router, and from which on one
+    /// does. It is 2^64 - 1 where none ever does, and 0 where one does at once.
+    pub fn next_due(&self) -> u64
+        ensures { IsNextDue (router_of self.now) result }
+    {
+        self.links.next_due(self.next_life)
+    }
+
+    /// The next life number. It and those above it were not given to any link end.
+    pub fn next_life(&self) -> u64
+        ensures { result ≡ self.now.next_life }
+    {
+        self.next_life
+    }
+
+    /// The core, which tells all of its state.
+    pub fn core(&self) -> &Core
+        ensures { result.now ≡ self.now.seat.core }
+    {
+        self.seat.core()
+    }
+
+    /// The neighbours, in ascending order.
+    pub fn neighbours(&self) -> &[Id]
+        ensures { result.now ≡ self.now.seat.core.neighbours }
+    {
+        self.seat.core().neighbours()
+    }
+
+    /// The own height for a destination, `None` where the table does not have it.
+    pub fn height(&self, destination: Id) -> Option<Entry>
+        ensures { result ≡ height_of self.now.seat.core destination }
+    {
+        self.seat.core().height(destination)
+    }
+
+    /// The height that a neighbour told for a destination, `None` where the table does not have it or the link is not up.
+    pub fn entry(&self, destination: Id, neighbour: Id) -> Option<Entry>
+        ensures { result ≡ entry_of self.now.seat.core destination neighbour }
+    {
+        self.seat.core().entry(destination, neighbour)
+    }
+
+    /// The next hop to a destination, `None` where there is none.
+    pub fn next_hop(&self, destination: Id) -> Option<Id>
+        ensures { result ≡ hop_of self.now.seat.core destination }
+    {
+        self.seat.core().next_hop(destination)
+    }
+
+    /// Whether a route to a destination is required.
+    pub fn flag(&self, destination: Id) -> bool
+        ensures { result ≡ flag_of self.now.seat.core destination }
+    {
+        self.seat.core().flag(destination)
+    }
+
+    /// What was made of the datagrams of a neighbour; `None` where it is none.
+    pub fn tally(&self, peer: Id) -> Option<Tally>
+        ensures { result ≡ tally_of peer self.now.links }
+    {
+        let place = self.links.place(peer)?;
+        Some(self.links.tally(place))
+    }
+
+    /// The core as text, as `Core::show` has it.
+    ///
+    /// # Errors
+    /// `Memory`.
+    pub fn show(&self, alloc: Global) -> Result<String, CoreError>
+        ensures text { IfOk result (λ text. string_bytes text ≡ show_text self.now.seat.core) }
+        ensures memory { IfErr result (λ e. e ≡ CoreError.Memory) }
+    {
+        self.seat.core().show(alloc)
+    }
+}
+
+/// What a need came to.
+fn result_of(answer: Answer) -> Result<(), StepError>
+    ensures { result ≡ result_of answer }
+{
+    match answer {
+        Answer::Nothing => Ok(()),
+        Answer::Refused(error) => Err(error),
+        Answer::Show => Ok(()),
+        Answer::Quit => Ok(()),
+    }
+}

@@ -1,0 +1,62 @@
+//! Counts of what was made of the datagrams of a neighbour.
+ghost use Rattle.std.specs.Prelude.{◌≡◌};
+ghost use Rattle.tora_router.specs.Links.{first_tally, counted};
+
+use crate::intake::Intake;
+use tora_arq::Verdict;
+
+/// How many datagrams of a neighbour came to each verdict, and how many spelt no frame. Own profile.
+///
+/// Each datagram of a neighbour adds 1 to exactly one of the counts, which stays at 2^64 - 1 once there.
+#[derive(Clone, Copy, Debug, PartialEq, Eq)]
+pub struct Tally {
+    pub accepted: u64,
+    pub repeated: u64,
+    pub ahead: u64,
+    pub stale: u64,
+    pub foreign: u64,
+    pub busy: u64,
+    /// Those that spelt no frame.
+    pub bad: u64,
+}
+
+impl Tally {
+    /// A tally of no datagram.
+    pub(crate) fn new() -> Tally
+        ensures { result ≡ first_tally }
+    {
+        Tally {
+            accepted: 0,
+            repeated: 0,
+            ahead: 0,
+            stale: 0,
+            foreign: 0,
+            busy: 0,
+            bad: 0,
+        }
+    }
+
+    fn count_verdict(&mut self, verdict: Verdict)
+        ensures { self.new ≡ counted (Intake.Seen verdict) self.old }
+    {
+        match verdict {
+            Verdict::Accepted => self.accepted = self.accepted.saturating_add(1),
+            Verdict::Repeated => self.repeated = self.repeated.saturating_add(1),
+            Verdict::Ahead => self.ahead = self.ahead.saturating_add(1),
+            Verdict::Stale => self.stale = self.stale.saturating_add(1),
+            Verdict::Foreign => self.foreign = self.foreign.saturating_add(1),
+            Verdict::Busy => self.busy = self.busy.saturating_add(1),
+        }
+    }
+
+    /// Adds 1 to the count of what was made of a datagram.
+    pub(crate) fn count(&mut self, intake: Intake)
+        ensures { self.new ≡ counted intake self.old }
+    {
+        match intake {
+            Intake::NoNeighbour => {}
+            Intake::Bad(_) => self.bad = self.bad.saturating_add(1),
+            Intake::Seen(verdict) => self.count_verdict(verdict),
+        }
+    }
+}
