@@ -36,5 +36,5 @@ pub use core_thread::{CoreEnd, run_core};
 pub use fault::NodeError;
 pub use log_hub::LogHub;
 pub use node::{Ended, run_node, run_node_with_wakers};
-pub use wake::{NoWake, Wake, WakingLanes};
+pub use wake::WakingLanes;
 pub use words::commands_are_read_as_written;
