@@ -18,7 +18,7 @@ use streams::{Asking, Course, Meeting, Page, Screen, Waiting};
 use tora_core::CoreError;
 use tora_height::Id;
 use tora_life::{Disk, LifeError};
-use tora_neighbour::{ClockTicks, MemWire, NodeClock, UnixClock, Wire, clock_ticks};
+use tora_neighbour::{ClockTicks, NodeClock, UnixClock, clock_ticks};
 use tora_node::*;
 use tora_seat::Status;
 
