@@ -2,7 +2,7 @@
 ghost use Rattle.std.specs.Prelude.{◌≡◌, ◌⊎◌, IfOk, IfErr, IfSome, is_some, length, map};
 ghost use Rattle.tora_commands.specs.Statuses.{status_of_fault, HasWays, HasNoWays, HasNoKey, IsUnstarted};
 ghost use Rattle.tora_keyed.specs.Links.{over, cleared};
-ghost use Rattle.tora_waking.specs.WakingWire.{WireView};
+ghost use Rattle.tora_neighbour.specs.WakingWire.{WireView};
 
 use crate::key_file::key_at;
 use crate::node_command::{Fault, say};
@@ -16,9 +16,8 @@ use std::rt::Files;
 use std::time::Clock;
 use tora_config::{ConfigError, LinkWay, read_ways};
 use tora_keyed::{Key, LentWire, LinkWire, NoticedWire};
-use tora_neighbour::{UnixClock, Wire};
+use tora_neighbour::{NodeClock, SocketWaker, UnixClock, WakingWire, Wire};
 use tora_simulate::{Paths, tell_at};
-use tora_waking::{NodeClock, SocketWaker, WakingWire};
 
 /// How the datagrams of a link go, and its key: there is one just where it has a file with a key.
 #[derive(Drop)]

@@ -25,10 +25,9 @@ use tora_core::numbers_are_put_in_order;
 use tora_height::Id;
 use tora_keyed::LentWire;
 use tora_life::{Disk, FileDisk, LifeError, Owner, Tag};
-use tora_neighbour::{ClockTicks, Ticks, Wire, clock_ticks};
-use tora_node::{Config, Ended, NodeError, Wake, run_node_with_wakers};
+use tora_neighbour::{ClockTicks, NodeClock, Ticks, Wake, Wire, clock_ticks};
+use tora_node::{Config, Ended, NodeError, run_node_with_wakers};
 use tora_simulate::{Paths, tell, tell_at, text_at};
-use tora_waking::NodeClock;
 
 /// Why a node is not started.
 #[derive(Clone, Copy, Debug, PartialEq, Eq)]

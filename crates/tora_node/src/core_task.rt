@@ -5,13 +5,14 @@ ghost use Rattle.tora_seat.specs.Rows.{first_seat};
 use crate::core_thread::run_core;
 use crate::fault::NodeError;
 use crate::task::Task;
-use crate::wake::{Wake, WakingLanes, end_all};
+use crate::wake::{WakingLanes, end_all};
 use log::Log;
 use std::alloc::Global;
 use std::io::Write;
 use std::sync::Wait;
 use tora_core::Core;
 use tora_lane::{CorePort, OutPut, OutPuts, Settling};
+use tora_neighbour::Wake;
 use tora_seat::CoreSeat;
 
 /// What the core's thread leaves: its seat, what its port has taken, and its ends of the lanes to the neighbours.

@@ -36,5 +36,10 @@ pub use core_thread::{CoreEnd, run_core};
 pub use fault::NodeError;
 pub use log_hub::LogHub;
 pub use node::{Ended, run_node, run_node_with_wakers};
-pub use wake::{NoWake, Wake, WakingLanes};
+pub use tora_neighbour::{
+    Clock, Finished, FuseWire, Hub, Intake, LaneHub, Link, ListHub, MemWire, Tally, Wire,
+    run_neighbour, take_in,
+};
+pub use tora_seat::{Answer, CoreSeat};
+pub use wake::WakingLanes;
 pub use words::commands_are_read_as_written;

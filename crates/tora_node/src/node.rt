@@ -14,7 +14,6 @@ use crate::link_task::{LinkRest, Outcome};
 use crate::settle::settle_links;
 use crate::starting::{new_ends, new_lanes, new_links, new_starts};
 use crate::threads::{Rests, run_threads};
-use crate::wake::{NoWake, Wake};
 use log::Log;
 use std::alloc::Global;
 use std::io::{Read, Write};
@@ -25,7 +24,7 @@ use tora_core::Core;
 use tora_height::Id;
 use tora_lane::{Lanes, OutPuts, Settling, what_was_offered_was_sent};
 use tora_life::Disk;
-use tora_neighbour::{Clock, LinkFault, Tally, Ticks, Wire};
+use tora_neighbour::{Clock, LinkFault, Tally, Ticks, Wake, Wire};
 use tora_seat::CoreSeat;
 
 /// What a node has ended with. Contracts see its core, the tally of each neighbour in ascending order, the items that the
@@ -190,7 +189,7 @@ pub fn run_node<
         config,
         wires,
         disks,
-        Vec::<NoWake>::new(alloc),
+        Vec::<()>::new(alloc),
         ticks,
         clock,
         reader,

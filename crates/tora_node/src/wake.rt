@@ -1,32 +1,12 @@
-//! Waking the thread of a neighbour.
+//! Waking the threads of the neighbours.
+use tora_neighbour::Wake;
 use tora_seat::{Cargo, OutLanes};
-
-/// Ends the wait of a neighbour's thread for its wire, so that it takes the cargoes that are in its lane.
-///
-/// No contract speaks of it: where a call does nothing, a cargo waits as long as the wire does, and none is lost. Own profile.
-pub trait Wake {
-    /// Ends the wait that is under way, or else the next one. It waits for nobody.
-    fn wake(&self);
-
-    /// The core has ended, and nothing is taken any more that is put into its lane. It wakes, and waits for nobody.
-    fn end(&self) {
-        self.wake();
-    }
-}
 
 /// Tells each of them that the core has ended.
 pub(crate) fn end_all<K: Wake>(wakers: &[K]) {
     for waker in wakers {
         waker.end();
     }
-}
-
-/// Wakes nobody, as for a wire that waits for its socket alone.
-#[derive(Clone, Copy, Debug, PartialEq, Eq, Hash, Drop)]
-pub struct NoWake;
-
-impl Wake for NoWake {
-    fn wake(&self) {}
 }
 
 /// The lanes from a core to its neighbours, which wake the thread of a neighbour once a cargo was put into its lane.

@@ -18,10 +18,9 @@ use streams::{Asking, Course, Meeting, Page, Screen, Waiting};
 use tora_core::CoreError;
 use tora_height::Id;
 use tora_life::{Disk, LifeError};
-use tora_neighbour::{ClockTicks, MemWire, UnixClock, Wire, clock_ticks};
+use tora_neighbour::{ClockTicks, NodeClock, UnixClock, clock_ticks};
 use tora_node::*;
 use tora_seat::Status;
-use tora_waking::NodeClock;
 
 mod byte_disk;
 mod faults;

@@ -5,9 +5,7 @@ use std::net::{IpAddr, Ipv4Addr, Ipv6Addr, Net, SocketAddr};
 use std::process::Abort;
 use std::test::Fail;
 use std::time::Clock;
-use tora_neighbour::{Wire, WireError};
-use tora_node::Wake;
-use tora_waking::{NodeClock, SocketWaker, WakingWire};
+use tora_neighbour::{NodeClock, SocketWaker, Wake, WakingWire, Wire, WireError};
 
 /// A wire, and what ends its waits.
 pub(super) type Woken<'a, R> = (WakingWire<'a, &'a R>, SocketWaker<'a, &'a R>);

@@ -10,9 +10,8 @@ use std::sync::atomic::{AtomicU64, Ordering};
 use std::thread::Threads;
 use std::time::Duration;
 use std::{thread, time};
-use tora_neighbour::{Clock, clock_ticks};
-use tora_node::{Wake, run_node_with_wakers};
-use tora_waking::NodeClock;
+use tora_neighbour::{Clock, NodeClock, Wake, clock_ticks};
+use tora_node::run_node_with_wakers;
 
 /// What a node tells of its end.
 #[derive(Drop)]

@@ -1,8 +1,8 @@
 use Rattle.std.proofs.Common.{◌≡◌, ◌∙◌, ◌+◌, ◌-◌, ◌^◌, min, false, refl, sym, ap, subst, inl, inr, ⊎_elim, ℕ, Ok, Err}
 use Rattle.std.specs.declared.io.ErrorKind.{ErrorKind}
 use Rattle.std.specs.declared.io.ErrorKind.TheVariants.{WouldBlock, Interrupted}
-use Rattle.tora_waking.specs.WakingWire.{WireView}
-use Rattle.tora_waking.proofs.waking_wire.WakingWire.take.Goals as goal
+use Rattle.tora_neighbour.specs.WakingWire.{WireView}
+use Rattle.tora_neighbour.proofs.waking_wire.WakingWire.take.Goals as goal
 
 pub returns-in-Ok-clause-takes : goal.returns-in-Ok-clause-takes
 returns-in-Ok-clause-takes g c = (

@@ -1,17 +1,18 @@
 //! A wire over UDP between two addresses, and what wakes it.
 ghost use Rattle.std.specs.Prelude.{◌≡◌, ◌≤◌, ◌+◌, ◌-◌, ◌^◌, ◌↔◌, min, true, false, [], length, IfOk, IfSome, IsTrue};
-ghost use Rattle.tora_waking.specs.WakingWire.{IsLost, Takes, Waits};
+ghost use Rattle.tora_neighbour.specs.WakingWire.{IsLost, Takes, Waits};
 
+use crate::clock::SystemClock;
 use crate::node_clock::NodeClock;
 use crate::waited_socket::{PolledSocket, WaitedSocket};
+use crate::wake::Wake;
+use crate::wire::{Wire, WireError};
 use mio::Waker;
 use std::alloc::Global;
 use std::io;
 use std::io::ErrorKind;
 use std::marker::Model;
 use std::net::{Net, SocketAddr};
-use tora_neighbour::{SystemClock, Wire, WireError};
-use tora_node::Wake;
 
 /// Ends the wait of the wire that it was made with, and the clock of the node with its core. A wake-up that fails is passed over.
 #[derive(Drop)]
@@ -50,7 +51,7 @@ pub struct WakingWire<'a, R, S = PolledSocket> {
 }
 
 impl<'a, R, S> Model for WakingWire<'a, R, S> {
-    ghost use Rattle.tora_waking.specs.WakingWire.{WireView};
+    ghost use Rattle.tora_neighbour.specs.WakingWire.{WireView};
 
     ghost Value = { WireView S };
 
@@ -152,7 +153,7 @@ impl<'a, R: SystemClock, S: WaitedSocket> WakingWire<'a, R, S> {
 }
 
 impl<'a, R: SystemClock, S: WaitedSocket> Wire for WakingWire<'a, R, S> {
-    ghost use Rattle.tora_waking.specs.WakingWire.{SendsTo, ReceivesFrom};
+    ghost use Rattle.tora_neighbour.specs.WakingWire.{SendsTo, ReceivesFrom};
 
     ghost tells = { λ w. false };
 

@@ -3,9 +3,9 @@ ghost use Rattle.std.specs.Prelude.{◌≡◌, ◌≤◌, ◌⊎◌, ◌-◌, �
 ghost use Rattle.std.specs.Duration.{as_nanos};
 ghost use Rattle.tora_neighbour.specs.SystemTicks.{IsTickRead};
 
+use crate::clock::{Clock, SystemClock, tick_of};
 use std::sync::atomic::{AtomicBool, Ordering};
 use std::time::{Duration, UNIX_EPOCH};
-use tora_neighbour::{Clock, SystemClock, tick_of};
 
 /// The milliseconds of a tick.
 const TICK: u64 = 100;

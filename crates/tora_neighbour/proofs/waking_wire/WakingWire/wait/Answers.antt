@@ -1,6 +1,6 @@
 use Rattle.std.proofs.Common.{◌∙◌, ◌+◌, ◌-◌, ◌^◌, min, true, false, refl, ap, subst, Bool, Ok, Err}
-use Rattle.tora_waking.specs.WakingWire.{WireView, Takes}
-use Rattle.tora_waking.proofs.waking_wire.WakingWire.wait.Goals as goal
+use Rattle.tora_neighbour.specs.WakingWire.{WireView, Takes}
+use Rattle.tora_neighbour.proofs.waking_wire.WakingWire.wait.Goals as goal
 
 pub returns-in-Ok-true-clause-waits : goal.returns-in-Ok-true-clause-waits
 returns-in-Ok-true-clause-waits g c = (

@@ -4,7 +4,7 @@ use Rattle.std.specs.Prelude.{MatchBool}
 use Rattle.std.specs.declared.io.Error.{Error}
 use Rattle.std.specs.declared.net.SocketAddr.{SocketAddr}
 use Rattle.tora_neighbour.specs.declared.wire.WireError.{WireError}
-use Rattle.tora_waking.specs.WakingWire.{WireView, Takes, Waits, ReceivesFrom}
+use Rattle.tora_neighbour.specs.WakingWire.{WireView, Takes, Waits, ReceivesFrom}
 
 when_true : (X Y : Type 0) (b : Bool) → b ≡ true → X → MatchBool b X Y
 when_true X Y true e x = x

@@ -1,8 +1,8 @@
 use Rattle.std.proofs.Common.{◌∙◌, sym, ap, subst}
-use Rattle.tora_waking.specs.WakingWire.{WireView, Waits}
-use Rattle.tora_waking.proofs.Receiving.{took, took_and_waited, waited}
-use Rattle.tora_waking.proofs.waking_wire.WakingWireWire.receive.Goals as goal
-use Rattle.tora_waking.proofs.waking_wire.WakingWireWire.receive.Goals.{then-self+else-self-2, else-self}
+use Rattle.tora_neighbour.specs.WakingWire.{WireView, Waits}
+use Rattle.tora_neighbour.proofs.Receiving.{took, took_and_waited, waited}
+use Rattle.tora_neighbour.proofs.waking_wire.WakingWireWire.receive.Goals as goal
+use Rattle.tora_neighbour.proofs.waking_wire.WakingWireWire.receive.Goals.{then-self+else-self-2, else-self}
 
 pub returns-then-self-2-clause-call : goal.returns-then-self-2-clause-call
 returns-then-self-2-clause-call g c =
