@@ -3,7 +3,7 @@ ghost use Rattle.std.specs.Prelude.{◌≢◌, ◌<◌};
 
 use crate::paced_hub::{Course, PacedHub};
 use std::alloc::Global;
-use std::net::Net;
+use std::net::{IpAddr, Ipv4Addr, Net, SocketAddr};
 use std::sync::Wait;
 use std::sync::atomic::{AtomicU64, Ordering};
 use std::thread::Threads;
@@ -14,19 +14,28 @@ use tora_height::{Height, Id};
 use tora_keyed::{Key, KeyedWire};
 use tora_lane::Cargo;
 use tora_life::{LifeFile, MemDisk};
-use tora_neighbour::{ClockTicks, Link, ListHub, UdpWire, UnixClock, Wire, run_neighbour};
+use tora_neighbour::{
+    ClockTicks, Link, ListHub, NodeClock, UnixClock, WakingWire, Wire, run_neighbour,
+};
 use tora_packet::{Packet, Update};
 
 /// Places for the life that begins and for the beats of a run.
 const OTHER_PUTS: usize = 10_000;
 
 /// Two wires to each other, on two ports of the loopback that are free.
-fn pair<R: Net>(rt: &R) -> Option<(UdpWire, UdpWire)> {
+fn pair<'a, R: Clock + Net>(
+    rt: &'a R,
+    alloc: Global,
+    clock: &'a NodeClock<&'a R>,
+) -> Option<(WakingWire<'a, &'a R>, WakingWire<'a, &'a R>)> {
+    let here = IpAddr::V4(Ipv4Addr::LOCALHOST);
     for port in 43_000..43_500u16 {
-        let Ok(first) = UdpWire::bind(rt, port, port + 500) else {
+        let one = SocketAddr::new(here, port);
+        let other = SocketAddr::new(here, port + 500);
+        let Ok((first, _)) = WakingWire::bind(rt, alloc, clock, one, other) else {
             continue;
         };
-        let Ok(second) = UdpWire::bind(rt, port + 500, port) else {
+        let Ok((second, _)) = WakingWire::bind(rt, alloc, clock, other, one) else {
             continue;
         };
         return Some((first, second));
@@ -101,7 +110,7 @@ fn run_ends<R: Clock + Threads + Wait + Sync, W: Wire + Send + Drop>(
 }
 
 /// The wire under a key of its own making.
-fn keyed(wire: UdpWire) -> KeyedWire<UdpWire> {
+fn keyed<W: Wire>(wire: W) -> KeyedWire<W> {
     KeyedWire::new(wire, Key::new(&[7; 32]))
 }
 
@@ -113,7 +122,8 @@ fn run_link<R: Clock + Net + Threads + Wait + Sync>(
     is_keyed: bool,
     course: &Course,
 ) -> Option<()> {
-    let (first, second) = pair(rt)?;
+    let clock = NodeClock::new(rt);
+    let (first, second) = pair(rt, alloc, &clock)?;
     let list = cargoes(alloc, count)?;
     if is_keyed {
         let wires = (keyed(first), keyed(second));

@@ -18,6 +18,7 @@ use Rattle.tora_neighbour.specs.Datagrams.{RoseBy}
 use Rattle.tora_neighbour.specs.declared.intake.Intake.{Intake}
 use Rattle.tora_neighbour.specs.Intake.{Reading, intake_in, after_came}
 use Rattle.tora_neighbour.specs.Turns.{AreDue, after_frames}
+use Rattle.tora_neighbour.specs.declared.turn_parts.TheConstants.{MOST_FAILURES}
 
 -- the next number is above the last life of the end
 abbrev pub IsReady : EndState → Numbers → Type 0
@@ -49,7 +50,7 @@ IsExchange s e now frames came intake (Err Receive) after =
 -- why a turn is the last one: the file draws no number, a hundred calls of the wire in a row have failed, or the hub has answered Gone
 abbrev pub IsCause : Ending → Numbers → Numbers → ℕ → ℕ → ℕ → Bool → Type 0
 IsCause (Because.NoNumber error) before after failed now row gone = IsLifeCause error before after failed now
-IsCause (Because.Broken at) before after failed now row gone = row ≡ 100
+IsCause (Because.Broken at) before after failed now row gone = row ≡ MOST_FAILURES
 IsCause Because.Refused before after failed now row gone = gone ≡ true
 
 -- the fault that a thread answers
@@ -61,5 +62,5 @@ fault_of Because.Refused = None
 -- why a thread has ended. None: its hub has answered Gone. Wire: the count of failures of its wire rose by a hundred at least. Life: as its file says
 abbrev pub IsEndOf : Option LinkFault → Numbers → Numbers → ℕ → ℕ → ℕ → ℕ → Bool → Type 0
 IsEndOf None before after disk_failed disk_now wire_failed wire_now gone = gone ≡ true
-IsEndOf (Some Wire) before after disk_failed disk_now wire_failed wire_now gone = RoseBy 100 wire_failed wire_now
+IsEndOf (Some Wire) before after disk_failed disk_now wire_failed wire_now gone = RoseBy MOST_FAILURES wire_failed wire_now
 IsEndOf (Some (Life error)) before after disk_failed disk_now wire_failed wire_now gone = IsLifeCause error before after disk_failed disk_now

@@ -8,6 +8,7 @@ use Rattle.tora_arq.specs.LinkEnd.{EndState, is_closed, bound_life, after_open, 
 use Rattle.tora_arq.specs.LinkFacts.{list_of}
 use Rattle.tora_neighbour.specs.declared.intake.Intake.{Intake}
 use Rattle.tora_neighbour.specs.declared.tally.Tally.{Tally}
+use Rattle.tora_neighbour.specs.declared.turn_parts.TheConstants.{MOST_FAILURES}
 use Rattle.tora_neighbour.specs.declared.wire.WireError.{WireError}
 use Rattle.tora_neighbour.specs.Intake.{Reading, came_in, intake_in, after_came}
 use Rattle.tora_neighbour.specs.Tally.{counted_in}
@@ -197,13 +198,13 @@ row_after failed row = if failed then suc row else 0
 -- so many in a row have failed after these calls, and none was made once a hundred in a row had
 abbrev pub IsRow : ℕ → List Bool → ℕ → Type 0
 IsRow row [] after = after ≡ row
-IsRow row (failed ∷ calls) after = (row < 100) × IsRow (row_after failed row) calls after
+IsRow row (failed ∷ calls) after = (row < MOST_FAILURES) × IsRow (row_after failed row) calls after
 
 -- the last hundred calls have failed exactly where the wire is broken
 abbrev pub EndsInRow : Ending → ℕ → Type 0
-EndsInRow (NoNumber error) row = row < 100
-EndsInRow (Broken at) row = row ≡ 100
-EndsInRow Refused row = row < 100
+EndsInRow (NoNumber error) row = row < MOST_FAILURES
+EndsInRow (Broken at) row = row ≡ MOST_FAILURES
+EndsInRow Refused row = row < MOST_FAILURES
 
 -- ---- runs
 

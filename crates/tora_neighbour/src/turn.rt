@@ -11,6 +11,7 @@ use crate::ending::Ending;
 use crate::hub::Hub;
 use crate::link::Link;
 use crate::tally::Tally;
+use crate::turn_parts::MOST_FAILURES;
 use crate::turn_stages::{begin, exchange, give_up, tell};
 use crate::wire::Wire;
 use std::sync::Wait;

@@ -101,9 +101,9 @@ pub fn put_events<R: Wait, H: Hub>(
 
 /// Counts one more failure in a row.
 pub fn count_failure(row: &mut u64) -> Result<(), Broken>
-    requires { row.old < 100 }
-    ensures ok { OnOk result (row.new < 100) }
-    ensures err { OnErr result (row.new ≡ 100) }
+    requires { row.old < MOST_FAILURES }
+    ensures ok { OnOk result (row.new < MOST_FAILURES) }
+    ensures err { OnErr result (row.new ≡ MOST_FAILURES) }
     ensures more { row.new ≡ row.old + 1 }
 {
     *row += 1;
@@ -115,13 +115,13 @@ pub fn count_failure(row: &mut u64) -> Result<(), Broken>
 
 /// Sends a datagram, and counts where it fails.
 pub fn try_send<W: Wire>(wire: &mut W, row: &mut u64, bytes: &[u8]) -> Result<(), Broken>
-    requires { row.old < 100 }
+    requires { row.old < MOST_FAILURES }
     ensures call { (answer : Result (Unit {0}) WireError) × W.did_send wire.old bytes.now answer wire.new × (row.new ≡ row_after (is_err answer) row.old) }
     ensures tells { IsTrue (W.tells wire.new) → IsTrue (W.tells wire.old) }
     ensures tried { IsTrue (W.tells wire.new) → W.tries wire.new ≡ W.tries wire.old ++ bytes.now ∷ [] }
     ensures coming { IsTrue (W.tells wire.new) → W.coming wire.new ≡ W.coming wire.old }
-    ensures row { OnOk result (row.new < 100) }
-    ensures broken { OnErr result (row.new ≡ 100) }
+    ensures row { OnOk result (row.new < MOST_FAILURES) }
+    ensures broken { OnErr result (row.new ≡ MOST_FAILURES) }
     ensures failures { (base : ℕ) → RoseBy row.old base (W.failures wire.old) → RoseBy row.new base (W.failures wire.new) }
 {
     match wire.send(bytes) {
@@ -141,11 +141,11 @@ pub fn send_frames<R: Wait, W: Wire>(
     row: &mut u64,
     now: u64,
 ) -> Result<(), Broken>
-    requires { row.old < 100 }
+    requires { row.old < MOST_FAILURES }
     ensures tells { IsTrue (W.tells wire.new) → IsTrue (W.tells wire.old) }
     ensures coming { IsTrue (W.tells wire.new) → W.coming wire.new ≡ W.coming wire.old }
-    ensures row { OnOk result (row.new < 100) }
-    ensures broken { OnErr result (row.new ≡ 100) }
+    ensures row { OnOk result (row.new < MOST_FAILURES) }
+    ensures broken { OnErr result (row.new ≡ MOST_FAILURES) }
     ensures failures { (base : ℕ) → RoseBy row.old base (W.failures wire.old) → RoseBy row.new base (W.failures wire.new) }
     ensures all { OnOk result ((frames : List FrameParts) × (answers : List (Result (Unit {0}) WireError)) × AreDue end.old.settings end.old.state now frames × (frame_due end.old.settings (after_frames end.old.settings end.old.state now frames) now ≡ None) × (end.new ≡ record end.old { state = after_transmit end.old.settings (after_frames end.old.settings end.old.state now frames) now }) × (IsTrue (W.tells wire.new) → W.tries wire.new ≡ W.tries wire.old ++ map frame_spelling frames) × SendsSome W.did_send wire.old frames answers wire.new × IsRow row.old (map is_err answers) row.new) }
     ensures some { OnErr result ((frames : List FrameParts) × (answers : List (Result (Unit {0}) WireError)) × AreDue end.old.settings end.old.state now frames × (end.new ≡ record end.old { state = after_frames end.old.settings end.old.state now frames }) × (IsTrue (W.tells wire.new) → W.tries wire.new ≡ W.tries wire.old ++ map frame_spelling frames) × SendsSome W.did_send wire.old frames answers wire.new × IsRow row.old (map is_err answers) row.new) }
@@ -170,11 +170,11 @@ pub fn receive<W: Wire>(
     tally: &mut Tally,
     now: u64,
 ) -> Result<(), Broken>
-    requires { row.old < 100 }
+    requires { row.old < MOST_FAILURES }
     ensures tells { IsTrue (W.tells wire.new) → IsTrue (W.tells wire.old) }
     ensures tries { IsTrue (W.tells wire.new) → W.tries wire.new ≡ W.tries wire.old }
-    ensures row { OnOk result (row.new < 100) }
-    ensures broken { OnErr result (row.new ≡ 100) }
+    ensures row { OnOk result (row.new < MOST_FAILURES) }
+    ensures broken { OnErr result (row.new ≡ MOST_FAILURES) }
     ensures failures { (base : ℕ) → RoseBy row.old base (W.failures wire.old) → RoseBy row.new base (W.failures wire.new) }
     ensures came { (answer : Result (Option ℕ) WireError) × (buffer : List ℕ) × ReceivesOnce W.did_receive wire.old (Some answer) buffer wire.new × (row.new ≡ row_after (is_err answer) row.old) × (end.new ≡ record end.old { state = after_came end.old.settings end.old.state now (came_in (Some answer) buffer) }) × (tally.new ≡ counted_in (intake_in end.old.settings end.old.state now (came_in (Some answer) buffer)) tally.old) × (IsTrue (W.tells wire.new) → Came (W.coming wire.old) (list_of (came_in (Some answer) buffer)) (W.coming wire.new)) × OnErr result (came_in (Some answer) buffer ≡ None) }
 {

@@ -23,7 +23,9 @@ ghost use Rattle.tora_neighbour.specs.Causes.{IsReady, IsLifeCause, IsExchange};
 use crate::ending::BrokenAt;
 use crate::hub::Hub;
 use crate::tally::Tally;
-use crate::turn_parts::{open_closed, put_events, receive, send_frames, take_cargoes};
+use crate::turn_parts::{
+    MOST_FAILURES, open_closed, put_events, receive, send_frames, take_cargoes,
+};
 use crate::wire::Wire;
 use std::sync::Wait;
 use tora_arq::{LinkEnd, lives_are_bound_once};
@@ -68,10 +70,10 @@ pub fn exchange<R: Wait, W: Wire>(
     tally: &mut Tally,
     now: u64,
 ) -> Result<(), BrokenAt>
-    requires { row.old < 100 }
+    requires { row.old < MOST_FAILURES }
     ensures tells { IsTrue (W.tells wire.new) → IsTrue (W.tells wire.old) }
-    ensures row { OnOk result (row.new < 100) }
-    ensures broken { OnErr result (row.new ≡ 100) }
+    ensures row { OnOk result (row.new < MOST_FAILURES) }
+    ensures broken { OnErr result (row.new ≡ MOST_FAILURES) }
     ensures failures { (base : ℕ) → RoseBy row.old base (W.failures wire.old) → RoseBy row.new base (W.failures wire.new) }
     ensures last { OnOk result (end.new.state.last_life ≡ end.old.state.last_life) }
     ensures exchange { (frames : List FrameParts) × (intake : Option Intake) × (answers : List (Result (Unit {0}) WireError)) × (answer : Option (Result (Option ℕ) WireError)) × (buffer : List ℕ) × IsExchange end.old.settings end.old.state now frames (came_in answer buffer) intake result end.new.state × (end.new.settings ≡ end.old.settings) × (tally.new ≡ counted_in intake tally.old) × (IsTrue (W.tells wire.new) → W.tries wire.new ≡ W.tries wire.old ++ map frame_spelling frames) × (IsTrue (W.tells wire.new) → Came (W.coming wire.old) (list_of (came_in answer buffer)) (W.coming wire.new)) × OnOk result ((sent : W) × SendsSome W.did_send wire.old frames answers sent × ReceivesOnce W.did_receive sent answer buffer wire.new) × IfErr result (λ at. ExchangesUpTo W.did_send W.did_receive wire.old frames answers answer buffer at wire.new) × IsRow row.old (failed_calls answers answer) row.new }

@@ -51,3 +51,26 @@ pub trait Wire {
         ensures count { IfOk result (λ n. IfSome n (λ k. k ≤ length buf.old)) }
         ensures came { IsTrue (tells self.new) → IsReceived (coming self.old) (length buf.old) result buf.new (coming self.new) };
 }
+
+/// A wire that is lent: each call is one of the wire itself, which its owner has back once the link has ended.
+impl<W: Wire> Wire for &mut W {
+    ghost tells = { λ w. W.tells w.now };
+
+    ghost coming = { λ w. W.coming w.now };
+
+    ghost tries = { λ w. W.tries w.now };
+
+    ghost failures = { λ w. W.failures w.now };
+
+    ghost did_send = { λ w bytes answer after. W.did_send w.now bytes answer after.now };
+
+    ghost did_receive = { λ w answer buffer after. W.did_receive w.now answer buffer after.now };
+
+    fn send(&mut self, bytes: &[u8]) -> Result<(), WireError> {
+        Wire::send(&mut **self, bytes)
+    }
+
+    fn receive(&mut self, buf: &mut [u8]) -> Result<Option<usize>, WireError> {
+        Wire::receive(&mut **self, buf)
+    }
+}

@@ -4,7 +4,6 @@ ghost use Rattle.tora_arq.specs.LinkEnd.{first_end};
 
 use super::sees::{ends, same, same_at, sees, there};
 use std::alloc::{AllocError, Global};
-use std::net::Net;
 use std::process::Abort;
 use std::sync::Wait;
 use std::sync::atomic::{AtomicU64, Ordering};
@@ -129,20 +128,4 @@ pub(super) fn total(tally: &Tally) -> u64 {
         sum = sum.saturating_add(tally.of_bad(n));
     }
     sum
-}
-
-/// Two wires to each other, on two free ports of the loopback: one of the 500 from this one on, and the one 500 above it.
-pub(super) fn pair<R: Net>(rt: &R, from: u16) -> Option<(UdpWire, UdpWire)> {
-    for n in 0..500u16 {
-        let port = from.saturating_add(n);
-        let other = port.saturating_add(500);
-        let Ok(first) = UdpWire::bind(rt, port, other) else {
-            continue;
-        };
-        let Ok(second) = UdpWire::bind(rt, other, port) else {
-            continue;
-        };
-        return Some((first, second));
-    }
-    None
 }
