@@ -125,7 +125,7 @@ def sparse(measure, scale, digits):
     """A measure of the sparse networks: a line for each protocol, a column for each size and greatest speed."""
     held = table("sparse").frame
     kinds = sorted(set(zip(held["nodes"], held["speed"])))
-    lines = [cells("protocol", *(f"{nodes:g} nodes, {speed:g} m/s" for nodes, speed in kinds)), "|" + "---|" * (len(kinds) + 1)]
+    lines = [cells("protocol", *(f"{nodes:g}, {speed:g} m/s" for nodes, speed in kinds)), "|" + "---|" * (len(kinds) + 1)]
     for protocol, rows in sorted(held.groupby("protocol")):
         found = [rows[(rows["nodes"] == nodes) & (rows["speed"] == speed)][measure].dropna().to_numpy(float) / scale for nodes, speed in kinds]
         lines.append(cells(SHORT.get(protocol, protocol), *(interval(stats.bca_interval(values), digits) for values in found)))
@@ -136,7 +136,7 @@ def erasures():
     """Remembered erasure beside plain erasure in the sparse networks, in pairs of runs: a line for each size and greatest speed."""
     held = table("sparse")
     held = Table(held.path, held.frame[held.frame["protocol"].isin((PLAIN, REMEMBERED))], held.design)
-    lines = [cells("", "pairs", "delivery of reachable packets, difference", "corrected p", "control bytes, ratio", "corrected p", "most in a second, ratio", "corrected p"),
+    lines = [cells("", "pairs", "delivery, difference", "p, Holm", "bytes, ratio", "p, Holm", "busiest second, ratio", "p, Holm"),
              "|" + "---|" * 8]
     found = {}
     for measure, ratio in (("delivery_reachable", False), ("control_bytes", True), ("control_most", True)):
@@ -144,7 +144,7 @@ def erasures():
             if row["protocol"] == REMEMBERED:
                 p = row["p_holm"]
                 found.setdefault((row["nodes"], row["speed"]), [str(row["pairs"])]).extend([interval(stats.Interval(row["value"], row["low"], row["high"]), 3), "-" if p != p else f"{p:.3f}"])
-    return lines + [cells(f"{nodes:g} nodes, {speed:g} m/s", *found[nodes, speed]) for nodes, speed in sorted(found)]
+    return lines + [cells(f"{nodes:g}, {speed:g} m/s", *found[nodes, speed]) for nodes, speed in sorted(found)]
 
 
 def interval(found, digits):
