@@ -28,7 +28,7 @@ from tora.comparison import report  # noqa: E402
 from tora.derived import with_derived  # noqa: E402
 from tora.errors import StudyError  # noqa: E402
 from tora.summary import compare  # noqa: E402
-from tora.table import read_table  # noqa: E402
+from tora.table import Table, read_table  # noqa: E402
 
 STORED = DOCS / "studies"
 MARK = re.compile(r"<!-- made: (\S+) -->")
@@ -115,6 +115,38 @@ def across(size, measure, digits):
     return lines
 
 
+# ---- tables of sparse networks
+
+PLAIN, REMEMBERED = (f"TORA:notice=1;waits=1;erasure={word}" for word in ("plain", "remembered"))
+SHORT = {PLAIN: "TORA, plain", REMEMBERED: "TORA, remembered"}
+
+
+def sparse(measure, scale, digits):
+    """A measure of the sparse networks: a line for each protocol, a column for each size and greatest speed."""
+    held = table("sparse").frame
+    kinds = sorted(set(zip(held["nodes"], held["speed"])))
+    lines = [cells("protocol", *(f"{nodes:g}, {speed:g} m/s" for nodes, speed in kinds)), "|" + "---|" * (len(kinds) + 1)]
+    for protocol, rows in sorted(held.groupby("protocol")):
+        found = [rows[(rows["nodes"] == nodes) & (rows["speed"] == speed)][measure].dropna().to_numpy(float) / scale for nodes, speed in kinds]
+        lines.append(cells(SHORT.get(protocol, protocol), *(interval(stats.bca_interval(values), digits) for values in found)))
+    return lines
+
+
+def erasures():
+    """Remembered erasure beside plain erasure in the sparse networks, in pairs of runs: a line for each size and greatest speed."""
+    held = table("sparse")
+    held = Table(held.path, held.frame[held.frame["protocol"].isin((PLAIN, REMEMBERED))], held.design)
+    lines = [cells("", "pairs", "delivery, difference", "p, Holm", "bytes, ratio", "p, Holm", "busiest second, ratio", "p, Holm"),
+             "|" + "---|" * 8]
+    found = {}
+    for measure, ratio in (("delivery_reachable", False), ("control_bytes", True), ("control_most", True)):
+        for row in compare(held, {"protocol": PLAIN}, [measure], ratio=ratio).rows.to_dict("records"):
+            if row["protocol"] == REMEMBERED:
+                p = row["p_holm"]
+                found.setdefault((row["nodes"], row["speed"]), [str(row["pairs"])]).extend([interval(stats.Interval(row["value"], row["low"], row["high"]), 3), "-" if p != p else f"{p:.3f}"])
+    return lines + [cells(f"{nodes:g}, {speed:g} m/s", *found[nodes, speed]) for nodes, speed in sorted(found)]
+
+
 def interval(found, digits):
     """A mean with its interval, where it has one."""
     told = f"{found.value:.{digits}f}"
@@ -197,6 +229,8 @@ WITH_NOTICE = {"available": 3, "no_hop": 3, "looping": 3, "rounds_lost_by_outage
 WHOLE = {f"ns3-{size}-{kind}": (lambda kind=kind, size=size: whole(kind, size)) for size in SIZES for kind in ("runs", "aims", "losses")}
 WHOLE |= {f"ns3-{size}-delivery": (lambda size=size: across(size, "delivery", 3)) for size in SIZES}
 WHOLE |= {f"ns3-{size}-control_rate": (lambda size=size: across(size, "control_rate", 2)) for size in ("20-5", "50-10")}
+WHOLE |= {"sparse-delivery": lambda: sparse("delivery_reachable", 1, 3), "sparse-bytes": lambda: sparse("control_bytes", 1000, 0),
+          "sparse-most": lambda: sparse("control_most", 1000, 1), "sparse-erasures": erasures}
 TABLES = {
     "ns3-notice": lambda: beside(NOTICE, "TORA"),
     "ns3-waits": lambda: beside(WAITS, NOTICE),

@@ -117,7 +117,7 @@ ToraRoutingAttributes::AddLinks(TypeId tid)
                       MakeBooleanChecker())
         .AddAttribute("Erasure",
                       "What the node makes of erased reference levels: Plain or Remembered.",
-                      EnumValue(ToraRouting::PLAIN),
+                      EnumValue(ToraRouting::REMEMBERED),
                       MakeEnumAccessor(&ToraRouting::m_erasure),
                       MakeEnumChecker(ToraRouting::PLAIN,
                                       "Plain",

@@ -138,6 +138,7 @@ class ToraRecordTestCase : public TestCase
         {
             ToraHelper tora;
             tora.Set("Record", StringValue(file));
+            tora.Set("Erasure", EnumValue(ToraRouting::PLAIN));
             ToraNet net({0, 200, 210, 400, 600}, tora);
             net.RoutingOf(1)->SetAttribute("Erasure", EnumValue(erasure));
             net.Flow(0, 4, 5, 40);
