@@ -11,6 +11,7 @@ mod link_turns;
 mod made;
 mod packets;
 mod plain_core;
+mod routers;
 mod seats;
 mod sees;
 mod shuffled_frames;

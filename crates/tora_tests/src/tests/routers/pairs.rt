@@ -1,0 +1,81 @@
+//! Two routers, and the array over which their datagrams go.
+use crate::tests::sees::sees;
+use std::alloc::Global;
+use std::process::Abort;
+use tora_arq::Times;
+use tora_core::{CoreLimits, Erasure};
+use tora_frame::LONGEST_FRAME;
+use tora_router::{Config, Router, RouterError};
+
+/// What node 1 is to be.
+pub const CONFIG_OF_ONE: Config = Config {
+    me: 1,
+    times: Times::STANDARD,
+    erasure: Erasure::Plain,
+    limits: CoreLimits::STANDARD,
+};
+
+/// What node 2 is to be.
+const CONFIG_OF_TWO: Config = Config {
+    me: 2,
+    times: Times::STANDARD,
+    erasure: Erasure::Plain,
+    limits: CoreLimits::STANDARD,
+};
+
+/// The routers of the nodes 1 and 2, which are neighbours; 2 is a destination.
+#[derive(Drop)]
+pub struct Pair {
+    pub one: Router,
+    pub two: Router,
+}
+
+/// The pair, whose life numbers begin with 5 and 9.
+pub fn made(alloc: Global) -> Result<Pair, RouterError> {
+    let one = Router::new(alloc, &CONFIG_OF_ONE, &[2], &[2], 5)?;
+    let two = Router::new(alloc, &CONFIG_OF_TWO, &[1], &[2], 9)?;
+    Ok(Pair { one, two })
+}
+
+/// Why such a router is not made, if it isn't.
+pub fn refusal(
+    alloc: Global,
+    config: &Config,
+    neighbours: &[u32],
+    destinations: &[u32],
+    first_life: u64,
+) -> Option<RouterError> {
+    match Router::new(alloc, config, neighbours, destinations, first_life) {
+        Ok(_) => None,
+        Err(error) => Some(error),
+    }
+}
+
+/// One datagram goes from a router to the other, if one is due.
+fn passes(rt: &impl Abort, from: &mut Router, to: &mut Router, me: u32, now: u64) -> bool {
+    let mut room = [0u8; LONGEST_FRAME];
+    let Some((_, length)) = from.poll_datagram(now, &mut room) else {
+        return false;
+    };
+    sees(
+        rt,
+        length <= LONGEST_FRAME,
+        "the datagram stands in its room",
+    );
+    to.on_datagram(me, &room[..length], now);
+    true
+}
+
+impl Pair {
+    /// The ticks from one to another, the last one left out, with all datagrams that are due.
+    pub fn runs(&mut self, rt: &impl Abort, first: u64, behind: u64) {
+        for now in first..behind {
+            self.one.on_tick(now);
+            self.two.on_tick(now);
+            for _ in 0..16 {
+                passes(rt, &mut self.one, &mut self.two, 1, now);
+                passes(rt, &mut self.two, &mut self.one, 2, now);
+            }
+        }
+    }
+}
