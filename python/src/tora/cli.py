@@ -1,6 +1,6 @@
 """The command `tora-study`: make, run, sweep, storms, measure, summary, plot, page, verify.
 
-Exit status: 0 where all is done; 1 where an input is bad or a run failed; 2 where the command line asks for what can't be. What is wrong is told in one line.
+Exit status: 0 if all is done; 1 if an input is bad or a run failed; 2 if the command line asks for something impossible. One line says what is wrong.
 """
 from __future__ import annotations
 
@@ -17,7 +17,7 @@ from tora.options import (
 )
 
 Body = Callable[[argparse.Namespace], int]
-PROGRAM = "The program is --program, else the environment variable TORA, else the repository's ./tora, else `tora` of the path."
+PROGRAM = "The program is the one of --program, of the environment variable TORA, the repository's ./tora, or `tora` on the path, in this order."
 
 
 def main(words: Sequence[str] | None = None) -> int:
@@ -79,15 +79,15 @@ def _add_word(words: argparse._SubParsersAction[Parser], name: str, help_: str, 
 
 def _add_program(added: Parser) -> None:
     """Adds the program and its time limit."""
-    added.add_argument("--program", metavar="PATH", action=Once, type=text, help="the program tora (TORA, ./tora, or that of the path)")
+    added.add_argument("--program", metavar="PATH", action=Once, type=text, help="the program tora (TORA, ./tora, or the one on the path)")
     added.add_argument("--time-limit", metavar="SECONDS", action=Once, type=above_zero, help="seconds after which a run is ended, above 0 (3600)")
 
 
 def _add_load(added: Parser) -> None:
     """Adds the options of data packets."""
-    added.add_argument("--traffic", metavar="RATE", action=Once, help="also measure data packets: so many of each flow a second, above 0, as 4 or 0.5")
-    added.add_argument("--hop", metavar="TICKS", action=Once, type=whole, help="with --traffic: ticks of 100 ms that a hop takes, 1 or more (1)")
-    added.add_argument("--ttl", metavar="HOPS", action=Once, type=whole, help="with --traffic: most hops of a packet, 1 or more (32)")
+    added.add_argument("--traffic", metavar="RATE", action=Once, help="also measure data packets: this many a second of each flow, above 0, such as 4 or 0.5")
+    added.add_argument("--hop", metavar="TICKS", action=Once, type=whole, help="with --traffic: ticks of 100 ms for a hop, 1 or more (1)")
+    added.add_argument("--ttl", metavar="HOPS", action=Once, type=whole, help="with --traffic: greatest number of hops of a packet, 1 or more (32)")
 
 
 def _add_make(words: argparse._SubParsersAction[Parser]) -> None:
@@ -95,14 +95,14 @@ def _add_make(words: argparse._SubParsersAction[Parser]) -> None:
     added = _add_word(
         words, "make", "make a scenario of moving nodes",
         "Writes PREFIX.sim, the simulation file, and PREFIX.json, its description. Motion, destinations and flows come from the seed, so the\n"
-        "same options make the same files. Two nodes are linked while they are within --range of each other; a round is 100 ms.",
+        "same options make the same files. Two nodes have a link while they are within --range of each other; a round is 100 ms.",
     )
     added.add_argument("prefix", metavar="PREFIX", type=text, help="how the names of the files begin")
     added.add_argument("--seed", metavar="NUMBER", action=Once, type=whole, help="0 to 2^64 - 1 (1)")
     added.add_argument("--channel-file", metavar="FILE", action=Once, type=text, help="also write a file of losses that rise with the distance")
     add_options(added, EDGE_LOSS, "losses by distance")
     add_options(added, SCENARIO, "the scenario")
-    add_options(added, FILES, "motion of a file, in the place of a model")
+    add_options(added, FILES, "motion from a file instead of a model")
     added.add_argument("--overwrite", action=Flag, default=False, help="replace files that exist")
 
 
@@ -110,11 +110,11 @@ def _add_run(words: argparse._SubParsersAction[Parser]) -> None:
     """The word run."""
     added = _add_word(
         words, "run", "simulate a scenario",
-        "Simulates PREFIX.sim, which `tora-study make` wrote beside PREFIX.json, to PREFIX.trace, and writes PREFIX.manifest.json, by which\n"
-        f"`tora-study verify` makes the run again.\n{PROGRAM}",
+        "Simulates PREFIX.sim, which `tora-study make` wrote beside PREFIX.json. Writes PREFIX.trace, and PREFIX.manifest.json, from which\n"
+        f"`tora-study verify` repeats the run.\n{PROGRAM}",
     )
     added.add_argument("prefix", metavar="PREFIX", type=text, help="how the names of the files begin")
-    added.add_argument("--channel-file", metavar="FILE", action=Once, type=text, help="losses by link and round, as `make --channel-file` writes them")
+    added.add_argument("--channel-file", metavar="FILE", action=Once, type=text, help="losses by link and round, such as `make --channel-file` writes")
     add_options(added, CHANNEL, "the channel and the run")
     _add_program(added)
     added.add_argument("--overwrite", action=Flag, default=False, help="replace files that exist")
@@ -125,12 +125,12 @@ def _add_sweep(words: argparse._SubParsersAction[Parser]) -> None:
     added = _add_word(
         words, "sweep", "make the runs of a study, its table and its pictures",
         "Runs every size with every value of each --vary and every seed. FOLDER gets study.csv (a row for each run), manifest.json, summary.txt and\n"
-        "study.png. What was broken off goes on with the same command. A value that stands twice is refused, and so is an option that is given and\n"
-        f"varied, too. Snakemake runs it.\n{PROGRAM}",
+        "study.png. The same command continues a sweep that was interrupted. A value that is given twice is refused, and so is an option that is\n"
+        f"both given and varied. Snakemake makes the runs.\n{PROGRAM}",
     )
     added.add_argument("folder", metavar="FOLDER", type=text, help="a new folder, or one of the same study")
-    added.add_argument("--nodes", metavar="NUMBER,..", action=Once, type=names, help="sizes, 2 to 64 nodes, or to 1024 with --large, as 10,20,40")
-    added.add_argument("--seeds", metavar="NUMBER", action=Once, type=count, required=True, help="how many seeds, from 1 on; at most 1000000 runs in all")
+    added.add_argument("--nodes", metavar="NUMBER,..", action=Once, type=names, help="sizes, 2 to 64 nodes, or to 1024 with --large, such as 10,20,40")
+    added.add_argument("--seeds", metavar="NUMBER", action=Once, type=count, required=True, help="use the seeds from 1 to this number; at most 1000000 runs in all")
     added.add_argument(
         "--vary", metavar="NAME=VALUE,..", action="append", default=[],
         help="run with each of these values of an option below; a comma within a value is a colon: times=10:50:5:8,5:20:5:8",
@@ -139,11 +139,11 @@ def _add_sweep(words: argparse._SubParsersAction[Parser]) -> None:
     added.add_argument("--keep", action=Flag, default=False, help="keep each run's files in FOLDER/runs")
     added.add_argument("--page", action=Flag, default=False, help="make a page that plays each run, and FOLDER/index.html")
     added.add_argument("--jobs", metavar="NUMBER", action=Once, type=count, help="runs at a time, 1 or more (as many as processors)")
-    added.add_argument("--batches", metavar="NUMBER", action=Once, type=count, help="in how many parts the runs are made, 1 or more (1; two for each of --jobs with --profile)")
-    added.add_argument("--profile", metavar="PROFILE", action=Once, type=text, help="a profile of snakemake, or `slurm` for the one that comes along")
+    added.add_argument("--batches", metavar="NUMBER", action=Once, type=count, help="number of parts into which the runs are divided, 1 or more (1; with --profile two for each of --jobs)")
+    added.add_argument("--profile", metavar="PROFILE", action=Once, type=text, help="a profile of snakemake, or `slurm` for the one of this package")
     _add_program(added)
     add_options(added, SCENARIO, "options of each scenario", leave_out=["nodes"])
-    add_options(added, FILES, "motion of a file, in the place of a model")
+    add_options(added, FILES, "motion from a file instead of a model")
     add_options(added, CHANNEL | EDGE_LOSS, "options of each run")
 
 
@@ -151,14 +151,14 @@ def _add_storms(words: argparse._SubParsersAction[Parser]) -> None:
     """The word storms."""
     added = _add_word(
         words, "storms", "how networks come to rest after a partition",
-        "Draws a ring of 3 to 8 nodes from each seed, parts it from its destination, and asks 150 rounds after the last event whether it is at rest;\n"
-        "once where nodes forget the levels that they erased, and once where they remember them. Prints how many are not, the time to rest in ticks of\n"
-        "100 ms, control packets after the last event, and loops and dead ends at rest: by the greatest delay of a datagram in rounds of 100 ms, and\n"
-        f"by the size of the ring. docs/explanation/after-a-partition.md tells more.\n{PROGRAM}",
+        "Draws a ring of 3 to 8 nodes from each seed, cuts off its destination, and asks 150 rounds after the last event whether it is at rest:\n"
+        "once with nodes that forget the levels that they erased, and once with nodes that remember them. Prints how many rings are not at rest,\n"
+        "the time to rest in ticks of 100 ms, control packets after the last event, and loops and dead ends at rest, by the greatest delay of a\n"
+        f"datagram in rounds of 100 ms and by the size of the ring. docs/explanation/after-a-partition.md explains this.\n{PROGRAM}",
     )
-    added.add_argument("--runs", metavar="NUMBER", action=Once, type=count, default=400, help="how many networks, of the seeds from 0 on (400)")
-    added.add_argument("--mended", action=Flag, default=False, help="the destination comes back as the last event")
-    added.add_argument("--plot", metavar="FILE", action=Once, type=text, help="also draw them, .png, .svg or .pdf")
+    added.add_argument("--runs", metavar="NUMBER", action=Once, type=count, default=400, help="how many networks; their seeds count from 0 (400)")
+    added.add_argument("--mended", action=Flag, default=False, help="let the destination come back as the last event")
+    added.add_argument("--plot", metavar="FILE", action=Once, type=text, help="also draw a picture, .png, .svg or .pdf")
     added.add_argument("--jobs", metavar="NUMBER", action=Once, type=count, help="runs at a time, 1 or more (as many as processors)")
     _add_program(added)
     add_output(added, "also write a row for each run, as CSV")
@@ -168,11 +168,11 @@ def _add_measure(words: argparse._SubParsersAction[Parser]) -> None:
     """The word measure."""
     added = _add_word(
         words, "measure", "measure a run to a row of CSV",
-        "Prints the names of the columns and the row of a run. docs/studies/reference.md says what the columns are.",
+        "Prints the names of the columns and the row of a run. docs/studies/reference.md explains the columns.",
     )
     added.add_argument("scenario", metavar="SCENARIO.json", help="what `make` wrote")
     added.add_argument("trace", metavar="TRACE", help="what `run` wrote")
-    added.add_argument("--loops", action=Flag, default=False, help="print each loop of next hops in place of the row")
+    added.add_argument("--loops", action=Flag, default=False, help="print each loop of next hops instead of the row")
     _add_load(added)
     add_output(added, "write to a file")
 
@@ -180,19 +180,19 @@ def _add_measure(words: argparse._SubParsersAction[Parser]) -> None:
 def _add_table(added: Parser) -> None:
     """Adds a table, and which of its runs are meant."""
     added.add_argument("table", metavar="TABLE.csv", help="a table of runs: of a study, of the ns-3 comparison, or any with --design")
-    added.add_argument("--measures", metavar="COLUMN,..", action=Once, type=names, default=[], help="columns that are summarized (the usual ones)")
+    added.add_argument("--measures", metavar="COLUMN,..", action=Once, type=names, default=[], help="the columns to summarize (those of the kind of table)")
     added.add_argument(
         "--where", metavar="COLUMN=VALUE", action="append", type=setting, default=[],
-        help="only runs whose design has this value; may stand several times",
+        help="only runs whose design has this value; may be given several times",
     )
     added.add_argument(
         "--pool", metavar="COLUMN,..", action=Once, type=names, default=[],
-        help="put runs of different values of these columns into one interval; the header tells it",
+        help="combine runs with different values of these columns in one interval; the header says so",
     )
     added.add_argument(
-        "--design", metavar="COLUMN,..", action=Once, type=names, help="the columns that tell what was set; needed for a table of an unknown kind"
+        "--design", metavar="COLUMN,..", action=Once, type=names, help="the columns that say what was set; needed for a table of an unknown kind"
     )
-    added.add_argument("--statistic", metavar="NAME", action=Once, help="mean, median, or a quantile as q0.95 (numpy's rule `linear`)")
+    added.add_argument("--statistic", metavar="NAME", action=Once, help="mean, median, or a quantile such as q0.95 (numpy's rule `linear`)")
     added.add_argument(
         "--interval", metavar="METHOD", action=Once, choices=["bca", "order", "student"],
         help="95 %% interval: bca (bootstrap; usual for a mean), order (order statistics; usual for a median), or student, which is refused "
@@ -204,20 +204,20 @@ def _add_summary(words: argparse._SubParsersAction[Parser]) -> None:
     """The word summary."""
     added = _add_word(
         words, "summary", "summarize a table of runs",
-        "A row for each group of runs and each measure. Groups are what all columns of the design make; nothing is pooled unless --pool says so. The\n"
-        "header tells the statistic, how its intervals are made, and what was pooled.",
+        "Prints a row for each group of runs and each measure. A group is all runs with the same design; nothing is pooled unless --pool says so.\n"
+        "The header names the statistic, how its intervals are made, and what was pooled.",
     )
     _add_table(added)
     added.add_argument(
         "--against", metavar="COLUMN=VALUE", action="append", type=setting, default=[],
-        help="compare with these runs, in pairs of one seed and design; p-values by Holm",
+        help="compare with these runs, in pairs of the same seed and design; p-values are corrected by Holm",
     )
-    added.add_argument("--ratio", action=Flag, default=False, help="with --against: quotients in place of differences")
-    added.add_argument("--growth", metavar="COLUMN", action=Once, type=text, help="print exponents of power laws over a column in place of the summary")
+    added.add_argument("--ratio", action=Flag, default=False, help="with --against: ratios instead of differences")
+    added.add_argument("--growth", metavar="COLUMN", action=Once, type=text, help="print exponents of power laws over a column instead of the summary")
     added.add_argument("--report", action=Once, choices=["runs", "aims", "losses"], help="a table of the ns-3 comparison in Markdown")
     added.add_argument(
         "--tora", metavar="NAME", action=Once, type=text,
-        help="with --report aims: the protocol beside AODV and OLSR (TORA:notice=1,waits=1)",
+        help="with --report aims: the protocol that is compared with AODV and OLSR (TORA:notice=1,waits=1)",
     )
     added.add_argument("--format", action=Once, choices=["text", "csv", "markdown"], default="text", help="(text)")
     add_output(added, "write to a file")
@@ -231,8 +231,8 @@ def _add_plot(words: argparse._SubParsersAction[Parser]) -> None:
     kinds = added.add_subparsers(dest="kind", metavar="KIND", required=True, parser_class=Parser)
     tables = {
         "by": "measures over a column, with a line for each group", "overview": "routes, breaks, broadcasts and stretch over a column",
-        "growth": "measures on logarithmic axes, and the power laws that fit", "notice": "speed, loss and notice of parted links",
-        "comparison": "the ns-3 comparison over the greatest speed", "rest": "time to rest by nodes and delay, for choices of erasure",
+        "growth": "measures on logarithmic axes, and the power laws that fit", "notice": "measures by speed, loss and notice of parted links",
+        "comparison": "the protocols of the ns-3 comparison over the greatest speed", "rest": "time to rest by nodes and delay, for choices of erasure",
         "storms": "how partitions come to rest, by nodes and by delay, for choices of erasure",
     }
     for name, text_ in tables.items():
@@ -249,11 +249,11 @@ def _add_packets(kinds: argparse._SubParsersAction[Parser]) -> None:
     """The kind packets of the word plot."""
     kind = kinds.add_parser(
         "packets", help="QRY, UPD and CLR of a run over time", epilog=STATUSES,
-        description="How many QRY, UPD and CLR are broadcast in each second of a run, and in some rounds which node broadcasts what.",
+        description="How many QRY, UPD and CLR are broadcast in each second of a run, and with --rounds which node broadcasts what.",
     )
     kind.add_argument("trace", metavar="TRACE", help="what `run` wrote, or `tora sim --trace`")
-    kind.add_argument("--destination", metavar="DESTINATION", action=Once, type=whole, help="packets of this destination alone (all)")
-    kind.add_argument("--rounds", metavar="FIRST-LAST", action=Once, type=text, help="the rounds that are shown node by node (none)")
+    kind.add_argument("--destination", metavar="DESTINATION", action=Once, type=whole, help="only packets of this destination (all)")
+    kind.add_argument("--rounds", metavar="FIRST-LAST", action=Once, type=text, help="rounds to show node by node (none)")
     add_output(kind, "the picture, .png, .svg or .pdf", needed=True)
 
 
@@ -261,7 +261,7 @@ def _add_heights(kinds: argparse._SubParsersAction[Parser]) -> None:
     """The kind heights of the word plot."""
     kind = kinds.add_parser(
         "heights", help="heights around a break of a route", epilog=STATUSES,
-        description="Heights of a destination before, in and after a break of a route, nodes where the scenario has them. Writes PREFIX-ROUND.png for each round.",
+        description="Draws the heights for a destination before, in and after the round of a break, with the nodes at their places. Writes PREFIX-ROUND.png for each round.",
     )
     kind.add_argument("scenario", metavar="SCENARIO.json", help="what `make` wrote")
     kind.add_argument("trace", metavar="TRACE", help="what `run` wrote")
@@ -287,7 +287,7 @@ def _add_page(words: argparse._SubParsersAction[Parser]) -> None:
         f"The page is one file that loads nothing. {PROGRAM}",
     )
     added.add_argument("inputs", metavar="INPUT", nargs="*", help="as above")
-    added.add_argument("--place", metavar="FILE", action=Once, type=text, help="places of nodes that don't move: a line NODE X Y for each, metres (by force)")
+    added.add_argument("--place", metavar="FILE", action=Once, type=text, help="places of nodes that do not move, a line NODE X Y for each, in metres (nodes are placed by force)")
     added.add_argument("--read", metavar="PAGE", action=Once, type=text, help="print the trace that a page holds")
     add_options(added, CHANNEL, "of a simulation file that is run now")
     _add_program(added)
@@ -297,13 +297,13 @@ def _add_page(words: argparse._SubParsersAction[Parser]) -> None:
 def _add_verify(words: argparse._SubParsersAction[Parser]) -> None:
     """The word verify."""
     added = _add_word(
-        words, "verify", "make runs again, and compare them",
+        words, "verify", "repeat runs, and compare the results",
         "  verify PREFIX.manifest.json ..   runs of `tora-study run`\n"
         "  verify FOLDER [RUN ..]           runs of a study, or of an ns-3 comparison (the first one), and its table\n\n"
-        f"A file, a trace or a row that differs is told, with status 1. {PROGRAM}",
+        f"A file, a trace or a row that differs is reported, with status 1. {PROGRAM}",
     )
     added.add_argument("inputs", metavar="INPUT", nargs="+", help="as above")
-    added.add_argument("--all", action=Flag, default=False, help="of a study: every run")
+    added.add_argument("--all", action=Flag, default=False, help="of a study: repeat every run")
     _add_program(added)
 
 

@@ -7,6 +7,7 @@ from __future__ import annotations
 import argparse
 import dataclasses
 import re
+import textwrap
 from collections.abc import Callable, Sequence
 from typing import Any, NoReturn
 
@@ -15,7 +16,28 @@ from tora.motion import MODELS, OWN
 
 WHOLE = re.compile(r"-?[0-9]{1,40}")
 NUMBER = re.compile(r"-?([0-9]{1,40}\.?[0-9]*|\.[0-9]+)([eE][-+]?[0-9]{1,3})?")
-STATUSES = "Exit status: 0 where all is done; 1 where an input is bad or a run failed; 2 where the command line asks for what can't be."
+STATUSES = "Exit status: 0 if all is done; 1 if an input is bad or a run failed; 2 if the command line asks for something impossible."
+
+
+class Formatter(argparse.RawDescriptionHelpFormatter):
+    """Fills the paragraphs of a description. A line that is indented stays a line of its own, wrapped below its last column."""
+
+    def _fill_text(self, text: str, width: int, indent: str) -> str:
+        """The lines of a text, each at most so long."""
+        parts: list[str] = []
+        for line in text.splitlines():
+            if parts and parts[-1] and line and not line.startswith(" ") and not parts[-1].startswith(" "):
+                parts[-1] += f" {line}"
+            else:
+                parts.append(line)
+        return "\n".join(line for part in parts for line in self._filled(part, width, indent))
+
+    @staticmethod
+    def _filled(paragraph: str, width: int, indent: str) -> list[str]:
+        """The lines of a paragraph, or one empty line."""
+        head = re.match(r" +(?:\S+ )*? {2,}(?=\S)| *", paragraph)
+        assert head is not None
+        return textwrap.wrap(paragraph, width, initial_indent=indent, subsequent_indent=indent + " " * len(head[0]), break_on_hyphens=False) or [""]
 
 
 class Parser(argparse.ArgumentParser):
@@ -23,7 +45,7 @@ class Parser(argparse.ArgumentParser):
 
     def __init__(self, *args: Any, **more: Any) -> None:
         more.setdefault("allow_abbrev", False)
-        more.setdefault("formatter_class", argparse.RawDescriptionHelpFormatter)
+        more.setdefault("formatter_class", Formatter)
         super().__init__(*args, **more)
 
     def error(self, message: str) -> NoReturn:
@@ -150,17 +172,17 @@ SCENARIO = {
     "nodes": Option(whole, "NUMBER", "nodes: 2 to 64, or to 1024 with --large (20)"),
     "model": Option(str, "MODEL", f"how nodes move: {', '.join(MODELS)} (waypoint)"),
     "speed": Option(_pair("-", "1-3"), "A-B", "least and greatest speed, 0.000001 to 10000000 m/s (1-3)"),
-    "pause": Option(number, "SECONDS", "waypoint models: most seconds at a way point, 0 or more (10)"),
+    "pause": Option(number, "SECONDS", "waypoint models: longest stop at a way point in seconds, 0 or more (10)"),
     "settle": Option(number, "SECONDS", "waypoint: seconds of motion before the first round, 0 or more (1000)"),
     "area": Option(_pair("x", "500x300"), "WxH", "width and height, 0.01 to 10000000 m each"),
-    "degree": Option(number, "NUMBER", "without --area: a square in which a node has so many neighbours, 0.000001 to 1000000 (6)"),
+    "degree": Option(number, "NUMBER", "without --area: a square in which a node has this many neighbours on average, 0.000001 to 1000000 (6)"),
     "rounds": Option(whole, "ROUNDS", "length of the run in rounds of 100 ms, 1 to 2^64 - 1 (1200)"),
-    "sample": Option(whole, "ROUNDS", "rounds between looks at the places, 1 to 10000 (10)"),
+    "sample": Option(whole, "ROUNDS", "rounds between updates of the links by the motion, 1 to 10000 (10)"),
     "range": Option(number, "METRES", "how far a link reaches, 0.01 to 10000000 m (100)"),
     "need": Option(whole, "ROUNDS", "rounds between the needs of every flow, 1 or more (10)"),
-    "limit": Option(whole, "LINKS", "most links of a node, 1 to 32, or to 255 with --large (the most)"),
+    "limit": Option(whole, "LINKS", "greatest number of links of a node, 1 to 32, or to 255 with --large (32 or 255)"),
     "destinations": Option(whole, "NUMBER", "how many destinations, 1 to 64 (4)"),
-    "flows": Option(whole, "NUMBER", "how many flows, 0 to 65536; 0: as many as nodes (0)"),
+    "flows": Option(whole, "NUMBER", "how many flows, 0 to 65536; 0 means as many as nodes (0)"),
     "times": Option(times, "HELLO,SILENCE,RETRY,TRIES", "times of a link end in ticks of 100 ms, each 1 or more (10,50,5,8)"),
     "heights": Option(whole, "ROUNDS", "rounds between `heights` lines, 0 for none (0)"),
     "large": Option(yes, "", "up to 1024 nodes with 255 links each", is_flag=True),
@@ -170,26 +192,26 @@ SCENARIO = {
     "direction_deviation": Option(number, "RADIANS", "gauss-markov: standard deviation of directions, 0 to 1000 (0.5)"),
     "interval": Option(number, "SECONDS", "gauss-markov: seconds between draws, 0.1 to 1000 (1)"),
     "blocks": Option(whole, "NUMBER", "manhattan: blocks along each side, 1 to 1000 (5)"),
-    "acceleration": Option(number, "M/S2", "manhattan: most change of speed in a second, m/s (0.5)"),
-    "safety_distance": Option(number, "METRES", "manhattan: metres to the node ahead below which a node is no faster (5)"),
+    "acceleration": Option(number, "M/S2", "manhattan: greatest change of speed in a second, m/s (0.5)"),
+    "safety_distance": Option(number, "METRES", "manhattan: closer than this many metres, a node is no faster than the node ahead (5)"),
 }
 FILES = {
-    "ns2": Option(text, "FILE", "the motion of a setdest file of ns-2, plain or .gz"),
-    "bonnmotion": Option(text, "FILE", "the motion of a BonnMotion file, plain or .gz"),
+    "ns2": Option(text, "FILE", "motion from a setdest file of ns-2, plain or .gz"),
+    "bonnmotion": Option(text, "FILE", "motion from a BonnMotion file, plain or .gz"),
     "coordinates": Option(whole, "2|3", "bonnmotion: coordinates of a way point (2)"),
-    "fcd": Option(text, "FILE", "the motion of floating car data of SUMO, plain or .gz"),
-    "absent": Option(text, "WHAT", "fcd: what a vehicle does that is not there (refuse)"),
+    "fcd": Option(text, "FILE", "motion from floating car data of SUMO, plain or .gz"),
+    "absent": Option(text, "WHAT", "fcd: what to do with a vehicle while it is absent (refuse)"),
 }
 CHANNEL = {
-    "loss": Option(number, "SHARE", "share of datagrams that never come, 0 to 1, in steps of 0.000001 (0)"),
-    "repeat": Option(number, "SHARE", "share of the others that come twice, likewise (0)"),
-    "delay": Option(delay, "ROUNDS", "rounds of 100 ms after which a datagram comes, as 2 or 1-3, 0 to 10000 (0)"),
-    "channel_seed": Option(whole, "NUMBER", "what the random numbers of the channel begin with, 0 to 2^64 - 1 (0)"),
+    "loss": Option(number, "SHARE", "share of datagrams that are lost, 0 to 1, in steps of 0.000001 (0)"),
+    "repeat": Option(number, "SHARE", "share of the others that arrive twice, likewise (0)"),
+    "delay": Option(delay, "ROUNDS", "rounds of 100 ms after which a datagram arrives, such as 2 or 1-3, 0 to 10000 (0)"),
+    "channel_seed": Option(whole, "NUMBER", "seed of the random numbers of the channel, 0 to 2^64 - 1 (0)"),
     "notice": Option(yes, "", "both ends notice at once that a link is parted", is_flag=True),
-    "until": Option(whole, "ROUNDS", "simulate, and measure, so many rounds, 1 or more"),
-    "erasure": Option(text, "WORD", "what nodes make of erased levels: plain or remembered (plain)"),
+    "until": Option(whole, "ROUNDS", "simulate and measure only this many rounds, 1 or more"),
+    "erasure": Option(text, "WORD", "what nodes do with erased levels: plain or remembered (plain)"),
 }
-EDGE_LOSS = {"edge_loss": Option(number, "SHARE", "losses rise with the distance up to this share at the range, 0 to 1; a channel file has them")}
+EDGE_LOSS = {"edge_loss": Option(number, "SHARE", "losses rise with the distance up to this share at the range, 0 to 1; they are written to a channel file")}
 OF_RUN = (*CHANNEL, *EDGE_LOSS)  # what is told to `Scenario.run`
 VARIED = {name: option for name, option in (SCENARIO | CHANNEL | EDGE_LOSS).items() if name not in ("nodes", "heights", "large")}  # what a study may vary
 assert {name for own in OWN.values() for name in own} <= set(SCENARIO)
