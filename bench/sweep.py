@@ -5,7 +5,8 @@ usage: bench/sweep.py [RUNS] [NODES] [ROUNDS]     200 runs of 20 nodes for 1,200
   TORA   the program, else the repository's ./tora
 
 The sweep makes RUNS runs with seeds 1 to RUNS, its table, summary and picture. Then the same runs are made and measured once more, one after
-another in this process, which has read all modules. The last line has the ratio of both times, less one.
+another in this process, which has read all modules. The last line has what the sweep took more, in seconds and by
+the time of the runs alone.
 """
 import pathlib
 import resource
@@ -44,7 +45,7 @@ def main():
                 made(study, run, program, limit, f"{folder}/run")
         alone = processor() - begin
     print(f"{runs} runs of {nodes} nodes for {rounds} rounds: sweep {sweep:.1f} s, runs alone {alone:.1f} s of the processors")
-    print(f"added: {100 * (sweep / alone - 1):.1f} %")
+    print(f"added: {sweep - alone:.1f} s, {100 * (sweep / alone - 1):.1f} %")
     return 0
 
 
