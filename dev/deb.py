@@ -14,12 +14,12 @@ usage: ./tora deb [--unproved] [--twice] [--out DIR]
   libtora0       the library for C, where `./tora build --lib` built it
   libtora-dev    its header, archive, file for pkg-config, guide and examples, there too
 
-Nothing is compiled but the module, and the library is the proved one in each case. The version is that of the file VERSION, with the time and name of the commit where it ends in
-`-dev`; with `changed` where the tree has changes. All files have the time of the commit (SOURCE_DATE_EPOCH), so the same text, program,
-library and system give the same bytes. What `lintian` says is told; an error of it is one here. It needs `dpkg-dev` and `debhelper`; the module
-`cmake`, `g++` and `libns3-dev`; python3-tora `dh-python` and `pybuild-plugin-pyproject`. Exit status: 1 where a package can't be made,
-differs when it is made again, or has an error of lintian; 2 for usage, where a command is missing, where there is no program, or where
-the library is older than its sources.
+Nothing is compiled but the module, and the library is the proved one in each case. The version is that of the file VERSION, with the
+time and name of the commit where it ends in `-dev`; with `changed` where the tree has changes. All files have the time of the commit
+(SOURCE_DATE_EPOCH), so the same text, program, library and system give the same bytes. What `lintian` says is told; an error of it is
+one here. It needs `dpkg-dev` and `debhelper`; the module `cmake`, `g++` and `libns3-dev`; python3-tora `dh-python` and
+`pybuild-plugin-pyproject`. Exit status: 1 where a package can't be made, differs when it is made again, or has an error of lintian; 2 for
+usage, where a command is missing, where there is no program, or where the library is older than its sources.
 """
 import argparse
 import hashlib
