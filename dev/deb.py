@@ -24,6 +24,7 @@ usage, where a command is missing, where there is no program, or where the libra
 import argparse
 import hashlib
 import os
+import re
 import shutil
 import subprocess
 import sys
@@ -35,6 +36,7 @@ import library
 TOP = os.path.dirname(os.path.dirname(os.path.realpath(__file__)))
 PROGRAM, UNPROVED = f"{TOP}/crates/tora/out/tora", f"{TOP}/out/tora_unproved"
 PARTS = "CHANGELOG.md CITATION.cff README.md SECURITY.md VERSION docs examples include ns3 python dev".split()
+GUIDES = "/usr/share/doc/tora/docs/how-to"
 AUTHOR = "the Ginavoru authors <maintainers@users.noreply.ginavoru.example>"
 
 
@@ -149,7 +151,8 @@ def stage_library(tree):
     if told.stdout.strip() not in package:
         stop("include/tora.pc.in has no line libdir=${prefix}/lib", 1)
     write(f"{tree}/staged/lib/tora.pc", package)
-    write(f"{tree}/staged/embed.md", read("docs/how-to/embed.md").replace("](../", "](/usr/share/doc/tora/docs/"))
+    guide = re.sub(r"\]\((?!/|#|\w+:)([^)]+)", lambda it: f"]({os.path.normpath(f'{GUIDES}/{it[1]}')}", read("docs/how-to/embed.md"))
+    write(f"{tree}/staged/embed.md", guide)
 
 
 def write_control(state, tree):
