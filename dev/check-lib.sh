@@ -40,6 +40,8 @@ sed -n 's/^[a-z].* \(tora_[a-z_]*\)(.*/\1/p' "$top/include/tora.h" | LC_ALL=C so
 holds 'the symbols of libtora.so.0 are those of tora.h' diff "$work/declared" "$work/shared"
 nm -g --defined-only "$out/libtora.a" | sed -n 's/.* T //p' | LC_ALL=C sort >"$work/archive"
 holds 'and those of libtora.a' diff "$work/declared" "$work/archive"
+sed -n 's/^ \(tora_[a-z_]*\)@.*/\1/p' "$here/debian/libtora0.symbols" | LC_ALL=C sort >"$work/packaged"
+holds 'and those that the package libtora0 names' diff "$work/declared" "$work/packaged"
 holds 'the examples' "$top/examples/embed/run"
 echo "check-lib: $passed passed, $failed failed"
 [ "$failed" = 0 ]

@@ -11,25 +11,32 @@ usage: ./tora deb [--unproved] [--twice] [--out DIR]
   tora           the program, its manual pages, completion, units for systemd, dissector, examples and documents
   ns3-tora       the module for ns-3 as sources and, where there is ns-3 (package libns3-dev), as a library
   python3-tora   the package tora of Python with tora-study and tora-routes, where the repository has the folder python
+  libtora0       the library for C, where `./tora build --lib` built it
+  libtora-dev    its header, archive, file for pkg-config, guide and examples, there too
 
-Nothing is compiled but the module. The version is that of the file VERSION, with the time and name of the commit where it ends in
-`-dev`; with `changed` where the tree has changes. All files have the time of the commit (SOURCE_DATE_EPOCH), so the same text, program
-and system give the same bytes. What `lintian` says is told; an error of it is one here. It needs `dpkg-dev` and `debhelper`; the module
-`cmake`, `g++` and `libns3-dev`; python3-tora `dh-python` and `pybuild-plugin-pyproject`. Exit status: 1 where a package can't be made,
-differs when it is made again, or has an error of lintian; 2 for usage, where a command is missing, or where there is no program.
+Nothing is compiled but the module, and the library is the proved one in each case. The version is that of the file VERSION, with the
+time and name of the commit where it ends in `-dev`; with `changed` where the tree has changes. All files have the time of the commit
+(SOURCE_DATE_EPOCH), so the same text, program, library and system give the same bytes. What `lintian` says is told; an error of it is
+one here. It needs `dpkg-dev` and `debhelper`; the module `cmake`, `g++` and `libns3-dev`; python3-tora `dh-python` and
+`pybuild-plugin-pyproject`. Exit status: 1 where a package can't be made, differs when it is made again, or has an error of lintian; 2 for
+usage, where a command is missing, where there is no program, or where the library is older than its sources.
 """
 import argparse
 import hashlib
 import os
+import re
 import shutil
 import subprocess
 import sys
 import tempfile
 import time
 
+import library
+
 TOP = os.path.dirname(os.path.dirname(os.path.realpath(__file__)))
 PROGRAM, UNPROVED = f"{TOP}/crates/tora/out/tora", f"{TOP}/out/tora_unproved"
-PARTS = "CHANGELOG.md CITATION.cff README.md SECURITY.md VERSION docs examples ns3 python dev".split()
+PARTS = "CHANGELOG.md CITATION.cff README.md SECURITY.md VERSION docs examples include ns3 python dev".split()
+GUIDES = "/usr/share/doc/tora/docs/how-to"
 AUTHOR = "the Ginavoru authors <maintainers@users.noreply.ginavoru.example>"
 
 
@@ -61,10 +68,12 @@ class State:
         self.version = self.full_version(is_unproved)
         self.has_ns3 = bool(shutil.which("cmake")) and os.path.exists("/usr/include/ns3/wifi-module.h")
         self.has_python = os.path.exists(f"{TOP}/python/pyproject.toml")
+        self.has_library = os.path.exists(f"{TOP}/out/{library.NAME}")
+        if self.has_library and not library.is_current():
+            stop("the library is older than its sources (./tora build --lib)")
 
     def full_version(self, is_unproved):
-        with open(f"{TOP}/VERSION") as text:
-            version = text.read().strip()
+        version = read("VERSION").strip()
         marks = []
         if version.endswith("-dev"):
             version = version.replace("-", "~") + time.strftime("%Y%m%d%H%M%S", time.gmtime(self.time))
@@ -75,8 +84,9 @@ class State:
             marks.append("unproved")
         return version + ("+" + ".".join(marks) if marks else "") + "-1"
 
-    def packages(self):
-        return ["tora", "ns3-tora", *(["python3-tora"] if self.has_python else [])]
+    def controls(self):
+        """Whose parts of debian/control there are beside that of tora."""
+        return ["ns3-tora", *(["python3-tora"] if self.has_python else []), *(["libtora"] if self.has_library else [])]
 
 
 def write(path, text, mode=0o644):
@@ -131,11 +141,25 @@ def stage(state, tree):
     shutil.rmtree(f"{tree}/examples/systemd")
 
 
+def stage_library(tree):
+    """What is made for the packages of the library: tora.pc names Debian's folder, and the guide the documents of the package tora."""
+    for name in library.NAME, "libtora.a":
+        copy(f"{TOP}/out/{name}", f"{tree}/staged/lib/{name}")
+    told = subprocess.run(["dpkg-architecture", "-qDEB_HOST_MULTIARCH"], capture_output=True, text=True, check=True)
+    package = read("include/tora.pc.in").replace("@PREFIX@", "/usr").replace("@VERSION@", read("VERSION").strip())
+    package = package.replace("libdir=${prefix}/lib\n", f"libdir=${{prefix}}/lib/{told.stdout.strip()}\n")
+    if told.stdout.strip() not in package:
+        stop("include/tora.pc.in has no line libdir=${prefix}/lib", 1)
+    write(f"{tree}/staged/lib/tora.pc", package)
+    guide = re.sub(r"\]\((?!/|#|\w+:)([^)]+)", lambda it: f"]({os.path.normpath(f'{GUIDES}/{it[1]}')}", read("docs/how-to/embed.md"))
+    write(f"{tree}/staged/embed.md", guide)
+
+
 def write_control(state, tree):
     """The list of packages, what is needed to make them, and the changelog of the packaging."""
     control = read("dev/debian/control")
     needs = []
-    for name in state.packages()[1:]:
+    for name in state.controls():
         control += read(f"dev/debian/control.{name}")
     if state.has_ns3:
         needs += ["cmake", "g++", "libns3-dev"]
@@ -156,6 +180,8 @@ def make(state, work):
     tree = f"{work}/ginavoru"
     copy_sources(tree)
     stage(state, tree)
+    if state.has_library:
+        stage_library(tree)
     write_control(state, tree)
     words = {"SOURCE_DATE_EPOCH": str(state.time), "DEB_BUILD_OPTIONS": "noautodbgsym nocheck", "LC_ALL": "C.UTF-8", "TZ": "UTC"}
     words["PATH"] = "/usr/sbin:/usr/bin:/sbin:/bin"  # the compilers and the Python of Debian
@@ -200,6 +226,8 @@ def main():
     state = State(words.unproved)
     if not state.has_ns3:
         print("tora: no ns-3 (packages libns3-dev and cmake); ns3-tora has the sources alone")
+    if not state.has_library:
+        print("tora: the library is not built (./tora build --lib); libtora0 and libtora-dev are left out")
     os.makedirs(words.out, exist_ok=True)
     for old in os.listdir(words.out):
         if old.endswith(".deb"):

@@ -2,7 +2,8 @@
 # Installs the Debian packages in a new Debian system in a folder of its own, and tries them as a new user would. It is for a release,
 # and not for the gate: it needs root, the command debootstrap, and a mirror of Debian; it takes some minutes, and 2 GB under TMPDIR.
 # usage: dev/release-check.sh [--quick] [--suite SUITE] [--mirror URL] [DIR]
-#   --quick   does not compile the example of the module for ns-3 against libns3-dev; the built example is run all the same
+#   --quick   does not compile the example of the module for ns-3 against libns3-dev; the built example is run all the same, and the
+#             examples of the library are compiled
 #   --suite SUITE, --mirror URL    the Debian system that is made; bookworm, of the mirror that apt uses here
 #   DIR       where the packages are; out/deb without it (./tora deb makes them)
 # The last line says how many checks passed and failed. Status 0 where all passed, 1 where one failed, 2 for usage or what is missing.
@@ -120,6 +121,34 @@ check_python() {
   done
 }
 
+check_library() {
+  local examples=/usr/share/doc/libtora-dev/examples python=''
+  if ! ls "$packages"/libtora0_*.deb >/dev/null 2>&1; then
+    echo 'release-check: there is no package libtora0; it is not tried'
+    return
+  fi
+  holds 'libtora0 is installed' 'apt-get install -y --no-install-recommends /packages/libtora0_*.deb'
+  if inside 'dpkg -s python3-tora' >/dev/null 2>&1; then
+    python=1
+    holds 'Python finds it' 'cd / && python3 -c "import tora; tora.Core(3, [2, 4], [4]).close()"'
+  fi
+  holds 'libtora-dev and a compiler are installed' 'apt-get install -y --no-install-recommends /packages/libtora-dev_*.deb g++ pkg-config'
+  holds 'the example in C compiles' "cc $examples/line.c \$(pkg-config --cflags --libs tora) -o /tmp/line"
+  prints 'it runs' 'node 1 (0,0,0,3,1) hop 2' '/tmp/line'
+  holds 'it prints the four heights' "/tmp/line | cmp - $examples/line.expected"
+  holds 'it takes the library of the package' 'ldd /tmp/line | grep -q "libtora.so.0 => \(/usr\)\?/lib/"'
+  holds 'each example prints what is expected' "$examples/run"
+  if [ -n "$python" ]; then
+    holds 'the library has the version that tora.pc tells' \
+      'python3 -c "import sys; from tora import lib; sys.exit(lib.version() != sys.argv[1])" $(pkg-config --modversion tora)'
+  fi
+  holds 'the guide is there' 'test -s /usr/share/doc/libtora-dev/embed.md'
+  holds 'both are removed' 'apt-get remove -y libtora0 libtora-dev'
+  holds 'nothing of them stays' \
+    'test -z "$(ls -d /usr/lib/*/libtora.* /usr/lib/*/pkgconfig/tora.pc /usr/include/tora.h /usr/share/doc/libtora* /var/lib/dpkg/info/libtora* 2>/dev/null)"'
+  holds 'nor does the linker find it' '! ldconfig -p | grep libtora.so'
+}
+
 # What stays behind when the packages go: configurations always, life files until tora is purged.
 check_removal() {
   holds 'a service has files' 'echo x >/etc/tora/1.toml && mkdir -p /var/lib/tora/1 && echo x >/var/lib/tora/1/life-2'
@@ -133,6 +162,7 @@ make_system
 check_program
 check_module
 check_python
+check_library
 check_removal
 echo "release-check: $passed passed, $failed failed"
 [ "$failed" = 0 ]

@@ -7,7 +7,8 @@
 ...     core.height(4)
 
 The library is that which TORA_LIBRARY names, else the first of these that is there: `libtora.so.0` beside this file, in
-`out` of the repository, or where the system looks for libraries. A `Core` is used by one thread at a time.
+`out` of the repository, or where the system looks for libraries, as that of the Debian package libtora0. A `Core` is
+used by one thread at a time.
 """
 from __future__ import annotations
 
@@ -184,7 +185,8 @@ def _opened(paths: tuple[str, ...]) -> ctypes.CDLL:
             raise NoLibraryError(OK, f"{path}: its calls are of version {version}, and not {ABI_VERSION}")
         return library
     where = ", ".join(paths)
-    raise NoLibraryError(OK, f"there is no library tora at {where}; ./tora build --lib builds it, TORA_LIBRARY names it")
+    how = "the Debian package libtora0 has it, ./tora build --lib builds it, TORA_LIBRARY names it"
+    raise NoLibraryError(OK, f"there is no library tora at {where}; {how}")
 
 
 def library() -> ctypes.CDLL:
