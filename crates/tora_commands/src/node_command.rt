@@ -327,7 +327,7 @@ pub fn run<
         (λ config ended. (bound : List _) × (told : _) × (lent : List _) × (disks : List _) × (ticks : List _) × (map (λ l. l.now) lent ≡ bound)
         × NodeAnswers ⟦<&'a mut ProgramWire<'a, R, L> as Wire>⟧.did_send ⟦<&'a mut ProgramWire<'a, R, L> as Wire>⟧.did_receive (⟦<NodeClock<&'a R> as tora_neighbour::Clock>⟧.did_tell told)
         ⟦<ClockTicks<'a, NodeClock<&'a R>> as Ticks>⟧.did_read (IsOpened ⟦<FileDisk as Disk>⟧.syncs ⟦<FileDisk as Disk>⟧.reads ⟦<FileDisk as Disk>⟧.writes)
-        (core_of config) lent disks ticks (Rd.remaining reader.old) (W.contents writer.old) (W.contents writer.new) ended)
+        (core_of config) lent disks ticks (Rd.remaining reader.old) ended)
         writer.old writer.new (exit_status result) }
 {
     let alloc = rt.alloc();
@@ -375,7 +375,7 @@ fn run_bound<
         ⊎ RanAndEnded (λ ended. (bound : List _) × (told : _) × (lent : List _) × (disks : List _) × (ticks : List _) × (map (λ l. l.now) lent ≡ bound)
         × NodeAnswers ⟦<&'a mut ProgramWire<'a, R, L> as Wire>⟧.did_send ⟦<&'a mut ProgramWire<'a, R, L> as Wire>⟧.did_receive (⟦<NodeClock<&'a R> as tora_neighbour::Clock>⟧.did_tell told)
         ⟦<ClockTicks<'a, NodeClock<&'a R>> as Ticks>⟧.did_read (IsOpened ⟦<FileDisk as Disk>⟧.syncs ⟦<FileDisk as Disk>⟧.reads ⟦<FileDisk as Disk>⟧.writes)
-        (core_of config.now) lent disks ticks (Rd.remaining reader.old) (W.contents writer.old) (W.contents writer.new) ended) (exit_status result) }
+        (core_of config.now) lent disks ticks (Rd.remaining reader.old) ended) (exit_status result) }
 {
     let (alloc, folder) = (rt.alloc(), config.life_dir.as_str());
     let disks = match open(rt, alloc, folder, config.links.as_slice()) {
@@ -416,7 +416,7 @@ fn run_over<
     ensures { ((result ≡ Err NodeError.Memory) × (writer.new ≡ writer.old))
         ⊎ ((lent : List _) × (ticks : List _) × (map (λ l. l.now) lent ≡ wires.old)
         × NodeAnswers ⟦<&'a mut Wi as Wire>⟧.did_send ⟦<&'a mut Wi as Wire>⟧.did_receive (C.did_tell clock.now) ⟦<ClockTicks<'a, C> as Ticks>⟧.did_read
-        (IsOpened D.syncs D.reads D.writes) (core_of config.now) lent disks.items ticks (Rd.remaining reader.old) (W.contents writer.old) (W.contents writer.new) result) }
+        (IsOpened D.syncs D.reads D.writes) (core_of config.now) lent disks.items ticks (Rd.remaining reader.old) result) }
 {
     let Some(node) = node_of(alloc, config) else {
         return Err(NodeError::Memory);

@@ -1,5 +1,5 @@
 -- The links of a node, and what their threads come to.
-use Rattle.std.proofs.Common.{◌≡◌, ◌∙◌, sym, ap, subst, refl, inl, inr, ℕ, zero, suc, List, [], ◌∷◌, ◌++◌, length, append_assoc, append-nil, arith, Option, None, Some, Result, Err}
+use Rattle.std.proofs.Common.{◌≡◌, ◌∙◌, sym, ap, subst, refl, inl, ℕ, zero, suc, List, [], ◌∷◌, ◌++◌, length, append_assoc, append-nil, arith, Option, None, Some, Result, Err}
 use Rattle.std.specs.Prelude.{map, slice_get}
 use Rattle.tora_arq.specs.EndRange.{LinkEndView}
 use Rattle.tora_arq.specs.LinkEnd.{EndState}
@@ -78,16 +78,10 @@ did_not_start first links e same h = opening_start first e (subst (λ (l : List 
 
 -- so a node answers whose threads were not started
 pub not_started : {W D T : Type 0} (send : W → List ℕ → Result (Unit {0}) WireError → W → Type 0) (receive : W → Result (Option ℕ) WireError → List ℕ → W → Type 0) (told : ℕ → Type 0) (read : T → ℕ → T → Type 0) (opened : ℕ → ℕ → D → Result ℕ LifeError → Type 0) (first : CoreView) (wires : List W) (disks : List D) (ticks : List T)
-    (input held holds : Option (List ℕ)) (links : List LinkName) (e : NodeError) → links ≡ links_of first → IsOpening links e → FailsToOpen opened links disks e → holds ≡ held → NodeAnswers send receive told read opened first wires disks ticks input held holds (Err e)
-not_started send receive told read opened first wires disks ticks input held holds links e same h failed nothing =
+    (input : Option (List ℕ)) (links : List LinkName) (e : NodeError) → links ≡ links_of first → IsOpening links e → FailsToOpen opened links disks e → NodeAnswers send receive told read opened first wires disks ticks input (Err e)
+not_started send receive told read opened first wires disks ticks input links e same h failed =
     let start = did_not_start first links e same h in
-    record { core = tt; links = tt; fault = opening_fault first.me first.neighbours links e same h; cause = inl start; count = tt; ran = tt; failed = inl (failed_start opened first disks e (subst (λ (l : List LinkName). FailsToOpen opened l disks e) same failed), inr nothing) }
-
--- and so where memory is gone
-pub no_memory : {W D T : Type 0} (send : W → List ℕ → Result (Unit {0}) WireError → W → Type 0) (receive : W → Result (Option ℕ) WireError → List ℕ → W → Type 0) (told : ℕ → Type 0) (read : T → ℕ → T → Type 0) (opened : ℕ → ℕ → D → Result ℕ LifeError → Type 0) (first : CoreView) (wires : List W) (disks : List D) (ticks : List T)
-    (input held holds : Option (List ℕ)) → NodeAnswers send receive told read opened first wires disks ticks input held holds (Err Fault.Memory)
-no_memory send receive told read opened first wires disks ticks input held holds =
-    record { core = tt; links = tt; fault = tt; cause = inl tt; count = tt; ran = tt; failed = inl (tt, inl refl) }
+    record { core = tt; links = tt; fault = opening_fault first.me first.neighbours links e same h; cause = inl start; count = tt; ran = tt; failed = inl (failed_start opened first disks e (subst (λ (l : List LinkName). FailsToOpen opened l disks e) same failed)) }
 
 -- ---- what the threads came to
 

@@ -1,6 +1,5 @@
 -- What the threads of a node leave.
-use Rattle.std.specs.Prelude.{◌≡◌, ℕ, List, [], ◌∷◌, ◌++◌, map, Option, None, Result}
-use Rattle.std.specs.Io.KnownBytes.{Appends}
+use Rattle.std.specs.Prelude.{◌≡◌, ℕ, List, [], ◌∷◌, ◌++◌, map, Option, Result}
 use Rattle.std.specs.declared.thread.PromisedHandle.{PromisedHandle}
 use Rattle.tora_core.specs.CoreRun.{core_after_all}
 use Rattle.tora_lane.specs.LaneRule.{items_of}
@@ -24,7 +23,7 @@ use Rattle.tora_node.specs.declared.link_task.Outcome.{Outcome}
 use Rattle.tora_node.specs.declared.start.NewLink.{NewLink}
 use Rattle.tora_node.specs.declared.start.Start.{Start}
 use Rattle.tora_node.specs.declared.task.Does.{Does}
-use Rattle.tora_node.specs.CoreRuns.{ServedItem, AreServed, items_served, offers_made, inputs_stepped, text_served, EndsSo}
+use Rattle.tora_node.specs.CoreRuns.{ServedItem, AreServed, items_served, offers_made, inputs_stepped, EndsSo}
 use Rattle.tora_node.specs.LinkRuns.{LinkName, IsLinkRun, link_made}
 use Rattle.tora_node.specs.NodeRuns.{IsCoreFault}
 use Rattle.tora_node.specs.WireCalls.{HasCalled}
@@ -80,16 +79,14 @@ pub record LinkLeaves {W T : Type 0} (send : W → List ℕ → Result (Unit {0}
 
 -- ---- the core's thread
 
--- It has served the items that it took, and its cargoes were offered to these lanes. Where it has no fault, their text was written
--- behind what the output held before
-pub record CoreLeaves (first : SeatView) (port : CoreEnd) (outs : List SendEnd) (held holds : Option (List ℕ)) (rest : CoreRest) : Type 0 where
+-- It has served the items that it took, and its cargoes were offered to these lanes
+pub record CoreLeaves (first : SeatView) (port : CoreEnd) (outs : List SendEnd) (rest : CoreRest) : Type 0 where
   pub xs : List ServedItem
   pub taken : rest.port.taken ≡ port.taken ++ items_served xs
   pub lane : rest.port.lane ≡ port.lane
   pub served : AreServed first.core.neighbours (state_of first) xs (state_of rest.seat)
   pub offered : AreOffered DidOffer first.core.neighbours outs (offers_made xs) rest.outs.ends.items
   pub core_is : rest.seat.core ≡ core_after_all first.core (inputs_stepped first.core.neighbours (state_of first) xs)
-  pub written : rest.fault ≡ None → Appends held holds (text_served first.core.neighbours None (state_of first) xs)
   pub ends : EndsSo rest.fault xs rest.port.gone
   pub neighbours : rest.seat.core.neighbours ≡ first.core.neighbours
   pub fault : IsCoreFault rest.fault

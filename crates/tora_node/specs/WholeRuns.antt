@@ -1,6 +1,6 @@
 -- What a node did, from its start until all of its threads had ended.
 use Rattle.std.specs.Prelude.{◌≡◌, ◌⊎◌, ◌<◌, ◌≤◌, ℕ, Bool, List, [], ◌∷◌, ◌++◌, length, map, slice_get, Option, None, Some, Result, Ok, IfOk, IfErr}
-use Rattle.std.specs.Io.KnownBytes.{Appends, Consumes}
+use Rattle.std.specs.Io.KnownBytes.{Consumes}
 use Rattle.tora_core.specs.CoreRun.{CoreView, core_after_all}
 use Rattle.tora_lane.specs.LaneRule.{items_of}
 use Rattle.tora_lane.specs.declared.limits.TheConstants.{MOST_LINKS}
@@ -8,7 +8,6 @@ use Rattle.tora_life.specs.declared.numbers.LifeError.{LifeError}
 use Rattle.tora_neighbour.specs.Puts.{put_in}
 use Rattle.tora_neighbour.specs.Traffic.{AreDrawn, cargoes_taken, entries_put, numbers_opened}
 use Rattle.tora_node.specs.declared.fault.NodeError.{NodeError}
-use Rattle.tora_node.specs.declared.fault.NodeError.TheVariants.{Memory}
 use Rattle.tora_neighbour.specs.declared.tally.Tally.{Tally}
 use Rattle.tora_neighbour.specs.declared.wire.WireError.{WireError}
 use Rattle.tora_seat.specs.Rows.{state_of, first_seat}
@@ -18,7 +17,7 @@ use Rattle.tora_seat.specs.declared.item.Item.{Item}
 use Rattle.tora_node.specs.declared.commands.CommandsEnd.{CommandsEnd}
 use Rattle.tora_node.specs.declared.link_task.Outcome.{Outcome}
 use Rattle.tora_node.specs.CommandRuns.{AreTold, EndsAt}
-use Rattle.tora_node.specs.CoreRuns.{ServedItem, AreServed, items_served, offers_made, inputs_stepped, text_served, EndsSo}
+use Rattle.tora_node.specs.CoreRuns.{ServedItem, AreServed, items_served, offers_made, inputs_stepped, EndsSo}
 use Rattle.tora_node.specs.LinkRuns.{IsLinkRun, FailsToStart, AreFaultless, IsCause, links_of}
 use Rattle.tora_node.specs.NodeRuns.{EndedView, IsNodeFault, IsRunOf, first_fault}
 use Rattle.tora_node.specs.WireCalls.{HasCalled}
@@ -54,10 +53,9 @@ pub record CommandsRan (told : ℕ → Type 0) (input : Option (List ℕ)) (seat
   pub ends : EndsAt end given put rest gone
   pub items : items_of seat served ++ left ≡ put
 
--- The threads of a node that began with this core, these wires, these disks, these sources of ticks and this input, and whose output held and holds this. Items were served one
--- after another, the core is the run of the inputs that serving made of them, and each link and the commands had a thread that put them. Where the core has no fault, what was
--- written is the text of the items. The first of the faults is the answer
-pub record NodeRan {W D T : Type 0} (send : W → List ℕ → Result (Unit {0}) WireError → W → Type 0) (receive : W → Result (Option ℕ) WireError → List ℕ → W → Type 0) (told : ℕ → Type 0) (read : T → ℕ → T → Type 0) (opened : ℕ → ℕ → D → Result ℕ LifeError → Type 0) (first : CoreView) (wires : List W) (disks : List D) (ticks : List T) (input held holds : Option (List ℕ))
+-- The threads of a node that began with this core, these wires, these disks, these sources of ticks and this input. Items were served one after another, the core is the run
+-- of the inputs that serving made of them, and each link and the commands had a thread that put them. The first of their faults is the answer
+pub record NodeRan {W D T : Type 0} (send : W → List ℕ → Result (Unit {0}) WireError → W → Type 0) (receive : W → Result (Option ℕ) WireError → List ℕ → W → Type 0) (told : ℕ → Type 0) (read : T → ℕ → T → Type 0) (opened : ℕ → ℕ → D → Result ℕ LifeError → Type 0) (first : CoreView) (wires : List W) (disks : List D) (ticks : List T) (input : Option (List ℕ))
     (answer : Option NodeError) (core : CoreView) (tallies : List Tally) (taken : List Item) (gone : Bool) : Type 0 where
   pub xs : List ServedItem
   pub after : SeatState
@@ -66,7 +64,6 @@ pub record NodeRan {W D T : Type 0} (send : W → List ℕ → Result (Unit {0})
   pub taken_is : taken ≡ items_served xs
   pub served : AreServed first.neighbours (state_of (first_seat first)) xs after
   pub core_is : core ≡ core_after_all first (inputs_stepped first.neighbours (state_of (first_seat first)) xs)
-  pub written : fault ≡ None → Appends held holds (text_served first.neighbours None (state_of (first_seat first)) xs)
   pub ends : EndsSo fault xs gone
   pub count : length outcomes ≡ length first.neighbours
   pub links : (place peer : ℕ) (wire : W) (disk : D) (source : T) (outcome : Outcome) → slice_get first.neighbours place ≡ Some peer → slice_get wires place ≡ Some wire → slice_get disks place ≡ Some disk → slice_get ticks place ≡ Some source → slice_get outcomes place ≡ Some outcome
@@ -75,14 +72,14 @@ pub record NodeRan {W D T : Type 0} (send : W → List ℕ → Result (Unit {0})
   pub answer_is : first_fault fault first.neighbours outcomes ≡ answer
   pub tallies_are : tallies ≡ map (λ o. o.tally) outcomes
 
--- a node that ends with a fault: one of its start, where nothing is written unless memory is gone, or the first one of its threads
-abbrev pub EndsWithFault : {W D T : Type 0} → (W → List ℕ → Result (Unit {0}) WireError → W → Type 0) → (W → Result (Option ℕ) WireError → List ℕ → W → Type 0) → (ℕ → Type 0) → (T → ℕ → T → Type 0) → (ℕ → ℕ → D → Result ℕ LifeError → Type 0) → CoreView → List W → List D → List T → Option (List ℕ) → Option (List ℕ) → Option (List ℕ) → NodeError → Type 0
-EndsWithFault send receive told read opened first wires disks ticks input held holds e =
-    (FailsToStart opened first disks e × ((e ≡ Memory) ⊎ (holds ≡ held)))
-    ⊎ ((core : CoreView) × (tallies : List Tally) × (taken : List Item) × (gone : Bool) × NodeRan send receive told read opened first wires disks ticks input held holds (Some e) core tallies taken gone)
+-- a node that ends with a fault: one of its start, or the first one of its threads
+abbrev pub EndsWithFault : {W D T : Type 0} → (W → List ℕ → Result (Unit {0}) WireError → W → Type 0) → (W → Result (Option ℕ) WireError → List ℕ → W → Type 0) → (ℕ → Type 0) → (T → ℕ → T → Type 0) → (ℕ → ℕ → D → Result ℕ LifeError → Type 0) → CoreView → List W → List D → List T → Option (List ℕ) → NodeError → Type 0
+EndsWithFault send receive told read opened first wires disks ticks input e =
+    FailsToStart opened first disks e
+    ⊎ ((core : CoreView) × (tallies : List Tally) × (taken : List Item) × (gone : Bool) × NodeRan send receive told read opened first wires disks ticks input (Some e) core tallies taken gone)
 
--- What a node answers that began with this core, these wires, these disks, these sources of ticks and this input, and whose output held and holds this
-pub record NodeAnswers {W D T : Type 0} (send : W → List ℕ → Result (Unit {0}) WireError → W → Type 0) (receive : W → Result (Option ℕ) WireError → List ℕ → W → Type 0) (told : ℕ → Type 0) (read : T → ℕ → T → Type 0) (opened : ℕ → ℕ → D → Result ℕ LifeError → Type 0) (first : CoreView) (wires : List W) (disks : List D) (ticks : List T) (input held holds : Option (List ℕ))
+-- What a node answers that began with this core, these wires, these disks, these sources of ticks and this input
+pub record NodeAnswers {W D T : Type 0} (send : W → List ℕ → Result (Unit {0}) WireError → W → Type 0) (receive : W → Result (Option ℕ) WireError → List ℕ → W → Type 0) (told : ℕ → Type 0) (read : T → ℕ → T → Type 0) (opened : ℕ → ℕ → D → Result ℕ LifeError → Type 0) (first : CoreView) (wires : List W) (disks : List D) (ticks : List T) (input : Option (List ℕ))
     (answer : Result EndedView NodeError) : Type 0 where
   -- where it ends without a fault, the core is the run of what serving makes of some items from the first core on
   pub core : IfOk answer (λ ended. IsRunOf first ended.core)
@@ -96,5 +93,5 @@ pub record NodeAnswers {W D T : Type 0} (send : W → List ℕ → Result (Unit 
   pub count : IfOk answer (λ ended. (0 < length first.neighbours) × (length first.neighbours ≤ MOST_LINKS))
   -- what its threads did: the runs of its links with their wires and life files, the commands that were read, and the items that the core
   -- served, which are what these have put, as the lanes carry it
-  pub ran : IfOk answer (λ ended. NodeRan send receive told read opened first wires disks ticks input held holds None ended.core ended.tallies ended.taken ended.gone)
-  pub failed : IfErr answer (EndsWithFault send receive told read opened first wires disks ticks input held holds)
+  pub ran : IfOk answer (λ ended. NodeRan send receive told read opened first wires disks ticks input None ended.core ended.tallies ended.taken ended.gone)
+  pub failed : IfErr answer (EndsWithFault send receive told read opened first wires disks ticks input)

@@ -24,13 +24,6 @@ pub(crate) struct CoreRest {
     pub(crate) fault: Option<NodeError>,
 }
 
-/// What the core's thread leaves, and what it has written to.
-#[derive(Drop)]
-pub(crate) struct CoreDone<'a, Wr> {
-    pub(crate) rest: CoreRest,
-    pub(crate) writer: &'a mut Wr,
-}
-
 /// The work of the core's thread: the seat, its lanes, what wakes the neighbours' threads, and what it writes to.
 #[derive(Drop)]
 pub(crate) struct CoreStart<'a, K, Wr> {
@@ -39,17 +32,16 @@ pub(crate) struct CoreStart<'a, K, Wr> {
     pub(crate) port: CorePort,
     pub(crate) outs: OutPuts,
     wakers: Vec<K>,
-    pub(crate) writer: &'a mut Wr,
+    writer: &'a mut Wr,
     ghost lanes: { length seat.core.neighbours ≤ length outs.ends.items },
 }
 
-impl<'a, K: Wake + Drop, Wr: Write> Task<CoreDone<'a, Wr>> for CoreStart<'a, K, Wr> {
-    ghost use Rattle.std.specs.Prelude.{◌≡◌};
+impl<'a, K: Wake + Drop, Wr: Write> Task<CoreRest> for CoreStart<'a, K, Wr> {
     ghost use Rattle.tora_node.specs.Threads.{CoreLeaves};
 
-    ghost leaves = { λ t done. (done.writer.ghost_name ≡ t.writer.ghost_name) × CoreLeaves t.seat t.port t.outs.ends.items (Wr.contents t.writer.now) (Wr.contents done.writer.now) done.rest };
+    ghost leaves = { λ t rest. CoreLeaves t.seat t.port t.outs.ends.items rest };
 
-    fn run<R: Wait + Log>(self, rt: &R) -> CoreDone<'a, Wr> {
+    fn run<R: Wait + Log>(self, rt: &R) -> CoreRest {
         let CoreStart {
             alloc,
             seat,
@@ -67,13 +59,12 @@ impl<'a, K: Wake + Drop, Wr: Write> Task<CoreDone<'a, Wr>> for CoreStart<'a, K, 
         let WakingLanes { lanes, wakers } = outs;
         let port = end.port.end();
         end_all(wakers.as_slice());
-        let rest = CoreRest {
+        CoreRest {
             seat: end.seat,
             port,
             outs: lanes,
             fault: end.fault,
-        };
-        CoreDone { rest, writer }
+        }
     }
 }
 
@@ -87,8 +78,7 @@ pub(crate) fn new_core_start<'a, K: Drop, Wr>(
     writer: &'a mut Wr,
 ) -> Option<CoreStart<'a, K, Wr>>
     requires { length core.neighbours ≤ length outs.items }
-    ensures parts { IfSome result (λ start. (start.seat ≡ first_seat core) × (start.port ≡ port) × (start.outs.ends.items ≡ outs.items)) }
-    ensures writer { IfSome result (λ start. (start.writer.ghost_name ≡ writer.entry.ghost_name) × (start.writer.now ≡ writer.old)) }
+    ensures { IfSome result (λ start. (start.seat ≡ first_seat core) × (start.port ≡ port) × (start.outs.ends.items ≡ outs.items)) }
 {
     let Ok(seat) = CoreSeat::new(alloc, core) else {
         return None;

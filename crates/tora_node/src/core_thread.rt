@@ -209,45 +209,6 @@ fn is_quit(what: &What) -> bool
     }
 }
 
-/// Serves items as `run_core` does, and answers the fault that ends it.
-fn serve_all<R: Wait, O: OutLanes, W: Write>(
-    rt: &R,
-    alloc: Global,
-    seat: &mut CoreSeat,
-    port: &mut CorePort,
-    outs: &mut O,
-    writer: &mut W,
-) -> Option<NodeError>
-    requires { length seat.old.core.neighbours ≤ O.count outs.old }
-    ensures runs { (xs : List ServedItem) × (port.new.taken ≡ port.old.taken ++ items_served xs)
-        × AreServed seat.old.core.neighbours (state_of seat.old) xs (state_of seat.new)
-        × AreOffered O.did_offer seat.old.core.neighbours outs.old (offers_made xs) outs.new
-        × (seat.new.core ≡ core_after_all seat.old.core (inputs_stepped seat.old.core.neighbours (state_of seat.old) xs))
-        × (result ≡ None → Appends (W.contents writer.old) (W.contents writer.new) (text_served seat.old.core.neighbours None (state_of seat.old) xs))
-        × EndsSo result xs port.new.gone }
-    ensures neighbours { seat.new.core.neighbours ≡ seat.old.core.neighbours }
-    ensures lane { port.new.lane ≡ port.old.lane }
-{
-    let mut watch = None;
-    accepted_inputs_make_the_core();
-    for _ in rt.forever() {
-        match port.take(rt) {
-            Err(_) => return None,
-            Ok(item) => {
-                let answer = seat.serve(&item, outs);
-                if is_quit(&item.what) {
-                    return None;
-                }
-                match reply(alloc, seat, &item, &answer, &mut watch, writer) {
-                    Ok(()) => {}
-                    Err(fault) => return Some(fault),
-                }
-            }
-        }
-    }
-    unreachable!()
-}
-
 /// Takes items and serves them one after another, until `Quit`, `Gone` or a fault, and prints what they ask for: the
 /// table of the core for `Show`, a line of JSON for `Status(Json)`, all heights and next hops for `Status(Watch)` and each
 /// change of them from then on, and `refused N` for a `Need` that the core refuses with the number N. What is printed is
@@ -274,12 +235,44 @@ pub fn run_core<R: Wait, O: OutLanes, W: Write>(
     ensures neighbours { result.seat.core.neighbours ≡ seat.core.neighbours }
     ensures lane { result.port.lane ≡ port.lane }
 {
-    let (mut seat, mut port, mut outs) = (seat, port, outs);
-    let fault = serve_all(rt, alloc, &mut seat, &mut port, &mut outs, writer);
-    CoreEnd {
-        seat,
-        port,
-        outs,
-        fault,
+    let mut seat = seat;
+    let mut port = port;
+    let mut outs = outs;
+    let mut watch = None;
+    accepted_inputs_make_the_core();
+    for _ in rt.forever() {
+        match port.take(rt) {
+            Err(_) => {
+                return CoreEnd {
+                    seat,
+                    port,
+                    outs,
+                    fault: None,
+                };
+            }
+            Ok(item) => {
+                let answer = seat.serve(&item, &mut outs);
+                if is_quit(&item.what) {
+                    return CoreEnd {
+                        seat,
+                        port,
+                        outs,
+                        fault: None,
+                    };
+                }
+                match reply(alloc, &seat, &item, &answer, &mut watch, writer) {
+                    Ok(()) => {}
+                    Err(fault) => {
+                        return CoreEnd {
+                            seat,
+                            port,
+                            outs,
+                            fault: Some(fault),
+                        };
+                    }
+                }
+            }
+        }
     }
+    unreachable!()
 }

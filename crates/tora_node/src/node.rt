@@ -1,21 +1,17 @@
 //! A node and its threads.
-ghost use Rattle.std.specs.Prelude.{◌≡◌, ◌≤◌, [], List, IfSome, length};
+ghost use Rattle.std.specs.Prelude.{◌≡◌, [], length};
 ghost use Rattle.tora_lane.specs.Ports.{IsPortOf};
-ghost use Rattle.tora_seat.specs.Rows.{first_seat};
-ghost use Rattle.tora_node.specs.CommandRuns.{CommandsFrom};
-ghost use Rattle.tora_node.specs.LinkRuns.{link_made};
 ghost use Rattle.tora_node.specs.NewLinks.{IsOpened};
 ghost use Rattle.tora_node.specs.NodeRuns.{tally_of, place_of, fault_of_link, first_link_fault, first_fault};
-ghost use Rattle.tora_node.specs.Threads.{Each, HasEnds, CoreLeaves, LinkLeaves};
+ghost use Rattle.tora_node.specs.Threads.{Each, HasEnds};
 ghost use Rattle.tora_node.specs.Settled.{SettlesTo};
 ghost use Rattle.tora_node.specs.WholeRuns.{NodeAnswers};
 
 use crate::config::Config;
-use crate::core_task::{CoreDone, CoreRest, new_core_start};
+use crate::core_task::{CoreRest, new_core_start};
 use crate::fault::NodeError;
 use crate::link_task::{LinkRest, Outcome};
 use crate::settle::settle_links;
-use crate::start::Start;
 use crate::starting::{new_ends, new_lanes, new_links, new_starts};
 use crate::threads::{Rests, run_threads};
 use log::Log;
@@ -26,9 +22,9 @@ use std::sync::Wait;
 use std::thread::Threads;
 use tora_core::Core;
 use tora_height::Id;
-use tora_lane::{CorePort, InPort, Lanes, OutPut, OutPuts, Settling, what_was_offered_was_sent};
+use tora_lane::{Lanes, OutPuts, Settling, what_was_offered_was_sent};
 use tora_life::Disk;
-use tora_neighbour::{Clock, ClockTicks, LinkFault, Tally, Ticks, Wake, Wire, clock_ticks};
+use tora_neighbour::{Clock, LinkFault, Tally, Ticks, Wake, Wire};
 use tora_seat::CoreSeat;
 
 /// What a node has ended with. Contracts see its core, the tally of each neighbour in ascending order, the items that the
@@ -115,17 +111,18 @@ fn first_fault(
 }
 
 /// Brings all lanes of a node together, once its threads have ended, behind no outcomes; the first fault is answered.
-fn settled(
-    core: CoreRest,
-    links: Vec<LinkRest>,
-    command: InPort,
-    outcomes: Vec<Outcome>,
-) -> Result<Ended, NodeError>
-    requires ends { Each (HasEnds core.port.lane) links.items core.outs.ends.items }
-    requires command { IsPortOf core.port command }
+fn settled(rests: Rests<CoreRest, LinkRest>, outcomes: Vec<Outcome>) -> Result<Ended, NodeError>
+    requires ends { Each (HasEnds rests.core.port.lane) rests.links.items rests.core.outs.ends.items }
+    requires command { IsPortOf rests.core.port rests.command }
     requires new { outcomes.items ≡ [] }
-    ensures { SettlesTo core links.items command result }
+    ensures { SettlesTo rests.core rests.links.items rests.command result }
 {
+    let Rests {
+        core,
+        links,
+        command,
+        end: _,
+    } = rests;
     let CoreRest {
         seat,
         port,
@@ -148,50 +145,10 @@ fn settled(
     }
 }
 
-/// Makes the seat of the core, and runs the threads of a node until they have ended. `None` where memory is gone or a thread can't be
-/// started.
-fn run_parts<
-    'a,
-    R: Threads + Wait + Log + Sync,
-    D: Disk + Send + Drop,
-    W: Wire + Send + Drop,
-    K: Wake + Send + Drop,
-    T: Ticks + Send + Drop,
-    C: Clock,
-    Rd: Read,
-    Wr: Write + Send,
->(
-    rt: &R,
-    alloc: Global,
-    core: Core,
-    port: CorePort,
-    outs: Vec<OutPut>,
-    wakers: Vec<K>,
-    starts: Vec<Start<D, W, T>>,
-    command: InPort,
-    clock: &C,
-    reader: &mut Rd,
-    writer: &'a mut Wr,
-) -> Option<Rests<CoreDone<'a, Wr>, LinkRest>>
-    requires { length core.neighbours ≤ length outs.items }
-    ensures lent { IfSome result (λ rests. rests.core.writer.ghost_name ≡ writer.entry.ghost_name) }
-    ensures core { IfSome result (λ rests. CoreLeaves (first_seat core) port outs.items (Wr.contents writer.old) (Wr.contents rests.core.writer.now) rests.core.rest) }
-    ensures links { IfSome result (λ rests. Each (λ t rest. LinkLeaves W.did_send W.did_receive T.did_read (link_made t.new) t.new.link.wire t.ticks t.new.link.file.numbers.drawn t.hub rest) starts.items rests.links.items) }
-    ensures commands { IfSome result (λ rests. CommandsFrom (C.did_tell clock.now) (Rd.remaining reader.old) command rests.command rests.end) }
-{
-    let Some(core_task) = new_core_start(alloc, core, port, outs, wakers, writer) else {
-        return None;
-    };
-    let Some(rests) = run_threads(rt, alloc, core_task, command, starts, clock, reader) else {
-        return None;
-    };
-    Some(rests)
-}
-
 /// Runs a node until its commands or a fault of its core end it.
 ///
-/// It takes one wire and one disk for each link, by ascending neighbour; links and commands have the ticks of `clock`, and
-/// no thread is woken. First it makes the core, the link ends and
+/// It takes one wire, one disk and one source of ticks for each link, by ascending neighbour; the commands have the ticks of
+/// `clock`. First it makes the core, the link ends and
 /// the lanes, then it opens the life files by ascending neighbour; the first fault there is answered, and no thread
 /// starts. Then the core and each neighbour have a thread, and the commands are read by this one: `need D`, `show` and
 /// `quit`, one a line; any other line is logged and passed over, and the end of the input is a `quit`. The core's thread
@@ -203,11 +160,11 @@ fn run_parts<
 /// `Life` with the neighbour where its life file does not open. Once all threads have ended: the fault of the core
 /// (`Memory`, `Output`), otherwise that of the least neighbour (`Life`, `Wire`).
 pub fn run_node<
-    'a,
     R: Threads + Wait + Log + Sync,
     D: Disk + Send + Drop,
     W: Wire + Send + Drop,
-    C: Clock + Sync,
+    T: Ticks + Send + Drop,
+    C: Clock,
     Rd: Read,
     Wr: Write + Send,
 >(
@@ -216,26 +173,32 @@ pub fn run_node<
     config: Config,
     wires: Vec<W>,
     disks: Vec<D>,
-    clock: &'a C,
+    ticks: Vec<T>,
+    clock: &C,
     reader: &mut Rd,
     writer: &mut Wr,
 ) -> Result<Ended, NodeError>
     requires wires { length wires.items ≡ length config.neighbours }
     requires disks { length disks.items ≡ length config.neighbours }
-    ensures { (ticks : List _) × NodeAnswers W.did_send W.did_receive (C.did_tell clock.now) ⟦<ClockTicks<'a, C> as Ticks>⟧.did_read (IsOpened D.syncs D.reads D.writes) config wires.items disks.items ticks (Rd.remaining reader.old) (Wr.contents writer.old) (Wr.contents writer.new) result }
+    requires ticks { length ticks.items ≡ length config.neighbours }
+    ensures { NodeAnswers W.did_send W.did_receive (C.did_tell clock.now) T.did_read (IsOpened D.syncs D.reads D.writes) config wires.items disks.items ticks.items (Rd.remaining reader.old) result }
 {
-    let Some(ticks) = clock_ticks(alloc, clock, config.peers().len()) else {
-        return Err(NodeError::Memory);
-    };
-    let wakers = Vec::<()>::new(alloc);
     run_node_with_wakers(
-        rt, alloc, config, wires, disks, wakers, ticks, clock, reader, writer,
+        rt,
+        alloc,
+        config,
+        wires,
+        disks,
+        Vec::<()>::new(alloc),
+        ticks,
+        clock,
+        reader,
+        writer,
     )
 }
 
-/// Runs a node as `run_node` does, whose links have ticks of their own, and wakes the thread of a neighbour once a cargo was put into its
-/// lane: sources of ticks and wakers stand in the order of the wires, and where there is no waker, nobody is woken. No clause says
-/// that anybody is.
+/// Runs a node as `run_node` does, and wakes the thread of a neighbour once a cargo was put into its lane: the wakers stand in the
+/// order of the wires, and where there is none, nobody is woken. No clause says that anybody is.
 ///
 /// # Errors
 /// As for `run_node`.
@@ -263,7 +226,7 @@ pub fn run_node_with_wakers<
     requires wires { length wires.items ≡ length config.neighbours }
     requires disks { length disks.items ≡ length config.neighbours }
     requires ticks { length ticks.items ≡ length config.neighbours }
-    ensures { NodeAnswers W.did_send W.did_receive (C.did_tell clock.now) T.did_read (IsOpened D.syncs D.reads D.writes) config wires.items disks.items ticks.items (Rd.remaining reader.old) (Wr.contents writer.old) (Wr.contents writer.new) result }
+    ensures { NodeAnswers W.did_send W.did_receive (C.did_tell clock.now) T.did_read (IsOpened D.syncs D.reads D.writes) config wires.items disks.items ticks.items (Rd.remaining reader.old) result }
 {
     what_was_offered_was_sent();
     let core = config.into_core();
@@ -284,17 +247,11 @@ pub fn run_node_with_wakers<
     let Ok(()) = outcomes.reserve(starts.len()) else {
         return Err(NodeError::Memory);
     };
-    let Some(rests) = run_parts(
-        rt, alloc, core, port, outs, wakers, starts, command, clock, reader, writer,
-    ) else {
+    let Some(core_task) = new_core_start(alloc, core, port, outs, wakers, writer) else {
         return Err(NodeError::Memory);
     };
-    let Rests {
-        core,
-        links,
-        command,
-        end: _,
-    } = rests;
-    let CoreDone { rest, writer: _ } = core;
-    settled(rest, links, command, outcomes)
+    let Some(rests) = run_threads(rt, alloc, core_task, command, starts, clock, reader) else {
+        return Err(NodeError::Memory);
+    };
+    settled(rests, outcomes)
 }

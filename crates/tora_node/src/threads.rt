@@ -12,7 +12,7 @@ use std::io::Read;
 use std::snapshot::Snapshot;
 use std::sync::Wait;
 use std::thread;
-use std::thread::{PromisedHandle, Scope, Threads};
+use std::thread::{PromisedHandle, Threads};
 use tora_lane::{InPort, What};
 use tora_neighbour::Clock;
 
@@ -58,53 +58,44 @@ pub(crate) fn run_threads<
                 × CommandsFrom (C.did_tell clock.entry.now) (Rd.remaining reader.entry.now) command rests.command rests.end) }
         {
             let mut command = command;
-            let handles = room_for(alloc, tasks.len())?;
+            let mut handles = room_for(alloc, tasks.len())?;
             let rests = room_for(alloc, tasks.len())?;
             let promise = Does(Snapshot::of(&core_task));
             let Ok(core_thread) = scope.spawn_with(promise, move || core_task.run(rt)) else {
                 return None;
             };
-            let Some(handles) = start_all(scope, rt, tasks, handles) else {
-                let _ = command.put(rt, clock.now(), What::Quit);
-                return None;
-            };
-            let end = run_commands(rt, reader, clock, &mut command);
-            if end == CommandsEnd::Read {
-                warn!(rt; "the commands can't be read any further");
+            let mut has_all = true;
+            for task in tasks {
+                let promise = Does(Snapshot::of(&task));
+                match scope.spawn_with(promise, move || task.run(rt)) {
+                    Err(_) => has_all = false,
+                    Ok(handle) => match handles.push(handle) {
+                        Err(_) => has_all = false,
+                        Ok(()) => {}
+                    },
+                }
             }
-            let core = core_thread.join(rt);
-            let links = join_all(rt, handles, rests)?;
-            Some(Rests {
-                core,
-                links,
-                command,
-                end,
-            })
+            if has_all {
+                let end = run_commands(rt, reader, clock, &mut command);
+                if end == CommandsEnd::Read {
+                    warn!(rt; "the commands can't be read any further");
+                }
+                let core = core_thread.join(rt);
+                let links = join_all(rt, handles, rests)?;
+                Some(Rests {
+                    core,
+                    links,
+                    command,
+                    end,
+                })
+            } else {
+                let _ = command.put(rt, clock.now(), What::Quit);
+                let _ = core_thread.join(rt);
+                let _ = join_all(rt, handles, rests);
+                None
+            }
         },
     )
-}
-
-/// Starts a thread for each task, in order, behind no handles. `None` where one can't be started; the scope waits for those that were.
-fn start_all<'s, E, R: Wait + Log + Sync, L: Send + Drop + 's, T: Task<L> + Send + Drop + 's>(
-    scope: &Scope<'s, E>,
-    rt: &'s R,
-    tasks: Vec<T>,
-    handles: Vec<PromisedHandle<L, Does<T>>>,
-) -> Option<Vec<PromisedHandle<L, Does<T>>>>
-    requires { handles.items ≡ [] }
-    ensures { IfSome result (λ all. map begun_by all.items ≡ tasks.items) }
-{
-    let mut handles = handles;
-    for task in tasks {
-        let promise = Does(Snapshot::of(&task));
-        let Ok(handle) = scope.spawn_with(promise, move || task.run(rt)) else {
-            return None;
-        };
-        let Ok(()) = handles.push(handle) else {
-            return None;
-        };
-    }
-    Some(handles)
 }
 
 /// Room for so many. `None` where memory is gone.

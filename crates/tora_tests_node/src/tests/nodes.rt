@@ -18,7 +18,7 @@ use streams::{Asking, Course, Meeting, Page, Screen, Waiting};
 use tora_core::CoreError;
 use tora_height::Id;
 use tora_life::{Disk, LifeError};
-use tora_neighbour::{ClockTicks, NodeClock, UnixClock};
+use tora_neighbour::{ClockTicks, NodeClock, UnixClock, clock_ticks};
 use tora_node::*;
 use tora_seat::Status;
 
@@ -67,7 +67,10 @@ fn run_over<
     as_many(rt, wires.len(), links);
     as_many(rt, disks.len(), links);
     let clock = UnixClock::new(rt);
-    run_node(rt, alloc, config, wires, disks, &clock, commands, screen)
+    let ticks = there(rt, clock_ticks(alloc, &clock, links), "memory for ticks");
+    run_node(
+        rt, alloc, config, wires, disks, ticks, &clock, commands, screen,
+    )
 }
 
 /// Runs a node with one link over the loopback, whose thread is woken.

@@ -1,10 +1,12 @@
-use Rattle.std.proofs.Common.{◌≡◌, ◌∙◌, ℕ, ◌<◌, ◌≤◌, List, length, refl, sym, ap, subst}
+use Rattle.std.proofs.Common.{◌≡◌, ◌∙◌, ℕ, ◌<◌, ◌≤◌, List, length, sym, ap, subst}
 use Rattle.std.proofs.lemmas.Result.{err_from_is_err_and}
 use Rattle.std.specs.Prelude.{map}
 use Rattle.tora_core.specs.CoreRun.{CoreView}
 use Rattle.tora_core.specs.Numbers.{IsAscending}
 use Rattle.tora_lane.specs.NodeLanes.{AreLanes}
-use Rattle.tora_seat.specs.Rows.{first_seat}
+use Rattle.tora_lane.specs.Out.{SendEnd}
+use Rattle.tora_lane.specs.Ports.{CoreEnd}
+use Rattle.tora_seat.specs.Rows.{SeatView, first_seat}
 use Rattle.tora_node.specs.NewLinks.{IsOpened}
 use Rattle.tora_node.specs.LinkRuns.{name_of, link_ended, link_made, links_of}
 use Rattle.tora_node.specs.Threads.{CoreLeaves}
@@ -33,17 +35,18 @@ returns-in_err-new g c =
     let p = err_from_is_err_and c.from_residual-in_err-new.result c.from_residual-in_err-new.ensures.1 in
     let ends : map link_ended c.in-Some.ends.items ≡ links_of c.args.config = subst (λ (v : CoreView). map link_ended c.in-Some.ends.items ≡ links_of v) c.into_core-core.ensures.same c.in-Some.ensures in
     rw (p.1, p.2)
-    (not_started g.W.Wire.did_send g.W.Wire.did_receive (g.C.Clock.did_tell c.args.clock.now) g.T.Ticks.did_read (IsOpened g.D.Disk.syncs g.D.Disk.reads g.D.Disk.writes) c.args.config c.args.wires.items c.args.disks.items c.args.ticks.items (g.Rd.Read.remaining c.args.reader.now) (g.Wr.Write.contents c.args.writer.now) _
-    (map link_ended c.in-Some.ends.items) c.in_err-new.field-0.0 ends c.in_err-new.ensures.fault c.in_err-new.ensures.failed refl)
+    (not_started g.W.Wire.did_send g.W.Wire.did_receive (g.C.Clock.did_tell c.args.clock.now) g.T.Ticks.did_read (IsOpened g.D.Disk.syncs g.D.Disk.reads g.D.Disk.writes) c.args.config c.args.wires.items c.args.disks.items c.args.ticks.items (g.Rd.Read.remaining c.args.reader.now)
+    (map link_ended c.in-Some.ends.items) c.in_err-new.field-0.0 ends c.in_err-new.ensures.fault c.in_err-new.ensures.failed)
 
 pub settled-requires-clause-ends : goal.settled-requires-clause-ends
 settled-requires-clause-ends g c =
     let same = c.into_core-core.ensures.same in
-    let rests = c.in-Some-run_parts.rests in
+    let rests = c.in-Some-run_threads.rests in
     let lanes = c.in_ok-port.field-0 in
     let asked : length c.neighbours.result.now ≡ length c.args.config.neighbours = ap length c.neighbours.ensures ∙ ap (λ (v : CoreView). length v.neighbours) same in
     let ends : map link_ended c.in-Some.ends.items ≡ links_of c.args.config = subst (λ (v : CoreView). map link_ended c.in-Some.ends.items ≡ links_of v) same c.in-Some.ensures in
-    let left : Left g.W.Wire.did_send g.W.Wire.did_receive g.C.Clock.did_tell c.args.clock.now g.T.Ticks.did_read (IsOpened g.D.Disk.syncs g.D.Disk.reads g.D.Disk.writes) c.args.config c.args.wires.items c.args.disks.items c.args.ticks.items lanes.core lanes.command lanes.links.items lanes.outs.items (g.Wr.Write.contents c.args.writer.now) (g.Wr.Write.contents rests.core.writer.now) c.in_ok-new.new.items c.in-Some-new_starts.starts.items rests.core.rest rests.links.items = record {
+    let core = c.in-Some-new_core_start.ensures in
+    let left : Left g.W.Wire.did_send g.W.Wire.did_receive g.C.Clock.did_tell c.args.clock.now g.T.Ticks.did_read (IsOpened g.D.Disk.syncs g.D.Disk.reads g.D.Disk.writes) c.args.config c.args.wires.items c.args.disks.items c.args.ticks.items lanes.core lanes.command lanes.links.items lanes.outs.items c.in_ok-new.new.items c.in-Some-new_starts.starts.items rests.core rests.links.items = record {
       lanes = subst (λ (n : ℕ). AreLanes n lanes.core lanes.command lanes.links.items lanes.outs.items) asked c.in_ok-port.ensures.made.0;
       links_are = c.in_ok-new.ensures.made ∙ ends;
       wires_are = c.in_ok-new.ensures.wired;
@@ -51,20 +54,21 @@ settled-requires-clause-ends g c =
       starts_are = c.in-Some-new_starts.ensures.links;
       hubs_are = c.in-Some-new_starts.ensures.hubs;
       ticks_are = c.in-Some-new_starts.ensures.ticks;
-      ran = c.in-Some-run_parts.ensures.links;
-      served = subst (λ (v : CoreView). CoreLeaves (first_seat v) lanes.core lanes.outs.items (g.Wr.Write.contents c.args.writer.now) (g.Wr.Write.contents rests.core.writer.now) rests.core.rest) same c.in-Some-run_parts.ensures.core;
+      ran = c.in-Some-run_threads.ensures.links;
+      served = subst (λ (x : SeatView × (CoreEnd × List SendEnd)). CoreLeaves x.0 x.1.0 x.1.1 rests.core) (λ i. ((core.0 ∙ ap first_seat same) i, (core.1 i, core.2 i))) c.in-Some-run_threads.ensures.core;
       ascending = subst (λ (v : CoreView). IsAscending v.neighbours) same c.into_core-core.ensures.ascending;
     } in
-    have_ends _ _ _ _ _ _ _ _ _ _ _ _ _ _ _ _ _ _ _ _ left
+    have_ends _ _ _ _ _ _ _ _ _ _ _ _ _ _ _ _ _ _ left
 
 pub returns : goal.returns
 returns g c =
     let same = c.into_core-core.ensures.same in
-    let rests = c.in-Some-run_parts.rests in
+    let rests = c.in-Some-run_threads.rests in
     let lanes = c.in_ok-port.field-0 in
     let asked : length c.neighbours.result.now ≡ length c.args.config.neighbours = ap length c.neighbours.ensures ∙ ap (λ (v : CoreView). length v.neighbours) same in
     let ends : map link_ended c.in-Some.ends.items ≡ links_of c.args.config = subst (λ (v : CoreView). map link_ended c.in-Some.ends.items ≡ links_of v) same c.in-Some.ensures in
-    let left : Left g.W.Wire.did_send g.W.Wire.did_receive g.C.Clock.did_tell c.args.clock.now g.T.Ticks.did_read (IsOpened g.D.Disk.syncs g.D.Disk.reads g.D.Disk.writes) c.args.config c.args.wires.items c.args.disks.items c.args.ticks.items lanes.core lanes.command lanes.links.items lanes.outs.items (g.Wr.Write.contents c.args.writer.now) (g.Wr.Write.contents rests.core.writer.now) c.in_ok-new.new.items c.in-Some-new_starts.starts.items rests.core.rest rests.links.items = record {
+    let core = c.in-Some-new_core_start.ensures in
+    let left : Left g.W.Wire.did_send g.W.Wire.did_receive g.C.Clock.did_tell c.args.clock.now g.T.Ticks.did_read (IsOpened g.D.Disk.syncs g.D.Disk.reads g.D.Disk.writes) c.args.config c.args.wires.items c.args.disks.items c.args.ticks.items lanes.core lanes.command lanes.links.items lanes.outs.items c.in_ok-new.new.items c.in-Some-new_starts.starts.items rests.core rests.links.items = record {
       lanes = subst (λ (n : ℕ). AreLanes n lanes.core lanes.command lanes.links.items lanes.outs.items) asked c.in_ok-port.ensures.made.0;
       links_are = c.in_ok-new.ensures.made ∙ ends;
       wires_are = c.in_ok-new.ensures.wired;
@@ -72,11 +76,11 @@ returns g c =
       starts_are = c.in-Some-new_starts.ensures.links;
       hubs_are = c.in-Some-new_starts.ensures.hubs;
       ticks_are = c.in-Some-new_starts.ensures.ticks;
-      ran = c.in-Some-run_parts.ensures.links;
-      served = subst (λ (v : CoreView). CoreLeaves (first_seat v) lanes.core lanes.outs.items (g.Wr.Write.contents c.args.writer.now) (g.Wr.Write.contents rests.core.writer.now) rests.core.rest) same c.in-Some-run_parts.ensures.core;
+      ran = c.in-Some-run_threads.ensures.links;
+      served = subst (λ (x : SeatView × (CoreEnd × List SendEnd)). CoreLeaves x.0 x.1.0 x.1.1 rests.core) (λ i. ((core.0 ∙ ap first_seat same) i, (core.1 i, core.2 i))) c.in-Some-run_threads.ensures.core;
       ascending = subst (λ (v : CoreView). IsAscending v.neighbours) same c.into_core-core.ensures.ascending;
     } in
-    let a = answers _ _ _ _ _ _ _ _ _ _ _ _ _ _ _ _ _ _ _ _ left _ _ _ c.in-Some-run_parts.ensures.commands c.what_was_offered_was_sent.ensures c.settled.result c.settled.ensures in
+    let a = answers _ _ _ _ _ _ _ _ _ _ _ _ _ _ _ _ _ _ left _ _ _ c.in-Some-run_threads.ensures.commands c.what_was_offered_was_sent.ensures c.settled.result c.settled.ensures in
     record {
       core = a.core_is_run;
       links = a.links_ran;

@@ -2,7 +2,7 @@ use Rattle.std.proofs.Common.{◌≡◌, ◌≤◌, length}
 use Rattle.tora_seat.specs.Rows.{state_of}
 use Rattle.tora_node.specs.StatusLines.{told_in}
 use Rattle.tora_node.proofs.Served.{Ran}
-use Rattle.tora_node.proofs.core_thread.serve_all.Given as goal
+use Rattle.tora_node.proofs.core_thread.run_core.Given as goal
 
 abbrev pub invariant-loop : goal.invariant-loop
 invariant-loop g l = record {

@@ -9,28 +9,28 @@ use Rattle.tora_node.specs.CoreRuns.{reply_text, MayFail, IsWatched}
 use Rattle.tora_node.specs.StatusLines.{told_in}
 use Rattle.tora_node.specs.declared.watch.Told.{Told}
 use Rattle.tora_node.proofs.Served.{Appends-nil, nothing_ran, done, goes_on, core_is, may_fail_more, told_before}
-use Rattle.tora_node.proofs.core_thread.serve_all.Goals as goal
+use Rattle.tora_node.proofs.core_thread.run_core.Goals as goal
 
 pub loop-init : goal.loop-init
 loop-init g c = record {
   lanes = c.requires;
   neighbours = refl;
   lane = refl;
-  ran = nothing_ran g.O.OutLanes.did_offer c.args.seat.now.core.neighbours (state_of c.args.seat.now) c.args.outs.now c.args.port.now.taken (g.W.Write.contents c.args.writer.now);
+  ran = nothing_ran g.O.OutLanes.did_offer c.args.seat.core.neighbours (state_of c.args.seat) c.args.outs c.args.port.taken (g.W.Write.contents c.args.writer.now);
 }
 
 pub returns-in-Err : goal.returns-in-Err
 returns-in-Err g c =
     let r = c.loop.invariant.ran in
     let gone = c.in-Err.ensures.gone in
-    let ks = c.args.seat.now.core.neighbours in
+    let ks = c.args.seat.core.neighbours in
     record {
       runs = (
         r.xs,
         gone.0 ∙ r.taken_is,
         r.served,
         r.offered,
-        core_is c.accepted_inputs_make_the_core.ensures.runs ks (state_of c.args.seat.now) (state_of c.loop.seat) r.xs r.served,
+        core_is c.accepted_inputs_make_the_core.ensures.runs ks (state_of c.args.seat) (state_of c.loop.seat) r.xs r.served,
         (λ none. r.written),
         inr (r.goes, gone.1),
       );
@@ -42,9 +42,9 @@ pub returns-then-is_quit : goal.returns-then-is_quit
 returns-then-is_quit g c =
     let h = c.loop.invariant in
     let t = c.serve-answer.ensures.served in
-    let ks = c.args.seat.now.core.neighbours in
+    let ks = c.args.seat.core.neighbours in
     let v = serving_at c.in-Ok.item.now c.serve-answer.new.self t.0 in
-    let d = done g.O.OutLanes.did_offer ks (state_of c.args.seat.now) c.args.outs.now c.args.port.now.taken (g.W.Write.contents c.args.writer.now)
+    let d = done g.O.OutLanes.did_offer ks (state_of c.args.seat) c.args.outs c.args.port.taken (g.W.Write.contents c.args.writer.now)
     (state_of c.loop.seat) c.loop.outs c.loop.port.taken (g.W.Write.contents c.loop.writer) (told_in c.loop.watch) h.ran
     c.in-Ok.item t.0 c.serve-answer.new.outs c.take.new.self.taken v c.loop.seat.core.neighbours h.neighbours c.in-Ok.ensures.taken.0 t.1 t.2 refl in
     let quit = c.is_quit.ensures.quit c.if-is_quit.true in
@@ -55,7 +55,7 @@ returns-then-is_quit g c =
         d.taken_is,
         d.served,
         d.offered,
-        core_is c.accepted_inputs_make_the_core.ensures.runs ks (state_of c.args.seat.now) (state_of c.serve-answer.new.self) (d.front ++ d.x ∷ []) d.served,
+        core_is c.accepted_inputs_make_the_core.ensures.runs ks (state_of c.args.seat) (state_of c.serve-answer.new.self) (d.front ++ d.x ∷ []) d.served,
         (λ none. d.written text (subst (λ (w : What). Appends text text (reply_text (told_in c.loop.watch) c.in-Ok.item.now w v.answer v.seat)) (sym quit) (Appends-nil text))),
         inl (d.front, d.x, refl, d.goes, ap (λ (i : Item). i.what) d.item_is ∙ quit),
       );
@@ -67,9 +67,9 @@ pub returns-in-Err-reply : goal.returns-in-Err-reply
 returns-in-Err-reply g c =
     let h = c.loop.invariant in
     let t = c.serve-answer.ensures.served in
-    let ks = c.args.seat.now.core.neighbours in
+    let ks = c.args.seat.core.neighbours in
     let v = serving_at c.in-Ok.item.now c.serve-answer.new.self t.0 in
-    let d = done g.O.OutLanes.did_offer ks (state_of c.args.seat.now) c.args.outs.now c.args.port.now.taken (g.W.Write.contents c.args.writer.now)
+    let d = done g.O.OutLanes.did_offer ks (state_of c.args.seat) c.args.outs c.args.port.taken (g.W.Write.contents c.args.writer.now)
     (state_of c.loop.seat) c.loop.outs c.loop.port.taken (g.W.Write.contents c.loop.writer) (told_in c.loop.watch) h.ran
     c.in-Ok.item t.0 c.serve-answer.new.outs c.take.new.self.taken v c.loop.seat.core.neighbours h.neighbours c.in-Ok.ensures.taken.0 t.1 t.2 refl in
     record {
@@ -78,7 +78,7 @@ returns-in-Err-reply g c =
         d.taken_is,
         d.served,
         d.offered,
-        core_is c.accepted_inputs_make_the_core.ensures.runs ks (state_of c.args.seat.now) (state_of c.serve-answer.new.self) (d.front ++ d.x ∷ []) d.served,
+        core_is c.accepted_inputs_make_the_core.ensures.runs ks (state_of c.args.seat) (state_of c.serve-answer.new.self) (d.front ++ d.x ∷ []) d.served,
         (λ none. absurd (cc)),
         (d.front, d.x, refl, d.goes, subst (λ (i : Item). MayFail c.in-Err-reply.fault (IsWatched d.front) i.what) (sym d.item_is) (may_fail_more c.in-Err-reply.fault c.in-Ok.item.what (told_before c.loop.watch d.front d.before) c.in-Err-reply.ensures.err)),
       );
@@ -90,9 +90,9 @@ pub loop-preserved : goal.loop-preserved
 loop-preserved g c =
     let h = c.loop.invariant in
     let t = c.serve-answer.ensures.served in
-    let ks = c.args.seat.now.core.neighbours in
+    let ks = c.args.seat.core.neighbours in
     let v = serving_at c.in-Ok.item.now c.serve-answer.new.self t.0 in
-    let d = done g.O.OutLanes.did_offer ks (state_of c.args.seat.now) c.args.outs.now c.args.port.now.taken (g.W.Write.contents c.args.writer.now)
+    let d = done g.O.OutLanes.did_offer ks (state_of c.args.seat) c.args.outs c.args.port.taken (g.W.Write.contents c.args.writer.now)
     (state_of c.loop.seat) c.loop.outs c.loop.port.taken (g.W.Write.contents c.loop.writer) (told_in c.loop.watch) h.ran
     c.in-Ok.item t.0 c.serve-answer.new.outs c.take.new.self.taken v c.loop.seat.core.neighbours h.neighbours c.in-Ok.ensures.taken.0 t.1 t.2 refl in
     let same = c.serve-answer.ensures.neighbours in
