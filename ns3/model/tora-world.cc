@@ -179,23 +179,25 @@ ToraWorld::Build()
     m_engine = std::make_unique<ToraEngine>(m_settings.program, options);
     std::vector<std::string> lines = LinesOfWorld();
     std::vector<ToraAnswer> answers = AskAll(lines);
+    // The first line behind the links tells whether the engine takes the world: one that says
+    // something of a node, or else `needs`, for which a record has no line.
+    lines.emplace_back("needs");
+    answers.push_back(m_engine->Ask(lines.back()));
+    std::size_t links = m_pairs.size() / 2;
     for (std::size_t i = 0; i < lines.size(); i++)
     {
-        if (answers[i].verdict != ToraAnswer::OK)
+        if (answers[i].verdict == ToraAnswer::OK)
+        {
+            continue;
+        }
+        if (i <= links)
         {
             throw m_engine->ErrorOf(lines[i], answers[i]);
         }
-    }
-    // The first line behind the links tells whether the engine takes the world. A record has no
-    // line for this one.
-    ToraAnswer answer = m_engine->Ask("needs");
-    if (answer.verdict != ToraAnswer::OK)
-    {
         throw ToraEngineError(ToraEngineError::FAULT,
                               "the engine " + m_settings.program + " takes no world of " +
                                   std::to_string(m_nodes.size()) + " nodes and " +
-                                  std::to_string(m_pairs.size() / 2) + " links: fault " +
-                                  answer.cause);
+                                  std::to_string(links) + " links: fault " + answers[i].cause);
     }
     for (const auto& [node, neighbour] : m_pairs)
     {
