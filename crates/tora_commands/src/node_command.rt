@@ -23,6 +23,7 @@ use std::{fs, io};
 use tora_config::{ConfigError, LinkConfig, NodeConfig, read_config};
 use tora_core::numbers_are_put_in_order;
 use tora_height::Id;
+use tora_keyed::LentWire;
 use tora_life::{Disk, FileDisk, LifeError, Owner, Tag};
 use tora_neighbour::{ClockTicks, NodeClock, Ticks, Wake, Wire, clock_ticks};
 use tora_node::{Config, Ended, NodeError, run_node_with_wakers};
@@ -324,8 +325,8 @@ pub fn run<
     writer: &mut W,
 ) -> ExitCode
     ensures { EndsNode is_check (R.did_open rt.now) R.did_read ⟦<File as Read>⟧.remaining path.now
-        (λ config ended. (bound : List _) × (told : _) × (lent : List _) × (disks : List _) × (ticks : List _) × (map (λ l. l.now) lent ≡ bound)
-        × NodeAnswers ⟦<&'a mut ProgramWire<'a, R, L> as Wire>⟧.did_send ⟦<&'a mut ProgramWire<'a, R, L> as Wire>⟧.did_receive (⟦<NodeClock<&'a R> as tora_neighbour::Clock>⟧.did_tell told)
+        (λ config ended. (bound : List _) × (told : _) × (lent : List _) × (disks : List _) × (ticks : List _) × (map (λ l. l.wire.now) lent ≡ bound)
+        × NodeAnswers ⟦<LentWire<'a, ProgramWire<'a, R, L>> as Wire>⟧.did_send ⟦<LentWire<'a, ProgramWire<'a, R, L>> as Wire>⟧.did_receive (⟦<NodeClock<&'a R> as tora_neighbour::Clock>⟧.did_tell told)
         ⟦<ClockTicks<'a, NodeClock<&'a R>> as Ticks>⟧.did_read (IsOpened ⟦<FileDisk as Disk>⟧.syncs ⟦<FileDisk as Disk>⟧.reads ⟦<FileDisk as Disk>⟧.writes)
         (core_of config) lent disks ticks (Rd.remaining reader.old) ended)
         writer.old writer.new (exit_status result) }
@@ -372,8 +373,8 @@ fn run_bound<
     requires config { IsNodeConfig config.now }
     requires wires { length wires.now ≡ length config.now.links.items }
     ensures { (IsUnstarted (exit_status result) × (writer.new ≡ writer.old))
-        ⊎ RanAndEnded (λ ended. (bound : List _) × (told : _) × (lent : List _) × (disks : List _) × (ticks : List _) × (map (λ l. l.now) lent ≡ bound)
-        × NodeAnswers ⟦<&'a mut ProgramWire<'a, R, L> as Wire>⟧.did_send ⟦<&'a mut ProgramWire<'a, R, L> as Wire>⟧.did_receive (⟦<NodeClock<&'a R> as tora_neighbour::Clock>⟧.did_tell told)
+        ⊎ RanAndEnded (λ ended. (bound : List _) × (told : _) × (lent : List _) × (disks : List _) × (ticks : List _) × (map (λ l. l.wire.now) lent ≡ bound)
+        × NodeAnswers ⟦<LentWire<'a, ProgramWire<'a, R, L>> as Wire>⟧.did_send ⟦<LentWire<'a, ProgramWire<'a, R, L>> as Wire>⟧.did_receive (⟦<NodeClock<&'a R> as tora_neighbour::Clock>⟧.did_tell told)
         ⟦<ClockTicks<'a, NodeClock<&'a R>> as Ticks>⟧.did_read (IsOpened ⟦<FileDisk as Disk>⟧.syncs ⟦<FileDisk as Disk>⟧.reads ⟦<FileDisk as Disk>⟧.writes)
         (core_of config.now) lent disks ticks (Rd.remaining reader.old) ended) (exit_status result) }
 {
@@ -414,8 +415,8 @@ fn run_over<
     requires wires { length wires.now ≡ length config.now.links.items }
     requires disks { length disks.items ≡ length config.now.links.items }
     ensures { ((result ≡ Err NodeError.Memory) × (writer.new ≡ writer.old))
-        ⊎ ((lent : List _) × (ticks : List _) × (map (λ l. l.now) lent ≡ wires.old)
-        × NodeAnswers ⟦<&'a mut Wi as Wire>⟧.did_send ⟦<&'a mut Wi as Wire>⟧.did_receive (C.did_tell clock.now) ⟦<ClockTicks<'a, C> as Ticks>⟧.did_read
+        ⊎ ((lent : List _) × (ticks : List _) × (map (λ l. l.wire.now) lent ≡ wires.old)
+        × NodeAnswers ⟦<LentWire<'a, Wi> as Wire>⟧.did_send ⟦<LentWire<'a, Wi> as Wire>⟧.did_receive (C.did_tell clock.now) ⟦<ClockTicks<'a, C> as Ticks>⟧.did_read
         (IsOpened D.syncs D.reads D.writes) (core_of config.now) lent disks.items ticks (Rd.remaining reader.old) result) }
 {
     let Some(node) = node_of(alloc, config) else {
