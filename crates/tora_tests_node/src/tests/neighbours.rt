@@ -1,4 +1,4 @@
-//! A neighbour's thread over memory and over the loopback.
+//! A neighbour's thread over memory.
 ghost use Rattle.std.specs.Prelude.{◌≡◌, ◌≢◌, ◌<◌};
 ghost use Rattle.tora_arq.specs.LinkEnd.{first_end};
 
@@ -7,7 +7,6 @@ use std::alloc::{AllocError, Global};
 use std::process::Abort;
 use std::sync::Wait;
 use std::sync::atomic::{AtomicU64, Ordering};
-use std::test::Fail;
 use tora_arq::{Life, LinkEnd, Reason, Times, Verdict};
 use tora_frame::FrameError;
 use tora_height::Id;
