@@ -306,6 +306,12 @@ check_licence() {
   holds 'each file has a licence' reuse --root ../.. lint
 }
 
+# Each place that states the version states that of VERSION.
+check_version() {
+  holds 'the version is the same in each place' "$here/version.py"
+  refuses 2 'usage: dev/version.py' "$here/version.py" 1.0.0
+}
+
 # The module for ns-3: its checks, where ns3/build has built it.
 check_ns3() {
   if [ ! -x "${TORA_NS3_OUT:-$here/../out/ns3}/tora-test" ]; then
@@ -327,6 +333,7 @@ check_install
 check_library
 check_completion
 check_licence
+check_version
 check_ns3
 echo "$passed passed, $failed failed"
 [ "$failed" = 0 ]

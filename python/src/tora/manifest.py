@@ -114,7 +114,7 @@ def digests_of_program(program: Program) -> dict[str, str]:
 
 
 def commit_of(program: Program) -> str | None:
-    """The commit of the repository that the program stands in, with ``+`` where files of it are changed.
+    """The commit of the repository that the program stands in, with ``+changed`` if files of it differ from it.
 
     None where it stands in no repository. While the program's files stay, it is told as when it was asked for first.
     """
@@ -162,7 +162,7 @@ def _commit(identity: Identity) -> str | None:
         if done.returncode:
             return None
         answers.append(done.stdout.strip())
-    return answers[0] + ("+" if answers[1] else "")
+    return answers[0] + ("+changed" if answers[1] else "")
 
 
 @functools.lru_cache
