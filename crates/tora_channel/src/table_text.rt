@@ -24,7 +24,7 @@ pub enum LineCause {
     Node,
     /// Both nodes are one.
     OwnLink,
-    /// What stands behind the nodes are no parts of a channel.
+    /// The text after the nodes is not the parts of a channel.
     Parts,
 }
 
@@ -36,9 +36,9 @@ impl Display for LineCause {
             LineCause::Node => {
                 "A and B are nodes, numbers from 1 to 4294967295 without leading zeros"
             }
-            LineCause::OwnLink => "A and B are one node",
+            LineCause::OwnLink => "A and B are the same node",
             LineCause::Parts => {
-                "PARTS are loss=SHARE and repeat=SHARE, from 0 to 1 with up to six digits behind the point, and delay=ROUNDS or delay=LEAST-MOST, up to 10000, each once"
+                "PARTS are loss=SHARE and repeat=SHARE, from 0 to 1 with up to six digits after the point, and delay=ROUNDS or delay=LEAST-MOST, up to 10000, each at most once"
             }
         })
     }
@@ -84,7 +84,7 @@ fn line_between(round: u64, a: Id, b: Id, parts: Parts) -> Result<ChannelLine, L
     })
 }
 
-/// The word before the first blank, and what stands behind it.
+/// The text before the first blank, and the text after it.
 fn word(text: &[u8]) -> Result<(&[u8], &[u8]), LineCause>
     ensures { option_map (λ halves. (halves.0.now, halves.1.now)) (result_ok result) ≡ cut 32 text.now }
 {

@@ -28,7 +28,7 @@ pub fn run<T: RandomSource + AllocGlobal + Eprint, W: Output>(rt: &T, writer: &m
 {
     let mut key = [0; KEY];
     let Ok(()) = rt.fill_bytes(&mut key) else {
-        return stop(rt, INPUT, "the system gives no random numbers");
+        return stop(rt, INPUT, "the system provides no random numbers");
     };
     let Ok(line) = line_of(rt.alloc(), &key) else {
         return stop(rt, MEMORY, "memory");

@@ -16,7 +16,7 @@ use tora_simulate::{Paths, tell_at};
 const READ_BY_OTHERS: u32 = 0o044;
 
 /// What is said of a file that has no key.
-const NO_KEY: &str = "is no key, which is 64 hexadecimal digits in one line";
+const NO_KEY: &str = "is no key: a key is 64 hexadecimal digits on one line";
 
 /// Reads as much of a file as there is room for.
 fn read_front(file: &mut File, buf: &mut [u8]) -> io::Result<usize> {
@@ -40,12 +40,7 @@ fn warn_of_readers(rt: &impl Eprint, file: &File, path: &str) {
         return;
     };
     if about.permissions().mode() & READ_BY_OTHERS != 0 {
-        tell_at(
-            rt,
-            "warning: ",
-            path,
-            &"others can read this file with a key",
-        );
+        tell_at(rt, "warning: ", path, &"others can read this key file");
     }
 }
 

@@ -58,7 +58,7 @@ fn refuse_setup<T: Eprint>(rt: &T, fault: SetupFault<'_>) -> ExitCode
     match fault {
         SetupFault::Part(part) => {
             let part = str::from_utf8(part).unwrap_or("-");
-            tell_at(rt, "behind `--channel`: ", part, &fault.cause());
+            tell_at(rt, "`--channel`: ", part, &fault.cause());
         }
         _ => tell(rt, &fault.cause()),
     }
@@ -70,7 +70,7 @@ fn refuse_place<T: Eprint>(rt: &T, path: &str) -> ExitCode
     ensures { exit_status result ≡ 1 }
 {
     let code = stop(rt, INPUT, "input");
-    tell_at(rt, "", path, &"the trace would take the place of the file");
+    tell_at(rt, "", path, &"the trace would overwrite this file");
     code
 }
 

@@ -172,7 +172,7 @@ fn praise(rt: &impl Eprint, path: &str, config: &NodeConfig) {
 /// Says on standard error why a life file can't be opened.
 fn tell_file(rt: &impl Eprint, path: &str, error: &io::Error) {
     if error.kind() == ErrorKind::WouldBlock {
-        tell_at(rt, "life: ", path, &"a node that runs has this file");
+        tell_at(rt, "life: ", path, &"a running node uses this file");
     } else {
         tell_at(rt, "life: ", path, error);
     }
@@ -274,7 +274,7 @@ fn tell_ended<R: Files<File = File> + AllocGlobal + Eprint>(
     match error {
         NodeError::Life(peer, error) => tell_life(rt, folder, peer, error, is_verbose),
         NodeError::Wire(peer) => tell_failing(rt, peer),
-        NodeError::Output => tell(rt, &"input: standard output can't be written"),
+        NodeError::Output => tell(rt, &"input: standard output cannot be written"),
         NodeError::Memory | NodeError::Lane => {}
     }
 }

@@ -23,7 +23,7 @@ fn tell_line(rt: &impl Eprint, number: u64, cause: &impl Display) {
 
 /// Says that a line that is a fault was not kept, since memory was refused.
 fn tell_lost_line(rt: &impl Eprint, number: u64) {
-    let _ = rt.eprintln(format_args!("tora: line {number} was not kept"));
+    let _ = rt.eprintln(format_args!("tora: line {number}: no memory was left to keep the line"));
 }
 
 /// Says why a line is a fault, or what failed.

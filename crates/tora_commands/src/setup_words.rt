@@ -13,7 +13,7 @@ use tora_lines::words;
 use tora_script::{Setup, WorldOptions, erasure_word};
 use tora_world::Limits;
 
-/// The words behind options of `tora sim`; nothing where the option is not there.
+/// The words after options of `tora sim`; nothing where the option is not there.
 #[derive(Clone, Copy)]
 pub struct SetupWords<'a> {
     pub times: Option<&'a str>,
@@ -34,15 +34,15 @@ pub struct SetupWords<'a> {
 /// Why words are no setup.
 #[derive(Clone, Copy)]
 pub enum SetupFault<'a> {
-    /// The word behind `--times` gives no times.
+    /// The word after `--times` gives no times.
     Times,
-    /// The word behind `--seed` is no number.
+    /// The word after `--seed` is no number.
     Seed,
     /// There is a seed, and no channel and no channel file.
     SeedAlone,
-    /// The word behind `--until` is no number.
+    /// The word after `--until` is no number.
     Until,
-    /// The word behind `--erasure` is neither `plain` nor `remembered`.
+    /// The word after `--erasure` is neither `plain` nor `remembered`.
     Erasure,
     /// This is no part of a channel.
     Part(&'a [u8]),
@@ -53,14 +53,14 @@ impl SetupFault<'_> {
     pub fn cause(&self) -> &'static str {
         match self {
             SetupFault::Times => {
-                "behind `--times` stand four numbers from 1 on between commas, as in 10,50,5,8"
+                "`--times` takes four numbers, each at least 1, separated by commas, as in 10,50,5,8"
             }
-            SetupFault::Seed => "behind `--seed` stands a number below 2^64",
-            SetupFault::SeedAlone => "`--seed` is for a `--channel` or a `--channel-file`",
-            SetupFault::Until => "behind `--until` stands a number of rounds, below 2^64",
-            SetupFault::Erasure => "behind `--erasure` stands `plain` or `remembered`",
+            SetupFault::Seed => "`--seed` takes a number below 2^64",
+            SetupFault::SeedAlone => "`--seed` needs a `--channel` or a `--channel-file`",
+            SetupFault::Until => "`--until` takes a number of rounds below 2^64",
+            SetupFault::Erasure => "`--erasure` takes `plain` or `remembered`",
             SetupFault::Part(_) => {
-                "no part of a channel: these are loss=SHARE and repeat=SHARE, from 0 to 1 with up to six digits behind the point, and delay=ROUNDS or delay=LEAST-MOST, up to 10000, each once"
+                "not a part of a channel: the parts are loss=SHARE and repeat=SHARE, from 0 to 1 with up to six digits after the point, and delay=ROUNDS or delay=LEAST-MOST, up to 10000, each at most once"
             }
         }
     }

@@ -185,7 +185,7 @@ pub fn run<S: Watched, T: Paths + AllocGlobal + Eprint + Clock, W: Output>(
     let (is_verbose, has_bar) = shown;
     if path == trace {
         let code = stop(rt, INPUT, "input");
-        tell_at(rt, "", path, &"the trace would take the place of the file");
+        tell_at(rt, "", path, &"the trace would overwrite this file");
         return code;
     }
     let total = if has_bar { rounds_of(rt, path) } else { None };

@@ -254,11 +254,11 @@ cause_of limits (Progress.Runs s) line = cause_of_line line
 
 unfoldable pub cause_words : Cause → List ℕ
 cause_words Dests = codes "the first line is `dests LIST`, the destinations"
-cause_words NoLink = codes "behind the first line a line `link A B` is required"
+cause_words NoLink = codes "after the first line a line `link A B` is required"
 cause_words Topology = codes "the links and destinations are refused"
-cause_words Name = codes "it names a node, a link or a destination that there is not"
+cause_words Name = codes "it names a node, a link or a destination that does not exist"
 cause_words Word = codes "it is no line that may stand here"
-cause_words Recorded = codes "a record has no line that stands for it"
+cause_words Recorded = codes "no line of a record corresponds to it"
 
 -- `fault N CAUSE`
 unfoldable pub fault_line : ℕ → Cause → List ℕ

@@ -14,17 +14,17 @@ use tora_world::Limits;
 /// Why a line is a fault.
 #[derive(Clone, Copy, Debug, PartialEq, Eq)]
 pub enum Cause {
-    /// It is the first, and no `dests LIST`.
+    /// It is the first line and not `dests LIST`.
     Dests,
-    /// It stands behind the first line, and is no `link A B`.
+    /// It comes after the first line and is not `link A B`.
     NoLink,
-    /// It stands behind links of which there is no world.
+    /// It comes after links that are refused.
     Topology,
-    /// It names a node, a link or a destination that there is not.
+    /// It names a node, a link or a destination that does not exist.
     Name,
-    /// It is of no such form.
+    /// It has none of the forms of a line.
     Word,
-    /// The drive is recorded, and no line of a simulation file stands for it.
+    /// The drive is recorded, and no line of a simulation file corresponds to it.
     Recorded,
 }
 
@@ -35,11 +35,11 @@ impl Cause {
     {
         match self {
             Cause::Dests => "the first line is `dests LIST`, the destinations",
-            Cause::NoLink => "behind the first line a line `link A B` is required",
+            Cause::NoLink => "after the first line a line `link A B` is required",
             Cause::Topology => "the links and destinations are refused",
-            Cause::Name => "it names a node, a link or a destination that there is not",
+            Cause::Name => "it names a node, a link or a destination that does not exist",
             Cause::Word => "it is no line that may stand here",
-            Cause::Recorded => "a record has no line that stands for it",
+            Cause::Recorded => "no line of a record corresponds to it",
         }
     }
 }
@@ -65,7 +65,7 @@ fn cause_behind_links(limits: Limits, lines: &LinkLines, line: &[u8]) -> Cause
     }
 }
 
-/// Why a line, that is a fault within the limits, is one.
+/// Why a line is a fault within the limits.
 #[tactic(auto, unfolding(crate::specs::DriveText::cause_of))]
 pub fn fault_cause<S: Simulator>(
     limits: Limits,
@@ -82,7 +82,7 @@ pub fn fault_cause<S: Simulator>(
     }
 }
 
-/// Puts `fault N CAUSE` behind a text.
+/// Appends `fault N CAUSE` to a text.
 #[tactic(auto, unfolding(crate::specs::DriveText::fault_line))]
 pub fn write_fault(out: &mut String, number: u64, cause: Cause) -> Result<(), AllocError>
     ensures { OnOk result (string_bytes out.new ≡ string_bytes out.old ++ fault_line number cause) }

@@ -44,7 +44,7 @@ impl Gone {
         self.count
     }
 
-    /// How many datagrams there are with those that are gone, where so many are left.
+    /// How many datagrams there were in all, if `left` of them are left.
     ///
     /// # Errors
     /// Where there are more than 2^64 - 1.

@@ -29,7 +29,7 @@ pub enum Cause {
 }
 
 impl Cause {
-    /// Why the line is a fault, in front of what a core says of it where one refuses it.
+    /// Why the line is a fault. The error of a core that refuses it follows.
     fn words(self) -> &'static str {
         match self {
             Cause::Missing => "the input ends where the first line is required",
@@ -41,23 +41,23 @@ impl Cause {
                 "the first line is `node I links LIST dests LIST`, with one blank between two words"
             }
             Cause::HeaderNumber => {
-                "a node's number is from 1 to 4294967295, without leading zeros; a list is such numbers between commas, or `-`"
+                "a node number is from 1 to 4294967295 without leading zeros; a list is such numbers separated by commas, or `-`"
             }
             Cause::Refused(_) => "the first line is refused: ",
             Cause::Time => "a line begins with its time, a number below 2^64 without leading zeros",
-            Cause::NoOrder => "nothing stands behind the time",
+            Cause::NoOrder => "a word is missing after the time",
             Cause::Word => "its second word is none of `up`, `down`, `need`, `from` and `show`",
             Cause::Id => {
-                "behind `up`, `down` and `need` stands one node's number, from 1 to 4294967295, without leading zeros"
+                "`up`, `down` and `need` take one node number, from 1 to 4294967295 without leading zeros"
             }
             Cause::From => {
-                "behind `from` stand a node's number, from 1 to 4294967295, and the bytes of a packet"
+                "`from` takes a node number, from 1 to 4294967295, and the bytes of a packet"
             }
             Cause::Digits => {
                 "the bytes of a packet are an even number of hexadecimal digits, or `-` for none"
             }
-            Cause::Show => "nothing stands behind `show`",
-            Cause::Other => "it is no line of a replay file",
+            Cause::Show => "nothing follows `show`",
+            Cause::Other => "it is not a line of a replay file",
         }
     }
 }
@@ -86,7 +86,7 @@ fn first_cause(alloc: Global, line: &[u8]) -> Cause {
     }
 }
 
-/// Whether the first line has its three names, and why it is a fault all the same.
+/// Why a first line that is of no known form is a fault.
 fn header_cause(line: &[u8]) -> Cause {
     let mut pieces = line.split(|byte| *byte == b' ');
     for name in [b"node".as_slice(), b"links".as_slice(), b"dests".as_slice()] {
@@ -101,7 +101,7 @@ fn header_cause(line: &[u8]) -> Cause {
     }
 }
 
-/// Why what stands behind `from` is a fault.
+/// Why the text after `from` is a fault.
 fn from_cause(text: &[u8]) -> Cause {
     match words::cut(b' ', text) {
         Some((neighbour, _)) if words::id(neighbour).is_some() => Cause::Digits,
@@ -109,7 +109,7 @@ fn from_cause(text: &[u8]) -> Cause {
     }
 }
 
-/// Why a line behind the first is a fault.
+/// Why a line after the first is a fault.
 fn next_cause(line: &[u8]) -> Cause {
     let Some((now, rest)) = words::cut(b' ', line) else {
         return if words::number(line).is_some() {
@@ -130,7 +130,7 @@ fn next_cause(line: &[u8]) -> Cause {
     }
 }
 
-/// Why the line of this number, that is a fault, is one. Without a line the input ends before it.
+/// Why the line with this number is a fault. Without a line, the input ends before it.
 pub fn cause_of(alloc: Global, number: u64, line: Option<&[u8]>) -> Cause {
     let Some(line) = line else {
         return Cause::Missing;

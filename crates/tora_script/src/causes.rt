@@ -64,8 +64,8 @@ impl SimulationCause {
             Self::TrailingBlank => "it ends with a blank",
             Self::Dests => "the first line is `dests LIST`, the destinations",
             Self::List =>
-                "a list is nodes' numbers, from 1 to 4294967295 without leading zeros, between commas, or `-`",
-            Self::NoLink => "behind the first line a line `link A B` is required",
+                "a list is node numbers, from 1 to 4294967295 without leading zeros, separated by commas, or `-`",
+            Self::NoLink => "after the first line a line `link A B` is required",
             Self::TooMany =>
                 "the links and destinations are refused: there are more than 64 nodes, 32 neighbours of a node or 64 destinations",
             Self::TooManyStandard =>
@@ -73,50 +73,48 @@ impl SimulationCause {
             Self::TooManyAtAll =>
                 "the links and destinations are refused: there are more than 1024 nodes, 255 neighbours of a node or 64 destinations",
             Self::Repeated =>
-                "the links and destinations are refused: a link, either way round, or a destination stands twice",
+                "the links and destinations are refused: a link, in either direction, or a destination occurs twice",
             Self::RepeatedLink(_, _) => "the links and destinations are refused: ",
             Self::RepeatedDestination(_) => "the links and destinations are refused: ",
             Self::OwnLink =>
-                "the links and destinations are refused: a link leads from a node to itself",
-            Self::Old =>
-                "behind `old` stands one node's number, from 1 to 4294967295, without leading zeros",
+                "the links and destinations are refused: a link joins a node to itself",
+            Self::Old => "`old` takes one node number, from 1 to 4294967295 without leading zeros",
             Self::NoSuchNode => "no link names this node",
-            Self::LateOld => "a node is old right behind the links, before any other line",
+            Self::LateOld => "a line `old N` comes directly after the links, before any other line",
             Self::Erasure =>
-                "behind `erasure` stand a node's number, from 1 to 4294967295, without leading zeros, and `plain` or `remembered`",
+                "`erasure` takes a node number, from 1 to 4294967295 without leading zeros, and `plain` or `remembered`",
             Self::LateErasure =>
-                "what a node makes of erased levels is said right behind the links, before any other line",
+                "a line `erasure N WORD` comes directly after the links, before any other line",
             _ => self.words_behind_links(),
         }
     }
 
-    /// What it says of a line behind the links.
+    /// What it says of a line after the links.
     fn words_behind_links(self) -> &'static str {
         match self {
             Self::Word =>
                 "its first word is none of `need`, `tick`, `open`, `pull`, `transmit`, `deliver`, `pump`, `turn`, `arm`, `restart`, `rounds`, `part`, `mend`, `heights`, `sent`, `taken`, `exact`, `walk` and `rest`",
             Self::Pair =>
-                "behind this word stand two nodes' numbers, from 1 to 4294967295, without leading zeros",
+                "this word takes two node numbers, from 1 to 4294967295 without leading zeros",
             Self::Id =>
-                "behind this word stands one node's number, from 1 to 4294967295, without leading zeros",
-            Self::Tick => "nothing stands behind `tick`",
-            Self::Rest => "nothing stands behind `rest`",
+                "this word takes one node number, from 1 to 4294967295 without leading zeros",
+            Self::Tick => "nothing follows `tick`",
+            Self::Rest => "nothing follows `rest`",
             Self::Deliver =>
-                "behind `deliver` stands the number of a datagram, below 2^64, without leading zeros",
+                "`deliver` takes the number of a datagram, below 2^64 without leading zeros",
             Self::Arm =>
-                "behind `arm` stand a node's number and `send-lost`, `send-gone`, `receive`, `read`, `write` or `sync`",
-            Self::Restart =>
-                "behind `restart` stand a node's number and 32 hexadecimal digits or `-`",
-            Self::Rounds => "behind `rounds` stands a number, 10000 at most, without leading zeros",
+                "`arm` takes a node number and `send-lost`, `send-gone`, `receive`, `read`, `write` or `sync`",
+            Self::Restart => "`restart` takes a node number and 32 hexadecimal digits or `-`",
+            Self::Rounds => "`rounds` takes a number, at most 10000, without leading zeros",
             Self::Life =>
-                "behind `sent` and `taken` stand two nodes' numbers and the two numbers of a life, each from 1 to 2^62",
-            Self::LateDests => "the first line alone is `dests LIST`",
-            Self::LateLink => "a link stands behind the first line or another link",
+                "`sent` and `taken` take two node numbers and the two numbers of a life, each from 1 to 2^62",
+            Self::LateDests => "only the first line is `dests LIST`",
+            Self::LateLink => "a line `link A B` comes after the first line or another link",
             Self::NoSuchLink => "there is no link between these nodes",
             Self::NoSuchDestination => "this destination is not in the list of the first line",
             Self::NoSuchWalk =>
                 "no link names this node, or this destination is not in the list of the first line",
-            _ => "it is no line of a simulation file",
+            _ => "it is not a line of a simulation file",
         }
     }
 }
@@ -126,10 +124,13 @@ impl Display for SimulationCause {
         f.write_str(self.words())?;
         match self {
             SimulationCause::RepeatedLink(a, b) => {
-                write!(f, "lines {a} and {b} have the same link, either way round")
+                write!(
+                    f,
+                    "lines {a} and {b} have the same link, in either direction"
+                )
             }
             SimulationCause::RepeatedDestination(d) => {
-                write!(f, "the destination {d} stands twice in line 1")
+                write!(f, "the destination {d} occurs twice in line 1")
             }
             _ => Ok(()),
         }
@@ -161,7 +162,7 @@ fn first_cause(line: &[u8]) -> SimulationCause {
     }
 }
 
-/// The words that a line may begin with, and why a line that begins so, but says nothing, is a fault.
+/// The words that a line may begin with, and for each why another line that begins with it is a fault.
 const WORD_CAUSES: &[(&[u8], SimulationCause)] = &[
     (b"need", SimulationCause::Pair),
     (b"open", SimulationCause::Pair),
@@ -188,7 +189,7 @@ const WORD_CAUSES: &[(&[u8], SimulationCause)] = &[
     (b"erasure", SimulationCause::LateErasure),
 ];
 
-/// Why a line that says nothing is a fault, by its first word.
+/// Why a line of no known form is a fault, by its first word.
 fn word_cause(line: &[u8]) -> SimulationCause {
     let (word, _) = words::cut(b' ', line).unwrap_or((line, b""));
     match WORD_CAUSES.iter().find(|row| row.0 == word) {
@@ -197,7 +198,7 @@ fn word_cause(line: &[u8]) -> SimulationCause {
     }
 }
 
-/// Why a line behind the links is a fault.
+/// Why a line after the links is a fault.
 fn line_cause(line: &[u8]) -> SimulationCause {
     if let Some(cause) = shape_cause(line) {
         return cause;
@@ -220,12 +221,12 @@ fn line_cause(line: &[u8]) -> SimulationCause {
     }
 }
 
-/// The number of the line with the link at this place of the links: they stand behind the first line.
+/// The number of the line with the link of this index: the links begin in line 2.
 fn line_of(place: usize) -> u64 {
     (place as u64).saturating_add(2)
 }
 
-/// The lines of the first link that stands twice, either way round.
+/// The lines of the first link that occurs twice, in either direction.
 fn repeated_link(links: &[(Id, Id)]) -> Option<SimulationCause> {
     for (place, link) in links.iter().enumerate() {
         for (before, other) in links.iter().enumerate() {
@@ -237,7 +238,7 @@ fn repeated_link(links: &[(Id, Id)]) -> Option<SimulationCause> {
     None
 }
 
-/// The first destination that stands twice.
+/// The first destination that occurs twice.
 fn repeated_destination(dests: &[Id]) -> Option<SimulationCause> {
     for d in dests {
         if dests.iter().filter(|other| **other == *d).count() > 1 {
@@ -247,14 +248,14 @@ fn repeated_destination(dests: &[Id]) -> Option<SimulationCause> {
     None
 }
 
-/// Which link or destination stands twice.
+/// Which link or destination occurs twice.
 fn repeated_cause(lines: &LinkLines) -> SimulationCause {
     repeated_link(&lines.links)
         .or(repeated_destination(&lines.dests))
         .unwrap_or(SimulationCause::Repeated)
 }
 
-/// What there is too much of: more than the standard limits allow, or more than any.
+/// Which limits are exceeded: the standard limits alone, or the greatest ones too.
 fn many_cause(limits: Limits, lines: &LinkLines) -> SimulationCause {
     match topology_fault_within(Limits::GREATEST, &lines.links, &lines.dests) {
         Some(CoreError::TooMany) if limits == Limits::STANDARD => SimulationCause::TooMany,
@@ -263,7 +264,7 @@ fn many_cause(limits: Limits, lines: &LinkLines) -> SimulationCause {
     }
 }
 
-/// Why there is no topology of the links and destinations within the limits, if there is none.
+/// Why the links and destinations are refused within the limits, if they are.
 fn topology_cause(limits: Limits, lines: &LinkLines) -> Option<SimulationCause> {
     match topology_fault_within(limits, &lines.links, &lines.dests) {
         None => None,
@@ -274,7 +275,7 @@ fn topology_cause(limits: Limits, lines: &LinkLines) -> Option<SimulationCause> 
     }
 }
 
-/// Why a line that begins as one that says something of a node is a fault: no link names the node, or else this.
+/// Why a line `old N` or `erasure N WORD` is a fault: no link names the node, or else this cause.
 fn mark_cause(lines: &LinkLines, line: &[u8], other: SimulationCause) -> SimulationCause {
     match mark(line) {
         Some(mark) if !is_linked(mark.node(), &lines.links) => SimulationCause::NoSuchNode,
@@ -282,7 +283,7 @@ fn mark_cause(lines: &LinkLines, line: &[u8], other: SimulationCause) -> Simulat
     }
 }
 
-/// Why a line behind a topology's links, which is no link, is a fault.
+/// Why a line after the links that is no link is a fault.
 fn behind_links_cause(lines: &LinkLines, line: &[u8]) -> SimulationCause {
     match line_cause(line) {
         SimulationCause::LateOld => mark_cause(lines, line, SimulationCause::Old),
@@ -291,7 +292,7 @@ fn behind_links_cause(lines: &LinkLines, line: &[u8]) -> SimulationCause {
     }
 }
 
-/// Why a line behind the first line or a link, which is no link, is a fault.
+/// Why a line after the first line or a link is a fault.
 fn link_cause(limits: Limits, lines: &LinkLines, line: &[u8]) -> SimulationCause {
     let is_link = line.starts_with(b"link ");
     if lines.links.is_empty() {
@@ -310,12 +311,12 @@ fn link_cause(limits: Limits, lines: &LinkLines, line: &[u8]) -> SimulationCause
     }
 }
 
-/// Why a line, that is a fault within the standard limits, is one.
+/// Why a line is a fault within the standard limits.
 pub fn simulation_cause<S>(stage: &Stage<S>, line: &[u8]) -> SimulationCause {
     simulation_cause_within(Limits::STANDARD, stage, line)
 }
 
-/// Why a line, that is a fault within the limits, is one.
+/// Why a line is a fault within these limits.
 pub fn simulation_cause_within<S>(
     limits: Limits,
     stage: &Stage<S>,
@@ -328,7 +329,7 @@ pub fn simulation_cause_within<S>(
     }
 }
 
-/// Why an input, that ends where it may not, is a fault.
+/// Why an input that ends too early is a fault.
 pub fn end_cause<S>(limits: Limits, stage: &Stage<S>) -> SimulationCause {
     match stage {
         Stage::First => SimulationCause::Missing,

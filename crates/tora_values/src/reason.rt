@@ -21,7 +21,7 @@ pub enum Reason {
     NoList,
     /// It is no table.
     NoTable,
-    /// It stands before already.
+    /// It is repeated.
     Repeated,
     /// It is the node itself.
     OwnId,
@@ -46,7 +46,7 @@ impl Reason {
             Reason::NoErasure => "is neither `plain` nor `remembered`",
             Reason::NoList => "is no list",
             Reason::NoTable => "is no table",
-            Reason::Repeated => "stands before already",
+            Reason::Repeated => "is repeated",
             Reason::OwnId => "is the node itself",
             Reason::Unkeyed => "is missing, and the link leaves the loopback",
         }

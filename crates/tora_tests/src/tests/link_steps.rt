@@ -34,7 +34,7 @@ pub enum Step {
     Hears(u64, u64, Carried, Verdict),
     /// Takes a frame for each of the queries with the numbers from this one to that one, all with this verdict.
     HearsEach(u64, u64, Verdict),
-    /// Takes a HELLO from one node to another, which is foreign: no peer sends it to this end.
+    /// Takes a HELLO between two nodes that is foreign: the peer of this end does not send it to this node.
     IsForeign(Id, Id),
     /// Takes a frame that was sent, with this verdict; the first that the table sends is 0.
     Gets(usize, Verdict),

@@ -323,7 +323,7 @@ const FAULTS: &[(&[&str], Wanted)] = &[
     (&["node = 1\ndests = 4\n"], Says("`dests` is no list")),
     (
         &["node = 1\ndests = [4, 4]\n"],
-        Says("`dests`, number 2 stands before already"),
+        Says("`dests`, number 2 is repeated"),
     ),
     (
         &["node = 1\ndests = []\nlife_dir = 1\n"],

@@ -27,9 +27,9 @@ const ANSWERS: &[Row] = &[
         NOTHING,
         "fault 1 the first line is `dests LIST`, the destinations\n\
          fault 2 the first line is `dests LIST`, the destinations\n\
-         ok\nfault 4 behind the first line a line `link A B` is required\nok\n\
+         ok\nfault 4 after the first line a line `link A B` is required\nok\n\
          fault 6 it is no line that may stand here\nok\nfault 8 it is no line that may stand here\n\
-         fault 9 it names a node, a link or a destination that there is not\n\
+         fault 9 it names a node, a link or a destination that does not exist\n\
          node 1 - hop -\nnode 2 (0,0,0,0,2) hop -\nok\n",
         Ended::Whole,
     ),
@@ -105,8 +105,8 @@ const OWN_LINES: &[Row] = &[
     (
         &["dests 2\nlink 1 2\nfar 1 2\nfar 1 2\nfar 2 3\nnear 3 1\nstep\nnear 1 2\nstep\n"],
         NOTHING,
-        "ok\nok\nok\nok\nfault 5 it names a node, a link or a destination that there is not\n\
-         fault 6 it names a node, a link or a destination that there is not\n\
+        "ok\nok\nok\nok\nfault 5 it names a node, a link or a destination that does not exist\n\
+         fault 6 it names a node, a link or a destination that does not exist\n\
          sent 2 1 1 28\nsent 2 1 2 28\nok\nok\nsent 1 2 3 28\nsent 1 2 4 28\nok\n",
         Ended::Whole,
     ),
@@ -119,8 +119,8 @@ const OWN_LINES: &[Row] = &[
         &["notice 1 2\nnotice 1 2\nnotice 2 2\nnotice 2 3\nnotice 1\nnotice 2 1\nstep\n"],
         "ok\nok\nok\nsent 1 2 1 28\nsent 1 2 2 28\nsent 2 1 3 28\nsent 2 1 4 28\nok\nrefused 4\nok\nok\nok\nok\n\
          sent 1 2 5 28\nsent 2 1 6 28\nok\nok\nok\nsent 1 2 7 80\nhop 1 2 2\nok\n\
-         ok\nrefused 4\nfault 16 it names a node, a link or a destination that there is not\n\
-         fault 17 it names a node, a link or a destination that there is not\n\
+         ok\nrefused 4\nfault 16 it names a node, a link or a destination that does not exist\n\
+         fault 17 it names a node, a link or a destination that does not exist\n\
          fault 18 it is no line that may stand here\nok\n\
          sent 1 2 8 28\nsent 1 2 9 28\nsent 2 1 10 28\nsent 2 1 11 28\nhop 1 2 -\nok\n",
         Ended::Whole,
@@ -147,7 +147,7 @@ const LONG: &[Files] = &[
         middles: &["x"],
         times: 4097,
         end: "\nlink 1 2\n",
-        text: "ok\nfault 2 behind the first line a line `link A B` is required\nok\n",
+        text: "ok\nfault 2 after the first line a line `link A B` is required\nok\n",
         ended: Ended::Whole,
     },
     Files {
@@ -222,7 +222,7 @@ const LARGE_WORLD: &[Files] = &[Files {
     text: "ok\nok\nok\nok\nok\nok\nok\nok\nok\nok\nok\nok\nok\nok\nok\nok\nok\nok\nok\nok\nok\nok\nok\nok\n\
          ok\nok\nok\nok\nok\nok\nok\nok\nok\nok\nok\nok\nok\nok\nok\nok\nok\nok\nok\nok\nok\nok\nok\nok\n\
          ok\nok\nok\nok\nok\nok\nok\nok\nok\nok\nok\nok\nok\nok\nok\nok\nok\nok\n\
-         walk -\nok\nfault 68 it names a node, a link or a destination that there is not\n",
+         walk -\nok\nfault 68 it names a node, a link or a destination that does not exist\n",
     ended: Ended::Whole,
 }];
 

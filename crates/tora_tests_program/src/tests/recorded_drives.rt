@@ -38,7 +38,7 @@ const EACH_KIND: Row = (
      arm 1 send-lost\nrestart 2 -\nrestart 2 000102030405060708090A0B0C0D0E0F\nheights 2\n",
     "ok\nok\nok\nok\nok\nsent 2 1 1 28\nok\nneed 1 2\nok\n\
      bytes 1 01010000000000020000000100000000000000010000000000000000\nok\n\
-     refused 4\nok\nrefused 3\nok\nok\nfault 14 a record has no line that stands for it\n\
+     refused 4\nok\nrefused 3\nok\nok\nfault 14 no line of a record corresponds to it\n\
      fault 15 it is no line that may stand here\nok\nsent 1 2 2 28\nsent 1 2 3 28\nok\nok\nexact 1\nok\nwalk -\nok\nrest yes\nok\n\
      count 0\nok\ncount 0\nok\nok\nok\nok\nnode 1 - hop -\nnode 2 (0,0,0,0,2) hop -\nok\n",
     "dests 2\nlink 1 2\nold 2\nneed 1 2\n\

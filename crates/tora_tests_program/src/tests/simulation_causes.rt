@@ -15,7 +15,7 @@ fn is_taken(alloc: Global, state: &mut Simulation<Sim>, line: &str) -> bool {
     line.len() <= LONGEST_LINE && state.take(alloc, line.as_bytes(), &mut text).is_ok()
 }
 
-/// What is kept behind these lines, or nothing where one is a fault or memory is refused.
+/// The state after these lines, or nothing if one is a fault or memory is refused.
 fn state_behind(alloc: Global, lines: &[&str]) -> Option<Simulation<Sim>> {
     let mut state: Simulation<Sim> = Simulation::new(Setup::plain(Times::STANDARD));
     for line in lines {
@@ -26,19 +26,19 @@ fn state_behind(alloc: Global, lines: &[&str]) -> Option<Simulation<Sim>> {
     Some(state)
 }
 
-/// Why a line behind these lines is a fault, as `-v` says it.
+/// Why a line after these lines is a fault.
 fn cause_behind(alloc: Global, lines: &[&str], line: &str) -> Option<SimulationCause> {
     let state = state_behind(alloc, lines)?;
     Some(simulation_cause(&state.stage, line.as_bytes()))
 }
 
-/// Lines, and further ones with the cause for which each is a fault behind them.
+/// Lines, and further ones with the cause for which each is a fault after them.
 type Causes = (
     &'static [&'static str],
     &'static [(&'static str, SimulationCause)],
 );
 
-/// Behind its lines each of the further ones is a fault for its cause, as `-v` says it. Where another is found it is asked for
+/// After its lines each of the further ones is a fault for its cause. Where another is found it is asked for
 /// again, since memory may have been refused.
 fn expect_causes(rt: &impl Abort, alloc: Global, groups: &[Causes]) {
     for (lines, rows) in groups {
@@ -63,7 +63,7 @@ const FIRST_CAUSES: &[(&str, SimulationCause)] = &[
     ("dests 4,", SimulationCause::List),
 ];
 
-/// Lines behind a first line.
+/// Lines after a first line.
 const LINK_CAUSES: &[(&str, SimulationCause)] = &[
     ("tick", SimulationCause::NoLink),
     ("link 1 2 ", SimulationCause::TrailingBlank),
@@ -71,14 +71,14 @@ const LINK_CAUSES: &[(&str, SimulationCause)] = &[
     ("link 1 0", SimulationCause::Pair),
 ];
 
-/// Lines behind two links.
+/// Lines after two links.
 const SECOND_LINK_CAUSES: &[(&str, SimulationCause)] = &[
     ("link 3", SimulationCause::Pair),
     ("link 3 4 ", SimulationCause::TrailingBlank),
     ("turns", SimulationCause::Word),
 ];
 
-/// First lines, links, and the line behind them.
+/// First lines, links, and the line after them.
 const EARLY_CAUSES: &[Causes] = &[
     (&[], FIRST_CAUSES),
     (&["dests 4"], LINK_CAUSES),
@@ -153,7 +153,7 @@ fn causes_of_faults_before_a_simulation_runs(rt: HostRuntime) {
     expect_causes(&rt, rt.alloc(), EARLY_CAUSES);
 }
 
-/// Old nodes and choices of nodes behind two links.
+/// Old nodes and choices of nodes after two links.
 const OLD_CAUSES: &[(&str, SimulationCause)] = &[
     ("old 4", SimulationCause::NoSuchNode),
     ("old 0", SimulationCause::Old),
@@ -170,7 +170,7 @@ const OLD_CAUSES: &[(&str, SimulationCause)] = &[
     ("erasures 1 plain", SimulationCause::Word),
 ];
 
-/// Lines behind an old node or a choice of a node.
+/// Lines after an old node or a choice of a node.
 const LATE_CAUSES: &[(&str, SimulationCause)] = &[
     ("old 3", SimulationCause::NoSuchNode),
     ("erasure 3 plain", SimulationCause::NoSuchNode),
@@ -179,7 +179,7 @@ const LATE_CAUSES: &[(&str, SimulationCause)] = &[
     ("dests 4", SimulationCause::LateDests),
 ];
 
-/// Old nodes behind links, behind an old node, and out of their place.
+/// Old nodes after links, after an old node, and out of their place.
 const CAUSES_OF_OLD_NODES: &[Causes] = &[
     (&["dests 4", "link 1 2", "link 2 3"], OLD_CAUSES),
     (&["dests 4", "link 1 2", "old 2"], LATE_CAUSES),
@@ -240,7 +240,7 @@ const LATER_CAUSES: &[Causes] = &[(
     RUNNING_CAUSES,
 )];
 
-/// Why a line behind the links is a fault, as `-v` says it.
+/// Why a line after the links is a fault.
 #[test]
 fn causes_of_faults_of_a_simulation(rt: HostRuntime) {
     expect_causes(&rt, rt.alloc(), LATER_CAUSES);
@@ -254,7 +254,7 @@ const CAUSES_OF_RESTS: &[Causes] = &[(
     ],
 )];
 
-/// Nothing stands behind `rest`.
+/// Nothing may follow `rest`.
 #[test]
 fn words_behind_rest_are_faults(rt: HostRuntime) {
     expect_rows(&rt, Way::Simulation, NO_RESTS);

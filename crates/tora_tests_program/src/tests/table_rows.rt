@@ -82,8 +82,8 @@ const LOST_SEND: &[Files] = &[Files {
     ended: Ended::Whole,
 }];
 
-/// A send that is lost counts as a try of its packet: with seven more, at every fifth tick, the life ends at tick 40 and no sooner.
-/// At the tenth ticks a HELLO is due, too.
+/// A lost send counts as a try of its packet. Seven more tries follow, one every five ticks, and the life ends at tick 40, not before.
+/// At ticks 10, 20 and 30 a HELLO is due, too.
 #[test]
 fn lost_send_is_a_try(rt: HostRuntime) {
     expect_files(&rt, Way::Simulation, LOST_SEND);

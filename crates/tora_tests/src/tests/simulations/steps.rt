@@ -60,7 +60,7 @@ pub fn first_world(rt: &impl Abort, alloc: Global, links: &[(Id, Id)], destinati
     Sim::new(alloc, &topology).expect(rt, "a simulator")
 }
 
-/// An event happens, which is possible.
+/// Makes an event happen that is possible.
 fn happens(rt: &impl Abort, sim: &mut Sim, event: Event, row: &Step) {
     same_at(rt, &sim.step(&event), &Ok(()), "the answer", row);
 }
