@@ -1,20 +1,20 @@
 #!/usr/bin/env python3
-"""Proves and builds the program `tora`, and before it each crate that it stands on.
+"""Proves and builds the program `tora`, and first each crate that it depends on.
 
 usage: ./tora build [--lib] [--jobs N] [CRATE ..]
 
-  --lib       builds the library for C in place of the program: out/libtora.a and out/libtora.so.0
-  --jobs N    uses at most N processors, from 1 to 1024, in place of all
-  CRATE ..    proves these crates and those below them, in place of `tora`
+  --lib       builds the library for C instead of the program: out/libtora.a and out/libtora.so.0
+  --jobs N    uses at most N processors, from 1 to 1024, instead of all
+  CRATE ..    proves these crates and those below them, instead of `tora`
 
-Crates that don't stand on each other are proved side by side, as many as memory holds, and first those with the longest chain
-of crates above them; processors that no crate waits for go to crates that run. Each crate is told as it ends, with its
-seconds, and with what is left by the times of the last build. A build that was broken off goes on where it was: what is
-proved stays in crates/*/out, also of crates that had not ended. Where a crate is not proved, its output is told whole, and
-the exit status is 2; else it is 0, or that of the signal that broke it off.
+Crates that do not depend on each other are proved side by side, as many as memory allows. Crates with the longest chain of crates
+above them come first, and idle processors go to crates that are being proved. Each crate is reported when it ends, with its
+seconds and the time that is left by the times of the last build. An interrupted build continues where it stopped: what is
+proved stays in crates/*/out, even of crates that had not ended. If a crate is not proved, its whole output is printed, and
+the exit status is 2; otherwise the status is 0, or that of the signal that interrupted the build.
 
-It takes the place of `rt lib` in each crate and of `rt run` in `tora`, and calls the same Python as they do, rtlib.py beside
-`rt`: two calls of `rt lib` wait for one another where their crates share one below.
+This replaces `rt lib` in each crate and `rt run` in `tora`. It calls the same Python as they do, rtlib.py beside `rt`, because
+two calls of `rt lib` wait for each other if their crates share one below.
 """
 import argparse
 import importlib.machinery

@@ -2,19 +2,19 @@
 """Compares the documents with their limits and with the tree.
 
 usage: dev/check-docs.py [--words]
-  --words   also print how many words each part and each page has
+  --words   also print the number of words of each part and each page
 
 It checks that
 
 - each part has at most the words of BUDGETS, each how-to guide at most 700, and the README at most 120 lines of 100 characters;
-- no line of a document is longer than 120 characters, but for tables;
-- each relative link of a Markdown file outside docs/ leads to a file, and to a heading where it names one (Sphinx checks those of docs/);
-- each path that a document names in backquotes is there;
-- docs/reference/command-line.md is what dev/command-line.py makes, where the program can say its help.
+- no line of a document is longer than 120 characters, except in tables;
+- each relative link of a Markdown file outside docs/ leads to a file, and to a heading if it names one (Sphinx checks the links of docs/);
+- each path that a document names in backquotes exists;
+- docs/reference/command-line.md is what dev/command-line.py makes, if the program can print its help.
 
-A word is a run of characters without a blank that has a letter. Fenced blocks are not counted, except in the README, and neither are tables that
-dev/studies.py makes.
-Each fault is one line, FILE:LINE: what is wrong. Exit status: 0 where there is none, 1 where there are some, 2 for a wrong use.
+A word is a run of characters without a blank that has a letter. Fenced blocks are not counted, except in the README. Tables that
+dev/studies.py makes are not counted either.
+Each fault is one line, FILE:LINE: what is wrong. Exit status: 0 if there is none, 1 if there are some, 2 for wrong usage.
 """
 import pathlib
 import re

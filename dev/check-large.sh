@@ -1,8 +1,8 @@
 #!/usr/bin/env bash
-# Checks the limits of worlds, and a world of 500 nodes, with the program that stands in crates/tora/out: simulations and drives one under, at and
-# one over each limit, without --large and with it; each line of a simulation file in a world of 500 nodes; its trace, and what tora-study makes of it.
-# usage: dev/check-large.sh [NODES]     so many nodes in place of 500
-# TORA_PROGRAM names another program. It takes the packages that docs/how-to/install.md names.
+# Checks the limits of worlds, and a world of 500 nodes, with the program in crates/tora/out: simulations and drives one under, at
+# and one over each limit, without and with --large; each line of a simulation file in a world of 500 nodes; its trace, and what tora-study makes of it.
+# usage: dev/check-large.sh [NODES]     with so many nodes instead of 500
+# TORA_PROGRAM names another program. The packages of docs/how-to/install.md are needed.
 set -eu
 here=$(cd "$(dirname "$0")" && pwd)
 case ${1:-} in -h | --help) sed -n '2,/^set -eu/{/^# /s/^# //p}' "$0"; exit 0 ;; esac

@@ -1,10 +1,10 @@
 #!/usr/bin/env bash
-# Checks the page of `tora-study page` in a headless Chromium: what it draws is what the trace tells, and every control does what it says.
+# Checks the page of `tora-study page` in a headless Chromium: the page draws what the trace says, and every control works as documented.
 # usage: dev/check-page.sh [--picture FILE.png] [--shot PAGE] [--figures PAGE]
 #   --picture FILE   keep a picture of the page in the round of a break
-#   --shot PAGE      in place of the checks: keep a picture of this page; behind a # stand the round and the destination, as in its address
-#   --figures PAGE   in place of the checks: how long this page takes to open, and how many pictures a second it draws
-# Needs Debian's packages chromium, chromium-driver and python3-selenium, and those that docs/how-to/install.md names.
+#   --shot PAGE      instead of the checks: keep a picture of this page; the round and the destination may follow a #, as in its address
+#   --figures PAGE   instead of the checks: how long this page takes to open, and how many pictures a second it draws
+# This needs Debian's packages chromium, chromium-driver and python3-selenium, and those that docs/how-to/install.md names.
 set -eu
 here=$(cd "$(dirname "$0")" && pwd)
 case ${1:-} in -h | --help) sed -n '2,/^set -eu/{/^# /s/^# //p}' "$0"; exit 0 ;; esac

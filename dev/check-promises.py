@@ -3,19 +3,19 @@
 
 usage: dev/check-promises.py [PAGE ..]
 
-Without a PAGE it reads docs/reference/promises.md, docs/explanation/*.md, docs/developers/*.md and CONTRIBUTING.md. Of each page:
+Without a PAGE it reads docs/reference/promises.md, docs/explanation/*.md, docs/developers/*.md and CONTRIBUTING.md. In each page:
 
-- A table whose heading is `promise`, `function`, `clause`, `crate` names functions: each function has to stand in `src/` of a crate
-  of its row, and each clause has to be one that a function of the row ensures. `TYPE::NAME` is a function in an `impl` of TYPE, or in the
-  trait TYPE, and `MODULE::NAME` one in the file MODULE.rt. A clause cell `one clause` means that the functions ensure one clause, which has no name.
-- Each other name in backquotes has to be a word of the sources or definitions of the crates, a word of the scripts, or a path.
-
+- A table with the heading `promise`, `function`, `clause`, `crate` names functions. Each function must be in `src/` of a crate of its
+  row, and each clause must be one that a function of the row ensures. `TYPE::NAME` is a function in an `impl` of TYPE, or in the
+  trait TYPE, and `MODULE::NAME` is one in the file MODULE.rt. A clause cell `one clause` means that the functions ensure one clause
+  without a name.
+- Each other name in backquotes must be a word of the sources or definitions of the crates, a word of the scripts, or a path.
 - A table whose last heading is `constants` has numbers of the sources: the numbers of a row are those of its constants, in order.
 
-Of docs/explanation/architecture.md it also asks that the tables headed `crate`, `content` name each crate of crates.txt once, behind
-all crates that it stands on.
+In docs/explanation/architecture.md the tables with the heading `crate`, `content` must name each crate of crates.txt once, after
+all crates that it depends on.
 
-It prints each name that does not exist, with its page and line, and ends with 1 where there is one.
+Each name that does not exist is printed with its page and line. Exit status: 0 if there is none, 1 if there is one.
 """
 
 import re

@@ -1,13 +1,14 @@
 #!/usr/bin/env bash
-# Checks what the gate does not: the package of studies by its own tests (python/tests), the laws in random networks, the dissector, the
-# completion, what ./tora install puts where, what the scripts of dev/ refuse, and that the manual pages and the help have the lines of
-# docs/formats.md. Where the program stands, nodes of it are tried, too: their lock, log and keys, and what they tell programs.
+# Checks what the gate does not check: the package of studies by its own tests (python/tests), the laws in random networks, the
+# dissector, the completion, what ./tora install installs, what the scripts of dev/ refuse, that the version is the same everywhere,
+# and that the manual pages and the help have the lines of docs/formats.md. If the program is built, nodes of it are tried, too:
+# their lock, log and keys, and what they tell programs.
 # usage: dev/check.sh [--store]
-#   --store   write what comes out to dev/stored, and python/tests/stored/frames.pcap, in place of comparing
-# The package takes /usr/bin/python3 and the packages of Debian that docs/how-to/install.md names, and python3-pytest. It runs the program of TORA, else
-# crates/tora/out/tora, else out/tora_unproved, which ./tora leaves; what needs a program is left out where there is none.
-# The dissector dev/tora.lua is tried on a stored capture, where there is a tshark (package tshark), and the module for ns-3 (ns3/check)
-# where it is built (ns3/build).
+#   --store   write the results to dev/stored and python/tests/stored/frames.pcap instead of comparing
+# The package needs /usr/bin/python3 with the Debian packages of docs/how-to/install.md, and python3-pytest. The program is that of
+# TORA, else crates/tora/out/tora, else out/tora_unproved, which ./tora leaves; without a program, what needs one is left out.
+# The dissector dev/tora.lua is tried on a stored capture if there is a tshark (package tshark), and the module for ns-3 (ns3/check)
+# if it is built (ns3/build).
 set -eu
 here=$(cd "$(dirname "$0")" && pwd)
 store=

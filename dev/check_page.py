@@ -1,5 +1,5 @@
 #!/usr/bin/python3
-"""Drives the pages of stored runs in a headless Chromium; check-page.sh makes them and calls it.
+"""Checks the pages of stored runs in a headless Chromium; check-page.sh makes the pages and calls this script.
 
   check_page.py --browser PATH --driver PATH [--picture FILE] [--shot PAGE] [--figures PAGE] DIR
 """

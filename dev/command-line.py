@@ -1,11 +1,11 @@
 #!/usr/bin/env python3
-"""Makes docs/reference/command-line.md of what the commands say with --help.
+"""Makes docs/reference/command-line.md from what the commands print with --help.
 
 usage: dev/command-line.py [--check] [PROGRAM]
-  --check   write nothing; status 1 where the page is not what would be written
-  PROGRAM   the program tora; ./tora of this repository without it
+  --check   write nothing; the status is 1 if the page differs from what would be written
+  PROGRAM   the program tora; without it, ./tora of this repository
 
-Lines over 100 characters are wrapped. Exit status: 0, 1 where --check finds a difference or a command fails, 2 for a wrong use.
+Lines over 100 characters are wrapped. Exit status: 0; 1 if --check finds a difference or a command fails; 2 for wrong usage.
 """
 import pathlib
 import re

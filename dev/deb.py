@@ -1,25 +1,26 @@
 #!/usr/bin/env python3
-"""Makes Debian packages of the program that is built, and of what stands around it.
+"""Makes Debian packages of the program that is built, and of what comes with it.
 
 usage: ./tora deb [--unproved] [--twice] [--out DIR]
 
-  --unproved   takes out/tora_unproved, which ./tora made for a first answer and which is not proved, in place of the program;
-               the version of the packages has `unproved` then
+  --unproved   packs out/tora_unproved, which ./tora makes for a first answer and which is not proved, instead of the program;
+               the version of the packages then has `unproved`
   --twice      makes each package twice, in two folders, and compares the bytes
-  --out DIR    where the packages go; out/deb without it
+  --out DIR    where the packages go; the default is out/deb
 
   tora           the program, its manual pages, completion, units for systemd, dissector, examples and documents
-  ns3-tora       the module for ns-3 as sources and, where there is ns-3 (package libns3-dev), as a library
-  python3-tora   the package tora of Python with tora-study and tora-routes, where the repository has the folder python
-  libtora0       the library for C, where `./tora build --lib` built it
-  libtora-dev    its header, archive, file for pkg-config, guide and examples, there too
+  ns3-tora       the module for ns-3 as sources and, if ns-3 is installed (package libns3-dev), as a library
+  python3-tora   the Python package tora with tora-study and tora-routes, if the repository has the folder python
+  libtora0       the library for C, if `./tora build --lib` has built it
+  libtora-dev    its header, archive, file for pkg-config, guide and examples, likewise
 
-Nothing is compiled but the module, and the library is the proved one in each case. The version is that of the file VERSION, with the
-time and name of the commit where it ends in `-dev`; with `changed` where the tree has changes. All files have the time of the commit
-(SOURCE_DATE_EPOCH), so the same text, program, library and system give the same bytes. What `lintian` says is told; an error of it is
-one here. It needs `dpkg-dev` and `debhelper`; the module `cmake`, `g++` and `libns3-dev`; python3-tora `dh-python` and
-`pybuild-plugin-pyproject`. Exit status: 1 where a package can't be made, differs when it is made again, or has an error of lintian; 2 for
-usage, where a command is missing, where there is no program, or where the library is older than its sources.
+Only the module is compiled; the library is the proved one in each case. The version is that of the file VERSION. If it ends in
+`-dev`, the time and name of the commit follow, and `changed` if files differ from the commit. All files have the time of the
+commit (SOURCE_DATE_EPOCH), so the same text, program, library and system give the same bytes. What `lintian` reports is printed, and
+its errors count as errors here. This needs `dpkg-dev` and `debhelper`; the module needs `cmake`, `g++` and `libns3-dev`;
+python3-tora needs `dh-python` and `pybuild-plugin-pyproject`. Exit status: 1 if a package cannot be made, differs when it is made
+again, or has an error of lintian; 2 for wrong usage, if a command is missing, if there is no program, or if the library is older
+than its sources.
 """
 import argparse
 import hashlib

@@ -1,12 +1,12 @@
 #!/usr/bin/env bash
-# Tries the wrong bodies that the merge gate leaves out, crates/NAME/edits/*.edit: the prover has to refuse each. They have
+# Tries the wrong bodies that the merge gate leaves out, crates/NAME/edits/*.edit: the prover must refuse each of them. They have
 # the form of the edits in crates/NAME/must-fail/, which `rt ci` tries.
-# usage: dev/edits.sh [-j NUMBER] [CRATE ..]     all crates that have such edits where none is named
-#   -j NUMBER   as many crates side by side, 1 to 999, each with up to 4 GB; 1 without it
-# Each crate is tried on a copy, which is gone at the end, so that what is not committed is tried, too. The copy takes the
+# usage: dev/edits.sh [-j NUMBER] [CRATE ..]     without a CRATE, all crates that have such edits
+#   -j NUMBER   how many crates at a time, 1 to 999, each with up to 4 GB; the default is 1
+# Each crate is tried on a copy, which is removed at the end, so changes that are not committed are tried, too. The copy takes the
 # libraries of the crates below from their out/ (`rt all check` makes them), and proves those that are missing or old. The
 # first edit of a crate costs a proof of it, each further one 20 to 90 seconds.
-# The last line is 'N passed, M failed', the status 1 where one failed. An edit that can't be applied has failed.
+# The last line is 'N passed, M failed'; the status is 1 if one failed. An edit that cannot be applied has failed.
 set -u
 top=$(cd "$(dirname "$0")/.." && pwd)
 many=1

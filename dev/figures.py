@@ -1,10 +1,10 @@
 #!/usr/bin/python3
-"""Makes docs/developers/figures.md of bench/figures.toml.
+"""Makes docs/developers/figures.md from bench/figures.toml.
 
 usage: dev/figures.py            writes the page
-       dev/figures.py --check    ends with 1 where the page is not what the file gives
+       dev/figures.py --check    compares; the status is 1 if the page differs from what the file gives
 
-The page computes each ratio of the two values that stand in the file, and rounds it to two digits behind the point.
+Each ratio is computed from the two values in the file and rounded to two decimal places.
 """
 
 import re

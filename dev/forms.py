@@ -1,11 +1,11 @@
 #!/usr/bin/env python3
-"""Compares the lines that docs/formats.md has with those that the manual pages and the help of the program repeat.
+"""Compares the forms of lines in docs/formats.md with those that the manual pages and the help of the program repeat.
 
 usage: dev/forms.py
 
-docs/formats.md is where the lines of replay files, simulation files, traces and commands are stated. The pages of docs/man and
-crates/tora_commands/src/command_line.rt repeat their forms, for whoever has the program alone. Each form that is missing there is
-told, with its section. Exit status: 0 where none is, else 1. The help names the records of a trace and has no forms of them.
+docs/formats.md defines the lines of replay files, simulation files, traces and commands. The pages of docs/man and
+crates/tora_commands/src/command_line.rt repeat their forms for readers who have only the program. Each form that is missing there is
+printed with its section. Exit status: 0 if none is missing, else 1. The help names the records of a trace without their forms.
 """
 import os
 import re

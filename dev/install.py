@@ -1,8 +1,8 @@
 #!/usr/bin/env python3
-"""Installs the program `tora` that was built, with its manual pages, completion and dissector, or takes these files away.
+"""Installs the program `tora` that is built, with its manual pages, completion and dissector, or removes these files.
 
-usage: ./tora install [PREFIX]       copies them to PREFIX (/usr/local without it)
-       ./tora uninstall [PREFIX]     removes just these files, where they are there
+usage: ./tora install [PREFIX]       copies them to PREFIX; the default is /usr/local
+       ./tora uninstall [PREFIX]     removes exactly these files, if they are there
 
   PREFIX/bin/tora                                  a script that runs the program, as ./tora does once it is built
   PREFIX/libexec/tora                              the program; it needs nothing of the repository
@@ -11,15 +11,15 @@ usage: ./tora install [PREFIX]       copies them to PREFIX (/usr/local without i
   PREFIX/share/zsh/site-functions/_tora            completion for zsh
   PREFIX/share/tora/tora.lua                       the dissector for Wireshark
 
-and where `./tora build --lib` built the library for C:
+and, if `./tora build --lib` has built the library for C:
 
   PREFIX/lib/libtora.a, libtora.so.0, libtora.so   the library
   PREFIX/include/tora.h                            its header
   PREFIX/lib/pkgconfig/tora.pc                     how to compile with it: pkg-config --cflags --libs tora
 
-Where the variable DESTDIR is set, it stands in front of each of these paths: for a package. Folders that are missing are made,
-and stay when the files go, but for share/tora. Each file takes its place whole. Exit status: 1 where a file can't be copied or
-removed, 2 for usage, and where the program is not built, or it or the library is older than its sources.
+If the variable DESTDIR is set, it is put in front of each of these paths, for a package. Missing folders are made. `uninstall`
+keeps folders, except share/tora. Each file is replaced as a whole. Exit status: 1 if a file cannot be copied or removed; 2 for
+wrong usage, if the program is not built, or if it or the library is older than its sources.
 """
 import os
 import shutil

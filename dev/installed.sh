@@ -1,6 +1,6 @@
 #!/bin/sh
-# Runs the program `tora`, which ./tora install put beside this script, with the words given. A large world lies in pages of 2 MB
-# where the system gives them to who asks: the C library asks where this variable says so as the program starts.
+# Runs the program `tora`, which ./tora install put beside this script, with the given words. For a large world the C library asks
+# the system for pages of 2 MB, if this variable says so when the program starts.
 for word in "$@"; do
   [ "$word" != --large ] || export GLIBC_TUNABLES="${GLIBC_TUNABLES-glibc.malloc.hugetlb=1}"
 done

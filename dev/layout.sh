@@ -1,8 +1,8 @@
 #!/usr/bin/env bash
-# Whether each file of code is in the layout that `rt fmt` gives it, tests as well: the merge gate refuses a crate with one that is not, and
-# says so an hour later. Files that are not are put into it, and named. Half a minute.
-# usage: dev/layout.sh [CRATE ..]     all crates where none is named
-# Status 1 where a file was not in the layout, 2 where a crate or `rt` is missing.
+# Checks that each file of code, also of tests, has the layout of `rt fmt`: the merge gate refuses a crate with a file that has
+# not, and reports it an hour later. Files without it are put into the layout, and named. This takes half a minute.
+# usage: dev/layout.sh [CRATE ..]     without a CRATE, all crates
+# Status 1 if a file was not in the layout, 2 if a crate or `rt` is missing.
 set -u
 top=$(cd "$(dirname "$0")/.." && pwd)
 case ${1-} in

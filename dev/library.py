@@ -1,7 +1,7 @@
 """Links the library for C from the archive of the crate tora_c: out/libtora.a, out/libtora.so.0 and out/libtora.so.
 
-Both have position independent code, and no symbol but `tora_*` is seen outside. The archive has one object: what the proved
-crate gives, and the few lines of the toolchain that call `malloc`, `realloc` and `free`.
+Both have position-independent code, and export only the symbols `tora_*`. The archive has one object: the code of the proved
+crate, and the few lines of the toolchain that call `malloc`, `realloc` and `free`.
 """
 import os
 import shutil

@@ -1,19 +1,19 @@
 #!/usr/bin/python3
-"""Checks runs against their laws, and makes what the checks read.
+"""Checks runs against their laws, and makes the inputs of these checks.
 
 usage: dev/oracle.py agree SIMULATION OUTPUT TRACE
        dev/oracle.py rest [--networks 200] [--seed 1] [--keep FOLDER]
        dev/oracle.py drive [--ticks 100] [--loss 0] [--seed 1] [--need N,D].. [--large] [--keep FOLDER] FILE
        dev/oracle.py capture LIST OUT
 
-  agree      compares the heights that `tora sim SIMULATION` printed with those that its TRACE tells
-  rest       runs random networks until they are at rest, and compares what is printed with the laws of worlds at rest
+  agree      compares the heights that `tora sim SIMULATION` printed with those of its TRACE
+  rest       runs random networks until they are at rest, and compares the output with the laws of worlds at rest
   drive      drives the world of FILE by `tora drive`, and compares it with `tora sim` of the same events
-  capture    writes a list of datagrams as a capture that Wireshark reads
+  capture    writes a list of datagrams as a capture for Wireshark
 
-The modules tora.oracle, tora.driving and tora.capture of python/ do it and tell more. The program is --program of rest and drive, else that
-of the environment variable TORA, else the repository's ./tora. Exit status: 0 where all agrees; 1 where something does not, or a file or an
-answer can't be; 2 for usage.
+The modules tora.oracle, tora.driving and tora.capture of python/ do the work and document it. For rest and drive the program is that of
+--program, else of the environment variable TORA, else the repository's ./tora. Exit status: 0 if all agrees; 1 if something
+differs, or a file or an answer is not valid; 2 for wrong usage.
 """
 import argparse
 import pathlib

@@ -1,12 +1,12 @@
 #!/usr/bin/env bash
-# Installs the Debian packages in a new Debian system in a folder of its own, and tries them as a new user would. It is for a release,
-# and not for the gate: it needs root, the command debootstrap, and a mirror of Debian; it takes some minutes, and 2 GB under TMPDIR.
+# Installs the Debian packages in a new Debian system in a folder of its own, and tries them as a new user would. It is for a release
+# and not part of the gate: it needs root, the command debootstrap and a mirror of Debian, takes some minutes, and 2 GB under TMPDIR.
 # usage: dev/release-check.sh [--quick] [--suite SUITE] [--mirror URL] [DIR]
-#   --quick   does not compile the example of the module for ns-3 against libns3-dev; the built example is run all the same, and the
+#   --quick   do not compile the example of the module for ns-3 against libns3-dev; the built example still runs, and the
 #             examples of the library are compiled
-#   --suite SUITE, --mirror URL    the Debian system that is made; bookworm, of the mirror that apt uses here
-#   DIR       where the packages are; out/deb without it (./tora deb makes them)
-# The last line says how many checks passed and failed. Status 0 where all passed, 1 where one failed, 2 for usage or what is missing.
+#   --suite SUITE, --mirror URL    the Debian system that is made; the defaults are bookworm and the mirror that apt uses here
+#   DIR       where the packages are; the default is out/deb (./tora deb makes them)
+# The last line says how many checks passed and failed. The status is 0 if all passed, 1 if one failed, 2 for wrong usage or if something is missing.
 set -eu
 here=$(cd "$(dirname "$0")" && pwd)
 quick='' suite=bookworm mirror=$(apt-get indextargets --format '$(REPO_URI)' 'Created-By: Packages' | head -n 1)

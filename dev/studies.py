@@ -3,13 +3,14 @@
 
 usage: dev/studies.py [--check] [NAME..]
 
-  --check   compares the tables that stand in docs/ with those that are made, and writes nothing
-  NAME..    these pictures and tables in place of all
+  --check   compares the tables in docs/ with those that are made, and writes nothing
+  NAME..    only these pictures and tables
 
-A table stands in a document under a line `<!-- made: NAME -->`. Its cells are made; the words of its header and of its first column are the
-document's own, but for the tables of `tora-study summary --report`, which are made whole. The pictures of a break are of a run that is made
-for them, by the program of TORA, else of the repository. The picture of a page is a browser's: it needs the packages chromium,
-chromium-driver and python3-selenium. Exit status: 0 where all is made or agrees; 1 where a table differs or a picture can't be made; 2 for usage.
+A table is in a document under a line `<!-- made: NAME -->`. Its cells are made; the document itself has the words of its header and of
+its first column. The tables of `tora-study summary --report` are made whole. The pictures of a break show a run that is made for
+them, by the program of TORA or else of the repository. A browser draws the picture of a page, which needs the packages chromium,
+chromium-driver and python3-selenium. Exit status: 0 if all is made or agrees; 1 if a table differs or a picture cannot be made; 2 for
+wrong usage.
 """
 import argparse
 import os

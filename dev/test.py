@@ -1,15 +1,15 @@
 #!/usr/bin/env python3
-"""Runs the tests of every crate of crates.txt that has some, without a proof.
+"""Runs the tests of every crate of crates.txt that has tests, without a proof.
 
 usage: ./tora test [--jobs N] [CRATE ..]
 
-  --jobs N    N crates at a time, from 1 to 1024, in place of two
-  CRATE ..    the tests of these crates alone
+  --jobs N    N crates at a time, from 1 to 1024; the default is two
+  CRATE ..    only the tests of these crates
 
-`rt try --test` compiles each crate with its tests and runs them with checks at run time. Each crate is told as it ends, and
-each test that fails with what it wrote. The last line is `N passed, M failed`, in tests; a crate whose tests can't be compiled
-counts as one that failed. Nothing is proved here: `rt ci` is the gate. Exit status: 0 where none failed, 1 where one did or
-there is none, 2 for usage.
+`rt try --test` compiles each crate with its tests and runs them with checks at run time. Each crate is reported when it ends, and
+each test that fails is reported with its output. The last line is `N passed, M failed`, counted in tests; a crate whose tests
+cannot be compiled counts as one that failed. Nothing is proved here: `rt ci` is the gate. Exit status: 0 if none failed, 1 if one did
+or there is none, 2 for wrong usage.
 """
 import argparse
 import os

@@ -3,11 +3,11 @@
 
 usage: dev/version.py [--write]
 
-  --write   writes the version of the file VERSION to each place, in place of comparing
+  --write   writes the version of the file VERSION to each place, instead of comparing
 
-The places are the program, the library for C with its specification, the Python package and the citation. The changelog
-must have a section of the version, or "Unreleased" where the version ends in `-dev`; no option writes that section.
-Each place that differs is named. Exit status: 0 if all agree, 1 if one differs, 2 for usage.
+The places are the program, the library for C with its specification, the Python package and the citation. The changelog must
+begin with a section of the version, or with "Unreleased" if the version ends in `-dev`; no option writes that section.
+Each place that differs is reported. Exit status: 0 if all agree, 1 if one differs, 2 for wrong usage.
 """
 import pathlib
 import re
