@@ -1,6 +1,6 @@
 #!/usr/bin/env bash
 # Times WHAT (core or codec) and the baseline's `bench` in turn, and prints the best of each.
-# usage: [BASE=FOLDER] bench/beside.sh WHAT [STEPS] [ROUNDS]     BASE: other sources of the baseline than bench/baseline
+# usage: [BASE=FOLDER] bench/beside.sh WHAT [STEPS] [ROUNDS]     BASE: sources of the baseline instead of bench/baseline
 set -eu
 top=$(cd "$(dirname "$0")/.." && pwd)
 what=$1

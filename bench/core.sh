@@ -1,9 +1,9 @@
 #!/usr/bin/env bash
-# Nanoseconds a step of the core on four mixes of inputs, beside an unverified baseline, in one run; three of the mixes with the
-# largest table, which the baseline doesn't have; and the memory of a core with the least table, with that of the mixes, and
-# with the largest one.
-# The program crate `tora_bench` makes the inputs; the baseline makes inputs of the same kinds by its own generator.
-# usage: [BASE=FOLDER] bench/core.sh [STEPS] [ROUNDS]     BASE: other sources of the baseline than bench/baseline
+# Nanoseconds for a step of the core on four mixes of inputs, beside an unverified baseline in the same run; three of the mixes
+# with the largest table, which the baseline does not have; and the memory of a core with the smallest table, with that of the
+# mixes, and with the largest one.
+# The program crate `tora_bench` makes the inputs; the baseline makes inputs of the same kinds with its own generator.
+# usage: [BASE=FOLDER] bench/core.sh [STEPS] [ROUNDS]     BASE: sources of the baseline instead of bench/baseline
 set -eu
 here=$(cd "$(dirname "$0")" && pwd)
 "$here/beside.sh" core "$@"

@@ -1,7 +1,7 @@
 #!/usr/bin/env bash
 # Time of `tora drive` beside `tora sim` of the same events: a grid of 10 x 10 nodes, 1,000 steps, each datagram delivered. The
-# lines are those of one run over a pipe (dev/oracle.py drive), which is timed too; then both read their lines from a file.
-# usage: bench/drive.sh [STEPS] [RUNS] [PROGRAM] [SIDE]     SIDE: so many nodes along each side, up to 32; 10 without it
+# lines are recorded from a run over a pipe (dev/oracle.py drive), which is timed too; then both programs read their lines from a file.
+# usage: bench/drive.sh [STEPS] [RUNS] [PROGRAM] [SIDE]     SIDE: nodes along each side, up to 32; the default is 10
 set -eu
 top=$(cd "$(dirname "$0")/.." && pwd)
 steps=${1:-1000}

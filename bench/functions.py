@@ -1,17 +1,17 @@
 #!/usr/bin/env python3
-"""Tells what each function of a crate costs a check from nothing, as the merge gate makes it.
+"""Reports what each function of a crate costs a check from nothing, as the merge gate makes it.
 
 usage: bench/functions.py CRATE [--test] [--only PATH ..] [--least SECONDS]
 
   --test           the crate with its tests
-  --only PATH      this function, module or type and what it calls, in place of the whole crate; may stand several times
-  --least SECONDS  leaves out functions that took less (0.5 without it)
+  --only PATH      only this function, module or type and what it calls; may be given several times
+  --least SECONDS  leaves out functions that took less; the default is 0.5
 
-Each line has the seconds by the clock that a function took, and its name; below them stand the stages of the check and the
-most memory that it held. The check has one job and keeps nothing, so that functions come one after another: with kept work
-they are checked in batches, and can't be told apart. The first function carries what every check loads (some ten seconds), and
-the first that needs a module of a library carries its loading, which can be as much: where one stands out, look at it
-alone, beside another of its kind (--only). Run it with nothing else running. The crates below have to be proved (./tora build CRATE).
+Each line has the seconds of real time that a function took, and its name. Below are the stages of the check and its peak
+memory. The check has one job and keeps nothing, so functions come one after another: with kept work they are checked in
+batches and cannot be told apart. The first function carries what every check loads (some ten seconds), and the first one
+that needs a module of a library carries its loading, which can be as much. If one stands out, measure it alone, beside another
+of its kind (--only). Run this with nothing else running. The crates below must be proved (./tora build CRATE).
 """
 import argparse
 import os

@@ -1,12 +1,11 @@
 #!/usr/bin/env bash
-# Hands random and mutated inputs to the program for SECONDS: replay files (with packets in hexadecimal), simulation files
-# and configurations; then random and mutated datagrams to a running node while it keeps its route, for as long again.
+# Gives random and mutated inputs to the program for SECONDS: replay files (with packets in hexadecimal), simulation files
+# and configurations; then, for as long again, random and mutated datagrams to a running node while it keeps its route.
 # A run must end within 20 seconds, by no signal, with an exit status that the manual page names for its word. The seed is printed;
 # with it the same inputs come in the same order. What fails is kept under KEPT, and the status is then 1.
-# With --keys only the datagrams, for SECONDS, at a node whose links have keys that the sender doesn't know: without tags,
-# with tags of another key or of another datagram, with a tag cut, and real datagrams that were recorded on the way, of this
-# life and of those before, as they were and changed. No route may be missing then, whatever a datagram names, and node 2 is
-# killed and started again halfway under them.
+# With --keys there are only datagrams, for SECONDS, to a node whose links have keys that the sender does not know: without tags,
+# with tags of another key or of another datagram, with a tag cut, and recorded real datagrams of this life and of earlier
+# ones, unchanged and changed. No route may be lost, whatever a datagram names. Halfway node 2 is killed and restarted.
 # usage: bench/fuzz.sh [--keys] SECONDS [SEED] [KEPT]
 set -eu
 keys=

@@ -1,9 +1,9 @@
 #!/usr/bin/env python3
-"""Runs the merge gate, `rt ci`, on a clean clone and tells what its time and memory went to, crate by crate.
+"""Runs the merge gate, `rt ci`, on a clean clone, and reports its time and memory by crate.
 
-What is not committed is not run. The table, in Markdown, is printed also where the gate fails or is broken off by Ctrl-C or SIGTERM.
+Only committed files are run. The table, in Markdown, is also printed if the gate fails or is interrupted by Ctrl-C or SIGTERM.
 
-Each half second the processes below `rt ci` are read in /proc. Processor time is user and system time, to the end of each
+Every half second the processes below `rt ci` are read from /proc. Processor time is user and system time, to the end of each
 process. A process belongs to the crate that its command line names, and to one of
 
   proof   the check or the build of the crate from nothing, its layout, and a program's compilers and linker
@@ -11,8 +11,8 @@ process. A process belongs to the crate that its command line names, and to one 
   edits   the must-fail edits, with the check that the crate is proved over the folder in which they share their work
   run     the runs of the program and of the tests
 
-What is left of the time of the whole run is `rt` itself and what began and ended between two readings. The time of a task
-goes from the start of its first process to the end of its last one. Memory is resident size, in which pages that
+The rest of the time of the whole run is `rt` itself, and processes that began and ended between two readings. The time of a task
+runs from the start of its first process to the end of its last one. Memory is resident size, in which pages that
 two processes share count twice.
 """
 import argparse

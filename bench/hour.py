@@ -1,10 +1,11 @@
 #!/usr/bin/python3
-"""Times `tora-study measure` on the trace of an hour of 64 nodes: processor time with the start of Python, and the most memory.
+"""Times `tora-study measure` on the trace of an hour of 64 nodes: processor time with the start of Python, and peak memory.
 
-usage: bench/hour.py [SCENARIO.json TRACE]     of another trace, in the place of the one that is made
+usage: bench/hour.py [SCENARIO.json TRACE]     another trace instead of the one that is made
 
-The trace that is made is one of a line of 64 nodes to whose last one each other has a flow: in each of 36,000 rounds every third node has a new
-height, and one link is parted for a second of every two. It has more routes than that of a simulation. The aims are 5 s and 300 MB.
+The trace that is made is of a line of 64 nodes in which each other node has a flow to the last one. In each of 36,000 rounds every
+third node has a new height, and one link is parted for one second of every two. It has more routes than the trace of a
+simulation. The aims are 5 s and 300 MB.
 """
 import json
 import pathlib

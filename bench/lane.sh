@@ -1,6 +1,6 @@
 #!/usr/bin/env bash
-# Items from three threads into the lane into the core, beside Rust's std::sync::mpsc::sync_channel, and cargoes from one
-# thread to another through the lane to a neighbour, beside a plain ring of atomics, in one run. The baseline is the Cargo
+# Items from three threads into the lane to the core, beside Rust's std::sync::mpsc::sync_channel, and cargoes from one
+# thread to another through the lane to a neighbour, beside a plain ring of atomics, in the same run. The baseline is the Cargo
 # crate `lane_base` beside this script, which has no dependencies.
 # usage: bench/lane.sh [COUNT] [ROUNDS]
 set -eu

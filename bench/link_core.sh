@@ -1,10 +1,10 @@
 #!/usr/bin/env bash
 # Nanoseconds for one packet between two link ends in one thread: submitted, transmitted, delivered, acknowledged. Each line
-# is a best of ROUNDS. `link-packet`: one at a time, a DATA frame and an ACK each. `link-window`: 32 under way between ends of
-# version 1, 33 frames for them. `link-batch`: 32 under way between ends of version 2, three frames for them. The last two
-# also as bytes, which are spelled and read again.
-# What ENet and TCP take between two processes over the loopback stands beside them, in the same run: ENet's batches (`enet`),
-# and TCP with a write for each packet (`tcp`). Those come from bench/baseline/link/link_bench.c, or from YARDSTICK.
+# is the best of ROUNDS. `link-packet`: one packet at a time, a DATA frame and an ACK each. `link-window`: 32 packets in flight
+# between ends of version 1, 33 frames for them. `link-batch`: 32 in flight between ends of version 2, three frames for them. The
+# last two are also measured with frames that are encoded and decoded.
+# The same run measures what ENet and TCP take between two processes over the loopback: ENet's batches (`enet`), and TCP with a
+# write for each packet (`tcp`). These come from bench/baseline/link/link_bench.c, or from YARDSTICK.
 # usage: [YARDSTICK=FOLDER] bench/link_core.sh [PACKETS] [ROUNDS]     needs ENet's header files (package libenet-dev)
 set -eu
 top=$(cd "$(dirname "$0")/.." && pwd)

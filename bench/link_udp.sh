@@ -1,9 +1,9 @@
 #!/usr/bin/env bash
-# Packets of 32 bytes from one neighbour's thread to another over two UDP sockets of the loopback, at most 32 under way, in
-# batches of up to sixteen, beside yardsticks in C between two processes, in one run: ENet's batches (`enet`), TCP with a
-# write for each packet (`tcp`), and frames of one packet of the sizes of version 1 (`sw`: one under way; `w32`: 32 under way).
-# Beside them the same link with a key (`keyed`). Each line is a best of ROUNDS. The yardsticks are bench/baseline/link/link_bench.c, or the
-# one in the folder YARDSTICK.
+# Packets of 32 bytes from one neighbour's thread to another over two UDP sockets of the loopback, at most 32 in flight, in
+# batches of up to sixteen, beside yardsticks in C between two processes in the same run: ENet's batches (`enet`), TCP with a
+# write for each packet (`tcp`), and frames of one packet of the sizes of version 1 (`sw`: one in flight; `w32`: 32 in flight).
+# The same link with a key is `keyed`. Each line is the best of ROUNDS. The yardsticks are bench/baseline/link/link_bench.c, or
+# the one in the folder YARDSTICK.
 # usage: [YARDSTICK=FOLDER] bench/link_udp.sh [COUNT] [ROUNDS]     needs ENet's header files (package libenet-dev)
 set -eu
 top=$(cd "$(dirname "$0")/.." && pwd)

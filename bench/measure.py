@@ -1,9 +1,9 @@
 #!/usr/bin/env python3
-"""Runs two commands on one input in turn, and prints time, memory and their ratio.
+"""Runs two commands on one input in turn, and prints their time, memory and ratios.
 
 measure.py ROUNDS INPUT OUT_A OUT_B -- COMMAND_A .. -- COMMAND_B ..
-The best of ROUNDS runs of each counts, since the machine is shared. Memory is the greatest resident size that the system
-tells, which is never below that of this script itself: the last line says how much that is.
+The best of ROUNDS runs of each counts, since the machine may be shared. Memory is the peak resident size that the system
+reports, which is never below that of this script itself; the last line says how much that is.
 """
 import os
 import subprocess

@@ -1,12 +1,13 @@
 #!/usr/bin/env python3
-"""Tells which instructions of a program miss the caches, or the processor's table of pages, most often.
+"""Reports which instructions of a program miss the caches, or the processor's table of pages, most often.
 
 misses.py [--pages] [--top N] PROGRAM WORD..      runs PROGRAM WORD.. under callgrind, which takes some forty times as long
 
-A first level of 32 kB and a second of 1 MB, lines of 64 bytes; with --pages tables of 64 and 1,536 pages of 4 kB, which callgrind counts as
-caches whose lines are pages. Of each instruction: how often the second level is missed, by reads and writes, its part of all, how often the
-first is, how often it is executed, its address, its function, and what it is. Below stand the functions of the program with the most misses.
-The libraries' instructions have no name. What is missed in order is fetched ahead by a real processor, which is not counted here.
+The model has a first level of 32 kB and a second of 1 MB, with lines of 64 bytes; with --pages it has tables of 64 and 1,536 pages of
+4 kB, which callgrind counts as caches whose lines are pages. For each instruction: how often the second level is missed, by
+reads and writes, its share of all misses, how often the first level is missed, how often it is executed, its address, its
+function, and the instruction. Below are the functions of the program with the most misses. Instructions of libraries have no
+name. A real processor fetches ahead what is missed in order, which is not modelled here.
 """
 import os
 import re

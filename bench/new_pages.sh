@@ -1,8 +1,9 @@
 #!/usr/bin/env bash
-# For which calls for memory a program's new pages are first written: it counts the page faults within each malloc and realloc, by the size that is
-# asked for, and prints the 24 sizes with the most. Sizes above 4 kB are rounded down to 1 kB, above 64 kB to 64 kB.
-# What is written into the memory later is counted in the whole alone: the first line tells how many faults were within such calls, and how many in all.
-# usage: bench/new_pages.sh PROGRAM WORD..      what the program prints goes away
+# Which requests for memory first write a program's new pages: this counts the page faults within each malloc and realloc, by the
+# requested size, and prints the 24 sizes with the most. Sizes above 4 kB are rounded down to 1 kB, above 64 kB to 64 kB.
+# Pages that are first written later count only in the total: the first line says how many faults were within such calls, and how
+# many there were in all.
+# usage: bench/new_pages.sh PROGRAM WORD..      the output of the program is discarded
 set -eu
 case ${1-} in
   -h | --help) sed -n '2,/^set -eu/{/^# /s/^# //p}' "$0"; exit 0 ;;

@@ -1,13 +1,13 @@
 #!/usr/bin/env bash
 # A line of four processes on the loopback (the configurations of examples/line-of-four): the time from `need 4` at node 1
 # to a next hop there, three hops from the destination, as the median of RUNS; the time from `quit` to the end of a node; the time of a
-# repair (below); and the processor time of a node with two links, and of one with 32, that has nothing to do, over 30 s. Where BESIDE
-# names another build of the program, it is measured in turns with this one.
+# repair (below); and the processor time over 30 s of an idle node with two links, and of one with 32. If BESIDE names another
+# build of the program, the two are measured in turn.
 #
-# A repair: nodes 1 to 8 in a line, with routes to node 8, and node 9 beside them, which has links to 1 and 8. The process of node 7 is
-# killed. From the moment when node 6 logs that its link to 7 is down to the moment when it has a next hop again, which is node 5, and
-# to the moment when node 2 has node 1 as its next hop, four nodes further on: the median of RUNS, 5 at most, since each waits for the
-# silence of the link. A program without the command `watch` has none.
+# A repair: nodes 1 to 8 are a line with routes to node 8, and node 9 has links to 1 and 8. The process of node 7 is
+# killed. The time runs from the moment when node 6 logs that its link to 7 is down to the moment when it has a next hop again,
+# which is node 5, and to the moment when node 2 has node 1 as its next hop, four nodes further on. The result is the median of
+# RUNS, at most 5, since each run waits for the silence of the link. A program without the command `watch` has no such result.
 # usage: [BESIDE=PROGRAM] bench/node.sh [RUNS]
 set -eu
 top=$(cd "$(dirname "$0")/.." && pwd)

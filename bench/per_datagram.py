@@ -1,11 +1,11 @@
 #!/usr/bin/env python3
-"""Processor time that a datagram takes in `tora sim --large`, and that of the last file by that of the first.
+"""Processor time that a datagram takes in `tora sim --large`, and the ratio of the last file's to the first file's.
 
 per_datagram.py ROUNDS PROGRAM FILE..
 per_datagram.py --more ROUNDS PROGRAM SHORT LONG SHORT LONG..
-Datagrams are counted in a trace (HELLO, DATA and ACK, those too that went over a parted link); the time is the best of ROUNDS runs
-without a trace, in turn, from the start of the process to its end. With --more files come in pairs, a short one and one that goes on behind it:
-what is told is the time that each of the datagrams behind takes, without that in which the world is made.
+Datagrams are counted in a trace (HELLO, DATA and ACK, also those over a parted link). The time is the best of ROUNDS runs
+without a trace, in turn, from the start of the process to its end. With --more, files come in pairs, a short one and one that
+continues it; the result is the time of each further datagram, without the time that it takes to make the world.
 """
 import os
 import subprocess

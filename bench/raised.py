@@ -1,11 +1,11 @@
 #!/usr/bin/env python3
 """Raises the limits of the baseline in a copy of its sources, for large worlds.
 
-raised.py FOLDER NODES NEIGHBOURS     FOLDER is src of the copy; NEIGHBOURS is 8, as they are, or 32
+raised.py FOLDER NODES NEIGHBOURS     FOLDER is src of the copy; NEIGHBOURS is 8, as in the baseline, or 32
 
-The baseline has 64 nodes, each with up to 8 neighbours. It keeps a set of nodes and a set of neighbours as the bits of one number each.
-In the copy a set of nodes has many numbers, as a set of link ends has, and a set of neighbours has 32 bits. The script refuses sources
-in which a text to be replaced does not occur as often as it expects, so that no baseline is measured with only some limits raised.
+The baseline has 64 nodes, each with up to 8 neighbours. It stores a set of nodes and a set of neighbours as the bits of one number
+each. In the copy a set of nodes has many numbers, like a set of link ends, and a set of neighbours has 32 bits. The script
+rejects sources in which a text to be replaced does not occur as often as expected, so no baseline is measured with only some limits raised.
 """
 import os
 import re

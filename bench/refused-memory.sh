@@ -1,11 +1,11 @@
 #!/usr/bin/env bash
-# Refuses memory to every test of every crate: the Nth call for it, N from 1 on until none is refused any more, each in a run
-# of its own. A test named `want_of_memory..` must pass in every run. Any other test may fail where it wants memory, but none
-# may fault or hang. (Tests of lanes and of neighbours' threads may wait for a thread that was not started: those of the modules
-# `lanes` and `neighbours`. They are ended after 20 seconds and counted; any other test has 60.)
-# usage: bench/refused-memory.sh [-m MOST] [CRATE ..]     all crates where none is named; MOST is 2000 without -m
-# Behind the MOSTth call N goes on in steps of a twentieth. The crates' tests are built by `rt test`, which proves them, where
-# they are not built. It needs a C compiler.
+# Refuses memory to every test of every crate: the Nth request, N from 1 on until none is refused any more, each in a run
+# of its own. A test named `want_of_memory..` must pass in every run. Any other test may fail for want of memory, but none
+# may crash or hang. (Tests of lanes and of neighbours' threads, in the modules `lanes` and `neighbours`, may wait for a thread
+# that was not started. They are ended after 20 seconds and counted; any other test has 60 seconds.)
+# usage: bench/refused-memory.sh [-m MOST] [CRATE ..]     without a CRATE, all crates; MOST is 2000 by default
+# After the MOSTth request, N goes on in steps of a twentieth. If the crates' tests are not built, `rt test` builds them, which
+# proves them. It needs a C compiler.
 set -u
 top=$(cd "$(dirname "$0")/.." && pwd)
 most=2000

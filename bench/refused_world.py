@@ -1,12 +1,12 @@
 #!/usr/bin/env python3
-"""Refuses memory to `tora sim --large` and `tora drive --large` on a line of 200 nodes: the Nth call for it, N from 1 on until none is refused any more.
+"""Refuses memory to `tora sim --large` and `tora drive --large` on a line of 200 nodes: the Nth request, N from 1 on until none is refused any more.
 
 usage: bench/refused_world.py [--nodes 200] [--step 1] PROGRAM
 
-Node 1 needs a route to the last node, and finds it; then a node begins anew, and heights and walks are asked for. Each call is refused in a run of
-its own (bench/refuse.c, which `cc` compiles). A run has to end with status 5, `tora: memory` on standard error and a front of what is printed where
-there is memory; or with status 0 and all of it, where the call was none that the program stands on. With --step S every S-th call is refused. The
-exit status is 0 where each run does so, and 1 with those that do not.
+Node 1 needs a route to the last node, and finds it; then a node restarts, and heights and walks are printed. Each request is refused in a run of
+its own (bench/refuse.c, which `cc` compiles). A run must end with status 5, `tora: memory` on standard error and a prefix of the output that is
+printed with enough memory; or with status 0 and all of the output, if the program does not depend on the request. With --step S every S-th request
+is refused. The exit status is 0 if each run does so, and 1, with those that do not, otherwise.
 """
 import argparse
 import os

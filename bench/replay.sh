@@ -1,6 +1,6 @@
 #!/usr/bin/env bash
-# Lines per second and peak memory of `tora replay`, beside an unverified baseline, in one run.
-# usage: [BASE=FOLDER] bench/replay.sh [LINES] [ROUNDS]     BASE: other sources of the baseline than bench/baseline
+# Lines per second and peak memory of `tora replay`, beside an unverified baseline in the same run.
+# usage: [BASE=FOLDER] bench/replay.sh [LINES] [ROUNDS]     BASE: sources of the baseline instead of bench/baseline
 set -eu
 top=$(cd "$(dirname "$0")/.." && pwd)
 lines=${1:-1000000}

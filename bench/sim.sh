@@ -1,19 +1,19 @@
 #!/usr/bin/env bash
-# Time and peak memory of `tora sim`, beside an unverified baseline, in one run: a line of 64 nodes, a grid of 8 x 8, a star
-# of 9, and the grid with 16 destinations. Links are parted and mended; what stands behind the links comes REPEATS times. The
-# last file is the grid for 2,000 rounds in which nothing happens but HELLOs, REPEATS times too.
-# Each runs twice: with a line `old N` for every node, where the outputs have to be the same, and without them. The baseline
-# knows version 1 of frames alone, and batches bring packets in another order, so without them heights may differ.
-# Large worlds come behind, once each, as `tora sim --large` runs them, which is in pages of 2 MB where the system gives them (./tora, and the
-# script that ./tora install puts into bin), beside the baseline with its limits raised in a copy (bench/raised.py), which has pages of 4 kB: a grid of
-# 32 x 32 with one need across it, 500 moving nodes for 1,200 rounds, which are to take at most the baseline's time, and
-# 1,024 nodes with 8,000 links and 16 destinations; the memory of the first is to be under 150 MB, of the last under 1 GB. Then 500 moving nodes once
-# more in pages of 4 kB, as the program has them by itself: there the two programs are compared alike, and the aim is the same.
-# Then the time of a datagram at 64 and at 1,024 nodes, which is to be at most 1.5 times:
-# in a grid, where no link is parted, for 2,000 and for 16,000 rounds of the larger one, and with moving nodes; and the same of each datagram more,
-# without the time in which the world is made. Both run with --large.
-# usage: [BASE=FOLDER] bench/sim.sh [--large] [REPEATS] [ROUNDS]     BASE: other sources of the baseline than bench/baseline
-#   --large   large worlds alone
+# Time and peak memory of `tora sim`, beside an unverified baseline in the same run: a line of 64 nodes, a grid of 8 x 8, a star
+# of 9, and the grid with 16 destinations. Links are parted and mended; the lines after the links are repeated REPEATS times. The
+# last file is the grid for 2,000 rounds in which only HELLOs are sent, also REPEATS times.
+# Each file runs twice: with a line `old N` for every node, where the outputs must be the same, and without. The baseline
+# knows only version 1 of frames, and batches deliver packets in another order, so heights may differ without these lines.
+# Large worlds follow, once each, as `tora sim --large` runs them: in pages of 2 MB if the system provides them (./tora and the
+# script that ./tora install puts into bin ask for them). The baseline has its limits raised in a copy (bench/raised.py), and
+# pages of 4 kB. The worlds are a grid of 32 x 32 with one need across it; 500 moving nodes for 1,200 rounds, which must take at most
+# the baseline's time; and 1,024 nodes with 8,000 links and 16 destinations. The first must stay under 150 MB, the last under 1 GB.
+# Then the 500 moving nodes run again in pages of 4 kB for both programs, with the same aim.
+# Then the time of a datagram at 64 and at 1,024 nodes, whose ratio must be at most 1.5: in a grid without parted links, for 2,000
+# and for 16,000 rounds of the larger one, and with moving nodes; and the same for each further datagram, without the time that
+# it takes to make the world. Both run with --large.
+# usage: [BASE=FOLDER] bench/sim.sh [--large] [REPEATS] [ROUNDS]     BASE: sources of the baseline instead of bench/baseline
+#   --large   only large worlds
 set -eu
 top=$(cd "$(dirname "$0")/.." && pwd)
 alone=''

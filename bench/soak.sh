@@ -1,8 +1,8 @@
 #!/usr/bin/env bash
-# A ring of five nodes, as processes over UDP on the loopback, for MINUTES: every few seconds one of them is killed with -9 and
-# started again on the same life files, each third time with a life file torn (the slot that the next draw writes is overwritten
-# by half). After each kill a route from every node has to come back. At the end all links have to be up, each entry that a node
-# knows has to be its neighbour's height, and the walk by next hops from every node has to reach the destination. Prints the
+# A ring of five nodes, as processes over UDP on the loopback, for MINUTES. Every few seconds one of them is killed with -9 and
+# restarted on the same life files, each third time with a torn life file (half of the slot that the next draw writes is
+# overwritten). After each kill a route from every node must come back. At the end all links must be up, each entry of a node
+# must be its neighbour's height, and the walk by next hops from every node must reach the destination. Prints the
 # kills, the repairs, the slowest repair, and each node's memory soon after the start and at the end.
 # usage: bench/soak.sh MINUTES [SEED]
 set -eu

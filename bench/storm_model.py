@@ -1,18 +1,18 @@
 #!/usr/bin/env python3
 """A model of the rules without links of its own: how often networks do not come to rest after a partition, and what three sets of rules leave.
 
-storm_model.py [RUNS]    RUNS networks a case (60), 32 cases a set of rules
+storm_model.py [RUNS]    RUNS networks a case (60), 32 cases for each set of rules
 
 A network is a ring of 3 to 12 nodes, half of them with chords. Some nodes ask for the destination, which is then cut off; needs and links that
-come and go follow. Then nothing changes any more. Packets take 1 to J ticks, and each link keeps their order. A run is not at rest where after
-20,000 packets, or 2,000 ticks, packets are still under way. In a second draw of the same networks the destination comes back in the end, and
-in a third it is never cut off; there each node asks three times more in the end. `loops` are next hops that lead in a circle, `in loops` nodes whose
+come and go follow. Then nothing changes any more. Packets take 1 to J ticks, and each link keeps their order. A run is not at rest if packets
+are still in flight after 20,000 packets or 2,000 ticks. In a second draw of the same networks the destination comes back at the end. In a third
+it is never cut off, and each node asks three more times at the end. `loops` are next hops that form a circle, `in loops` are nodes whose
 next hops lead into one, and `no route` are nodes with a path to the destination whose next hops end elsewhere.
 
-Rules `plain` are those of docs/explanation/tora.md. With `unreflected` a route is built from heights whose reference level is not reflected (r = 0)
-alone, as the draft of TORA says. With `remembered` a clear withdraws its sender, and an update of the level that was erased last is not taken.
+Rules `plain` are those of docs/explanation/tora.md. With `unreflected` a route is built only from heights whose reference level is not reflected
+(r = 0), as the draft of TORA says. With `remembered` a clear withdraws its sender, and an update of the level that was erased last is ignored.
 
-This is a sketch of the rules for experiments, and apart from the product: nothing of it is proved, and its links lose nothing.
+This is a sketch of the rules for experiments, separate from the product: nothing of it is proved, and its links lose nothing.
 """
 import heapq
 import random

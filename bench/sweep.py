@@ -1,12 +1,12 @@
 #!/usr/bin/python3
 """Measures what `tora-study sweep` adds to the runs themselves, in processor time.
 
-usage: bench/sweep.py [RUNS] [NODES] [ROUNDS]     200 runs of 20 nodes for 1,200 rounds without words
-  TORA   the program, else the repository's ./tora
+usage: bench/sweep.py [RUNS] [NODES] [ROUNDS]     the defaults are 200 runs of 20 nodes for 1,200 rounds
+  TORA   the program; without it the repository's ./tora
 
-The sweep makes RUNS runs with seeds 1 to RUNS, its table, summary and picture. Then the same runs are made and measured once more, one after
-another in this process, which has read all modules. The last line has what the sweep took more, in seconds and by
-the time of the runs alone.
+The sweep makes RUNS runs with seeds 1 to RUNS, its table, summary and picture. Then the same runs are made and measured again, one after
+another in this process, which has loaded all modules. The last line says how much longer the sweep took, in seconds and relative to
+the runs alone.
 """
 import pathlib
 import resource
