@@ -52,7 +52,7 @@ settled-requires-clause-ends g c =
       hubs_are = c.in-Some-new_starts.ensures.hubs;
       ticks_are = c.in-Some-new_starts.ensures.ticks;
       ran = c.in-Some-run_threads.ensures.links;
-      served = subst (λ (x : SeatView × (CoreEnd × (List SendEnd × g.row.Wr))). CoreLeaves g.Wr.Write.contents x.0 x.1.0 x.1.1.0 x.1.1.1 rests.core) (λ i. ((core.0 ∙ ap first_seat same) i, (core.1 i, (core.2 i, core.3 i)))) c.in-Some-run_threads.ensures.core;
+      served = subst (λ (x : SeatView × (CoreEnd × (List SendEnd × _))). CoreLeaves g.Wr.Write.contents x.0 x.1.0 x.1.1.0 x.1.1.1 rests.core) (λ i. ((core.0 ∙ ap first_seat same) i, (core.1 i, (core.2 i, core.3 i)))) c.in-Some-run_threads.ensures.core;
       ascending = subst (λ (v : CoreView). IsAscending v.neighbours) same c.into_core-core.ensures.ascending;
     } in
     have_ends _ _ _ _ _ _ _ _ _ _ _ _ _ _ _ _ _ _ _ _ left
@@ -74,11 +74,11 @@ returns g c =
       hubs_are = c.in-Some-new_starts.ensures.hubs;
       ticks_are = c.in-Some-new_starts.ensures.ticks;
       ran = c.in-Some-run_threads.ensures.links;
-      served = subst (λ (x : SeatView × (CoreEnd × (List SendEnd × g.row.Wr))). CoreLeaves g.Wr.Write.contents x.0 x.1.0 x.1.1.0 x.1.1.1 rests.core) (λ i. ((core.0 ∙ ap first_seat same) i, (core.1 i, (core.2 i, core.3 i)))) c.in-Some-run_threads.ensures.core;
+      served = subst (λ (x : SeatView × (CoreEnd × (List SendEnd × _))). CoreLeaves g.Wr.Write.contents x.0 x.1.0 x.1.1.0 x.1.1.1 rests.core) (λ i. ((core.0 ∙ ap first_seat same) i, (core.1 i, (core.2 i, core.3 i)))) c.in-Some-run_threads.ensures.core;
       ascending = subst (λ (v : CoreView). IsAscending v.neighbours) same c.into_core-core.ensures.ascending;
     } in
     let a = answers _ _ _ _ _ _ _ _ _ _ _ _ _ _ _ _ _ _ _ _ left _ _ _ c.in-Some-run_threads.ensures.commands c.what_was_offered_was_sent.ensures c.settled-ended.result.0 c.settled-ended.ensures.settles in
-    record {
+    rw (c.settled-ended.ensures.writer) (record {
       core = a.core_is_run;
       links = a.links_ran;
       fault = a.fault_is_one;
@@ -86,4 +86,4 @@ returns g c =
       count = always ((0 < length c.args.config.neighbours) × (length c.args.config.neighbours ≤ 32)) (subst (λ (n : ℕ). (0 < n) × (n ≤ 32)) asked (c.in-Ok.ensures.made.1, c.in-Ok.ensures.made.2)) c.settled-ended.result.0;
       ran = a.ran_is;
       failed = a.failed_is;
-    }
+    })
