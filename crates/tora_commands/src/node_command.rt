@@ -23,7 +23,6 @@ use std::time::Clock;
 use tora_config::{ConfigError, NodeConfig, read_config};
 use tora_core::numbers_are_put_in_order;
 use tora_height::Id;
-use tora_keyed::LentWire;
 use tora_life::{Disk, FileDisk};
 use tora_neighbour::{ClockTicks, NodeClock, Ticks, Wake, Wire, clock_ticks};
 use tora_node::{Config, Ended, NodeError, run_node};
@@ -236,7 +235,7 @@ pub fn run<
     writer: W,
 ) -> (ExitCode, Option<W>)
     ensures { EndsNode is_check (R.did_open rt.now) R.did_read ⟦<File as Read>⟧.remaining path.now
-        (λ config. RanNode ⟦<LentWire<'a, ProgramWire<'a, R, L>> as Wire>⟧ ⟦<NodeClock<&'a R> as tora_neighbour::Clock>⟧ ⟦<ClockTicks<'a, NodeClock<&'a R>> as Ticks>⟧
+        (λ config. RanNode ⟦<&'a mut ProgramWire<'a, R, L> as Wire>⟧ ⟦<NodeClock<&'a R> as tora_neighbour::Clock>⟧ ⟦<ClockTicks<'a, NodeClock<&'a R>> as Ticks>⟧
         ⟦<FileDisk as Disk>⟧ W.contents (core_of config) (Rd.remaining reader.old) writer result.1)
         (Some writer) result.1 (exit_status result.0) }
 {
@@ -282,7 +281,7 @@ fn run_bound<
     requires config { IsNodeConfig config.now }
     requires wires { length wires.now ≡ length config.now.links.items }
     ensures { (IsUnstarted (exit_status result.0) × (result.1 ≡ Some writer))
-        ⊎ RanAndEnded (RanNode ⟦<LentWire<'a, ProgramWire<'a, R, L>> as Wire>⟧ ⟦<NodeClock<&'a R> as tora_neighbour::Clock>⟧ ⟦<ClockTicks<'a, NodeClock<&'a R>> as Ticks>⟧
+        ⊎ RanAndEnded (RanNode ⟦<&'a mut ProgramWire<'a, R, L> as Wire>⟧ ⟦<NodeClock<&'a R> as tora_neighbour::Clock>⟧ ⟦<ClockTicks<'a, NodeClock<&'a R>> as Ticks>⟧
         ⟦<FileDisk as Disk>⟧ W.contents (core_of config.now) (Rd.remaining reader.old) writer result.1) (exit_status result.0) }
 {
     let (alloc, folder) = (rt.alloc(), config.life_dir.as_str());
@@ -322,8 +321,8 @@ fn run_over<
     requires wires { length wires.now ≡ length config.now.links.items }
     requires disks { length disks.items ≡ length config.now.links.items }
     ensures { ((result.0 ≡ Err NodeError.Memory) × (result.1 ≡ Some writer))
-        ⊎ ((lent : List _) × (ticks : List _) × (map (λ l. l.wire.now) lent ≡ wires.old)
-        × NodeAnswers ⟦<LentWire<'a, Wi> as Wire>⟧.did_send ⟦<LentWire<'a, Wi> as Wire>⟧.did_receive (C.did_tell clock.now) ⟦<ClockTicks<'a, C> as Ticks>⟧.did_read
+        ⊎ ((lent : List _) × (ticks : List _) × (map (λ l. l.now) lent ≡ wires.old)
+        × NodeAnswers ⟦<&'a mut Wi as Wire>⟧.did_send ⟦<&'a mut Wi as Wire>⟧.did_receive (C.did_tell clock.now) ⟦<ClockTicks<'a, C> as Ticks>⟧.did_read
         (IsOpened D.syncs D.reads D.writes) W.contents (core_of config.now) lent disks.items ticks (Rd.remaining reader.old) writer result.1 result.0) }
 {
     let Some(node) = node_of(alloc, config) else {
