@@ -109,8 +109,17 @@ fn main(rt: HostRuntime) -> ExitCode {
         Some(("node", node)) => {
             let path = node.get_str("CONFIG").unwrap_or("");
             let (check, log) = (node.get_flag("check"), logging(rt, node));
-            let (mut reader, mut writer) = (rt.stdin(), io::writer(&rt));
-            node_command::run(&rt, &log, path, check, is_verbose, &mut reader, &mut writer)
+            let (mut reader, writer) = (rt.stdin(), io::writer(&rt));
+            let (code, _) = node_command::run(
+                &rt,
+                &log,
+                path,
+                check,
+                is_verbose,
+                &mut reader,
+                writer,
+            );
+            code
         }
         Some(("sim", sim)) => simulate_to_output(&rt, sim, is_verbose),
         Some(("drive", drive)) => drive_input(&rt, drive),

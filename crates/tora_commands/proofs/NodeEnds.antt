@@ -67,6 +67,7 @@ ran_or_memory W old new answers ended status is (inl memory) = inl (inr (inr (is
 ran_or_memory W old new answers ended status is (inr ran) = inr (record { ended = ended; answer = ran; status_is = is })
 
 -- what a node answers that began with the one core, where that is the other
-pub answers_of : {W D T : Type 0} (send : W → List ℕ → Result (Unit {0}) WireError → W → Type 0) (receive : W → Result (Option ℕ) WireError → List ℕ → W → Type 0) (told : ℕ → Type 0) (read : T → ℕ → T → Type 0) (opened : ℕ → ℕ → D → Result ℕ LifeError → Type 0) (first core : CoreView) (wires : List W)
-    (disks : List D) (ticks : List T) (input : Option (List ℕ)) (answer : Result EndedView NodeError) → first ≡ core → NodeAnswers send receive told read opened first wires disks ticks input answer → NodeAnswers send receive told read opened core wires disks ticks input answer
-answers_of send receive told read opened first core wires disks ticks input answer same given = subst (λ (c : CoreView). NodeAnswers send receive told read opened c wires disks ticks input answer) same given
+pub answers_of : {W D T Wr : Type 0} (send : W → List ℕ → Result (Unit {0}) WireError → W → Type 0) (receive : W → Result (Option ℕ) WireError → List ℕ → W → Type 0) (told : ℕ → Type 0) (read : T → ℕ → T → Type 0) (opened : ℕ → ℕ → D → Result ℕ LifeError → Type 0)
+    (contents : Wr → Option (List ℕ)) (first core : CoreView) (wires : List W) (disks : List D) (ticks : List T) (input : Option (List ℕ)) (writer : Wr) (left : Option Wr) (answer : Result EndedView NodeError)
+    → first ≡ core → NodeAnswers send receive told read opened contents first wires disks ticks input writer left answer → NodeAnswers send receive told read opened contents core wires disks ticks input writer left answer
+answers_of send receive told read opened contents first core wires disks ticks input writer left answer same given = subst (λ (c : CoreView). NodeAnswers send receive told read opened contents c wires disks ticks input writer left answer) same given

@@ -24,6 +24,7 @@ mod flushing;
 mod hashing;
 pub mod key_command;
 mod key_file;
+mod life_files;
 mod link_wires;
 pub mod node_command;
 mod progress;

@@ -15,8 +15,8 @@ use std::net::Net;
 use std::rt::Files;
 use std::time::Clock;
 use tora_config::{ConfigError, LinkWay, read_ways};
-use tora_keyed::{Key, LentWire, LinkWire, NoticedWire};
-use tora_neighbour::{NodeClock, SocketWaker, UnixClock, WakingWire, Wire};
+use tora_keyed::{Key, LinkWire, NoticedWire};
+use tora_neighbour::{NodeClock, SocketWaker, UnixClock, WakingWire};
 use tora_simulate::{Paths, tell_at};
 
 /// How the datagrams of a link go, and its key: there is one just where it has a file with a key.
@@ -153,13 +153,13 @@ pub(crate) fn bind<'a, R: Net + Eprint + Clock, L: Log>(
 }
 
 /// Lends each wire, in this order. `None` where memory was refused.
-pub(crate) fn lend<W: Wire>(alloc: Global, wires: &mut [W]) -> Option<Vec<LentWire<'_, W>>>
-    ensures { IfSome result (λ lent. map (λ l. l.wire.now) lent.items ≡ wires.old) }
+pub(crate) fn lend<W>(alloc: Global, wires: &mut [W]) -> Option<Vec<&mut W>>
+    ensures { IfSome result (λ lent. map (λ l. l.now) lent.items ≡ wires.old) }
 {
     let mut lent = Vec::new(alloc);
     let each = wires.iter_mut();
     for wire in each {
-        let Ok(()) = lent.push(LentWire::new(wire)) else {
+        let Ok(()) = lent.push(wire) else {
             return None;
         };
     }

@@ -1,16 +1,17 @@
 //! `tora node CONFIG`: a node over UDP and real life files.
-ghost use Rattle.std.specs.Prelude.{◌≡◌, ◌⊎◌, List, map, length, IfOk, IfErr, IfSome, Err, string_bytes};
+ghost use Rattle.std.specs.Prelude.{◌≡◌, ◌⊎◌, List, map, length, IfOk, IfErr, IfSome, Err, None, Some, string_bytes};
 ghost use Rattle.std.specs.Process.{exit_status};
-ghost use Rattle.tora_commands.specs.Statuses.{core_of, status_of_node, status_of_fault, IsConfigOf, IsNoConfig, IsConfigured, IsUnconfigured, IsUnstarted, RanAndEnded, EndsNode};
+ghost use Rattle.tora_commands.specs.Statuses.{core_of, status_of_node, status_of_fault, IsConfigOf, IsNoConfig, IsConfigured, IsUnconfigured, IsUnstarted, RanNode, RanAndEnded, EndsNode};
 ghost use Rattle.tora_config.specs.NodeConfig.{IsNodeConfig};
 ghost use Rattle.tora_node.specs.NewLinks.{IsOpened};
 ghost use Rattle.tora_node.specs.WholeRuns.{NodeAnswers};
 ghost use Rattle.tora_simulate.specs.Paths.{IsRead, IsUnread, IsFailed};
 
+use crate::life_files::{open, tell_life};
 use crate::link_wires::{KeyedWay, ProgramWaker, ProgramWire, bind, close, lend, ways_in};
 use crate::{INPUT, LIFE, MEMORY, SOCKET, stop};
 use log::Log;
-use std::alloc::{AllocError, Global};
+use std::alloc::Global;
 use std::fs::File;
 use std::io::{ErrorKind, Read, Write};
 use std::net::Net;
@@ -19,14 +20,12 @@ use std::rt::Files;
 use std::sync::Wait;
 use std::thread::Threads;
 use std::time::Clock;
-use std::{fs, io};
-use tora_config::{ConfigError, LinkConfig, NodeConfig, read_config};
+use tora_config::{ConfigError, NodeConfig, read_config};
 use tora_core::numbers_are_put_in_order;
 use tora_height::Id;
-use tora_keyed::LentWire;
-use tora_life::{Disk, FileDisk, LifeError, Owner, Tag};
+use tora_life::{Disk, FileDisk};
 use tora_neighbour::{ClockTicks, NodeClock, Ticks, Wake, Wire, clock_ticks};
-use tora_node::{Config, Ended, NodeError, run_node_with_wakers};
+use tora_node::{Config, Ended, NodeError, run_node};
 use tora_simulate::{Paths, tell, tell_at, text_at};
 
 /// Why a node is not started.
@@ -169,96 +168,6 @@ fn praise(rt: &impl Eprint, path: &str, config: &NodeConfig) {
     praise_counts(rt, path, links, dests);
 }
 
-/// Says on standard error why a life file can't be opened.
-fn tell_file(rt: &impl Eprint, path: &str, error: &io::Error) {
-    if error.kind() == ErrorKind::WouldBlock {
-        tell_at(rt, "life: ", path, &"a running node uses this file");
-    } else {
-        tell_at(rt, "life: ", path, error);
-    }
-}
-
-/// The path of the life file of the link to `peer`.
-fn life_path(alloc: Global, folder: &str, peer: Id) -> Result<String, AllocError> {
-    format!(in alloc; "{folder}/life-{peer}")
-}
-
-/// Opens the file of each link, by ascending neighbour.
-fn open<R: Files<File = File> + Eprint>(
-    rt: &R,
-    alloc: Global,
-    folder: &str,
-    links: &[LinkConfig],
-) -> Result<Vec<FileDisk>, Fault>
-    ensures count { IfOk result (λ disks. length disks.items ≡ length links.now) }
-    ensures fault { IfErr result (λ fault. IsUnstarted (status_of_fault fault)) }
-{
-    let mut disks = Vec::new(alloc);
-    let _ = fs::create_dir_all(rt, folder);
-    for link in links {
-        let peer = link.peer;
-        let Ok(path) = life_path(alloc, folder, peer) else {
-            return Err(say(rt, Fault::Memory));
-        };
-        match FileDisk::open(rt, path.as_str()) {
-            Ok(disk) => {
-                let Ok(()) = disks.push(disk) else {
-                    return Err(say(rt, Fault::Memory));
-                };
-            }
-            Err(error) => {
-                let fault = say(rt, Fault::Life);
-                tell_file(rt, path.as_str(), &error);
-                return Err(fault);
-            }
-        }
-    }
-    Ok(disks)
-}
-
-/// Whose a life file is, where its tag says so.
-fn owner_in<R: Files<File = File>>(rt: &R, path: &str) -> Option<Owner> {
-    let Ok(mut disk) = FileDisk::open(rt, path) else {
-        return None;
-    };
-    let mut tag = [0; 32];
-    let Ok(count) = disk.read(32, &mut tag) else {
-        return None;
-    };
-    match Tag::read(&tag[..count]) {
-        Tag::Of(owner) => Some(owner),
-        Tag::Absent | Tag::Strange => None,
-    }
-}
-
-/// Says on standard error whose a life file is.
-fn tell_owner(rt: &impl Eprint, path: &str, owner: Owner) {
-    let (node, peer) = (owner.node, owner.peer);
-    let _ = rt.eprintln(format_args!(
-        "tora: {path}: it is the file of node {node} for its link to {peer}"
-    ));
-}
-
-/// Says on standard error what is wrong with the life file of the link to `peer`, and with `is_verbose` of a foreign one whose it is.
-fn tell_life<R: Files<File = File> + AllocGlobal + Eprint>(
-    rt: &R,
-    folder: &str,
-    peer: Id,
-    error: LifeError,
-    is_verbose: bool,
-) {
-    let Ok(path) = life_path(rt.alloc(), folder, peer) else {
-        return;
-    };
-    tell_at(rt, "life: ", path.as_str(), &error);
-    if error != LifeError::Foreign || !is_verbose {
-        return;
-    }
-    if let Some(owner) = owner_in(rt, path.as_str()) {
-        tell_owner(rt, path.as_str(), owner);
-    }
-}
-
 /// Says on standard error that the socket of the link to `peer` failed.
 fn tell_failing(rt: &impl Eprint, peer: Id) {
     let _ = rt.eprintln(format_args!("tora: socket: the calls of the link to {peer} keep failing"));
@@ -308,13 +217,14 @@ fn finish<R: Files<File = File> + AllocGlobal + Eprint>(
 /// configuration and the keys, says that it is one, and ends. Standard error has the cause of a fault, and with `is_verbose` of a life file of
 /// another node whose it is.
 ///
-/// At the end it logs how many datagrams of each link with a key were not authentic, and overwrites the keys.
+/// At the end it logs how many datagrams of each link with a key were not authentic, and overwrites the keys. The writer is given
+/// back, with what it held where no node ran; it is `None` only where memory was refused.
 pub fn run<
     'a,
     R: Paths + Files<File = File> + AllocGlobal + Eprint + Net + Clock + Sync,
     L: Threads + Wait + Log + Sync,
     Rd: Read,
-    W: Write + Send,
+    W: Write + Send + Drop,
 >(
     rt: &'a R,
     log: &'a L,
@@ -322,34 +232,32 @@ pub fn run<
     is_check: bool,
     is_verbose: bool,
     reader: &mut Rd,
-    writer: &mut W,
-) -> ExitCode
+    writer: W,
+) -> (ExitCode, Option<W>)
     ensures { EndsNode is_check (R.did_open rt.now) R.did_read ⟦<File as Read>⟧.remaining path.now
-        (λ config ended. (bound : List _) × (told : _) × (lent : List _) × (disks : List _) × (ticks : List _) × (map (λ l. l.wire.now) lent ≡ bound)
-        × NodeAnswers ⟦<LentWire<'a, ProgramWire<'a, R, L>> as Wire>⟧.did_send ⟦<LentWire<'a, ProgramWire<'a, R, L>> as Wire>⟧.did_receive (⟦<NodeClock<&'a R> as tora_neighbour::Clock>⟧.did_tell told)
-        ⟦<ClockTicks<'a, NodeClock<&'a R>> as Ticks>⟧.did_read (IsOpened ⟦<FileDisk as Disk>⟧.syncs ⟦<FileDisk as Disk>⟧.reads ⟦<FileDisk as Disk>⟧.writes)
-        (core_of config) lent disks ticks (Rd.remaining reader.old) ended)
-        writer.old writer.new (exit_status result) }
+        (λ config. RanNode ⟦<&'a mut ProgramWire<'a, R, L> as Wire>⟧ ⟦<NodeClock<&'a R> as tora_neighbour::Clock>⟧ ⟦<ClockTicks<'a, NodeClock<&'a R>> as Ticks>⟧
+        ⟦<FileDisk as Disk>⟧ W.contents (core_of config) (Rd.remaining reader.old) writer result.1)
+        (Some writer) result.1 (exit_status result.0) }
 {
     let alloc = rt.alloc();
     let (config, ways) = match read(rt, path) {
         Ok(read) => read,
-        Err(fault) => return code_of(fault),
+        Err(fault) => return (code_of(fault), Some(writer)),
     };
     if is_check {
         praise(rt, path, &config);
-        return ExitCode::SUCCESS;
+        return (ExitCode::SUCCESS, Some(writer));
     }
     let clock = NodeClock::new(rt);
     let (mut wires, wakers) = match bind(rt, log, alloc, &clock, ways) {
         Ok(bound) => bound,
-        Err(fault) => return code_of(fault),
+        Err(fault) => return (code_of(fault), Some(writer)),
     };
-    let code = run_bound(
+    let ended = run_bound(
         rt, log, &config, &mut wires, wakers, &clock, is_verbose, reader, writer,
     );
     close(&mut wires);
-    code
+    ended
 }
 
 /// Opens the life files and runs the node of a configuration over its wires, which are lent to it, and wakes its links.
@@ -358,7 +266,7 @@ fn run_bound<
     R: Files<File = File> + AllocGlobal + Eprint + Net + Clock + Sync,
     L: Threads + Wait + Log + Sync,
     Rd: Read,
-    W: Write + Send,
+    W: Write + Send + Drop,
 >(
     rt: &'a R,
     log: &'a L,
@@ -368,25 +276,23 @@ fn run_bound<
     clock: &'a NodeClock<&'a R>,
     is_verbose: bool,
     reader: &mut Rd,
-    writer: &mut W,
-) -> ExitCode
+    writer: W,
+) -> (ExitCode, Option<W>)
     requires config { IsNodeConfig config.now }
     requires wires { length wires.now ≡ length config.now.links.items }
-    ensures { (IsUnstarted (exit_status result) × (writer.new ≡ writer.old))
-        ⊎ RanAndEnded (λ ended. (bound : List _) × (told : _) × (lent : List _) × (disks : List _) × (ticks : List _) × (map (λ l. l.wire.now) lent ≡ bound)
-        × NodeAnswers ⟦<LentWire<'a, ProgramWire<'a, R, L>> as Wire>⟧.did_send ⟦<LentWire<'a, ProgramWire<'a, R, L>> as Wire>⟧.did_receive (⟦<NodeClock<&'a R> as tora_neighbour::Clock>⟧.did_tell told)
-        ⟦<ClockTicks<'a, NodeClock<&'a R>> as Ticks>⟧.did_read (IsOpened ⟦<FileDisk as Disk>⟧.syncs ⟦<FileDisk as Disk>⟧.reads ⟦<FileDisk as Disk>⟧.writes)
-        (core_of config.now) lent disks ticks (Rd.remaining reader.old) ended) (exit_status result) }
+    ensures { (IsUnstarted (exit_status result.0) × (result.1 ≡ Some writer))
+        ⊎ RanAndEnded (RanNode ⟦<&'a mut ProgramWire<'a, R, L> as Wire>⟧ ⟦<NodeClock<&'a R> as tora_neighbour::Clock>⟧ ⟦<ClockTicks<'a, NodeClock<&'a R>> as Ticks>⟧
+        ⟦<FileDisk as Disk>⟧ W.contents (core_of config.now) (Rd.remaining reader.old) writer result.1) (exit_status result.0) }
 {
     let (alloc, folder) = (rt.alloc(), config.life_dir.as_str());
     let disks = match open(rt, alloc, folder, config.links.as_slice()) {
         Ok(disks) => disks,
-        Err(fault) => return code_of(fault),
+        Err(fault) => return (code_of(fault), Some(writer)),
     };
-    let ended = run_over(
+    let (ended, writer) = run_over(
         log, alloc, config, wires, disks, wakers, clock, reader, writer,
     );
-    finish(rt, folder, ended, is_verbose)
+    (finish(rt, folder, ended, is_verbose), writer)
 }
 
 /// Runs the node of a configuration over its wires, which are lent to it, and its disks, and wakes its links. It is `Memory` where
@@ -399,7 +305,7 @@ fn run_over<
     K: Wake + Send + Drop,
     C: tora_neighbour::Clock + Sync,
     Rd: Read,
-    W: Write + Send,
+    W: Write + Send + Drop,
 >(
     log: &L,
     alloc: Global,
@@ -409,26 +315,26 @@ fn run_over<
     wakers: Vec<K>,
     clock: &'a C,
     reader: &mut Rd,
-    writer: &mut W,
-) -> Result<Ended, NodeError>
+    writer: W,
+) -> (Result<Ended, NodeError>, Option<W>)
     requires config { IsNodeConfig config.now }
     requires wires { length wires.now ≡ length config.now.links.items }
     requires disks { length disks.items ≡ length config.now.links.items }
-    ensures { ((result ≡ Err NodeError.Memory) × (writer.new ≡ writer.old))
-        ⊎ ((lent : List _) × (ticks : List _) × (map (λ l. l.wire.now) lent ≡ wires.old)
-        × NodeAnswers ⟦<LentWire<'a, Wi> as Wire>⟧.did_send ⟦<LentWire<'a, Wi> as Wire>⟧.did_receive (C.did_tell clock.now) ⟦<ClockTicks<'a, C> as Ticks>⟧.did_read
-        (IsOpened D.syncs D.reads D.writes) (core_of config.now) lent disks.items ticks (Rd.remaining reader.old) result) }
+    ensures { ((result.0 ≡ Err NodeError.Memory) × (result.1 ≡ Some writer))
+        ⊎ ((lent : List _) × (ticks : List _) × (map (λ l. l.now) lent ≡ wires.old)
+        × NodeAnswers ⟦<&'a mut Wi as Wire>⟧.did_send ⟦<&'a mut Wi as Wire>⟧.did_receive (C.did_tell clock.now) ⟦<ClockTicks<'a, C> as Ticks>⟧.did_read
+        (IsOpened D.syncs D.reads D.writes) W.contents (core_of config.now) lent disks.items ticks (Rd.remaining reader.old) writer result.1 result.0) }
 {
     let Some(node) = node_of(alloc, config) else {
-        return Err(NodeError::Memory);
+        return (Err(NodeError::Memory), Some(writer));
     };
     let Some(ticks) = clock_ticks(alloc, clock, disks.len()) else {
-        return Err(NodeError::Memory);
+        return (Err(NodeError::Memory), Some(writer));
     };
     let Some(lent) = lend(alloc, wires) else {
-        return Err(NodeError::Memory);
+        return (Err(NodeError::Memory), Some(writer));
     };
-    run_node_with_wakers(
+    run_node(
         log, alloc, node, lent, disks, wakers, ticks, clock, reader, writer,
     )
 }

@@ -7,14 +7,12 @@
 
 mod key_file;
 mod keyed_wire;
-mod lent_wire;
 mod link_wire;
 mod noticed_wire;
 mod notices;
 
 pub use key_file::{KEY, LONGEST_KEY_FILE, key_in, overwrite};
 pub use keyed_wire::KeyedWire;
-pub use lent_wire::LentWire;
 pub use link_wire::LinkWire;
 pub use noticed_wire::NoticedWire;
 pub use tora_key::Key;

@@ -50,9 +50,9 @@ runs_of [] (o ∷ outcomes) h = absurd h
 runs_of (link ∷ links) [] h = absurd h
 runs_of (link ∷ links) (o ∷ outcomes) h = (h.0, runs_of links outcomes h.1)
 
-module _ {D W C T : Type 0} {disk : Disk.Ghosts D} {wire : Wire.Ghosts W} (send : W → List ℕ → Result (Unit {0}) WireError → W → Type 0) (receive : W → Result (Option ℕ) WireError → List ℕ → W → Type 0) (tell : C → ℕ → Type 0) (clock : C) (read : T → ℕ → T → Type 0)
+module _ {D W C T Wr : Type 0} {disk : Disk.Ghosts D} {wire : Wire.Ghosts W} (send : W → List ℕ → Result (Unit {0}) WireError → W → Type 0) (receive : W → Result (Option ℕ) WireError → List ℕ → W → Type 0) (tell : C → ℕ → Type 0) (clock : C) (read : T → ℕ → T → Type 0)
     (opened : ℕ → ℕ → D → Result ℕ LifeError → Type 0) (first : CoreView) (wires : List W) (disks : List D) (ticks : List T) (port : CoreEnd) (command : InEnd) (hubs : List (InEnd × ReceiveEnd)) (outs : List SendEnd)
-    (new : List (NewLink D W disk wire)) (starts : List (Start D W T disk wire)) (core : CoreRest) (rests : List LinkRest) where
+    (contents : Wr → Option (List ℕ)) (writer : Wr) (new : List (NewLink D W disk wire)) (starts : List (Start D W T disk wire)) (core : CoreRest Wr) (rests : List LinkRest) where
   -- what the threads of a node began with, and what they have left
   pub record Left : Type 0 where
     pub lanes : AreLanes (length first.neighbours) port command hubs outs
@@ -63,7 +63,7 @@ module _ {D W C T : Type 0} {disk : Disk.Ghosts D} {wire : Wire.Ghosts W} (send 
     pub hubs_are : map hub_started starts ≡ map hub_of hubs
     pub ticks_are : map ticks_started starts ≡ ticks
     pub ran : Each (λ t rest. LinkLeaves send receive read (link_made t.new) t.new.link.wire t.ticks t.new.link.file.numbers.drawn t.hub rest) starts rests
-    pub served : CoreLeaves (first_seat first) port outs core
+    pub served : CoreLeaves contents (first_seat first) port outs writer core
     pub ascending : IsAscending first.neighbours
 
   module _ (h : Left) where
@@ -247,7 +247,7 @@ module _ {D W C T : Type 0} {disk : Disk.Ghosts D} {wire : Wire.Ghosts W} (send 
           }
 
       pub node_ran : (answer : Option NodeError) → OffersAreSent → AreSettled core rests after → first_fault core.fault core.seat.core.neighbours (map outcome_of rests) ≡ answer
-          → NodeRan send receive (tell clock) read opened first wires disks ticks input answer core.seat.core (map (λ o. o.tally) (map outcome_of rests)) core.port.taken core.port.gone
+          → NodeRan send receive (tell clock) read opened first wires disks ticks input (contents writer) (contents core.writer) answer core.seat.core (map (λ o. o.tally) (map outcome_of rests)) core.port.taken core.port.gone
       node_ran answer sents settled first_is = record {
         xs = h.served.xs;
         after = _;
@@ -257,6 +257,7 @@ module _ {D W C T : Type 0} {disk : Disk.Ghosts D} {wire : Wire.Ghosts W} (send 
         served = h.served.served;
         core_is = h.served.core_is;
         ends = h.served.ends;
+        written = h.served.written;
         count = length_map outcome_of rests ∙ rests_long;
         links = link_ran sents settled.0;
         commands = commands_ran settled.1 settled.2;
@@ -271,8 +272,9 @@ module _ {D W C T : Type 0} {disk : Disk.Ghosts D} {wire : Wire.Ghosts W} (send 
         pub links_ran : IfOk result (λ ended. AreFaultless (links_of first) ended.tallies)
         pub fault_is_one : IfErr result (IsNodeFault first.neighbours)
         pub cause_is : IfErr result (IsCause first)
-        pub ran_is : IfOk result (λ ended. NodeRan send receive (tell clock) read opened first wires disks ticks input None ended.core ended.tallies ended.taken ended.gone)
-        pub failed_is : IfErr result (EndsWithFault send receive (tell clock) read opened first wires disks ticks input)
+        pub ran_is : IfOk result (λ ended. (after : Wr) × (Some core.writer ≡ Some after)
+            × NodeRan send receive (tell clock) read opened first wires disks ticks input (contents writer) (contents after) None ended.core ended.tallies ended.taken ended.gone)
+        pub failed_is : IfErr result (EndsWithFault send receive (tell clock) read opened contents first wires disks ticks input writer (Some core.writer))
 
       first_is : (answer : Option NodeError) → first_fault core.fault core.seat.core.neighbours (map outcome_of rests) ≡ answer → first_fault core.fault first.neighbours (map outcome_of rests) ≡ answer
       first_is answer e = ap (λ (ks : List ℕ). first_fault core.fault ks (map outcome_of rests)) (sym h.served.neighbours) ∙ e
@@ -281,7 +283,7 @@ module _ {D W C T : Type 0} {disk : Disk.Ghosts D} {wire : Wire.Ghosts W} (send 
       Failed e = AreSettled core rests after × (first_fault core.fault core.seat.core.neighbours (map outcome_of rests) ≡ Some e)
 
       of_memory : (sents : OffersAreSent) (e : NodeError) → e ≡ Fault.Memory → Answers sents (Err e)
-      of_memory sents e is = subst (λ (x : NodeError). Answers sents (Err x)) (sym is) (record { core_is_run = tt; links_ran = tt; fault_is_one = tt; cause_is = inl tt; ran_is = tt; failed_is = inl tt })
+      of_memory sents e is = subst (λ (x : NodeError). Answers sents (Err x)) (sym is) (record { core_is_run = tt; links_ran = tt; fault_is_one = tt; cause_is = inl tt; ran_is = tt; failed_is = inl (tt, inr refl) })
 
       of_fault : (sents : OffersAreSent) (e : NodeError) → Failed e → Answers sents (Err e)
       of_fault sents e f = record {
@@ -290,7 +292,7 @@ module _ {D W C T : Type 0} {disk : Disk.Ghosts D} {wire : Wire.Ghosts W} (send 
         fault_is_one = ended_fault first.neighbours core.seat.core.neighbours (map outcome_of rests) core.fault e h.served.neighbours h.served.fault f.1;
         cause_is = inr (record { last = core.seat; fault = core.fault; outcomes = map outcome_of rests; core = core_ran; links = link_runs; first_is = first_is (Some e) f.1 });
         ran_is = tt;
-        failed_is = inr (core.seat.core, map (λ o. o.tally) (map outcome_of rests), core.port.taken, core.port.gone, node_ran (Some e) sents f.0 f.1);
+        failed_is = inr (core.seat.core, map (λ o. o.tally) (map outcome_of rests), core.port.taken, core.port.gone, core.writer, refl, node_ran (Some e) sents f.0 f.1);
       }
 
       pub answers : (sents : OffersAreSent) (result : Result EndedView NodeError) → SettlesTo core rests after result → Answers sents result
@@ -301,7 +303,7 @@ module _ {D W C T : Type 0} {disk : Disk.Ghosts D} {wire : Wire.Ghosts W} (send 
             links_ran = faultless first.me first.neighbours (map outcome_of rests) link_runs none.1;
             fault_is_one = tt;
             cause_is = tt;
-            ran_is = node_ran None sents s.0 s.1;
+            ran_is = (core.writer, refl, node_ran None sents s.0 s.1);
             failed_is = tt;
           })
       answers sents (Err e) s = ⊎_elim (λ is. of_memory sents e is) (λ f. of_fault sents e f) s

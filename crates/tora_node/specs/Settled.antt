@@ -11,12 +11,12 @@ use Rattle.tora_node.specs.NodeRuns.{EndedView, first_fault}
 use Rattle.tora_node.specs.Threads.{Each, IsSettled, outcome_of}
 
 -- the lanes of each link, and the seat of the commands
-abbrev pub AreSettled : CoreRest → List LinkRest → InEnd → Type 0
+abbrev pub AreSettled : {Wr : Type 0} → CoreRest Wr → List LinkRest → InEnd → Type 0
 AreSettled core links command =
     Each (IsSettled core.port.taken) links core.outs.ends.items × (left : List Item) × (items_of command.seat core.port.taken ++ left ≡ command.put)
 
 -- all are settled, and the first fault is answered; or memory is gone
-abbrev pub SettlesTo : CoreRest → List LinkRest → InEnd → Result EndedView NodeError → Type 0
+abbrev pub SettlesTo : {Wr : Type 0} → CoreRest Wr → List LinkRest → InEnd → Result EndedView NodeError → Type 0
 SettlesTo core links command (Ok ended) =
     AreSettled core links command
     × (first_fault core.fault core.seat.core.neighbours (map outcome_of links) ≡ None)

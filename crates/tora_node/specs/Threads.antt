@@ -1,5 +1,6 @@
 -- What the threads of a node leave.
-use Rattle.std.specs.Prelude.{◌≡◌, ℕ, List, [], ◌∷◌, ◌++◌, map, Option, Result}
+use Rattle.std.specs.Prelude.{◌≡◌, ℕ, List, [], ◌∷◌, ◌++◌, map, Option, None, Result}
+use Rattle.std.specs.Io.KnownBytes.{Appends}
 use Rattle.std.specs.declared.thread.PromisedHandle.{PromisedHandle}
 use Rattle.tora_core.specs.CoreRun.{core_after_all}
 use Rattle.tora_lane.specs.LaneRule.{items_of}
@@ -23,7 +24,7 @@ use Rattle.tora_node.specs.declared.link_task.Outcome.{Outcome}
 use Rattle.tora_node.specs.declared.start.NewLink.{NewLink}
 use Rattle.tora_node.specs.declared.start.Start.{Start}
 use Rattle.tora_node.specs.declared.task.Does.{Does}
-use Rattle.tora_node.specs.CoreRuns.{ServedItem, AreServed, items_served, offers_made, inputs_stepped, EndsSo}
+use Rattle.tora_node.specs.CoreRuns.{ServedItem, AreServed, items_served, offers_made, inputs_stepped, text_served, EndsSo}
 use Rattle.tora_node.specs.LinkRuns.{LinkName, IsLinkRun, link_made}
 use Rattle.tora_node.specs.NodeRuns.{IsCoreFault}
 use Rattle.tora_node.specs.WireCalls.{HasCalled}
@@ -79,8 +80,8 @@ pub record LinkLeaves {W T : Type 0} (send : W → List ℕ → Result (Unit {0}
 
 -- ---- the core's thread
 
--- It has served the items that it took, and its cargoes were offered to these lanes
-pub record CoreLeaves (first : SeatView) (port : CoreEnd) (outs : List SendEnd) (rest : CoreRest) : Type 0 where
+-- It has served the items that it took, and its cargoes were offered to these lanes. Where nothing has failed, it has written the text of these items behind what the writer held
+pub record CoreLeaves {Wr : Type 0} (contents : Wr → Option (List ℕ)) (first : SeatView) (port : CoreEnd) (outs : List SendEnd) (writer : Wr) (rest : CoreRest Wr) : Type 0 where
   pub xs : List ServedItem
   pub taken : rest.port.taken ≡ port.taken ++ items_served xs
   pub lane : rest.port.lane ≡ port.lane
@@ -90,6 +91,7 @@ pub record CoreLeaves (first : SeatView) (port : CoreEnd) (outs : List SendEnd) 
   pub ends : EndsSo rest.fault xs rest.port.gone
   pub neighbours : rest.seat.core.neighbours ≡ first.core.neighbours
   pub fault : IsCoreFault rest.fault
+  pub written : rest.fault ≡ None → Appends (contents writer) (contents rest.writer) (text_served first.core.neighbours None (state_of first) xs)
 
 -- ---- what is left in the lanes
 

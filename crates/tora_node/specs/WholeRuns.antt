@@ -1,6 +1,6 @@
 -- What a node did, from its start until all of its threads had ended.
 use Rattle.std.specs.Prelude.{◌≡◌, ◌⊎◌, ◌<◌, ◌≤◌, ℕ, Bool, List, [], ◌∷◌, ◌++◌, length, map, slice_get, Option, None, Some, Result, Ok, IfOk, IfErr}
-use Rattle.std.specs.Io.KnownBytes.{Consumes}
+use Rattle.std.specs.Io.KnownBytes.{Appends, Consumes}
 use Rattle.tora_core.specs.CoreRun.{CoreView, core_after_all}
 use Rattle.tora_lane.specs.LaneRule.{items_of}
 use Rattle.tora_lane.specs.declared.limits.TheConstants.{MOST_LINKS}
@@ -8,6 +8,7 @@ use Rattle.tora_life.specs.declared.numbers.LifeError.{LifeError}
 use Rattle.tora_neighbour.specs.Puts.{put_in}
 use Rattle.tora_neighbour.specs.Traffic.{AreDrawn, cargoes_taken, entries_put, numbers_opened}
 use Rattle.tora_node.specs.declared.fault.NodeError.{NodeError}
+use Rattle.tora_node.specs.declared.fault.NodeError.TheVariants as Fault
 use Rattle.tora_neighbour.specs.declared.tally.Tally.{Tally}
 use Rattle.tora_neighbour.specs.declared.wire.WireError.{WireError}
 use Rattle.tora_seat.specs.Rows.{state_of, first_seat}
@@ -17,7 +18,7 @@ use Rattle.tora_seat.specs.declared.item.Item.{Item}
 use Rattle.tora_node.specs.declared.commands.CommandsEnd.{CommandsEnd}
 use Rattle.tora_node.specs.declared.link_task.Outcome.{Outcome}
 use Rattle.tora_node.specs.CommandRuns.{AreTold, EndsAt}
-use Rattle.tora_node.specs.CoreRuns.{ServedItem, AreServed, items_served, offers_made, inputs_stepped, EndsSo}
+use Rattle.tora_node.specs.CoreRuns.{ServedItem, AreServed, items_served, offers_made, inputs_stepped, text_served, EndsSo}
 use Rattle.tora_node.specs.LinkRuns.{IsLinkRun, FailsToStart, AreFaultless, IsCause, links_of}
 use Rattle.tora_node.specs.NodeRuns.{EndedView, IsNodeFault, IsRunOf, first_fault}
 use Rattle.tora_node.specs.WireCalls.{HasCalled}
@@ -53,9 +54,10 @@ pub record CommandsRan (told : ℕ → Type 0) (input : Option (List ℕ)) (seat
   pub ends : EndsAt end given put rest gone
   pub items : items_of seat served ++ left ≡ put
 
--- The threads of a node that began with this core, these wires, these disks, these sources of ticks and this input. Items were served one after another, the core is the run
--- of the inputs that serving made of them, and each link and the commands had a thread that put them. The first of their faults is the answer
-pub record NodeRan {W D T : Type 0} (send : W → List ℕ → Result (Unit {0}) WireError → W → Type 0) (receive : W → Result (Option ℕ) WireError → List ℕ → W → Type 0) (told : ℕ → Type 0) (read : T → ℕ → T → Type 0) (opened : ℕ → ℕ → D → Result ℕ LifeError → Type 0) (first : CoreView) (wires : List W) (disks : List D) (ticks : List T) (input : Option (List ℕ))
+-- The threads of a node that began with this core, these wires, these disks, these sources of ticks and this input, and with a writer that held these bytes. Items were served one
+-- after another, the core is the run of the inputs that serving made of them, and each link and the commands had a thread that put them. Where the core had no fault, the text of these
+-- items was written behind what the writer held. The first of their faults is the answer
+pub record NodeRan {W D T : Type 0} (send : W → List ℕ → Result (Unit {0}) WireError → W → Type 0) (receive : W → Result (Option ℕ) WireError → List ℕ → W → Type 0) (told : ℕ → Type 0) (read : T → ℕ → T → Type 0) (opened : ℕ → ℕ → D → Result ℕ LifeError → Type 0) (first : CoreView) (wires : List W) (disks : List D) (ticks : List T) (input held holds : Option (List ℕ))
     (answer : Option NodeError) (core : CoreView) (tallies : List Tally) (taken : List Item) (gone : Bool) : Type 0 where
   pub xs : List ServedItem
   pub after : SeatState
@@ -65,6 +67,7 @@ pub record NodeRan {W D T : Type 0} (send : W → List ℕ → Result (Unit {0})
   pub served : AreServed first.neighbours (state_of (first_seat first)) xs after
   pub core_is : core ≡ core_after_all first (inputs_stepped first.neighbours (state_of (first_seat first)) xs)
   pub ends : EndsSo fault xs gone
+  pub written : fault ≡ None → Appends held holds (text_served first.neighbours None (state_of (first_seat first)) xs)
   pub count : length outcomes ≡ length first.neighbours
   pub links : (place peer : ℕ) (wire : W) (disk : D) (source : T) (outcome : Outcome) → slice_get first.neighbours place ≡ Some peer → slice_get wires place ≡ Some wire → slice_get disks place ≡ Some disk → slice_get ticks place ≡ Some source → slice_get outcomes place ≡ Some outcome
       → LinkRan send receive read (opened first.me peer disk) first.me xs place peer wire source outcome
@@ -72,14 +75,17 @@ pub record NodeRan {W D T : Type 0} (send : W → List ℕ → Result (Unit {0})
   pub answer_is : first_fault fault first.neighbours outcomes ≡ answer
   pub tallies_are : tallies ≡ map (λ o. o.tally) outcomes
 
--- a node that ends with a fault: one of its start, or the first one of its threads
-abbrev pub EndsWithFault : {W D T : Type 0} → (W → List ℕ → Result (Unit {0}) WireError → W → Type 0) → (W → Result (Option ℕ) WireError → List ℕ → W → Type 0) → (ℕ → Type 0) → (T → ℕ → T → Type 0) → (ℕ → ℕ → D → Result ℕ LifeError → Type 0) → CoreView → List W → List D → List T → Option (List ℕ) → NodeError → Type 0
-EndsWithFault send receive told read opened first wires disks ticks input e =
-    FailsToStart opened first disks e
-    ⊎ ((core : CoreView) × (tallies : List Tally) × (taken : List Item) × (gone : Bool) × NodeRan send receive told read opened first wires disks ticks input (Some e) core tallies taken gone)
+-- a node that ends with a fault: one of its start, where nothing is written or memory is gone, or the first one of its threads
+abbrev pub EndsWithFault : {W D T Wr : Type 0} → (W → List ℕ → Result (Unit {0}) WireError → W → Type 0) → (W → Result (Option ℕ) WireError → List ℕ → W → Type 0) → (ℕ → Type 0) → (T → ℕ → T → Type 0)
+    → (ℕ → ℕ → D → Result ℕ LifeError → Type 0) → (Wr → Option (List ℕ)) → CoreView → List W → List D → List T → Option (List ℕ) → Wr → Option Wr → NodeError → Type 0
+EndsWithFault {Wr = Wr} send receive told read opened contents first wires disks ticks input writer left e =
+    (FailsToStart opened first disks e × ((left ≡ Some writer) ⊎ (e ≡ Fault.Memory)))
+    ⊎ ((core : CoreView) × (tallies : List Tally) × (taken : List Item) × (gone : Bool) × (after : Wr) × (left ≡ Some after)
+    × NodeRan send receive told read opened first wires disks ticks input (contents writer) (contents after) (Some e) core tallies taken gone)
 
--- What a node answers that began with this core, these wires, these disks, these sources of ticks and this input
-pub record NodeAnswers {W D T : Type 0} (send : W → List ℕ → Result (Unit {0}) WireError → W → Type 0) (receive : W → Result (Option ℕ) WireError → List ℕ → W → Type 0) (told : ℕ → Type 0) (read : T → ℕ → T → Type 0) (opened : ℕ → ℕ → D → Result ℕ LifeError → Type 0) (first : CoreView) (wires : List W) (disks : List D) (ticks : List T) (input : Option (List ℕ))
+-- What a node answers that began with this core, these wires, these disks, these sources of ticks, this input and this writer, which is given back so
+pub record NodeAnswers {W D T Wr : Type 0} (send : W → List ℕ → Result (Unit {0}) WireError → W → Type 0) (receive : W → Result (Option ℕ) WireError → List ℕ → W → Type 0) (told : ℕ → Type 0) (read : T → ℕ → T → Type 0) (opened : ℕ → ℕ → D → Result ℕ LifeError → Type 0)
+    (contents : Wr → Option (List ℕ)) (first : CoreView) (wires : List W) (disks : List D) (ticks : List T) (input : Option (List ℕ)) (writer : Wr) (left : Option Wr)
     (answer : Result EndedView NodeError) : Type 0 where
   -- where it ends without a fault, the core is the run of what serving makes of some items from the first core on
   pub core : IfOk answer (λ ended. IsRunOf first ended.core)
@@ -92,6 +98,7 @@ pub record NodeAnswers {W D T : Type 0} (send : W → List ℕ → Result (Unit 
   -- then it has neighbours, and no more than lanes are made for
   pub count : IfOk answer (λ ended. (0 < length first.neighbours) × (length first.neighbours ≤ MOST_LINKS))
   -- what its threads did: the runs of its links with their wires and life files, the commands that were read, and the items that the core
-  -- served, which are what these have put, as the lanes carry it
-  pub ran : IfOk answer (λ ended. NodeRan send receive told read opened first wires disks ticks input None ended.core ended.tallies ended.taken ended.gone)
-  pub failed : IfErr answer (EndsWithFault send receive told read opened first wires disks ticks input)
+  -- served, which are what these have put, as the lanes carry it, and whose text was written
+  pub ran : IfOk answer (λ ended. (after : Wr) × (left ≡ Some after)
+      × NodeRan send receive told read opened first wires disks ticks input (contents writer) (contents after) None ended.core ended.tallies ended.taken ended.gone)
+  pub failed : IfErr answer (EndsWithFault send receive told read opened contents first wires disks ticks input writer left)

@@ -1,5 +1,5 @@
 //! The work of the core's thread.
-ghost use Rattle.std.specs.Prelude.{◌≡◌, ◌≤◌, IfSome, length};
+ghost use Rattle.std.specs.Prelude.{◌≡◌, ◌≤◌, IfErr, IfOk, length};
 ghost use Rattle.tora_seat.specs.Rows.{first_seat};
 
 use crate::core_thread::run_core;
@@ -15,33 +15,35 @@ use tora_lane::{CorePort, OutPut, OutPuts, Settling};
 use tora_neighbour::Wake;
 use tora_seat::CoreSeat;
 
-/// What the core's thread leaves: its seat, what its port has taken, and its ends of the lanes to the neighbours.
+/// What the core's thread leaves: its seat, what its port has taken, its ends of the lanes to the neighbours, and what it
+/// has written to.
 #[derive(Drop)]
-pub(crate) struct CoreRest {
+pub(crate) struct CoreRest<Wr> {
     pub(crate) seat: CoreSeat,
     pub(crate) port: Settling,
     pub(crate) outs: OutPuts,
     pub(crate) fault: Option<NodeError>,
+    pub(crate) writer: Wr,
 }
 
 /// The work of the core's thread: the seat, its lanes, what wakes the neighbours' threads, and what it writes to.
 #[derive(Drop)]
-pub(crate) struct CoreStart<'a, K, Wr> {
+pub(crate) struct CoreStart<K, Wr> {
     alloc: Global,
     pub(crate) seat: CoreSeat,
     pub(crate) port: CorePort,
     pub(crate) outs: OutPuts,
     wakers: Vec<K>,
-    writer: &'a mut Wr,
+    pub(crate) writer: Wr,
     ghost lanes: { length seat.core.neighbours ≤ length outs.ends.items },
 }
 
-impl<'a, K: Wake + Drop, Wr: Write> Task<CoreRest> for CoreStart<'a, K, Wr> {
+impl<K: Wake + Drop, Wr: Write + Drop> Task<CoreRest<Wr>> for CoreStart<K, Wr> {
     ghost use Rattle.tora_node.specs.Threads.{CoreLeaves};
 
-    ghost leaves = { λ t rest. CoreLeaves t.seat t.port t.outs.ends.items rest };
+    ghost leaves = { λ t rest. CoreLeaves Wr.contents t.seat t.port t.outs.ends.items t.writer rest };
 
-    fn run<R: Wait + Log>(self, rt: &R) -> CoreRest {
+    fn run<R: Wait + Log>(self, rt: &R) -> CoreRest<Wr> {
         let CoreStart {
             alloc,
             seat,
@@ -54,7 +56,8 @@ impl<'a, K: Wake + Drop, Wr: Write> Task<CoreRest> for CoreStart<'a, K, Wr> {
             lanes: outs,
             wakers,
         };
-        let end = run_core(rt, alloc, seat, port, outs, writer);
+        let mut writer = writer;
+        let end = run_core(rt, alloc, seat, port, outs, &mut writer);
         let outs = end.outs;
         let WakingLanes { lanes, wakers } = outs;
         let port = end.port.end();
@@ -64,26 +67,28 @@ impl<'a, K: Wake + Drop, Wr: Write> Task<CoreRest> for CoreStart<'a, K, Wr> {
             port,
             outs: lanes,
             fault: end.fault,
+            writer,
         }
     }
 }
 
-/// Puts the parts of the core's work together.
-pub(crate) fn new_core_start<'a, K: Drop, Wr>(
+/// Puts the parts of the core's work together. `Err` gives the writer back where memory is gone.
+pub(crate) fn new_core_start<K: Drop, Wr: Drop>(
     alloc: Global,
     core: Core,
     port: CorePort,
     outs: Vec<OutPut>,
     wakers: Vec<K>,
-    writer: &'a mut Wr,
-) -> Option<CoreStart<'a, K, Wr>>
+    writer: Wr,
+) -> Result<CoreStart<K, Wr>, Wr>
     requires { length core.neighbours ≤ length outs.items }
-    ensures { IfSome result (λ start. (start.seat ≡ first_seat core) × (start.port ≡ port) × (start.outs.ends.items ≡ outs.items)) }
+    ensures made { IfOk result (λ start. (start.seat ≡ first_seat core) × (start.port ≡ port) × (start.outs.ends.items ≡ outs.items) × (start.writer ≡ writer)) }
+    ensures same { IfErr result (λ back. back ≡ writer) }
 {
     let Ok(seat) = CoreSeat::new(alloc, core) else {
-        return None;
+        return Err(writer);
     };
-    Some(CoreStart {
+    Ok(CoreStart {
         alloc,
         seat,
         port,

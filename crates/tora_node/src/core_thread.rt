@@ -235,42 +235,28 @@ pub fn run_core<R: Wait, O: OutLanes, W: Write>(
     ensures neighbours { result.seat.core.neighbours ≡ seat.core.neighbours }
     ensures lane { result.port.lane ≡ port.lane }
 {
-    let mut seat = seat;
-    let mut port = port;
-    let mut outs = outs;
+    let mut end = CoreEnd {
+        seat,
+        port,
+        outs,
+        fault: None,
+    };
     let mut watch = None;
     accepted_inputs_make_the_core();
     for _ in rt.forever() {
-        match port.take(rt) {
-            Err(_) => {
-                return CoreEnd {
-                    seat,
-                    port,
-                    outs,
-                    fault: None,
-                };
-            }
-            Ok(item) => {
-                let answer = seat.serve(&item, &mut outs);
-                if is_quit(&item.what) {
-                    return CoreEnd {
-                        seat,
-                        port,
-                        outs,
-                        fault: None,
-                    };
-                }
-                match reply(alloc, &seat, &item, &answer, &mut watch, writer) {
-                    Ok(()) => {}
-                    Err(fault) => {
-                        return CoreEnd {
-                            seat,
-                            port,
-                            outs,
-                            fault: Some(fault),
-                        };
-                    }
-                }
+        let item = match end.port.take(rt) {
+            Ok(item) => item,
+            Err(_) => return end,
+        };
+        let answer = end.seat.serve(&item, &mut end.outs);
+        if is_quit(&item.what) {
+            return end;
+        }
+        match reply(alloc, &end.seat, &item, &answer, &mut watch, writer) {
+            Ok(()) => {}
+            Err(fault) => {
+                end.fault = Some(fault);
+                return end;
             }
         }
     }

@@ -35,7 +35,7 @@ pub use config::Config;
 pub use core_thread::{CoreEnd, run_core};
 pub use fault::NodeError;
 pub use log_hub::LogHub;
-pub use node::{Ended, run_node, run_node_with_wakers};
+pub use node::{Ended, run_node};
 pub use tora_neighbour::{
     Clock, Finished, FuseWire, Hub, Intake, LaneHub, Link, ListHub, MemWire, Tally, Wire,
     run_neighbour, take_in,

@@ -110,12 +110,17 @@ fn first_fault(
     }
 }
 
-/// Brings all lanes of a node together, once its threads have ended, behind no outcomes; the first fault is answered.
-fn settled(rests: Rests<CoreRest, LinkRest>, outcomes: Vec<Outcome>) -> Result<Ended, NodeError>
+/// Brings all lanes of a node together, once its threads have ended, behind no outcomes; the first fault is answered, and
+/// the writer is given back.
+fn settled<Wr: Drop>(
+    rests: Rests<CoreRest<Wr>, LinkRest>,
+    outcomes: Vec<Outcome>,
+) -> (Result<Ended, NodeError>, Wr)
     requires ends { Each (HasEnds rests.core.port.lane) rests.links.items rests.core.outs.ends.items }
     requires command { IsPortOf rests.core.port rests.command }
     requires new { outcomes.items ≡ [] }
-    ensures { SettlesTo rests.core rests.links.items rests.command result }
+    ensures settles { SettlesTo rests.core rests.links.items rests.command result.0 }
+    ensures writer { result.1 ≡ rests.core.writer }
 {
     let Rests {
         core,
@@ -128,24 +133,29 @@ fn settled(rests: Rests<CoreRest, LinkRest>, outcomes: Vec<Outcome>) -> Result<E
         port,
         outs,
         fault,
+        writer,
     } = core;
     let OutPuts { ends } = outs;
     let mut port = port;
     let Some(outcomes) = settle_links(&mut port, ends, links, outcomes) else {
-        return Err(NodeError::Memory);
+        return (Err(NodeError::Memory), writer);
     };
     port.settle(command);
     match first_fault(fault, seat.core().neighbours(), outcomes.as_slice()) {
-        Some(fault) => Err(fault),
-        None => Ok(Ended {
-            seat,
-            outcomes,
-            port,
-        }),
+        Some(fault) => (Err(fault), writer),
+        None => {
+            let ended = Ended {
+                seat,
+                outcomes,
+                port,
+            };
+            (Ok(ended), writer)
+        }
     }
 }
 
-/// Runs a node until its commands or a fault of its core end it.
+/// Runs a node until its commands or a fault of its core end it, and gives the writer back. The writer is `None` only where the
+/// answer is `Memory`.
 ///
 /// It takes one wire, one disk and one source of ticks for each link, by ascending neighbour; the commands have the ticks of
 /// `clock`. First it makes the core, the link ends and
@@ -155,6 +165,9 @@ fn settled(rests: Rests<CoreRest, LinkRest>, outcomes: Vec<Outcome>) -> Result<E
 /// writes the lines of `show`, and `refused N` for a need that is refused. A link whose thread has ended with a fault
 /// is down from then on, and the others go on.
 ///
+/// The thread of a neighbour is woken once a cargo was put into its lane: the wakers stand in the order of the wires, and where
+/// there is none, nobody is woken. No clause says that anybody is.
+///
 /// # Errors
 /// `Lane` where there are no neighbours or more than lanes are made for; `Memory`, also where a thread can't be started;
 /// `Life` with the neighbour where its life file does not open. Once all threads have ended: the fault of the core
@@ -163,54 +176,11 @@ pub fn run_node<
     R: Threads + Wait + Log + Sync,
     D: Disk + Send + Drop,
     W: Wire + Send + Drop,
-    T: Ticks + Send + Drop,
-    C: Clock,
-    Rd: Read,
-    Wr: Write + Send,
->(
-    rt: &R,
-    alloc: Global,
-    config: Config,
-    wires: Vec<W>,
-    disks: Vec<D>,
-    ticks: Vec<T>,
-    clock: &C,
-    reader: &mut Rd,
-    writer: &mut Wr,
-) -> Result<Ended, NodeError>
-    requires wires { length wires.items ≡ length config.neighbours }
-    requires disks { length disks.items ≡ length config.neighbours }
-    requires ticks { length ticks.items ≡ length config.neighbours }
-    ensures { NodeAnswers W.did_send W.did_receive (C.did_tell clock.now) T.did_read (IsOpened D.syncs D.reads D.writes) config wires.items disks.items ticks.items (Rd.remaining reader.old) result }
-{
-    run_node_with_wakers(
-        rt,
-        alloc,
-        config,
-        wires,
-        disks,
-        Vec::<()>::new(alloc),
-        ticks,
-        clock,
-        reader,
-        writer,
-    )
-}
-
-/// Runs a node as `run_node` does, and wakes the thread of a neighbour once a cargo was put into its lane: the wakers stand in the
-/// order of the wires, and where there is none, nobody is woken. No clause says that anybody is.
-///
-/// # Errors
-/// As for `run_node`.
-pub fn run_node_with_wakers<
-    R: Threads + Wait + Log + Sync,
-    D: Disk + Send + Drop,
-    W: Wire + Send + Drop,
     K: Wake + Send + Drop,
     T: Ticks + Send + Drop,
     C: Clock,
     Rd: Read,
-    Wr: Write + Send,
+    Wr: Write + Send + Drop,
 >(
     rt: &R,
     alloc: Global,
@@ -221,37 +191,47 @@ pub fn run_node_with_wakers<
     ticks: Vec<T>,
     clock: &C,
     reader: &mut Rd,
-    writer: &mut Wr,
-) -> Result<Ended, NodeError>
+    writer: Wr,
+) -> (Result<Ended, NodeError>, Option<Wr>)
     requires wires { length wires.items ≡ length config.neighbours }
     requires disks { length disks.items ≡ length config.neighbours }
     requires ticks { length ticks.items ≡ length config.neighbours }
-    ensures { NodeAnswers W.did_send W.did_receive (C.did_tell clock.now) T.did_read (IsOpened D.syncs D.reads D.writes) config wires.items disks.items ticks.items (Rd.remaining reader.old) result }
+    ensures { NodeAnswers W.did_send W.did_receive (C.did_tell clock.now) T.did_read (IsOpened D.syncs D.reads D.writes) Wr.contents
+        config wires.items disks.items ticks.items (Rd.remaining reader.old) writer result.1 result.0 }
 {
     what_was_offered_was_sent();
     let core = config.into_core();
     let Some(ends) = new_ends(alloc, &core) else {
-        return Err(NodeError::Memory);
+        return (Err(NodeError::Memory), Some(writer));
+    };
+    let lanes = match new_lanes(rt, alloc, core.neighbours().len()) {
+        Ok(lanes) => lanes,
+        Err(fault) => return (Err(fault), Some(writer)),
     };
     let Lanes {
         core: port,
         command,
         links,
         outs,
-    } = new_lanes(rt, alloc, core.neighbours().len())?;
-    let new = new_links(alloc, ends, disks, wires)?;
+    } = lanes;
+    let new = match new_links(alloc, ends, disks, wires) {
+        Ok(new) => new,
+        Err(fault) => return (Err(fault), Some(writer)),
+    };
     let Some(starts) = new_starts(alloc, new, links, ticks) else {
-        return Err(NodeError::Memory);
+        return (Err(NodeError::Memory), Some(writer));
     };
     let mut outcomes = Vec::new(alloc);
     let Ok(()) = outcomes.reserve(starts.len()) else {
-        return Err(NodeError::Memory);
+        return (Err(NodeError::Memory), Some(writer));
     };
-    let Some(core_task) = new_core_start(alloc, core, port, outs, wakers, writer) else {
-        return Err(NodeError::Memory);
+    let core_task = match new_core_start(alloc, core, port, outs, wakers, writer) {
+        Ok(core_task) => core_task,
+        Err(writer) => return (Err(NodeError::Memory), Some(writer)),
     };
     let Some(rests) = run_threads(rt, alloc, core_task, command, starts, clock, reader) else {
-        return Err(NodeError::Memory);
+        return (Err(NodeError::Memory), None);
     };
-    settled(rests, outcomes)
+    let (ended, writer) = settled(rests, outcomes);
+    (ended, Some(writer))
 }

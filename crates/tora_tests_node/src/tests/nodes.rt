@@ -68,9 +68,11 @@ fn run_over<
     as_many(rt, disks.len(), links);
     let clock = UnixClock::new(rt);
     let ticks = there(rt, clock_ticks(alloc, &clock, links), "memory for ticks");
-    run_node(
-        rt, alloc, config, wires, disks, ticks, &clock, commands, screen,
-    )
+    let wakers = Vec::<()>::new(alloc);
+    let (ended, _) = run_node(
+        rt, alloc, config, wires, disks, wakers, ticks, &clock, commands, screen,
+    );
+    ended
 }
 
 /// Runs a node with one link over the loopback, whose thread is woken.
@@ -103,8 +105,8 @@ fn run_one<R: Threads + Wait + Sync + time::Clock + log::Log + Abort>(
         course,
         asked: 0,
     };
-    let mut screen = Screen { course };
-    run_node_with_wakers(
+    let screen = Screen { course };
+    let (ended, screen) = run_node(
         rt,
         alloc,
         config,
@@ -114,9 +116,9 @@ fn run_one<R: Threads + Wait + Sync + time::Clock + log::Log + Abort>(
         ticks,
         clock,
         &mut commands,
-        &mut screen,
-    )
-    .is_ok()
+        screen,
+    );
+    ended.is_ok() && screen.is_some()
 }
 
 /// Waits until the other node has printed, 10 s at most.

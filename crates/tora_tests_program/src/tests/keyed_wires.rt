@@ -7,7 +7,7 @@ use log::{LevelFilter, Log, Logged};
 use std::cell::Cell;
 use std::process::Abort;
 use std::str;
-use tora_keyed::{Key, LentWire, LinkWire, NoticedWire};
+use tora_keyed::{Key, LinkWire, NoticedWire};
 use tora_log::LogLines;
 use tora_neighbour::{Clock, Wire, WireError};
 
@@ -97,8 +97,8 @@ fn turn_each<L: Log>(
     for turn in TURNS {
         tick.set(turn.0);
         is_forged.set(turn.1);
-        let mut lent = LentWire::new(&mut *wire);
-        let given = lent.receive(&mut [0; 30]);
+        let mut lent = &mut *wire;
+        let given = Wire::receive(&mut lent, &mut [0; 30]);
         let wanted = if turn.1 { None } else { Some(MESSAGE.len()) };
         same_at(rt, &given, &Ok(wanted), turn);
     }

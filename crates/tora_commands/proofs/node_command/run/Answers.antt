@@ -13,4 +13,4 @@ returns-in-Err-bind g c = unstarted _ _ _ _ _ _ _ _ _ _ _ _ c.in-Ok.ensures.says
 
 pub returns : goal.returns
 returns g c =
-    run_to_end _ _ _ _ _ _ _ _ _ _ _ c.in-Ok.ensures.says c.if-is_check.false c.run_bound-code.ensures
+    run_to_end _ _ _ _ _ _ _ _ _ _ _ c.in-Ok.ensures.says c.if-is_check.false c.run_bound-ended.ensures

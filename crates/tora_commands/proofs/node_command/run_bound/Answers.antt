@@ -3,5 +3,5 @@ use Rattle.tora_commands.proofs.node_command.run_bound.Goals as goal
 
 pub returns : goal.returns
 returns g c =
-    ran_or_memory _ _ _ _ c.run_over-ended.result _ c.finish.ensures
-    (map_right c.run_over-ended.ensures (λ ran. (c.args.wires.now, c.args.clock.now, ran.0, c.in-Ok.disks.items, ran.1, ran.2, ran.3)))
+    ran_or_memory _ _ _ _ c.run_over-ended.result.0 _ c.finish.ensures
+    (map_right c.run_over-ended.ensures (λ ran. (c.args.clock.now, ran.0, c.in-Ok.disks.items, ran.1, ran.3)))

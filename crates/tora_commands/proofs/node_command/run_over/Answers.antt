@@ -4,4 +4,4 @@ use Rattle.tora_commands.proofs.node_command.run_over.Goals as goal
 
 pub returns : goal.returns
 returns g c =
-    inr (c.in-Some-lend.lent.items, c.in-Some-clock_ticks.ticks.items, c.in-Some-lend.ensures, answers_of _ _ _ _ _ _ _ _ _ _ _ _ c.in-Some.ensures.node c.run_node_with_wakers.ensures)
+    inr (c.in-Some-lend.lent.items, c.in-Some-clock_ticks.ticks.items, c.in-Some-lend.ensures, answers_of _ _ _ _ _ _ _ _ _ _ _ _ _ _ _ c.in-Some.ensures.node c.run_node.ensures)

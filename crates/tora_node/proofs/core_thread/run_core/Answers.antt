@@ -5,7 +5,8 @@ use Rattle.tora_seat.specs.declared.item.Item.{Item}
 use Rattle.tora_seat.specs.Rows.{state_of, serving_at}
 use Rattle.tora_seat.specs.declared.answer.Answer.{Answer}
 use Rattle.tora_seat.specs.declared.what.What.{What}
-use Rattle.tora_node.specs.CoreRuns.{reply_text, MayFail, IsWatched}
+use Rattle.tora_node.specs.CoreRuns.{reply_text, EndsSo, MayFail, IsWatched}
+use Rattle.tora_node.specs.declared.fault.NodeError.{NodeError}
 use Rattle.tora_node.specs.StatusLines.{told_in}
 use Rattle.tora_node.specs.declared.watch.Told.{Told}
 use Rattle.tora_node.proofs.Served.{Appends-nil, nothing_ran, done, goes_on, core_is, may_fail_more, told_before}
@@ -13,6 +14,7 @@ use Rattle.tora_node.proofs.core_thread.run_core.Goals as goal
 
 pub loop-init : goal.loop-init
 loop-init g c = record {
+  faultless = refl;
   lanes = c.requires;
   neighbours = refl;
   lane = refl;
@@ -30,9 +32,9 @@ returns-in-Err g c =
         gone.0 ∙ r.taken_is,
         r.served,
         r.offered,
-        core_is c.accepted_inputs_make_the_core.ensures.runs ks (state_of c.args.seat) (state_of c.loop.seat) r.xs r.served,
+        core_is c.accepted_inputs_make_the_core.ensures.runs ks (state_of c.args.seat) (state_of c.loop.end.seat) r.xs r.served,
         (λ none. r.written),
-        inr (r.goes, gone.1),
+        subst (λ (f : Option NodeError). EndsSo f r.xs _) (sym c.loop.invariant.faultless) (inr (r.goes, gone.1)),
       );
       neighbours = c.loop.invariant.neighbours;
       lane = c.take.ensures.lane.0 ∙ c.loop.invariant.lane;
@@ -45,8 +47,8 @@ returns-then-is_quit g c =
     let ks = c.args.seat.core.neighbours in
     let v = serving_at c.in-Ok.item.now c.serve-answer.new.self t.0 in
     let d = done g.O.OutLanes.did_offer ks (state_of c.args.seat) c.args.outs c.args.port.taken (g.W.Write.contents c.args.writer.now)
-    (state_of c.loop.seat) c.loop.outs c.loop.port.taken (g.W.Write.contents c.loop.writer) (told_in c.loop.watch) h.ran
-    c.in-Ok.item t.0 c.serve-answer.new.outs c.take.new.self.taken v c.loop.seat.core.neighbours h.neighbours c.in-Ok.ensures.taken.0 t.1 t.2 refl in
+    (state_of c.loop.end.seat) c.loop.end.outs c.loop.end.port.taken (g.W.Write.contents c.loop.writer) (told_in c.loop.watch) h.ran
+    c.in-Ok.item t.0 c.serve-answer.new.outs c.take.new.self.taken v c.loop.end.seat.core.neighbours h.neighbours c.in-Ok.ensures.taken.0 t.1 t.2 refl in
     let quit = c.is_quit.ensures.quit c.if-is_quit.true in
     let text = g.W.Write.contents c.loop.writer in
     record {
@@ -57,7 +59,7 @@ returns-then-is_quit g c =
         d.offered,
         core_is c.accepted_inputs_make_the_core.ensures.runs ks (state_of c.args.seat) (state_of c.serve-answer.new.self) (d.front ++ d.x ∷ []) d.served,
         (λ none. d.written text (subst (λ (w : What). Appends text text (reply_text (told_in c.loop.watch) c.in-Ok.item.now w v.answer v.seat)) (sym quit) (Appends-nil text))),
-        inl (d.front, d.x, refl, d.goes, ap (λ (i : Item). i.what) d.item_is ∙ quit),
+        subst (λ (f : Option NodeError). EndsSo f (d.front ++ d.x ∷ []) _) (sym h.faultless) (inl (d.front, d.x, refl, d.goes, ap (λ (i : Item). i.what) d.item_is ∙ quit)),
       );
       neighbours = c.serve-answer.ensures.neighbours ∙ h.neighbours;
       lane = c.take.ensures.lane.0 ∙ h.lane;
@@ -70,8 +72,8 @@ returns-in-Err-reply g c =
     let ks = c.args.seat.core.neighbours in
     let v = serving_at c.in-Ok.item.now c.serve-answer.new.self t.0 in
     let d = done g.O.OutLanes.did_offer ks (state_of c.args.seat) c.args.outs c.args.port.taken (g.W.Write.contents c.args.writer.now)
-    (state_of c.loop.seat) c.loop.outs c.loop.port.taken (g.W.Write.contents c.loop.writer) (told_in c.loop.watch) h.ran
-    c.in-Ok.item t.0 c.serve-answer.new.outs c.take.new.self.taken v c.loop.seat.core.neighbours h.neighbours c.in-Ok.ensures.taken.0 t.1 t.2 refl in
+    (state_of c.loop.end.seat) c.loop.end.outs c.loop.end.port.taken (g.W.Write.contents c.loop.writer) (told_in c.loop.watch) h.ran
+    c.in-Ok.item t.0 c.serve-answer.new.outs c.take.new.self.taken v c.loop.end.seat.core.neighbours h.neighbours c.in-Ok.ensures.taken.0 t.1 t.2 refl in
     record {
       runs = (
         d.front ++ d.x ∷ [],
@@ -93,12 +95,13 @@ loop-preserved g c =
     let ks = c.args.seat.core.neighbours in
     let v = serving_at c.in-Ok.item.now c.serve-answer.new.self t.0 in
     let d = done g.O.OutLanes.did_offer ks (state_of c.args.seat) c.args.outs c.args.port.taken (g.W.Write.contents c.args.writer.now)
-    (state_of c.loop.seat) c.loop.outs c.loop.port.taken (g.W.Write.contents c.loop.writer) (told_in c.loop.watch) h.ran
-    c.in-Ok.item t.0 c.serve-answer.new.outs c.take.new.self.taken v c.loop.seat.core.neighbours h.neighbours c.in-Ok.ensures.taken.0 t.1 t.2 refl in
+    (state_of c.loop.end.seat) c.loop.end.outs c.loop.end.port.taken (g.W.Write.contents c.loop.writer) (told_in c.loop.watch) h.ran
+    c.in-Ok.item t.0 c.serve-answer.new.outs c.take.new.self.taken v c.loop.end.seat.core.neighbours h.neighbours c.in-Ok.ensures.taken.0 t.1 t.2 refl in
     let same = c.serve-answer.ensures.neighbours in
     let count = c.serve-answer.ensures.count in
     let new = g.W.Write.contents c.reply.new.writer in
     record {
+      faultless = h.faultless;
       lanes = omega (arith, ap (λ (l : List ℕ). length l) same, count, h.lanes);
       neighbours = same ∙ h.neighbours;
       lane = c.take.ensures.lane.0 ∙ h.lane;

@@ -11,7 +11,7 @@ use std::thread::Threads;
 use std::time::Duration;
 use std::{thread, time};
 use tora_neighbour::{Clock, NodeClock, Wake, clock_ticks};
-use tora_node::run_node_with_wakers;
+use tora_node::run_node;
 
 /// What a node tells of its end.
 #[derive(Drop)]
@@ -107,8 +107,8 @@ fn run_to_the_end<R: Threads + Wait + Sync + time::Clock + log::Log + Abort>(
     let counting = CountingClock { clock, course };
     let ticks = there(rt, clock_ticks(alloc, &counting, links), "memory for ticks");
     let mut commands = Running { rt, course };
-    let mut screen = Vec::new(alloc);
-    run_node_with_wakers(
+    let screen = Vec::new(alloc);
+    let (ended, screen) = run_node(
         rt,
         alloc,
         config,
@@ -118,9 +118,9 @@ fn run_to_the_end<R: Threads + Wait + Sync + time::Clock + log::Log + Abort>(
         ticks,
         &counting,
         &mut commands,
-        &mut screen,
-    )
-    .is_ok()
+        screen,
+    );
+    ended.is_ok() && screen.is_some()
 }
 
 /// Each link is told that the core has ended, and its thread takes at most one turn from then on.

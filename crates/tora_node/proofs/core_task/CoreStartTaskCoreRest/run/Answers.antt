@@ -18,6 +18,7 @@ returns g c =
       offered = offered_inside (λ o. o.ends.items) DidOffer c.args.self.seat.core.neighbours _ (offers_made r.0) after.outs r.3;
       core_is = r.4;
       ends = subst (λ (p : CoreEnd). EndsSo after.fault r.0 p.gone) (sym c.end-port.ensures) r.6;
+      written = r.5;
       neighbours = c.run_core-end.ensures.neighbours;
       fault = core_fault after.fault r.0 after.port.gone r.6;
     }

@@ -1,5 +1,5 @@
 use Rattle.std.proofs.Common.{◌≡◌, length}
-use Rattle.tora_commands.proofs.node_command.open.Given as goal
+use Rattle.tora_commands.proofs.life_files.open.Given as goal
 
 -- a disk for each link so far
 abbrev pub invariant-loop-link : goal.invariant-loop-link

@@ -1,0 +1,104 @@
+//! The life files of a node's links.
+ghost use Rattle.std.specs.Prelude.{◌≡◌, IfOk, IfErr, length};
+ghost use Rattle.tora_commands.specs.Statuses.{status_of_fault, IsUnstarted};
+
+use crate::node_command::{Fault, say};
+use std::alloc::{AllocError, Global};
+use std::fs::File;
+use std::io::ErrorKind;
+use std::rt::Files;
+use std::{fs, io};
+use tora_config::LinkConfig;
+use tora_height::Id;
+use tora_life::{Disk, FileDisk, LifeError, Owner, Tag};
+use tora_simulate::tell_at;
+
+/// Says on standard error why a life file cannot be opened.
+fn tell_file(rt: &impl Eprint, path: &str, error: &io::Error) {
+    if error.kind() == ErrorKind::WouldBlock {
+        tell_at(rt, "life: ", path, &"a running node uses this file");
+    } else {
+        tell_at(rt, "life: ", path, error);
+    }
+}
+
+/// The path of the life file of the link to `peer`.
+fn life_path(alloc: Global, folder: &str, peer: Id) -> Result<String, AllocError> {
+    format!(in alloc; "{folder}/life-{peer}")
+}
+
+/// Opens the file of each link, by ascending neighbour.
+pub(crate) fn open<R: Files<File = File> + Eprint>(
+    rt: &R,
+    alloc: Global,
+    folder: &str,
+    links: &[LinkConfig],
+) -> Result<Vec<FileDisk>, Fault>
+    ensures count { IfOk result (λ disks. length disks.items ≡ length links.now) }
+    ensures fault { IfErr result (λ fault. IsUnstarted (status_of_fault fault)) }
+{
+    let mut disks = Vec::new(alloc);
+    let _ = fs::create_dir_all(rt, folder);
+    for link in links {
+        let peer = link.peer;
+        let Ok(path) = life_path(alloc, folder, peer) else {
+            return Err(say(rt, Fault::Memory));
+        };
+        match FileDisk::open(rt, path.as_str()) {
+            Ok(disk) => {
+                let Ok(()) = disks.push(disk) else {
+                    return Err(say(rt, Fault::Memory));
+                };
+            }
+            Err(error) => {
+                let fault = say(rt, Fault::Life);
+                tell_file(rt, path.as_str(), &error);
+                return Err(fault);
+            }
+        }
+    }
+    Ok(disks)
+}
+
+/// Whose a life file is, where its tag says so.
+fn owner_in<R: Files<File = File>>(rt: &R, path: &str) -> Option<Owner> {
+    let Ok(mut disk) = FileDisk::open(rt, path) else {
+        return None;
+    };
+    let mut tag = [0; 32];
+    let Ok(count) = disk.read(32, &mut tag) else {
+        return None;
+    };
+    match Tag::read(&tag[..count]) {
+        Tag::Of(owner) => Some(owner),
+        Tag::Absent | Tag::Strange => None,
+    }
+}
+
+/// Says on standard error whose a life file is.
+fn tell_owner(rt: &impl Eprint, path: &str, owner: Owner) {
+    let (node, peer) = (owner.node, owner.peer);
+    let _ = rt.eprintln(format_args!(
+        "tora: {path}: it is the file of node {node} for its link to {peer}"
+    ));
+}
+
+/// Says on standard error what is wrong with the life file of the link to `peer`, and with `is_verbose` of a foreign one whose it is.
+pub(crate) fn tell_life<R: Files<File = File> + AllocGlobal + Eprint>(
+    rt: &R,
+    folder: &str,
+    peer: Id,
+    error: LifeError,
+    is_verbose: bool,
+) {
+    let Ok(path) = life_path(rt.alloc(), folder, peer) else {
+        return;
+    };
+    tell_at(rt, "life: ", path.as_str(), &error);
+    if error != LifeError::Foreign || !is_verbose {
+        return;
+    }
+    if let Some(owner) = owner_in(rt, path.as_str()) {
+        tell_owner(rt, path.as_str(), owner);
+    }
+}
