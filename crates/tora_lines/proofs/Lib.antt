@@ -6,6 +6,7 @@ pub mod Grammar
 pub mod KindLaws
 pub mod ListLaws
 pub mod Pending
+pub mod ReadLaws
 pub mod ShortenedLaws
 pub mod Splits
 pub mod Steps

@@ -5,6 +5,7 @@ pub mod Gives
 pub mod Kinds
 pub mod LineText
 pub mod Pieces
+pub mod Reads
 pub mod Session
 pub mod Shortened
 pub mod WordGrammar

@@ -2,14 +2,17 @@
 ghost use Rattle.std.specs.Prelude.{◌≡◌, ◌≢◌, ◌+◌, ◌-◌, ◌^◌, ◌<◌, ◌≤◌, ◌++◌, [], length, drop, OnOk, IfOk, IfErr, IfSome, None, Ok, true, vec_len, ℕ, List, Some};
 ghost use Rattle.std.specs.Io.KnownBytes.{Appends, IsAtEnd, ReadConsumes};
 ghost use Rattle.tora_lines.specs.LineText.{faulty};
+ghost use Rattle.tora_lines.specs.Reads.{given_by, IsReadSo, IsUnwritten};
 ghost use Rattle.tora_lines.specs.Engine.{text_of, IsOpen, Answers, Keeps, Drains, TakesChunk, Finishes, Ends, IsWholeText, IsFrontOfText};
 
 use crate::ended::{Ended, ReplayError};
+use crate::input::Input;
+use crate::output::Output;
 use crate::session::{FileKind, LONGEST_LINE, Session};
 use crate::text::numbered;
 use crate::words::{LineError, place};
 use std::alloc::{AllocError, Global};
-use std::io::{ErrorKind, Read, Write};
+use std::io::ErrorKind;
 use std::{io, mem};
 
 /// The most times that a reader is asked. Own profile.
@@ -18,24 +21,26 @@ pub const MOST_READS: u64 = 0x1_0000_0000;
 /// How many bytes are asked for at once.
 pub const CHUNK: usize = 0x1_0000;
 
-fn put<W: Write>(writer: &mut W, text: &[u8]) -> Result<(), ReplayError>
+fn put<W: Output>(writer: &mut W, text: &[u8]) -> Result<(), ReplayError>
     ensures ok { OnOk result (Appends (W.contents writer.old) (W.contents writer.new) text.now) }
     ensures err { IfErr result (λ e. e ≡ ReplayError.Write) }
+    ensures failed { IfErr result (λ e. e ≡ ReplayError.Write → IsUnwritten W.did_write writer.new) }
 {
-    match writer.write_all(text) {
+    match writer.put_all(text) {
         Ok(()) => Ok(()),
         Err(_) => Err(ReplayError::Write),
     }
 }
 
 /// Takes one line, and writes what is printed for it.
-pub fn answer<K: FileKind, W: Write>(
+pub fn answer<K: FileKind, W: Output>(
     alloc: Global,
     session: &mut Session<K>,
     writer: &mut W,
     line: &[u8],
 ) -> Result<bool, ReplayError>
-    ensures { Answers K.kind session.old.state line.now session.new.state (W.contents writer.old) (W.contents writer.new) result }
+    ensures text { Answers K.kind session.old.state line.now session.new.state (W.contents writer.old) (W.contents writer.new) result }
+    ensures failed { IfErr result (λ e. e ≡ ReplayError.Write → IsUnwritten W.did_write writer.new) }
 {
     match session.take(alloc, line) {
         Ok(()) => {
@@ -49,7 +54,7 @@ pub fn answer<K: FileKind, W: Write>(
 
 /// Takes the whole lines of the text, and says how many bytes are left behind them, or nothing at
 /// a fault.
-fn drain<K: FileKind, W: Write>(
+fn drain<K: FileKind, W: Output>(
     alloc: Global,
     session: &mut Session<K>,
     number: &mut u64,
@@ -57,7 +62,8 @@ fn drain<K: FileKind, W: Write>(
     text: &[u8],
 ) -> Result<Option<usize>, ReplayError>
     requires { number.old + length text.now < 2 ^ 64 }
-    ensures { Drains K.kind session.old.state number.old text.now (W.contents writer.old) (W.contents writer.new) session.new.state number.new result }
+    ensures text { Drains K.kind session.old.state number.old text.now (W.contents writer.old) (W.contents writer.new) session.new.state number.new result }
+    ensures failed { IfErr result (λ e. e ≡ ReplayError.Write → IsUnwritten W.did_write writer.new) }
 {
     let mut rest = text;
     while let Some(at) = place(b'\n', rest) {
@@ -85,7 +91,7 @@ fn keep(pending: &mut Vec<u8>, bytes: &[u8]) -> Result<bool, ReplayError>
 }
 
 /// Takes the line that is pending and ends so. Nothing is pending once it is taken.
-fn end_line<K: FileKind, W: Write>(
+fn end_line<K: FileKind, W: Output>(
     alloc: Global,
     session: &mut Session<K>,
     writer: &mut W,
@@ -95,6 +101,7 @@ fn end_line<K: FileKind, W: Write>(
     requires { vec_len pending.old ≤ LONGEST_LINE }
     ensures line { Answers K.kind session.old.state (pending.old.items ++ end.now) session.new.state (W.contents writer.old) (W.contents writer.new) result }
     ensures empty { result ≡ Ok true → (pending.new.items ≡ []) × (vec_len pending.new ≡ 0) }
+    ensures failed { IfErr result (λ e. e ≡ ReplayError.Write → IsUnwritten W.did_write writer.new) }
 {
     if !keep(pending, end)? {
         return Ok(false);
@@ -105,7 +112,7 @@ fn end_line<K: FileKind, W: Write>(
 }
 
 /// Takes the whole lines of a text that begins with a line, and keeps what is left of it.
-fn take_rest<K: FileKind, W: Write>(
+fn take_rest<K: FileKind, W: Output>(
     alloc: Global,
     session: &mut Session<K>,
     number: &mut u64,
@@ -116,8 +123,9 @@ fn take_rest<K: FileKind, W: Write>(
     requires room { number.old + length text.now < 2 ^ 64 }
     requires empty { pending.old.items ≡ [] }
     requires len { vec_len pending.old ≡ 0 }
-    ensures { TakesChunk K.kind session.old.state number.old text.now (W.contents writer.old) (W.contents writer.new)
+    ensures text { TakesChunk K.kind session.old.state number.old text.now (W.contents writer.old) (W.contents writer.new)
         session.new.state number.new pending.new.items result }
+    ensures failed { IfErr result (λ e. e ≡ ReplayError.Write → IsUnwritten W.did_write writer.new) }
 {
     let Some(left) = drain(alloc, session, number, writer, text)? else {
         return Ok(false);
@@ -126,7 +134,7 @@ fn take_rest<K: FileKind, W: Write>(
 }
 
 /// Takes the whole lines of what is pending and the chunk behind it, and keeps what is left of them.
-fn take_chunk<K: FileKind, W: Write>(
+fn take_chunk<K: FileKind, W: Output>(
     alloc: Global,
     session: &mut Session<K>,
     number: &mut u64,
@@ -137,8 +145,9 @@ fn take_chunk<K: FileKind, W: Write>(
     requires room { number.old + length pending.old.items + length chunk.now < 2 ^ 64 }
     requires is_open { IsOpen pending.old.items }
     requires short { vec_len pending.old ≤ LONGEST_LINE }
-    ensures { TakesChunk K.kind session.old.state number.old (pending.old.items ++ chunk.now) (W.contents writer.old) (W.contents writer.new)
+    ensures text { TakesChunk K.kind session.old.state number.old (pending.old.items ++ chunk.now) (W.contents writer.old) (W.contents writer.new)
         session.new.state number.new pending.new.items result }
+    ensures failed { IfErr result (λ e. e ≡ ReplayError.Write → IsUnwritten W.did_write writer.new) }
 {
     let Some(at) = place(b'\n', chunk) else {
         return keep(pending, chunk);
@@ -151,8 +160,9 @@ fn take_chunk<K: FileKind, W: Write>(
 }
 
 /// Writes that a line is a fault.
-pub fn fault<W: Write>(alloc: Global, number: u64, writer: &mut W) -> Result<Ended, ReplayError>
-    ensures { Ends (faulty number) (W.contents writer.old) (W.contents writer.new) result }
+pub fn fault<W: Output>(alloc: Global, number: u64, writer: &mut W) -> Result<Ended, ReplayError>
+    ensures text { Ends (faulty number) (W.contents writer.old) (W.contents writer.new) result }
+    ensures failed { IfErr result (λ e. e ≡ ReplayError.Write → IsUnwritten W.did_write writer.new) }
 {
     let mut text = String::new(alloc);
     if numbered(&mut text, "fault ", number).is_err() {
@@ -163,13 +173,14 @@ pub fn fault<W: Write>(alloc: Global, number: u64, writer: &mut W) -> Result<End
 }
 
 /// Says how an input ends that ends before this line.
-pub fn close<K: FileKind, W: Write>(
+pub fn close<K: FileKind, W: Output>(
     alloc: Global,
     session: &Session<K>,
     number: u64,
     writer: &mut W,
 ) -> Result<Ended, ReplayError>
-    ensures { Ends (K.kind.text session.now.state number []) (W.contents writer.old) (W.contents writer.new) result }
+    ensures text { Ends (K.kind.text session.now.state number []) (W.contents writer.old) (W.contents writer.new) result }
+    ensures failed { IfErr result (λ e. e ≡ ReplayError.Write → IsUnwritten W.did_write writer.new) }
 {
     match session.state.end(alloc, number) {
         Ok(None) => Ok(Ended::Whole),
@@ -179,7 +190,7 @@ pub fn close<K: FileKind, W: Write>(
 }
 
 /// Takes a last line that has no end, and says how the input ended.
-fn finish<K: FileKind, W: Write>(
+fn finish<K: FileKind, W: Output>(
     alloc: Global,
     session: &mut Session<K>,
     number: u64,
@@ -188,7 +199,8 @@ fn finish<K: FileKind, W: Write>(
 ) -> Result<Ended, ReplayError>
     requires is_open { IsOpen last.now }
     requires room { number + 1 < 2 ^ 64 }
-    ensures { Finishes K.kind session.old.state number last.now (W.contents writer.old) (W.contents writer.new) result }
+    ensures text { Finishes K.kind session.old.state number last.now (W.contents writer.old) (W.contents writer.new) result }
+    ensures failed { IfErr result (λ e. e ≡ ReplayError.Write → IsUnwritten W.did_write writer.new) }
 {
     if last.is_empty() {
         return close(alloc, session, number, writer);
@@ -208,12 +220,13 @@ pub fn zeros(alloc: Global, size: usize) -> Result<Vec<u8>, AllocError>
 }
 
 /// Asks the reader once.
-pub fn read_some<R: Read>(reader: &mut R, chunk: &mut Vec<u8>) -> io::Result<usize>
+pub fn read_some<R: Input>(reader: &mut R, chunk: &mut Vec<u8>) -> io::Result<usize>
+    ensures call { R.did_read reader.old (given_by result chunk.new.items) reader.new }
     ensures len { vec_len chunk.new ≡ vec_len chunk.old }
     ensures bound { IfOk result (λ n. n ≤ vec_len chunk.new) }
     ensures bytes { ReadConsumes (R.remaining reader.old) (R.remaining reader.new) result chunk.new.items }
 {
-    reader.read(chunk.as_mut_slice())
+    reader.get_some(chunk.as_mut_slice())
 }
 
 /// Reads the lines of a file to the end of the input or to the first line that is a fault, and writes what is printed
@@ -222,7 +235,7 @@ pub fn read_some<R: Read>(reader: &mut R, chunk: &mut Vec<u8>) -> io::Result<usi
 /// # Errors
 /// `Memory` where memory was refused; `Read` where a read failed, or 2^32 reads came to no end; `Write` where a write
 /// failed. No line is taken in part.
-pub fn read_lines<K: FileKind, R: Read, W: Write>(
+pub fn read_lines<K: FileKind, R: Input, W: Output>(
     alloc: Global,
     state: K,
     reader: &mut R,
@@ -235,6 +248,8 @@ pub fn read_lines<K: FileKind, R: Read, W: Write>(
     // What was written begins the text of what was read.
     ensures begun { IfErr result (λ e. e ≢ ReplayError.Write →
         IsFrontOfText (text_of K.kind state 1) (R.remaining reader.old) (R.remaining reader.new) (W.contents writer.old) (W.contents writer.new)) }
+    ensures reads { IsReadSo R.did_read reader.old reader.new result }
+    ensures failed { IfErr result (λ e. e ≡ ReplayError.Write → IsUnwritten W.did_write writer.new) }
 {
     let mut session = Session::new(alloc, state);
     read_session(alloc, &mut session, reader, writer)
@@ -245,7 +260,7 @@ pub fn read_lines<K: FileKind, R: Read, W: Write>(
 ///
 /// # Errors
 /// Those of `read_lines`.
-pub fn read_last_lines<K: FileKind, R: Read, W: Write>(
+pub fn read_last_lines<K: FileKind, R: Input, W: Output>(
     alloc: Global,
     state: K,
     reader: &mut R,
@@ -256,6 +271,8 @@ pub fn read_last_lines<K: FileKind, R: Read, W: Write>(
     ensures at_end { result ≡ Ok Ended.Whole → IsAtEnd (R.remaining reader.new) }
     ensures begun { IfErr result (λ e. e ≢ ReplayError.Write →
         IsFrontOfText (text_of K.kind state 1) (R.remaining reader.old) (R.remaining reader.new) (W.contents writer.old) (W.contents writer.new)) }
+    ensures reads { IsReadSo R.did_read reader.old reader.new result }
+    ensures failed { IfErr result (λ e. e ≡ ReplayError.Write → IsUnwritten W.did_write writer.new) }
 {
     let mut session = Session::new(alloc, state);
     let ended = read_session(alloc, &mut session, reader, writer);
@@ -268,7 +285,7 @@ pub fn read_last_lines<K: FileKind, R: Read, W: Write>(
 /// # Errors
 /// `Memory` where memory was refused; `Read` where a read failed, or 2^32 reads came to no end; `Write` where a write
 /// failed. No line is taken in part.
-fn read_session<K: FileKind, R: Read, W: Write>(
+fn read_session<K: FileKind, R: Input, W: Output>(
     alloc: Global,
     session: &mut Session<K>,
     reader: &mut R,
@@ -281,6 +298,8 @@ fn read_session<K: FileKind, R: Read, W: Write>(
     // What was written begins the text of what was read.
     ensures begun { IfErr result (λ e. e ≢ ReplayError.Write →
         IsFrontOfText (text_of K.kind session.old.state 1) (R.remaining reader.old) (R.remaining reader.new) (W.contents writer.old) (W.contents writer.new)) }
+    ensures reads { IsReadSo R.did_read reader.old reader.new result }
+    ensures failed { IfErr result (λ e. e ≡ ReplayError.Write → IsUnwritten W.did_write writer.new) }
 {
     let mut number = 1u64;
     let Ok(mut pending) = Vec::with_capacity(alloc, LONGEST_LINE) else {

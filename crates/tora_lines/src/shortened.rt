@@ -1,14 +1,17 @@
 //! Lines of any length: one of more than 4,096 bytes is taken as an empty one.
 ghost use Rattle.std.specs.Prelude.{◌≡◌, ◌≢◌, ◌+◌, ◌^◌, ◌<◌, ◌≤◌, ◌++◌, ◌∷◌, [], ℕ, List, length, OnOk, IfOk, IfErr, IfSome, Ok, true, false};
 ghost use Rattle.std.specs.Io.KnownBytes.{IsAtEnd};
+ghost use Rattle.tora_lines.specs.Reads.{IsReadSo, IsUnwritten};
 ghost use Rattle.tora_lines.specs.Engine.{IsOpen, IsWholeText, IsFrontOfText};
 ghost use Rattle.tora_lines.specs.Shortened.{shortened, shortened_text_of, Holds, TakesBytes, WritesText};
 
 use crate::ended::{Ended, ReplayError};
 use crate::engine::{CHUNK, MOST_READS, answer, close, fault, read_some, zeros};
+use crate::input::Input;
+use crate::output::Output;
 use crate::session::{FileKind, LONGEST_LINE, Session};
 use std::alloc::{AllocError, Global};
-use std::io::{ErrorKind, Read, Write};
+use std::io::ErrorKind;
 
 /// The line that is being read: its bytes, where they are not too many.
 #[derive(Drop)]
@@ -70,7 +73,7 @@ impl Held {
 }
 
 /// Takes the lines that end in the bytes, and keeps the rest of them. It says whether no line was a fault.
-fn take_bytes<K: FileKind, W: Write>(
+fn take_bytes<K: FileKind, W: Output>(
     alloc: Global,
     session: &mut Session<K>,
     number: &mut u64,
@@ -82,6 +85,7 @@ fn take_bytes<K: FileKind, W: Write>(
     ensures text { (text : List ℕ) → Holds held.old text → IsOpen text →
         TakesBytes K.kind session.old.state number.old text bytes.now (W.contents writer.old) (W.contents writer.new) session.new.state number.new held.new result }
     ensures count { number.new ≤ number.old + length bytes.now }
+    ensures failed { IfErr result (λ e. e ≡ ReplayError.Write → IsUnwritten W.did_write writer.new) }
 {
     for byte in bytes {
         if *byte == b'\n' {
@@ -98,7 +102,7 @@ fn take_bytes<K: FileKind, W: Write>(
 }
 
 /// Takes a last line that has no end, and says how the input ended.
-fn finish_held<K: FileKind, W: Write>(
+fn finish_held<K: FileKind, W: Output>(
     alloc: Global,
     session: &mut Session<K>,
     number: u64,
@@ -106,8 +110,9 @@ fn finish_held<K: FileKind, W: Write>(
     held: &Held,
 ) -> Result<Ended, ReplayError>
     requires { number + 1 < 2 ^ 64 }
-    ensures { (text : List ℕ) → Holds held.now text → IsOpen text →
+    ensures text { (text : List ℕ) → Holds held.now text → IsOpen text →
         WritesText (shortened_text_of K.kind session.old.state number text) (W.contents writer.old) (W.contents writer.new) result }
+    ensures failed { IfErr result (λ e. e ≡ ReplayError.Write → IsUnwritten W.did_write writer.new) }
 {
     if held.is_empty() {
         return close(alloc, session, number, writer);
@@ -125,7 +130,7 @@ fn finish_held<K: FileKind, W: Write>(
 /// # Errors
 /// `Memory` where memory was refused; `Read` where a read failed, or 2^32 reads came to no end; `Write` where a write
 /// failed. No line is taken in part.
-pub fn read_shortened_lines<K: FileKind, R: Read, W: Write>(
+pub fn read_shortened_lines<K: FileKind, R: Input, W: Output>(
     alloc: Global,
     state: K,
     reader: &mut R,
@@ -138,6 +143,8 @@ pub fn read_shortened_lines<K: FileKind, R: Read, W: Write>(
     // What was written begins the text of what was read.
     ensures begun { IfErr result (λ e. e ≢ ReplayError.Write →
         IsFrontOfText (shortened_text_of K.kind state 1) (R.remaining reader.old) (R.remaining reader.new) (W.contents writer.old) (W.contents writer.new)) }
+    ensures reads { IsReadSo R.did_read reader.old reader.new result }
+    ensures failed { IfErr result (λ e. e ≡ ReplayError.Write → IsUnwritten W.did_write writer.new) }
 {
     let mut session = Session::new(alloc, state);
     let mut number = 1u64;

@@ -9,15 +9,15 @@ ghost use Rattle.tora_lines.specs.LineText.{fault_of};
 ghost use Rattle.tora_core.specs.declared.erasure.Erasure.{Erasure as AnyErasure};
 ghost use Rattle.tora_replay.specs.ReplayText.{core_of, next_reply, replay_reply, first_fault, Replays, IsBegun, first_fault_with, IsFirstFaultWith, ReplaysWith, IsBegunWith};
 ghost use Rattle.tora_replay.specs.ReplayView.{replay_kind};
+ghost use Rattle.tora_lines.specs.Reads.{IsReadSo, IsUnwritten};
 
 use crate::answer::answer;
 use crate::parse;
 use std::alloc::{AllocError, Global};
-use std::io::{Read, Write};
 use std::marker::Model;
 use tora_core::{Core, CoreError, CoreLimits, Erasure, Sends};
 use tora_lines::words::LineError;
-use tora_lines::{Ended, FileKind, ReplayError, read_lines};
+use tora_lines::{Ended, FileKind, Input, Output, ReplayError, read_lines};
 
 /// The core that the first line makes, which makes this of erased levels.
 #[tactic(auto, unfolding(crate::specs::ReplayText::core_of))]
@@ -132,7 +132,7 @@ impl FileKind for ReplayFile {
 /// `Memory` where memory was refused; `Read` where a read failed, or 2^32 reads came to no end (a read that was
 /// interrupted is made again, and counts); `Write` where a write failed. No line is taken in part: at `Memory` and `Read`
 /// whole lines' answers were written.
-pub fn replay<R: Read, W: Write>(
+pub fn replay<R: Input, W: Output>(
     alloc: Global,
     reader: &mut R,
     writer: &mut W,
@@ -145,6 +145,8 @@ pub fn replay<R: Read, W: Write>(
     // What was written begins the text of what was read.
     ensures begun { IfErr result (λ e. e ≢ ReplayError.Write →
         IsBegun (R.remaining reader.old) (R.remaining reader.new) (W.contents writer.old) (W.contents writer.new)) }
+    ensures reads { IsReadSo R.did_read reader.old reader.new result }
+    ensures failed { IfErr result (λ e. e ≡ ReplayError.Write → IsUnwritten W.did_write writer.new) }
 {
     replay_with(alloc, Erasure::Plain, reader, writer)
 }
@@ -154,7 +156,7 @@ pub fn replay<R: Read, W: Write>(
 /// # Errors
 /// Those of `replay`.
 #[tactic(auto, unfolding(tora_lines::specs::Engine::text_of))]
-pub fn replay_with<R: Read, W: Write>(
+pub fn replay_with<R: Input, W: Output>(
     alloc: Global,
     erasure: Erasure,
     reader: &mut R,
@@ -166,6 +168,8 @@ pub fn replay_with<R: Read, W: Write>(
     ensures fault { IfOk result (λ ended. IfSome (R.remaining reader.old) (λ input. fault_of ended ≡ first_fault_with erasure input)) }
     ensures begun { IfErr result (λ e. e ≢ ReplayError.Write →
         IsBegunWith erasure (R.remaining reader.old) (R.remaining reader.new) (W.contents writer.old) (W.contents writer.new)) }
+    ensures reads { IsReadSo R.did_read reader.old reader.new result }
+    ensures failed { IfErr result (λ e. e ≡ ReplayError.Write → IsUnwritten W.did_write writer.new) }
 {
     let state = ReplayFile {
         erasure,
