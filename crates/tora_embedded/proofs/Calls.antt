@@ -1,8 +1,7 @@
 -- Each call of a router is parts of its node, one after another.
-use Rattle.std.proofs.Common.{◌≡◌, ℕ, zero, suc, ◌<◌, ◌≤◌, ◌⊎◌, Bool, true, false, true≢false, inl, inr, List, [], ◌∷◌, ◌++◌, length, Option, Some, None, Result, Ok, Err, nat_eq, if◌then◌else◌, refl, sym, ap, ◌∙◌, subst, eqb-true, arith}
+use Rattle.std.proofs.Common.{◌≡◌, ℕ, zero, suc, ◌<◌, ◌≤◌, ◌⊎◌, Bool, true, false, true≢false, inl, inr, List, [], ◌∷◌, ◌++◌, length, Option, Some, None, Ok, Err, nat_eq, if◌then◌else◌, refl, sym, ap, ◌∙◌, subst, eqb-true, arith}
 use Rattle.std.specs.Option.{option_map_or}
 use Rattle.std.specs.Prelude.{slice_get, is_some, map}
-use Rattle.tora_frame.specs.declared.FrameError.{FrameError}
 use Rattle.tora_frame.specs.declared.parts.Version.{Version}
 use Rattle.tora_frame.specs.declared.parts.Version.TheVariants.{Two}
 use Rattle.tora_frame.specs.FrameParts.{FrameParts}
@@ -12,27 +11,26 @@ use Rattle.tora_arq.specs.EndRange.{LinkEndView, link_end_of}
 use Rattle.tora_arq.specs.LinkEnd.{EndState, bound_life, first_end, first_event, frame_due, after_frame, verdict_of}
 use Rattle.tora_arq.specs.Settings.{Settings, settings_of}
 use Rattle.tora_core.specs.Numbers.{has_repeat}
-use Rattle.tora_core.specs.CoreRun.{CoreView, first_core_of}
+use Rattle.tora_core.specs.CoreRun.{CoreView}
 use Rattle.tora_seat.specs.declared.what.What.TheVariants as Told
 use Rattle.tora_seat.specs.Between.{after_cut_of_bound}
 use Rattle.tora_seat.specs.Serving.{Serving, put_one}
 use Rattle.tora_neighbour.specs.Intake.{Reading, after_reading}
 use Rattle.tora_router.specs.declared.change.Change.{Change}
-use Rattle.tora_router.specs.declared.config.Config.{Config}
 use Rattle.tora_router.specs.declared.intake.Intake.TheVariants.{NoNeighbour, Seen}
 use Rattle.tora_router.specs.declared.link.Link.{Link}
-use Rattle.tora_router.specs.Links.{at_place, cut, event_of, first_in, frame_of_link, heard, intake_at, intake_in, intake_of, link_change, may_open, opens_at, peer_at, ticked, to_peer, told, waiting}
+use Rattle.tora_router.specs.Links.{at_place, cut, event_of, first_in, frame_of_link, heard, intake_at, intake_in, link_change, may_open, opens_at, peer_at, ticked, to_peer, told, waiting}
 use Rattle.tora_router.specs.Router.{RouterState, router_with, new_link, serving, after_item, after_event, after_first_event, after_events, settled, next_number, ticked_at, ticked_before, at_link, intake_from, need_item, item_at, frame_in, after_frame as after_frame_given, hop_change, after_change}
 use Rattle.tora_world.specs.Topology.{Topology, version_at, other_ends, neighbours_of, new_core, is_node}
 use Rattle.tora_world.specs.Lists.{IsIn}
-use Rattle.tora_running.specs.Network.{Network, IsNotForged, after_start}
+use Rattle.tora_running.specs.Network.{Network, IsNotForged}
 use Rattle.tora_running.specs.Network.Part.{Starts}
 use Rattle.tora_world.specs.World.{first_seat}
 use Rattle.tora_running.specs.Parts.LinkPart.{Hears, Breaks}
 use Rattle.tora_embedded.specs.Hosts.{History, IsOneOf, IsRefused, with_serving, with_servings, with_frame, served_event, served_events, served_settling}
 use Rattle.tora_embedded.specs.Laws.{AreEnds}
 use Rattle.tora_embedded.proofs.Neighbours.{number_at, ascending_again, as_many, neighbour_at, link_at, first_same, found_in, told_at}
-use Rattle.tora_embedded.proofs.Nodes.{Node, node_of, IsNode, Reached, net, end_in, s, stays, goes_on, by_part}
+use Rattle.tora_embedded.proofs.Nodes.{node_of, IsNode, Reached, net, end_in, s, stays, goes_on, by_part}
 use Rattle.tora_embedded.proofs.PartsOfCalls.{may_be_opened, quiet, sends, asks, item_served, event_served, tick_handed}
 
 servings-append : (h : History) (xs ys : List Serving) → with_servings h (xs ++ ys) ≡ with_servings (with_servings h xs) ys

@@ -1,13 +1,12 @@
 -- The laws of running nodes, read of the hosts.
-use Rattle.std.proofs.Common.{◌≡◌, ℕ, true, List, [], Some, refl, sym, ap, ◌∙◌, subst}
-use Rattle.tora_arq.specs.declared.life.Life.{Life}
+use Rattle.std.proofs.Common.{ℕ, List, [], sym, ap, ◌∙◌, subst}
 use Rattle.tora_arq.specs.declared.times.Times.{Times}
 use Rattle.tora_arq.specs.Lives.{reversed}
 use Rattle.tora_core.specs.declared.Input.{Input}
-use Rattle.tora_core.specs.CoreRun.{CoreView, core_after_all}
+use Rattle.tora_core.specs.CoreRun.{core_after_all}
 use Rattle.tora_seat.specs.declared.cargo.Cargo.{Cargo}
 use Rattle.tora_seat.specs.Serving.{SeatState, Parcel}
-use Rattle.tora_world.specs.Topology.{Topology, IsWithinLimits, new_core, is_link}
+use Rattle.tora_world.specs.Topology.{Topology, new_core}
 use Rattle.tora_world.specs.Lists.{packets_of, parcels_in, Begins}
 use Rattle.tora_world.specs.Gaps.{broadcast_from}
 use Rattle.tora_running.specs.Network.{Network}

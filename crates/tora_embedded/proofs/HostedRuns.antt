@@ -1,15 +1,13 @@
 -- The calls of all routers are a run of parts, and its network has what they have.
-use Rattle.std.proofs.Common.{◌≡◌, ℕ, suc, ◌<◌, ◌⊎◌, Bool, true, false, List, [], ◌∷◌, ◌++◌, nat_eq, if◌then◌else◌, refl, sym, ap, ◌∙◌, subst, eqb-true, arith}
-use Rattle.std.specs.Prelude.{IsTrue}
+use Rattle.std.proofs.Common.{◌≡◌, ℕ, Bool, true, false, List, [], ◌∷◌, ◌++◌, nat_eq, if◌then◌else◌, refl, sym, ap, ◌∙◌, subst, eqb-true, arith}
 use Rattle.tora_arq.specs.declared.times.Times.{Times}
-use Rattle.tora_core.specs.Numbers.{has_repeat}
-use Rattle.tora_world.specs.Topology.{Topology, neighbours_of, other_ends, is_node}
+use Rattle.tora_world.specs.Topology.{Topology, other_ends, is_node}
 use Rattle.tora_running.specs.Network.{Network, Part, first_network, after_parts, IsRun}
 use Rattle.tora_embedded.specs.Hosts.{RouterCall, Host, Hosts, HostedCall, first_hosts, host_after, after_call, after_calls, MayCall, IsHosted}
 use Rattle.tora_embedded.specs.Hosts.RouterCall.{New, OnTick, OnDatagram, Need, Cut, PollDatagram, PollChange}
 use Rattle.tora_embedded.specs.Laws.{IsOfRouters, IsNetworkOf}
 use Rattle.tora_embedded.proofs.Neighbours.{ascending_again}
-use Rattle.tora_embedded.proofs.Nodes.{Node, node_of, IsNode, Reached, net, stays, parts-append, run-append}
+use Rattle.tora_embedded.proofs.Nodes.{Node, node_of, IsNode, Reached, net, parts-append, run-append}
 use Rattle.tora_embedded.proofs.Calls.{tick_comes, datagram_comes, cut_comes, need_comes, poll_comes, change_comes, new_ends, new_comes}
 
 module _ (t : Topology) (times : Times) (routers : IsOfRouters t) where

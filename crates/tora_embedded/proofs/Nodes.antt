@@ -1,6 +1,5 @@
 -- One node of a network: what a part of a run makes of it, and where it is a router's.
-use Rattle.std.proofs.Common.{◌≡◌, ℕ, suc, ◌<◌, Bool, true, false, ◌&&◌, List, [], ◌∷◌, ◌++◌, nat_eq, if◌then◌else◌, refl, sym, ap, ◌∙◌, subst, eqb-true, eq-eqb}
-use Rattle.std.proofs.lemmas.Bool.{cases_Bool}
+use Rattle.std.proofs.Common.{◌≡◌, ℕ, ◌<◌, Bool, true, false, List, [], ◌∷◌, ◌++◌, nat_eq, refl, sym, ap, ◌∙◌, subst, eq-eqb}
 use Rattle.tora_frame.specs.FrameParts.{FrameParts}
 use Rattle.tora_arq.specs.declared.times.Times.{Times}
 use Rattle.tora_arq.specs.EndRange.{LinkEndView, link_end_of}
@@ -10,7 +9,6 @@ use Rattle.tora_core.specs.declared.Input.{Input}
 use Rattle.tora_seat.specs.declared.cargo.Cargo.{Cargo}
 use Rattle.tora_seat.specs.declared.item.Item.{Item}
 use Rattle.tora_seat.specs.Serving.{SeatState, Parcel, Offer, put_to}
-use Rattle.tora_router.specs.declared.link.Link.{Link}
 use Rattle.tora_router.specs.Router.{RouterState}
 use Rattle.tora_world.specs.Topology.{Topology, version_at, neighbours_of}
 use Rattle.tora_running.specs.Network.{Network, Part, after_part, after_parts, MayBe, IsRun}

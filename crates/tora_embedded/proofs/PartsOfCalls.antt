@@ -1,8 +1,8 @@
 -- What a router does in a call, step after step, is parts of its node.
-use Rattle.std.proofs.Common.{◌≡◌, ℕ, zero, suc, ◌<◌, ◌≤◌, Bool, true, false, true≢false, ◌&&◌, inl, inr, List, [], ◌∷◌, ◌++◌, length, Option, Some, None, Ok, nat_eq, nat_lt, if◌then◌else◌, refl, sym, ap, ap₂, ◌∙◌, subst, eqb-true, eq-eqb, arith}
+use Rattle.std.proofs.Common.{◌≡◌, ℕ, zero, suc, ◌<◌, ◌≤◌, Bool, true, false, ◌&&◌, List, [], ◌∷◌, ◌++◌, length, Some, nat_eq, nat_lt, if◌then◌else◌, refl, sym, ap, ap₂, ◌∙◌, subst, eqb-true, eq-eqb, arith}
 use Rattle.std.proofs.lemmas.Bool.{and_parts, leb-true}
 use Rattle.std.proofs.lemmas.Bool.Decides.{nat_tests}
-use Rattle.std.specs.Prelude.{slice_get, nat_le, ◌^◌, drop, IsTrue}
+use Rattle.std.specs.Prelude.{slice_get, nat_le, ◌^◌, drop}
 use Rattle.tora_frame.specs.FrameParts.{FrameParts}
 use Rattle.tora_arq.specs.declared.link_event.LinkEvent.{LinkEvent}
 use Rattle.tora_arq.specs.declared.times.Times.{Times}
@@ -30,8 +30,8 @@ use Rattle.tora_running.specs.Parts.LinkPart.{Opens, Ticks, Takes, Sends, Tells}
 use Rattle.tora_embedded.specs.Hosts.{History, with_serving}
 use Rattle.tora_embedded.specs.Laws.{AreEnds}
 use Rattle.tora_embedded.proofs.Answered.{ArePut, served_put, served_told, neighbours_stay}
-use Rattle.tora_embedded.proofs.Neighbours.{turned, number_at, place_at, at_place_of, link_at, changed_at}
-use Rattle.tora_embedded.proofs.Nodes.{Node, node_of, IsNode, Reached, net, end_in, s, stays, goes_on, by_part}
+use Rattle.tora_embedded.proofs.Neighbours.{turned, number_at, place_at, at_place_of, changed_at}
+use Rattle.tora_embedded.proofs.Nodes.{node_of, IsNode, Reached, net, end_in, s, stays, goes_on, by_part}
 
 -- ---- one of many values is another one
 

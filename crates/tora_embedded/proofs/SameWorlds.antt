@@ -1,20 +1,18 @@
 -- Heights, entries, walks and rest of the world that hosts show are those of their network.
-use Rattle.std.proofs.Common.{◌≡◌, ℕ, Bool, true, false, true≢false, ◌||◌, List, [], ◌∷◌, Option, Some, None, nat_eq, if◌then◌else◌, refl, sym, ap, ap₂, ◌∙◌, subst, eqb-true}
+use Rattle.std.proofs.Common.{◌≡◌, ℕ, Bool, true, false, true≢false, ◌||◌, List, [], ◌∷◌, Some, None, nat_eq, if◌then◌else◌, refl, sym, ap, ap₂, ◌∙◌, eqb-true}
 use Rattle.std.specs.Prelude.{option_map}
-use Rattle.tora_arq.specs.declared.life.Life.{Life}
 use Rattle.tora_arq.specs.declared.times.Times.{Times}
 use Rattle.tora_arq.specs.EndRange.{LinkEndView, link_end_of}
 use Rattle.tora_arq.specs.LinkEnd.{EndState, bound_life}
 use Rattle.tora_arq.specs.Lives.{reversed}
-use Rattle.tora_arq.specs.Settings.{Settings, settings_of}
+use Rattle.tora_arq.specs.Settings.{settings_of}
 use Rattle.tora_core.specs.Numbers.{has_number}
 use Rattle.tora_frame.specs.declared.parts.Version.{Version}
 use Rattle.tora_router.specs.declared.link.Link.{Link}
 use Rattle.tora_seat.specs.Serving.{SeatState}
-use Rattle.tora_world.specs.Topology.{Topology, IsWithinLimits, is_node, is_link}
+use Rattle.tora_world.specs.Topology.{Topology, is_link}
 use Rattle.tora_world.specs.World.{World}
 use Rattle.tora_world.specs.Rest.{IsAtRest, life_at}
-use Rattle.tora_world.specs.Walks.{AreIds}
 use Rattle.tora_running.specs.Network.{Network}
 use Rattle.tora_running.specs.Laws as running
 use Rattle.tora_running.proofs.SameWalks.{same_exact, same_arrives, same_height, same_lacks, same_entries, same_reached}

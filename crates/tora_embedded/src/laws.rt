@@ -1,6 +1,9 @@
 //! The laws of programs that embed routers. Each stands over the definitions alone: a function without parameters that does nothing.
 ghost use Rattle.tora_embedded.specs.Laws.{AreAWorld, CoresFollow, EveryHosting, HoldsOfSound, IsWithoutGap, TakenBeginsSent};
+ghost use Rattle.tora_embedded.specs.Hosts.{IsHosted};
+ghost use Rattle.tora_embedded.specs.Worked.{start, first_calls, met, second_calls, met_again, last_calls, left, HasMet, HasLeft, given_again, TakesTwice, new_life};
 ghost use Rattle.tora_running.specs.Laws.{RestingEntriesAreHeights, RestingRoutesArrive, WalksArrive};
+ghost use Rattle.tora_world.specs.Worked.{life, pair, times};
 
 use tora_running::{
     running_cores_follow, running_entries_at_rest_are_heights, running_nodes_are_a_world,
@@ -71,3 +74,18 @@ pub fn router_routes_at_rest_arrive()
     routers_are_a_world();
     running_routes_at_rest_arrive();
 }
+
+/// Two embedded routers, computed: what the laws say of the calls of hosts is not empty.
+pub fn worked_routers_hold()
+    // A datagram is lost and one comes twice; the update of node 1 is sent and taken once, and node 1 has a route.
+    ensures first { IsHosted pair times start first_calls }
+    ensures met { HasMet life met }
+    // Both routers are made anew, and an old datagram comes first. In the second life the update is sent and taken once.
+    ensures second { IsHosted pair times met second_calls }
+    ensures met_again { HasMet new_life met_again }
+    // The host of node 1 cuts the link, node 2 hears nothing for 60 ticks, and the route is gone.
+    ensures last { IsHosted pair times met_again last_calls }
+    ensures left { HasLeft left }
+    // That life numbers rise is needed: were the same numbers given again to new routers, an old datagram would be taken a second time.
+    ensures numbers { TakesTwice given_again }
+{}
