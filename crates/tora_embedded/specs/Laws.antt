@@ -25,8 +25,8 @@ pub record IsOfRouters (t : Topology) : Type 0 where
   pub two : (n : ℕ) → version_at t n ≡ Two
 
 -- this holds of the hosts that any calls leave, over any such topology and with any times of the link ends
-abbrev pub EveryHosting : (Topology → Times → Hosts → Type 0) → Type 0
-EveryHosting Holds =
+abbrev pub AllHosts : (Topology → Times → Hosts → Type 0) → Type 0
+AllHosts Holds =
     (t : Topology) (times : Times) (calls : List HostedCall) → IsOfRouters t → IsHosted t times (first_hosts t times) calls
     → Holds t times (after_calls calls (first_hosts t times))
 

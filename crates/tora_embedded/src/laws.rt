@@ -1,5 +1,5 @@
 //! The laws of programs that embed routers. Each stands over the definitions alone: a function without parameters that does nothing.
-ghost use Rattle.tora_embedded.specs.Laws.{AreAWorld, CoresFollow, EveryHosting, HoldsOfSound, IsWithoutGap, TakenBeginsSent};
+ghost use Rattle.tora_embedded.specs.Laws.{AreAWorld, CoresFollow, AllHosts, HoldsOfSound, IsWithoutGap, TakenBeginsSent};
 ghost use Rattle.tora_embedded.specs.Hosts.{IsHosted};
 ghost use Rattle.tora_embedded.specs.Worked.{start, first_calls, met, second_calls, met_again, last_calls, left, HasMet, HasLeft, given_again, TakesTwice, new_life};
 ghost use Rattle.tora_running.specs.Laws.{RestingEntriesAreHeights, RestingRoutesArrive, WalksArrive};
@@ -17,7 +17,7 @@ use tora_running::{
 /// Hosts lose, repeat, reorder and delay datagrams, and forge none that is not refused. Ticks are any. A router is made anew with a number that none
 /// was given from on.
 pub fn routers_are_a_world()
-    ensures { EveryHosting (λ t times hosts. AreAWorld t times hosts) }
+    ensures { AllHosts (λ t times hosts. AreAWorld t times hosts) }
 {
     running_nodes_are_a_world();
 }
@@ -25,7 +25,7 @@ pub fn routers_are_a_world()
 /// The prefix law of embedded routers: what the core of a node has taken from a neighbour in a life begins what the neighbour's core has sent in that
 /// life, over all routers of both.
 pub fn routers_keep_the_prefix_law()
-    ensures { EveryHosting (λ t times hosts. TakenBeginsSent hosts) }
+    ensures { AllHosts (λ t times hosts. TakenBeginsSent hosts) }
 {
     routers_are_a_world();
     running_nodes_keep_the_prefix_law();
@@ -33,7 +33,7 @@ pub fn routers_keep_the_prefix_law()
 
 /// Each core of an embedded router is what TORA's rules make of the inputs that it accepted since the router was made.
 pub fn router_cores_follow()
-    ensures { EveryHosting (λ t times hosts. CoresFollow t hosts) }
+    ensures { AllHosts (λ t times hosts. CoresFollow t hosts) }
 {
     routers_are_a_world();
     running_cores_follow();
@@ -42,7 +42,7 @@ pub fn router_cores_follow()
 /// The no-gap law of embedded routers: while a life is current at a core, all that the core has broadcast since its link came up was sent in that
 /// life, and nothing else.
 pub fn routers_keep_the_no_gap_law()
-    ensures { EveryHosting (λ t times hosts. IsWithoutGap t hosts) }
+    ensures { AllHosts (λ t times hosts. IsWithoutGap t hosts) }
 {
     routers_are_a_world();
     running_nodes_keep_the_no_gap_law();
@@ -51,7 +51,7 @@ pub fn routers_keep_the_no_gap_law()
 /// Exact entries give walks of embedded routers: where each entry for a destination that is not NULL is the height of the neighbour whose entry it is,
 /// the next hops lead from any node with a height to the destination.
 pub fn router_walks_arrive()
-    ensures { EveryHosting (λ t times hosts. HoldsOfSound WalksArrive t times hosts) }
+    ensures { AllHosts (λ t times hosts. HoldsOfSound WalksArrive t times hosts) }
 {
     routers_are_a_world();
     running_walks_arrive();
@@ -60,7 +60,7 @@ pub fn router_walks_arrive()
 /// Where nothing is under way among embedded routers, each entry of a node for a neighbour whose link is up is NULL, or the neighbour's height, or the
 /// neighbour has no height.
 pub fn router_entries_at_rest_are_heights()
-    ensures { EveryHosting (λ t times hosts. HoldsOfSound RestingEntriesAreHeights t times hosts) }
+    ensures { AllHosts (λ t times hosts. HoldsOfSound RestingEntriesAreHeights t times hosts) }
 {
     routers_are_a_world();
     running_entries_at_rest_are_heights();
@@ -69,7 +69,7 @@ pub fn router_entries_at_rest_are_heights()
 /// Where nothing is under way among embedded routers, the next hops lead from a node that has a height to the destination, if no node that links lead
 /// to from there is without one.
 pub fn router_routes_at_rest_arrive()
-    ensures { EveryHosting (λ t times hosts. HoldsOfSound RestingRoutesArrive t times hosts) }
+    ensures { AllHosts (λ t times hosts. HoldsOfSound RestingRoutesArrive t times hosts) }
 {
     routers_are_a_world();
     running_routes_at_rest_arrive();
