@@ -211,7 +211,7 @@ one_stays c input now = go (is_some (refusal_of c input))
     go true = refl
     go false = refl
 
-all_stay : (c : CoreView) (inputs : List (Input × ℕ)) → (core_after_all c inputs).neighbours ≡ c.neighbours
+pub all_stay : (c : CoreView) (inputs : List (Input × ℕ)) → (core_after_all c inputs).neighbours ≡ c.neighbours
 all_stay c [] = refl
 all_stay c ((input, now) ∷ inputs) = all_stay (core_after c input now) inputs ∙ one_stays c input now
 

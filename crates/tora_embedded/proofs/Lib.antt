@@ -6,3 +6,4 @@ pub mod Calls
 pub mod HostedRuns
 pub mod HostLaws
 pub mod SameWorlds
+pub mod Refusals

@@ -35,7 +35,7 @@ use Rattle.tora_embedded.proofs.Nodes.{node_of, IsNode, Reached, net, end_in, s,
 
 -- ---- one of many values is another one
 
-put_here : {A : Type 0} (f : ℕ → A) (k : ℕ) (x : A) → put_one f k x k ≡ x
+pub put_here : {A : Type 0} (f : ℕ → A) (k : ℕ) (x : A) → put_one f k x k ≡ x
 put_here f k x = ap (λ b. if b then x else f k) (eq-eqb k k refl)
 
 put_there : {A : Type 0} (f : ℕ → A) (k : ℕ) (x : A) (j : ℕ) → nat_eq j k ≡ false → put_one f k x j ≡ f j
@@ -74,7 +74,7 @@ ticked_is number now link = go (may_open number link)
     go false = refl
 
 -- the number of an item tells nothing
-numbered : (answers : Answers) (ks : List ℕ) (seat : SeatState) (place number now : ℕ) (what : What) → serving_of answers ks seat (record { seat = place; number = number; now = now; what = what }) ≡ serving_of answers ks seat (item_at place now what)
+pub numbered : (answers : Answers) (ks : List ℕ) (seat : SeatState) (place number now : ℕ) (what : What) → serving_of answers ks seat (record { seat = place; number = number; now = now; what = what }) ≡ serving_of answers ks seat (item_at place now what)
 unfolding serving_of
 numbered answers ks seat place number now what = refl
 

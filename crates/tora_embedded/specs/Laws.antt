@@ -1,5 +1,5 @@
 -- What holds of every program that embeds routers.
-use Rattle.std.specs.Prelude.{◌≡◌, ℕ, ◌==◌, false, if◌then◌else◌, List, [], ◌∷◌, Some, true}
+use Rattle.std.specs.Prelude.{◌≡◌, ℕ, ◌==◌, true, false, if◌then◌else◌, List, [], ◌∷◌, Some, Err}
 use Rattle.tora_packet.specs.declared.Packet.{Packet}
 use Rattle.tora_frame.specs.declared.parts.Version.TheVariants.{Two}
 use Rattle.tora_arq.specs.declared.life.Life.{Life}
@@ -8,9 +8,12 @@ use Rattle.tora_arq.specs.EndRange.{LinkEndView, link_end_of}
 use Rattle.tora_arq.specs.LinkEnd.{EndState, first_end}
 use Rattle.tora_arq.specs.Lives.{reversed}
 use Rattle.tora_core.specs.Numbers.{has_repeat}
-use Rattle.tora_core.specs.CoreRun.{core_after_all}
+use Rattle.tora_core.specs.declared.errors.StepError.{StepError}
+use Rattle.tora_core.specs.declared.errors.StepError.TheVariants as Fault
+use Rattle.tora_core.specs.CoreRun.{core_after_all, has_destination}
 use Rattle.tora_router.specs.declared.link.Link.{Link}
-use Rattle.tora_world.specs.Topology.{Topology, IsWithinLimits, version_at, neighbours_of, new_core, is_link}
+use Rattle.tora_router.specs.Router.{need_result}
+use Rattle.tora_world.specs.Topology.{Topology, IsWithinLimits, version_at, neighbours_of, new_core, is_node, is_link}
 use Rattle.tora_world.specs.Lists.{Begins, packets_of, parcels_in}
 use Rattle.tora_world.specs.Gaps.{broadcast_from}
 use Rattle.tora_world.specs.Walks.{AreIds}
@@ -86,6 +89,12 @@ abbrev pub IsWithoutGap : Topology → Hosts → Type 0
 IsWithoutGap t hosts =
     IsWithinLimits t → (n k : ℕ) (life : Life) → is_link t n k ≡ true → (hosts n).router.seat.current k ≡ Some life
     → packets_sent hosts n k life ≡ packets_broadcast t hosts n k
+
+-- `need` answers an error only for a destination that is not in the table, and says so
+abbrev pub RefusesOnlyUnknown : Topology → Hosts → Type 0
+RefusesOnlyUnknown t hosts =
+    (n d now : ℕ) (error : StepError) → is_node t n ≡ true → need_result (hosts n).router d now ≡ Err error
+    → (has_destination d (hosts n).router.seat.core.views ≡ false) × (error ≡ Fault.UnknownDestination)
 
 -- ---- heights, walks and rest
 

@@ -1,14 +1,14 @@
 //! The laws of programs that embed routers. Each stands over the definitions alone: a function without parameters that does nothing.
-ghost use Rattle.tora_embedded.specs.Laws.{AreAWorld, CoresFollow, AllHosts, HoldsOfSound, IsWithoutGap, TakenBeginsSent};
+ghost use Rattle.tora_embedded.specs.Laws.{AreAWorld, CoresFollow, AllHosts, HoldsOfSound, IsWithoutGap, RefusesOnlyUnknown, TakenBeginsSent};
 ghost use Rattle.tora_embedded.specs.Hosts.{IsHosted};
 ghost use Rattle.tora_embedded.specs.Worked.{start, first_calls, met, second_calls, met_again, last_calls, left, HasMet, HasLeft, given_again, TakesTwice, new_life};
 ghost use Rattle.tora_running.specs.Laws.{RestingEntriesAreHeights, RestingRoutesArrive, WalksArrive};
 ghost use Rattle.tora_world.specs.Worked.{life, pair, times};
 
 use tora_running::{
-    running_cores_follow, running_entries_at_rest_are_heights, running_nodes_are_a_world,
-    running_nodes_keep_the_no_gap_law, running_nodes_keep_the_prefix_law,
-    running_routes_at_rest_arrive, running_walks_arrive,
+    running_cores_follow, running_cores_refuse_only_needs, running_entries_at_rest_are_heights,
+    running_nodes_are_a_world, running_nodes_keep_the_no_gap_law,
+    running_nodes_keep_the_prefix_law, running_routes_at_rest_arrive, running_walks_arrive,
 };
 
 /// Embedded routers are a world: whatever hosts call at the routers of all nodes, some run of the parts of running nodes leaves a network with
@@ -46,6 +46,15 @@ pub fn routers_keep_the_no_gap_law()
 {
     routers_are_a_world();
     running_nodes_keep_the_no_gap_law();
+}
+
+/// The core of an embedded router refuses a need only where its destination is not in the table, and for that cause.
+pub fn routers_refuse_only_unknown_needs()
+    ensures { AllHosts (λ t times hosts. RefusesOnlyUnknown t hosts) }
+{
+    routers_are_a_world();
+    router_cores_follow();
+    running_cores_refuse_only_needs();
 }
 
 /// Exact entries give walks of embedded routers: where each entry for a destination that is not NULL is the height of the neighbour whose entry it is,
