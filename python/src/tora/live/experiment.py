@@ -2,6 +2,7 @@
 from __future__ import annotations
 
 import dataclasses
+import itertools
 import json
 import pathlib
 import random
@@ -18,7 +19,7 @@ from tora.live.hosts import TCP_PORT, Hosts
 from tora.live.measures import Fared, fared, longest_stall
 from tora.live.protocols import PROTOCOLS
 from tora.live.topologies import Network, cable_to_break, host_to_kill, network
-from tora.live.traffic import read_records
+from tora.live.traffic import Records
 
 FAULTS = ("down", "silent", "lossy", "killed")
 DESIGN = ("protocol", "timing", "topology", "nodes", "fault", "phase")
@@ -110,6 +111,7 @@ class Experiment:
         self.rng = random.Random()  # of a fault: which cable, which host
         self.daemons: dict[int, subprocess.Popen[str]] = {}
         self.client: subprocess.Popen[str] | None = None
+        self.sent, self.received = Records(folder / "sent"), Records(folder / "received")
         self.began = self.arrived_at = self.tcp_began = 0.0
 
     def run(self) -> list[dict[str, object]]:
@@ -135,11 +137,11 @@ class Experiment:
             self.daemons[host] = self.protocol.start(self.hosts, host, self.plan.timing, self.program)
         words = [*traffic, "send", source, destination, str(self.plan.every), "sent"]
         self.hosts.start(self.network.source, words, "log-send", False)
-        while not self._received():
+        while not self.received.read():
             if time.monotonic() - self.began > START:
                 raise StudyError(f"{self.plan.name}: no packet has arrived within {START:g} seconds")
             time.sleep(0.1)
-        self.arrived_at = min(self._received().values())
+        self.arrived_at = min(self.received.read().values())
         if self.plan.tcp:
             server = ["iperf3", "-s", "-1", "-B", destination, "-i", "0.1", "-J"]  # its receiver tells what arrived
             self.hosts.start(self.network.destination, server, "tcp.json", False)
@@ -148,11 +150,7 @@ class Experiment:
             client = ["iperf3", "-c", destination, "-B", source, "-b", "500K", "-l", "1K", "-t", "86400"]
             self.client = self.hosts.start(self.network.source, client, "log-client", False)
         time.sleep(SETTLE)
-
-    def _received(self) -> dict[int, float]:
-        """The packets that arrived so far."""
-        path = self.folder / "received"
-        return read_records(str(path)) if path.exists() else {}
+        self.hosts.hasten()
 
     def _fault(self, fault: str) -> None:
         """A fault on the way of the data, and its repair; where protocols have the same way, it is at the same place."""
@@ -188,6 +186,7 @@ class Experiment:
 
         def start() -> None:
             self.daemons[host] = self.protocol.start(self.hosts, host, self.plan.timing, self.program)
+            self.hosts.hasten()
 
         self._phase("killed", "fault", spare, lambda: self._wait(self.plan.hopeless), self.daemons[host].kill)
         self._phase("killed", "repair", spare, lambda: self._wait(None), start)
@@ -201,26 +200,29 @@ class Experiment:
             return
         while time.monotonic() - begin < self.plan.most:
             time.sleep(0.5)
-            now = time.monotonic()
-            if now - begin < STEADY_FOR + 2:
-                continue
-            sent = read_records(str(self.folder / "sent"))
-            late = {number for number, moment in sent.items() if now - STEADY_FOR - 0.5 <= moment < now - 0.5}
-            if late and len(late & self._received().keys()) >= 0.999 * len(late):
+            if time.monotonic() - begin >= STEADY_FOR + 2 and self._is_steady(time.monotonic() - 0.5):
                 return
+
+    def _is_steady(self, now: float) -> bool:
+        """Whether the packets that were sent in the last seconds before a moment have arrived."""
+        arrived = self.received.read()
+        recent = itertools.takewhile(lambda it: it[1] >= now - STEADY_FOR, reversed(self.sent.read().items()))
+        late = [number in arrived for number, moment in recent if moment < now]
+        return sum(late) >= max(1, 0.999 * len(late))
 
     def _phase(
         self, fault: str, phase: str, spare: bool, wait: Callable[[], None], act: Callable[[], None] | None = None
     ) -> None:
         """A stretch of time, which begins with an act."""
+        before = time.monotonic()
         used, counted, work = self.hosts.used(), self.hosts.counted(), system.busy()
         begin = time.monotonic()
         if act is not None:
             act()
         wait()
         end = time.monotonic()
+        span = end - before  # from one look at the counters to the next, each of which takes as long
         then, sent, worked = self.hosts.used(), self.hosts.counted(), system.busy()
-        span = end - begin
         path = self.hosts.path()
         shortest = self._shortest(fault, phase)
         self.phases.append(
@@ -260,8 +262,7 @@ class Experiment:
 
     def _rows(self, left: int) -> list[dict[str, object]]:
         """A row for the start, and one for each phase."""
-        sent = read_records(str(self.folder / "sent"))
-        arrived = set(read_records(str(self.folder / "received")))
+        sent, arrived = self.sent.read(), set(self.received.read())
         intervals = self._intervals()
         distance = networkx.shortest_path_length(self.network.graph(), self.network.source, self.network.destination)
         common: dict[str, object] = dict.fromkeys(COLUMNS)
