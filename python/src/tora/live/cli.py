@@ -25,7 +25,7 @@ from tora.errors import StudyError, UsageError
 from tora.files import write_file
 
 from tora.live.experiment import COLUMNS, FAULTS, Experiment, Plan
-from tora.live.hosts import RUNNER
+from tora.live.hosts import shield
 from tora.live.protocols import GROUPS, PROTOCOLS
 from tora.live.topologies import KINDS, network
 from tora.program import Program
@@ -60,7 +60,7 @@ def parser() -> argparse.ArgumentParser:
     found.add_argument(
         "--shield",
         action="store_true",
-        help="give all that is measured a real-time priority, so that other work of the machine does not slow it",
+        help="give daemons and traffic a real-time priority, so that other work of the machine does not slow them",
     )
     found.add_argument("--no-tcp", action="store_true", help="without iperf3")
     found.add_argument(
@@ -125,6 +125,7 @@ def plans(found: argparse.Namespace) -> Iterator[Plan]:
                                 found.rest,
                                 found.most,
                                 tcp=not found.no_tcp,
+                                shield=found.shield,
                             )
 
 
@@ -153,16 +154,14 @@ def _done(found: argparse.Namespace) -> int:
             raise UsageError("network namespaces need root")
         missing = next((it for it in NEEDED if shutil.which(it) is None), None)
         if missing:
-            raise UsageError(f"the program {missing} is missing (packages iproute2, nftables, iperf3, util-linux, procps)")
+            packages = "iproute2, nftables, iperf3, util-linux, procps"
+            raise UsageError(f"the program {missing} is missing (packages {packages})")
         program = Program.find(found.program)
         able = _able({it.protocol for it in held})
         (out / "rows").mkdir(parents=True, exist_ok=True)
         _describe(out, found, program)
         todo = [it for it in held if it.protocol in able and not (out / "rows" / f"{it.name}.csv").exists()]
-        if found.shield:
-            os.sched_setscheduler(0, os.SCHED_FIFO, os.sched_param(RUNNER))
         failed = _make(todo, out, program, found.keep, found.jobs)
-        os.sched_setscheduler(0, os.SCHED_OTHER, os.sched_param(0))
     _gather(out)
     from tora.live import report
 
@@ -212,6 +211,8 @@ def _ended(under_way: dict[int, multiprocessing.Process]) -> int:
 
 def _run(plan: Plan, out: pathlib.Path, program: Program, keep: bool, place: str) -> None:
     """Makes a run and writes its rows; ends this process with status 1 where that fails."""
+    if plan.shield:
+        shield()
     signal.signal(signal.SIGINT, signal.SIG_IGN)  # the process that started this one ends it by the other signal
     folder = out / "runs" / plan.name
     shutil.rmtree(folder, ignore_errors=True)

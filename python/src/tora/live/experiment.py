@@ -40,6 +40,7 @@ COLUMNS = (
     "processor_percent",
     "memory_mb",
     "busy",
+    "stolen",
     "routes_left",
 )
 START = 90.0  # seconds in which the first packet arrives
@@ -62,6 +63,8 @@ class Plan:
         Seconds of a phase in which no route works again.
     hopeless : float
         Seconds of a fault that leaves no other way, or of a daemon that is dead.
+    shield : bool
+        Whether daemons and traffic have a real-time priority.
     """
 
     protocol: str
@@ -75,6 +78,7 @@ class Plan:
     most: float = 60.0
     hopeless: float = 10.0
     tcp: bool = True
+    shield: bool = False
 
     @property
     def name(self) -> str:
@@ -96,6 +100,7 @@ class Phase:
     processor: float | None  # None where a daemon was killed, and its time with it
     memory: float
     busy: float
+    stolen: float
     stretch: float | None
 
 
@@ -120,7 +125,9 @@ class Experiment:
             self.hosts.set_up()
             self._begin()
             self._phase("rest", "rest", True, lambda: time.sleep(self.plan.rest))
-            for fault in self.plan.faults:
+            for at, fault in enumerate(self.plan.faults):
+                if at:
+                    time.sleep(SETTLE)
                 self._fault(fault)
             left = self._stop()
             return self._rows(left)
@@ -149,11 +156,12 @@ class Experiment:
             self.tcp_began = time.monotonic()
             client = ["iperf3", "-c", destination, "-B", source, "-b", "500K", "-l", "1K", "-t", "86400"]
             self.client = self.hosts.start(self.network.source, client, "log-client", False)
+        if self.plan.shield:
+            self.hosts.hasten()
         time.sleep(SETTLE)
-        self.hosts.hasten()
 
     def _fault(self, fault: str) -> None:
-        """A fault on the way of the data, and its repair; where protocols have the same way, it is at the same place."""
+        """A fault on the way of the data, and its repair: at the same place where protocols have the same way."""
         self.rng = random.Random(f"{self.plan.topology} {self.plan.nodes} {self.plan.seed} {fault}")
         path = self.hosts.path()
         until = time.monotonic() + self.plan.most
@@ -175,7 +183,6 @@ class Experiment:
         seconds = LOSSY_FOR if fault == "lossy" else None if spare else self.plan.hopeless
         self._phase(fault, "fault", spare, lambda: self._wait(seconds), break_it)
         self._phase(fault, "repair", spare, lambda: self._wait(None), mend_it)
-        time.sleep(SETTLE)
 
     def _killed(self, path: list[int]) -> None:
         """The daemons of a host on the way are killed, and started again."""
@@ -186,11 +193,11 @@ class Experiment:
 
         def start() -> None:
             self.daemons[host] = self.protocol.start(self.hosts, host, self.plan.timing, self.program)
-            self.hosts.hasten()
+            if self.plan.shield:
+                self.hosts.hasten()
 
         self._phase("killed", "fault", spare, lambda: self._wait(self.plan.hopeless), self.daemons[host].kill)
         self._phase("killed", "repair", spare, lambda: self._wait(None), start)
-        time.sleep(SETTLE)
 
     def _wait(self, seconds: float | None) -> None:
         """Waits so long, or until the packets arrive again for a while."""
@@ -215,14 +222,14 @@ class Experiment:
     ) -> None:
         """A stretch of time, which begins with an act."""
         before = time.monotonic()
-        used, counted, work = self.hosts.used(), self.hosts.counted(), system.busy()
+        used, counted, work = self.hosts.used(), self.hosts.counted(), system.spent()
         begin = time.monotonic()
         if act is not None:
             act()
         wait()
         end = time.monotonic()
         span = end - before  # from one look at the counters to the next, each of which takes as long
-        then, sent, worked = self.hosts.used(), self.hosts.counted(), system.busy()
+        then, sent, worked = self.hosts.used(), self.hosts.counted(), system.spent()
         path = self.hosts.path()
         shortest = self._shortest(fault, phase)
         self.phases.append(
@@ -236,7 +243,8 @@ class Experiment:
                 (sent.bytes - counted.bytes) / span,
                 None if fault == "killed" and phase == "fault" else (then.processor - used.processor) / span,
                 then.memory,
-                (worked[0] - work[0]) / max(1.0, worked[1] - work[1]),
+                (worked.worked - work.worked) / max(1.0, worked.all - work.all),
+                (worked.stolen - work.stolen) / max(1.0, worked.all - work.all),
                 None if path is None or shortest is None else (len(path) - 1) / shortest,
             )
         )
@@ -292,6 +300,7 @@ class Experiment:
                     "processor_percent": None if it.processor is None else 100 * it.processor / self.plan.nodes,
                     "memory_mb": it.memory / self.plan.nodes / 1e6,
                     "busy": it.busy,
+                    "stolen": it.stolen,
                     "routes_left": left,
                 }
             )

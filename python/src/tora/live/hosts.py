@@ -30,7 +30,8 @@ COUNTERS = f"""table netdev live {{
 }}
 """  # of what goes out at these interfaces, with its Ethernet headers
 NAMESPACES = pathlib.Path("/run/netns")  # of `ip netns`
-RUNNER, MEASURED = 10, 20  # real-time priorities: of the runner with its commands, and of all that is measured
+REAL_TIME = 20  # the priority of daemons and traffic that are shielded
+NICE = -15  # of the runner that shields them, with its commands
 SYSCTLS = (
     "net.ipv4.ip_forward=1 net.ipv6.conf.all.forwarding=1 net.ipv6.conf.default.accept_dad=0 "
     "net.ipv4.conf.all.rp_filter=0 "
@@ -76,7 +77,7 @@ class Hosts:
         return f"{self._prefix}-{host}"
 
     def at(self, host: int) -> list[str]:
-        """The words before a command at a host. `ip netns exec` would make a namespace of mounts, too, which is slow."""
+        """The words before a command at a host. `ip netns exec` would make a namespace of mounts, too, and is slow."""
         return ["nsenter", f"--net={NAMESPACES / self.name(host)}"]
 
     def address(self, host: int, peer: int) -> str:
@@ -113,9 +114,7 @@ class Hosts:
                 start_new_session=True,
             )
         self.started.append(process)
-        if is_daemon:  # many that start at once would use up what the kernel leaves to real-time priorities
-            os.sched_setscheduler(process.pid, os.SCHED_OTHER, os.sched_param(0))
-        else:
+        if not is_daemon:
             self._others.add(process.pid)
         return process
 
@@ -137,13 +136,11 @@ class Hosts:
         return found
 
     def hasten(self) -> None:
-        """Gives all processes at the hosts a real-time priority, where the runner has one."""
-        if os.sched_getscheduler(0) != os.SCHED_FIFO:
-            return
+        """Gives daemons and traffic a real-time priority."""
         for process, _ in self._processes():
             with contextlib.suppress(OSError):
                 for task in os.listdir(f"/proc/{process}/task"):
-                    os.sched_setscheduler(int(task), os.SCHED_FIFO, os.sched_param(MEASURED))
+                    os.sched_setscheduler(int(task), os.SCHED_FIFO, os.sched_param(REAL_TIME))
 
     def used(self) -> Used:
         """What the daemons have used so far."""
@@ -236,7 +233,25 @@ def end(processes: Iterable[subprocess.Popen[str]], seconds: float = 5.0) -> Non
             process.wait()
 
 
-def busy() -> tuple[float, float]:
-    """The seconds of all processors so far: those in which they worked, and all."""
+def shield() -> None:
+    """Puts this process before other work of the machine, in a session of its own: between sessions the kernel shares
+    the processors by the priority of each session."""
+    os.setsid()
+    os.setpriority(os.PRIO_PROCESS, 0, NICE)
+    with contextlib.suppress(FileNotFoundError):  # a kernel without such groups
+        pathlib.Path("/proc/self/autogroup").write_text(str(NICE))
+
+
+class Spent(NamedTuple):
+    """The seconds of all processors so far: those in which they worked, those that the host of a virtual machine took
+    for others, and all."""
+
+    worked: float
+    stolen: float
+    all: float
+
+
+def spent() -> Spent:
+    """What the processors have done so far."""
     cells = [int(it) for it in pathlib.Path("/proc/stat").read_text().split("\n", 1)[0].split()[1:9]]
-    return float(sum(cells) - cells[3] - cells[4]), float(sum(cells))
+    return Spent(float(sum(cells) - cells[3] - cells[4]), float(cells[7]), float(sum(cells)))
