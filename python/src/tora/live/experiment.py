@@ -46,6 +46,8 @@ COLUMNS = (
 START = 90.0  # seconds in which the first packet arrives
 SETTLE = 10.0  # seconds after the first packet, and after a repair
 STEADY_FOR = 3.0  # seconds that packets have to arrive until a phase ends
+LEAST = 5.0  # seconds of a phase
+RESTARTED = 15.0  # of the one in which a daemon is started again: its neighbours may take away their routes late
 LOSSY_FOR = 20.0  # seconds of a phase in which a fifth is lost
 
 
@@ -197,17 +199,17 @@ class Experiment:
                 self.hosts.hasten()
 
         self._phase("killed", "fault", spare, lambda: self._wait(self.plan.hopeless), self.daemons[host].kill)
-        self._phase("killed", "repair", spare, lambda: self._wait(None), start)
+        self._phase("killed", "repair", spare, lambda: self._wait(None, RESTARTED), start)
 
-    def _wait(self, seconds: float | None) -> None:
-        """Waits so long, or until the packets arrive again for a while."""
+    def _wait(self, seconds: float | None, least: float = LEAST) -> None:
+        """Waits so long, or until the packets arrive again for a while, and a least time."""
         begin = time.monotonic()
         if seconds is not None:
             time.sleep(seconds)
             return
         while time.monotonic() - begin < self.plan.most:
             time.sleep(0.5)
-            if time.monotonic() - begin >= STEADY_FOR + 2 and self._is_steady(time.monotonic() - 0.5):
+            if time.monotonic() - begin >= least and self._is_steady(time.monotonic() - 0.5):
                 return
 
     def _is_steady(self, now: float) -> bool:
