@@ -2,6 +2,7 @@
 from __future__ import annotations
 
 import csv
+import math
 import pathlib
 import random
 
@@ -9,7 +10,7 @@ import networkx
 import pytest
 
 from conftest import refusal
-from tora.live import cli
+from tora.live import cli, report
 from tora.live.experiment import COLUMNS, Plan
 from tora.live.measures import STEADY, fared, longest_stall
 from tora.live.protocols import PROTOCOLS
@@ -107,6 +108,23 @@ def test_plans() -> None:
     assert "--jobs: `0` is not above 0" in refusal(lambda: plans("--jobs", "0"))
     assert "--faults: it is empty" in refusal(lambda: plans("--faults", " "))
     assert PROTOCOLS["batman-adv"].missing() is not None
+
+
+def test_what_of_a_table_counts(tmp_path: pathlib.Path) -> None:
+    phase = {"protocol": "tora", "timing": "default", "topology": "ring", "nodes": 10, "phase": "fault", "lost": 5}
+    rows: list[dict[str, object]] = [
+        {**phase, "seed": 1, "fault": "down", "working_ms": 3, "stolen": 0.05},
+        {**phase, "seed": 2, "fault": "down", "working_ms": 4, "stolen": 0.06},  # the host took too much
+        {**phase, "seed": 3, "fault": "down", "stolen": 0},  # no route came
+        {**phase, "seed": 3, "fault": "lossy", "stolen": 0},
+    ]
+    with open(tmp_path / "live.csv", "w", newline="") as sink:
+        writer = csv.DictWriter(sink, COLUMNS, lineterminator="\n", restval="")
+        writer.writeheader()
+        writer.writerows(rows)
+    held = report.read(tmp_path / "live.csv").frame
+    assert list(held["seed"]) == [1, 3, 3]
+    assert list(held["working_ms"])[:2] == [3, math.inf] and math.isnan(list(held["working_ms"])[2])
 
 
 def test_tables_and_plots(tmp_path: pathlib.Path) -> None:
