@@ -9,10 +9,10 @@ usage: ./tora deb [--unproved] [--twice] [--out DIR]
   --out DIR    where the packages go; the default is out/deb
 
   tora           the program, its manual pages, completion, units for systemd, dissector, examples and documents
-  ns3-tora       the module for ns-3 as sources and, if ns-3 is installed (package libns3-dev), as a library
-  python3-tora   the Python package tora with tora-study and tora-routes, if the repository has the folder python
-  libtora0       the library for C, if `./tora build --lib` has built it
-  libtora-dev    its header, archive, file for pkg-config, guide and examples, likewise
+  ns3-tora       the module for ns-3 as sources and, where there is ns-3 (package libns3-dev), as a library
+  python3-tora   the package tora of Python with tora-study and tora-routes, where the repository has the folder python
+  libtora0       the library for C, where `./tora build --lib` built it
+  libtora-dev    its header, archive, file for pkg-config, guide and examples, there too
 
 Only the module is compiled; the library is the proved one in each case. The version is that of the file VERSION. If it ends in
 `-dev`, the time and name of the commit follow, and `changed` if files differ from the commit. All files have the time of the

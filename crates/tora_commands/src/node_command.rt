@@ -172,7 +172,7 @@ fn praise(rt: &impl Eprint, path: &str, config: &NodeConfig) {
 /// Says on standard error why a life file can't be opened.
 fn tell_file(rt: &impl Eprint, path: &str, error: &io::Error) {
     if error.kind() == ErrorKind::WouldBlock {
-        tell_at(rt, "life: ", path, &"a running node uses this file");
+        tell_at(rt, "life: ", path, &"a node that runs has this file");
     } else {
         tell_at(rt, "life: ", path, error);
     }
