@@ -68,6 +68,8 @@ def parser() -> Parser:
 def _add_word(words: argparse._SubParsersAction[Parser], name: str, help_: str, text_: str) -> Parser:
     """Adds a word, whose body is the function of its name in `tora.words`."""
     def body(found: argparse.Namespace) -> int:
+        if name == "sweep":  # its runs share the processors, so numpy is to start no threads
+            os.environ |= {"OMP_NUM_THREADS": "1", "OPENBLAS_NUM_THREADS": "1"}
         # matplotlib and scipy are read only where they are needed
         done: Body = getattr(importlib.import_module("tora.studying" if name == "sweep" else "tora.words"), f"do_{name}")
         return done(found)

@@ -3,13 +3,14 @@ from __future__ import annotations
 
 import argparse
 import fcntl
+import multiprocessing
 import os
 import subprocess
 import sys
 from collections.abc import Iterator
-from contextlib import contextmanager
+from contextlib import contextmanager, redirect_stderr, redirect_stdout
 from importlib import resources
-from typing import Any
+from typing import Any, TextIO
 
 from tora import sweeping
 from tora.errors import StudyError, UsageError, shown
@@ -100,23 +101,35 @@ def _log(folder: str, name: str) -> str:
 
 def make(folder: str, study: Study, found: argparse.Namespace, lock: int) -> int:
     """Has the runs and the table made by a process that holds the lock of the folder, too; answers its exit status."""
-    jobs = found.jobs or len(os.sched_getaffinity(0))
-    words = ["tora.sweeping", "all", folder, str(jobs)] if found.profile is None else snakemake(folder, study, found, jobs)
     log = os.path.join(folder, sweeping.LOGS, LOG)
-    environment = os.environ | {"PYTHONPATH": str(resources.files("tora").joinpath(".."))}
-    environment |= {"OMP_NUM_THREADS": "1", "OPENBLAS_NUM_THREADS": "1"}  # runs share the processors already
-    with naming(log), open(log, "ab") as sink:
-        return subprocess.run(
-            [sys.executable, "-m", *words], stdin=subprocess.DEVNULL, stdout=sink, stderr=sink, env=environment, pass_fds=[lock]
-        ).returncode
+    jobs = found.jobs or len(os.sched_getaffinity(0))
+    with naming(log), open(log, "a", encoding="utf-8") as sink:
+        if found.profile is not None:
+            return snakemake(folder, study, found, jobs, sink, lock)
+        # a fork has read all modules already
+        process = multiprocessing.get_context("fork").Process(target=_make_here, args=(folder, jobs, sink))
+        process.start()
+        process.join()
+        return abs(process.exitcode or 0)
 
 
-def snakemake(folder: str, study: Study, found: argparse.Namespace, jobs: int) -> list[str]:
-    """The words with which snakemake makes a study in batches by a profile."""
+def _make_here(folder: str, jobs: int, sink: TextIO) -> None:
+    """Makes a study in this process, whose output goes to a log, and ends with the exit status."""
+    for descriptor in (1, 2):
+        os.dup2(sink.fileno(), descriptor)
+    with redirect_stdout(sink), redirect_stderr(sink):
+        status = sweeping.main(["all", folder, str(jobs)])
+    sys.exit(status)
+
+
+def snakemake(folder: str, study: Study, found: argparse.Namespace, jobs: int, sink: TextIO, lock: int) -> int:
+    """Has snakemake make a study in batches by a profile; answers its exit status."""
     workflow = resources.files("tora").joinpath("workflow")
     own = workflow.joinpath("profiles", found.profile)
-    return [
-        "snakemake", "--snakefile", str(workflow.joinpath("Snakefile")), "--directory", folder, "--nolock", "--keep-going", "--rerun-incomplete",
-        "--rerun-triggers", "mtime", "--profile", str(own) if own.is_dir() else found.profile, *(["--jobs", str(jobs)] if found.jobs else []),
-        "--config", f"batches={min(found.batches or 2 * jobs, study.count())}", "jobs=1",
+    words = [
+        sys.executable, "-m", "snakemake", "--snakefile", str(workflow.joinpath("Snakefile")), "--directory", folder, "--nolock", "--keep-going",
+        "--rerun-incomplete", "--rerun-triggers", "mtime", "--profile", str(own) if own.is_dir() else found.profile,
+        *(["--jobs", str(jobs)] if found.jobs else []), "--config", f"batches={min(found.batches or 2 * jobs, study.count())}", "jobs=1",
     ]
+    environment = os.environ | {"PYTHONPATH": str(resources.files("tora").joinpath(".."))}
+    return subprocess.run(words, stdin=subprocess.DEVNULL, stdout=sink, stderr=sink, env=environment, pass_fds=[lock]).returncode

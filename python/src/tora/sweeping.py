@@ -12,7 +12,6 @@ from __future__ import annotations
 
 import functools
 import hashlib
-import importlib.metadata
 import json
 import multiprocessing
 import os
@@ -87,7 +86,7 @@ def make_batch(folder: str, number: int, of: int, jobs: int) -> int:
     one = functools.partial(try_run, folder, study, program, time_limit)
     if jobs <= 1 or len(left) <= 1:
         return max(map(one, left), default=0)
-    # a fork has read all modules already
+    import scipy.spatial  # noqa: F401  # a fork has read all modules that a run needs
     with ProcessPoolExecutor(min(jobs, len(left)), mp_context=multiprocessing.get_context("fork")) as pool:
         return max(pool.map(one, left))
 
@@ -110,6 +109,8 @@ def try_run(folder: str, study: Study, program: Program, time_limit: float, run:
     except StudyError as cause:
         write_file(log, f"{cause}\n", overwrite=True)
         return cause.status
+    except KeyboardInterrupt:
+        os._exit(130)  # a process of a pool would begin its next run
     if os.path.exists(log):
         os.remove(log)
     return 0
@@ -200,8 +201,7 @@ def manifest_text(folder: str, study: Study, records: list[dict[str, Any]], tabl
 def versions() -> dict[str, Any]:
     """The versions of Python and of the libraries that a study is made with."""
     names = (*manifest.LIBRARIES, "matplotlib", "snakemake")
-    held = {each.metadata["Name"]: each.version for each in importlib.metadata.distributions()}
-    return {"python": platform.python_version(), "libraries": {name: held.get(name) for name in names}}
+    return {"python": platform.python_version(), "libraries": {name: manifest.library_version(name) for name in names}}
 
 
 def main(words: Sequence[str]) -> int:
