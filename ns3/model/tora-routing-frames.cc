@@ -48,6 +48,7 @@ RoutingProtocol::OnTick()
         return;
     }
     Time now = Simulator::Now();
+    HandIn();
     m_router.Tick(GetTick());
     TakeFrames();
     TakeChanges();
@@ -232,22 +233,32 @@ RoutingProtocol::Receive(Ptr<Socket> socket)
         int32_t interface = m_ipv4->GetInterfaceForDevice(socket->GetBoundNetDevice());
         Ipv4Address address = InetSocketAddress::ConvertFrom(from).GetIpv4();
         Hear(header, address, interface, packet->GetUid());
-        HandIn(header);
+        for (const auto& frame : header.GetFrames())
+        {
+            if (frame.GetReceiver() == m_number)
+            {
+                m_arrived[sender].push_back(frame);
+            }
+        }
     }
 }
 
 void
-RoutingProtocol::HandIn(const ToraHeader& header)
+RoutingProtocol::HandIn()
 {
-    for (const auto& frame : header.GetFrames())
+    std::map<uint32_t, std::vector<Frame>> arrived;
+    arrived.swap(m_arrived);
+    for (const auto& [sender, frames] : arrived)
     {
-        if (frame.GetReceiver() == m_number && !m_router.Take(header.GetSender(), frame, GetTick()))
+        for (const auto& frame : frames)
         {
-            NS_LOG_LOGIC("a frame that is none of the link: " << frame);
-            m_malformed++;
+            if (!m_router.Take(sender, frame, GetTick()))
+            {
+                NS_LOG_LOGIC("a frame that is none of the link: " << frame);
+                m_malformed++;
+            }
         }
     }
-    TakeChanges();
 }
 
 void

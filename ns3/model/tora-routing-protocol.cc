@@ -186,6 +186,7 @@ RoutingProtocol::Stop()
     m_number = 0;
     m_queue.Clear();
     m_due.clear();
+    m_arrived.clear();
     m_hellos.clear();
     m_neighbours.clear();
     m_history.Clear();
