@@ -1,9 +1,44 @@
 /* SPDX-License-Identifier: MIT */
 /*
- * tora.h - TORA's rules for one node, as a library without sockets, threads or clocks
+ * tora.h - a node of TORA, as a library without sockets, threads or clocks
  *
  * LINK
  *   cc program.c $(pkg-config --cflags --libs tora)
+ *
+ * WHICH OF THE TWO
+ *   A `tora_router` is a whole node: the rules, and a link end for each neighbour. Its host carries datagrams, which
+ *   may be lost, repeated, reordered and delayed. A `tora_core` is the rules alone, for a host whose links lose
+ *   nothing, keep the order, and tell when they come up and go down.
+ *
+ * A ROUTER
+ *   A `tora_router` keeps the heights and next hops of its node, and finds out itself which of its neighbours are
+ *   there: it sends HELLOs, numbers its packets, sends again what is not acknowledged, and takes a link down where
+ *   nothing is heard. It takes in what happens, one after the other: a datagram came, time passed, a route is
+ *   needed, a link was lost. Then it gives out the datagrams to be sent, each for one neighbour, and what changed.
+ *   Whatever comes in is worked off before a call returns. Only `tora_router_new` and `tora_router_show` take
+ *   memory.
+ *
+ * ORDER OF CALLS OF A ROUTER
+ *   tora_router router = TORA_ROUTER_NULL;
+ *   tora_router_new(&router, ..);                 once, and then again and again, with the tick `now`:
+ *   tora_router_datagram(&router, peer, ..);      1. each datagram that came;
+ *   tora_router_tick(&router, now);               2. the tick, at the tick of `tora_router_next_due` at the latest;
+ *   tora_router_need(&router, d, now);            3. where a route is wanted,
+ *   tora_router_cut(&router, peer, now);             or a link was lost;
+ *   tora_router_poll_datagram(&router, now, ..);  4. until it answers TORA_ABSENT: send each of them;
+ *   tora_router_poll_change(&router, ..);         5. until it answers TORA_ABSENT: what changed, where that matters;
+ *   tora_router_next_due(&router, &tick);         6. wait until that tick, or until a datagram comes.
+ *   tora_router_free(&router);                    in the end
+ *   Any other order is safe. The readers stand anywhere.
+ *
+ * WHAT THE HOST OF A ROUTER OWES
+ *   - Numbers of nodes are distinct, and two nodes that hear each other are neighbours of each other.
+ *   - A datagram that is handed in as one of `peer` was given out by the router of `peer` for this node. It may be
+ *     lost, come late, twice, or in any order; none is invented or changed. Other bytes are refused where they spell
+ *     no frame of this link, but nothing tells a forged frame.
+ *   - Life numbers: each time a link opens, the router gives it a number that it never gave before. A router that is
+ *     made anew for the same node starts at a number that was never reached: `tora_router_next_life` says it. Keep
+ *     it where it outlives the program, before the datagrams of that life are sent.
  *
  * A CORE
  *   A `tora_core` keeps a node's own height for each destination of its table, the heights that its neighbours
@@ -12,7 +47,7 @@
  *   refused it has a list of packets: the host broadcasts each of them to every neighbour whose link is up. The
  *   library sends nothing itself.
  *
- * ORDER OF CALLS
+ * ORDER OF CALLS OF A CORE
  *   tora_core core = TORA_CORE_NULL;
  *   tora_core_new(&core, ..);                     once
  *   tora_core_link_up(&core, k, now);             and each further input, then
@@ -21,33 +56,36 @@
  *   tora_core_free(&core);                        in the end
  *
  * UNITS
- *   `now` and `tau` count ticks of 100 ms, from any start. `now` should not fall from one input to the next; a core
- *   is safe where it does. The number of a node is from 1 to 2^32 - 1. Lengths and rooms are in bytes, places count
- *   from 0.
- *   The bytes of a packet are 8 (a query), 32 (an update) or 20 (a clear), in network byte order.
+ *   `now`, `tau` and times count ticks of 100 ms, from any start. `now` should not fall from one call to the next; a
+ *   handle is safe where it does. The number of a node is from 1 to 2^32 - 1, a life number from 1 to 2^62. Lengths
+ *   and rooms are in bytes, places count from 0.
+ *   The bytes of a packet are 8 (a query), 32 (an update) or 20 (a clear), in network byte order. A datagram has at
+ *   most 560.
  *
  * OWNERSHIP
- *   A `tora_core` holds one pointer, and is made, read and freed by these calls alone. It begins as TORA_CORE_NULL.
- *   What it holds is freed by `tora_core_free`, which leaves it null, and by a call that puts another core in its
- *   place. A copy of the struct is no second core: use `tora_core_clone`, and never both copies. The library keeps
- *   no pointer to what a caller hands in, and memory comes from `malloc`, `realloc` and `free`.
+ *   A `tora_core` or `tora_router` holds one pointer, and is made, read and freed by these calls alone. It begins as
+ *   TORA_CORE_NULL or TORA_ROUTER_NULL. What it holds is freed by `tora_core_free` or `tora_router_free`, which
+ *   leaves it null, and by a call that puts another one in its place. A copy of the struct is no second core or
+ *   router: never use both copies (`tora_core_clone` makes a second core). The library keeps no pointer to what a
+ *   caller hands in, and memory comes from `malloc`, `realloc` and `free`.
  *
  * ERRORS
- *   Each call but `tora_core_free` answers a code, TORA_OK (0) where it did what it says. Where it answers another
- *   one it changed nothing: neither the core nor what the pointers lead to, but for the `length` of TORA_ROOM. A
- *   handle that is null is answered by TORA_NULL, also after `tora_core_free`.
+ *   Each call but the two that free answers a code, TORA_OK (0) where it did what it says. Where it answers another
+ *   one it changed nothing: neither what the handle holds nor what the pointers lead to, but for the `length` of
+ *   TORA_ROOM. A handle that is null is answered by TORA_NULL, also after it was freed. Each call names its codes in
+ *   the order in which they are tested.
  *   A pointer is never NULL, but that to an array may be where its count is 0. What pointers lead to does not
  *   overlap.
  *
  * THREADS
- *   The library has no state of its own. Threads may use different cores at once. One core is used by one thread at
- *   a time; it may go to another thread by whatever orders the two, as a lock. No call is made from a signal
+ *   The library has no state of its own. Threads may use different handles at once. One handle is used by one thread
+ *   at a time; it may go to another thread by whatever orders the two, as a lock. No call is made from a signal
  *   handler.
  *
  * PROVED
- *   For any calls with pointers as above: what each call answers and changes is what the rules of TORA say, no
- *   memory is read or written outside of what it is given, nothing overflows, and each call ends. The header
- *   itself, the C compiler and the C library are not part of the proof.
+ *   For any calls with pointers as above: what each call answers and changes is what the rules of TORA and of its
+ *   links say, no memory is read or written outside of what it is given, nothing overflows, and each call ends. The
+ *   header itself, the C compiler and the C library are not part of the proof.
  */
 #ifndef TORA_H
 #define TORA_H
@@ -74,11 +112,12 @@ extern "C" {
 #define TORA_ABSENT 8u                /* there is none: a height that is NULL, no next hop, no packet at this place */
 #define TORA_ROOM 9u                  /* the buffer is too short; `length` says what is needed */
 #define TORA_UNKNOWN 10u              /* the table does not have the destination, or the link is not up */
-#define TORA_UNKNOWN_NEIGHBOUR 11u    /* the input is refused: the neighbour is not one of the core */
+#define TORA_UNKNOWN_NEIGHBOUR 11u    /* the input is refused: the node is no neighbour */
 #define TORA_ALREADY_UP 12u           /* the input is refused: the link that comes up is up */
 #define TORA_NOT_UP 13u               /* the input is refused: the link is not up */
 #define TORA_WRONG_SENDER 14u         /* the input is refused: the height of the update is not that of its sender */
 #define TORA_UNKNOWN_DESTINATION 15u  /* the input is refused: the table does not have the needed destination */
+#define TORA_LIFE 16u                 /* the first life number is 0 or above 2^62 */
 #define TORA_PACKET_SHORT 21u         /* the bytes spell no packet: there are too few */
 #define TORA_PACKET_LONG 22u          /* .. there are too many */
 #define TORA_PACKET_VERSION 23u       /* .. the version is not 1 */
@@ -93,12 +132,22 @@ extern "C" {
 /* The longest packet, in bytes. */
 #define TORA_LONGEST_PACKET 32u
 
+/* The longest datagram, in bytes. */
+#define TORA_LONGEST_DATAGRAM 560u
+
 /* A core, or null. */
 typedef struct {
     void *at;
 } tora_core;
 
 #define TORA_CORE_NULL { NULL }
+
+/* A router, or null. */
+typedef struct {
+    void *at;
+} tora_router;
+
+#define TORA_ROUTER_NULL { NULL }
 
 /* A height. Of two, the lower one is the first in the order of tau, oid, r, delta and id. */
 typedef struct {
@@ -108,6 +157,66 @@ typedef struct {
     int32_t delta;  /* the order within the level */
     uint32_t id;    /* the node whose height it is */
 } tora_height;
+
+/* The times of a router's links. A part that is 0 stands for the standard one. */
+typedef struct {
+    uint64_t hello;   /* how many ticks after a HELLO the next one is due; standard: 10 */
+    uint64_t silent;  /* after how many ticks without hearing the neighbour a link goes down; standard: 50 */
+    uint64_t retry;   /* how many ticks after its last try a packet is due again, or is given up; standard: 5 */
+    uint64_t tries;   /* how many times a packet is sent before it is given up; standard: 8 */
+} tora_times;
+
+#define TORA_STANDARD_TIMES { 0, 0, 0, 0 }
+
+/* What a router made of a datagram. */
+#define TORA_INTAKE_ACCEPTED 1u        /* it told something new, or was a HELLO of the life */
+#define TORA_INTAKE_REPEATED 2u        /* it told nothing new */
+#define TORA_INTAKE_AHEAD 3u           /* a packet that came before one with a lesser number; it is sent again */
+#define TORA_INTAKE_STALE 4u           /* it is of another life, or the link is closed */
+#define TORA_INTAKE_FOREIGN 5u         /* it is a frame that this neighbour never sends to this node */
+#define TORA_INTAKE_BUSY 6u            /* it was not looked at, since too many events wait */
+#define TORA_INTAKE_SHORT 11u          /* its bytes spell no frame: there are too few */
+#define TORA_INTAKE_LONG 12u           /* .. there are too many */
+#define TORA_INTAKE_VERSION 13u        /* .. the version is neither 1 nor 2 */
+#define TORA_INTAKE_KIND 14u           /* .. the kind is not 1, 2 or 3 */
+#define TORA_INTAKE_LENGTH 15u         /* .. the length of the payload is none that the kind has */
+#define TORA_INTAKE_ID 16u             /* .. the sender or the receiver is 0, or the two are equal */
+#define TORA_INTAKE_LIFE 17u           /* .. a life number is out of range */
+#define TORA_INTAKE_NUMBER 18u         /* .. the number of a packet or a count of packets is out of range */
+#define TORA_INTAKE_PACKET 19u         /* .. the bytes of a packet spell none */
+#define TORA_INTAKE_COUNT 20u          /* .. how many packets there are is out of range */
+#define TORA_INTAKE_NO_NEIGHBOUR 30u   /* the node that it came from is no neighbour; nothing is changed */
+
+/* What changed at a router. */
+#define TORA_CHANGE_LINK_UP 1u    /* the link to a neighbour is up */
+#define TORA_CHANGE_LINK_DOWN 2u  /* the link to a neighbour is down */
+#define TORA_CHANGE_NEXT_HOP 3u   /* the next hop to a destination is another one, or there is none now */
+
+/* Why a link is down. */
+#define TORA_REASON_SILENT 1u    /* the neighbour was not heard, or did not acknowledge a packet */
+#define TORA_REASON_NEW_PEER 2u  /* the neighbour began a newer life */
+#define TORA_REASON_FULL 3u      /* too many packets waited to be sent */
+#define TORA_REASON_CUT 4u       /* the host cut it */
+#define TORA_REASON_SPENT 5u     /* the numbers of packets were used up */
+
+/* A change. */
+typedef struct {
+    uint32_t kind;    /* TORA_CHANGE_LINK_UP, TORA_CHANGE_LINK_DOWN or TORA_CHANGE_NEXT_HOP */
+    uint32_t node;    /* the neighbour, or the destination */
+    uint32_t hop;     /* of TORA_CHANGE_NEXT_HOP: the next hop, or 0 where there is none; else 0 */
+    uint32_t reason;  /* of TORA_CHANGE_LINK_DOWN: TORA_REASON_SILENT to TORA_REASON_SPENT; else 0 */
+} tora_change;
+
+/* How many datagrams of a neighbour came to what. Each count stays at 2^64 - 1 once there. */
+typedef struct {
+    uint64_t accepted;
+    uint64_t repeated;
+    uint64_t ahead;
+    uint64_t stale;
+    uint64_t foreign;
+    uint64_t busy;
+    uint64_t bad;  /* those whose bytes spell no frame */
+} tora_tally;
 
 /* The version of the calls of the library that is loaded: TORA_ABI_VERSION where it is that of this header. */
 uint32_t tora_abi_version(void);
@@ -204,6 +313,111 @@ uint32_t tora_core_is_up(tora_core *core, uint32_t k, uint32_t *up);
  * TORA_NULL, TORA_MEMORY, TORA_ROOM.
  */
 uint32_t tora_core_show(tora_core *core, uint8_t *text, size_t room, size_t *length);
+
+/*
+ * Makes the router of node `me`. Neighbours and destinations are those of `tora_core_new`: at most 255 and 64, in any
+ * order, and `me` may be a destination. All links are closed until the first tick. Their life numbers are drawn from
+ * `first_life` on; the host answers for it that none of these was ever given to a link of this node. What `router`
+ * held is freed.
+ * TORA_CHOICE, TORA_ZERO, TORA_LIFE, TORA_TOO_MANY, TORA_REPEATED, TORA_OWN_ID, TORA_MEMORY.
+ */
+uint32_t tora_router_new(tora_router *router, uint32_t me, const uint32_t *neighbours, size_t neighbour_count,
+                         const uint32_t *destinations, size_t destination_count, uint32_t erasure,
+                         const tora_times *times, uint64_t first_life);
+
+/* Frees what the router holds, and leaves it null. A router that is null stays so. */
+void tora_router_free(tora_router *router);
+
+/*
+ * These bytes, all of one datagram, came from node `peer` at the tick `now`. Any bytes may be handed in, of any node:
+ * `intake` says what was made of them, TORA_INTAKE_ACCEPTED to TORA_INTAKE_NO_NEIGHBOUR.
+ * TORA_NULL.
+ */
+uint32_t tora_router_datagram(tora_router *router, uint32_t peer, const uint8_t *bytes, size_t length, uint64_t now,
+                              uint32_t *intake);
+
+/*
+ * It is the tick `now`. Each closed link opens with the next life number, and a link on which nothing was heard for
+ * too long goes down.
+ * TORA_NULL.
+ */
+uint32_t tora_router_tick(tora_router *router, uint64_t now);
+
+/*
+ * A route to destination `d` is needed at the tick `now`.
+ * TORA_NULL, TORA_UNKNOWN_DESTINATION.
+ */
+uint32_t tora_router_need(tora_router *router, uint32_t d, uint64_t now);
+
+/*
+ * The link to neighbour `peer` was lost at the tick `now`, as where the radio says so: its life ends, if it has one.
+ * The next tick opens the link anew. Without this call the link goes down once nothing was heard for long enough.
+ * TORA_NULL, TORA_UNKNOWN_NEIGHBOUR.
+ */
+uint32_t tora_router_cut(tora_router *router, uint32_t peer, uint64_t now);
+
+/*
+ * Writes the next datagram to be sent at the tick `now`, its length, and the neighbour that it is for. The datagram
+ * counts as sent; one that the host does not send is one that was lost.
+ * TORA_NULL, TORA_ROOM where `room` is less than TORA_LONGEST_DATAGRAM, whether one is due or not, TORA_ABSENT where
+ * none is due.
+ */
+uint32_t tora_router_poll_datagram(tora_router *router, uint64_t now, uint32_t *peer, uint8_t *bytes, size_t room,
+                                   size_t *length);
+
+/*
+ * Writes what changed and was not told yet: at a link first, and then a next hop. Of each link the last change is
+ * told, and of each destination the next hop, where it is another one than was told last; at first there is none.
+ * TORA_NULL, TORA_ABSENT where all was told.
+ */
+uint32_t tora_router_poll_change(tora_router *router, tora_change *change);
+
+/*
+ * Writes the tick before which no datagram is due and a tick changes nothing, unless something else happens at the
+ * router, and from which on one does: 0 where one does at once, 2^64 - 1 where none ever does.
+ * TORA_NULL.
+ */
+uint32_t tora_router_next_due(tora_router *router, uint64_t *tick);
+
+/* Writes the next life number: it and those above it were not given to any link. TORA_NULL. */
+uint32_t tora_router_next_life(tora_router *router, uint64_t *life);
+
+/*
+ * Writes the own height for destination `d`.
+ * TORA_NULL, TORA_UNKNOWN where the table does not have it, TORA_ABSENT where the height is NULL.
+ */
+uint32_t tora_router_height(tora_router *router, uint32_t d, tora_height *height);
+
+/*
+ * Writes the height that neighbour `k` told for destination `d`.
+ * TORA_NULL, TORA_UNKNOWN where the table does not have it or the link is not up, TORA_ABSENT where the height is
+ * NULL.
+ */
+uint32_t tora_router_entry(tora_router *router, uint32_t d, uint32_t k, tora_height *height);
+
+/*
+ * Writes the next hop to destination `d`: the downstream neighbour with the lowest height.
+ * TORA_NULL, TORA_ABSENT where no neighbour is downstream.
+ */
+uint32_t tora_router_next_hop(tora_router *router, uint32_t d, uint32_t *hop);
+
+/* Writes 1 where a route to destination `d` is required, and else 0. TORA_NULL. */
+uint32_t tora_router_flag(tora_router *router, uint32_t d, uint32_t *flag);
+
+/* Writes 1 where the link to neighbour `k` is up, and else 0. TORA_NULL. */
+uint32_t tora_router_is_up(tora_router *router, uint32_t k, uint32_t *up);
+
+/*
+ * Writes what was made of the datagrams of neighbour `k`.
+ * TORA_NULL, TORA_UNKNOWN_NEIGHBOUR.
+ */
+uint32_t tora_router_tally(tora_router *router, uint32_t k, tora_tally *tally);
+
+/*
+ * Writes the rules' state as text, and its length, as `tora_core_show` does.
+ * TORA_NULL, TORA_MEMORY, TORA_ROOM.
+ */
+uint32_t tora_router_show(tora_router *router, uint8_t *text, size_t room, size_t *length);
 
 #ifdef __cplusplus
 }

@@ -1,5 +1,5 @@
 /* SPDX-License-Identifier: MIT */
-/* Each call of tora.h, with handles that are null, freed, and of cores, with each allocation refused in turn: for dev/check-lib.sh. */
+/* Each call of tora.h, with handles that are null, freed, of cores and of routers, and each allocation refused in turn: for dev/check-lib.sh. */
 #include <stdio.h>
 #include <stdlib.h>
 #include <string.h>
@@ -53,6 +53,32 @@ static void all_are_null(tora_core *core) {
     IS(TORA_NULL, tora_core_is_up(core, 2, &number));
     IS(TORA_NULL, tora_core_show(core, NULL, 0, &size));
     tora_core_free(core);
+}
+
+/* The same of a router. */
+static void all_router_calls_are_null(tora_router *router) {
+    tora_height height;
+    tora_change change;
+    tora_tally tally;
+    uint32_t number;
+    uint64_t tick;
+    size_t size;
+    IS(TORA_NULL, tora_router_datagram(router, 2, QUERY, sizeof QUERY, 1, &number));
+    IS(TORA_NULL, tora_router_tick(router, 1));
+    IS(TORA_NULL, tora_router_need(router, 4, 1));
+    IS(TORA_NULL, tora_router_cut(router, 2, 1));
+    IS(TORA_NULL, tora_router_poll_datagram(router, 1, &number, NULL, 0, &size));
+    IS(TORA_NULL, tora_router_poll_change(router, &change));
+    IS(TORA_NULL, tora_router_next_due(router, &tick));
+    IS(TORA_NULL, tora_router_next_life(router, &tick));
+    IS(TORA_NULL, tora_router_height(router, 4, &height));
+    IS(TORA_NULL, tora_router_entry(router, 4, 2, &height));
+    IS(TORA_NULL, tora_router_next_hop(router, 4, &number));
+    IS(TORA_NULL, tora_router_flag(router, 4, &number));
+    IS(TORA_NULL, tora_router_is_up(router, 2, &number));
+    IS(TORA_NULL, tora_router_tally(router, 2, &tally));
+    IS(TORA_NULL, tora_router_show(router, NULL, 0, &size));
+    tora_router_free(router);
 }
 
 /* What a core answers in turn. */
@@ -118,11 +144,123 @@ static int uses(long after) {
     return done;
 }
 
+/* Hands each datagram of one router to the other one, and answers how many there were. */
+static int carried(tora_router *from, tora_router *to, uint32_t sender, uint64_t now) {
+    uint8_t bytes[TORA_LONGEST_DATAGRAM];
+    uint32_t peer = 0, intake = 0;
+    size_t length = 7;
+    int count = 0;
+    IS(TORA_ROOM, tora_router_poll_datagram(from, now, &peer, bytes, sizeof bytes - 1, &length));
+    IS(TORA_LONGEST_DATAGRAM, (uint32_t)length);
+    IS(0, peer);
+    while (tora_router_poll_datagram(from, now, &peer, bytes, sizeof bytes, &length) == TORA_OK) {
+        IS(TORA_OK, tora_router_datagram(to, sender, bytes, length, now, &intake));
+        IS(TORA_INTAKE_ACCEPTED, intake);
+        IS(3 - sender, peer);
+        count++;
+    }
+    return count;
+}
+
+/* What two routers answer that find a route, and lose it. */
+static void router_answers(tora_router *one, tora_router *two) {
+    tora_height height = {7, 7, 7, 7, 7};
+    tora_change change;
+    tora_tally tally;
+    uint8_t text[512];
+    uint32_t number = 7;
+    uint64_t tick = 7;
+    size_t size = 7;
+    IS(TORA_UNKNOWN_DESTINATION, tora_router_need(one, 9, 1));
+    IS(TORA_UNKNOWN_NEIGHBOUR, tora_router_cut(one, 9, 1));
+    IS(TORA_UNKNOWN_NEIGHBOUR, tora_router_tally(one, 9, &tally));
+    IS(TORA_ABSENT, tora_router_poll_change(one, &change));
+    IS(TORA_OK, tora_router_next_due(one, &tick));
+    IS(0, (uint32_t)tick);
+    IS(TORA_OK, tora_router_tick(one, 1));
+    IS(TORA_OK, tora_router_tick(two, 1));
+    IS(TORA_OK, tora_router_need(one, 2, 1));
+    IS(TORA_ABSENT, tora_router_height(one, 2, &height));
+    IS(TORA_UNKNOWN, tora_router_entry(one, 2, 2, &height));
+    IS(TORA_OK, tora_router_flag(one, 2, &number));
+    IS(1, number);
+    while (carried(one, two, 1, 1) + carried(two, one, 2, 1) > 0) continue;
+    IS(TORA_OK, tora_router_height(one, 2, &height));
+    IS(1, (uint32_t)height.delta);
+    IS(TORA_OK, tora_router_entry(one, 2, 2, &height));
+    IS(2, height.id);
+    IS(TORA_OK, tora_router_next_hop(one, 2, &number));
+    IS(2, number);
+    IS(TORA_OK, tora_router_is_up(one, 2, &number));
+    IS(1, number);
+    IS(TORA_OK, tora_router_next_life(one, &tick));
+    IS(8, (uint32_t)tick);
+    IS(TORA_OK, tora_router_next_due(one, &tick));
+    IS(11, (uint32_t)tick);
+    IS(TORA_OK, tora_router_poll_change(one, &change));
+    IS(1, change.kind == TORA_CHANGE_LINK_UP && change.node == 2 && change.hop == 0 && change.reason == 0);
+    IS(TORA_OK, tora_router_cut(one, 2, 2));
+    IS(TORA_OK, tora_router_poll_change(one, &change));
+    IS(1, change.kind == TORA_CHANGE_LINK_DOWN && change.node == 2 && change.reason == TORA_REASON_CUT);
+    IS(TORA_ABSENT, tora_router_poll_change(one, &change));
+    IS(TORA_ABSENT, tora_router_next_hop(one, 2, &number));
+    IS(TORA_OK, tora_router_datagram(one, 9, QUERY, sizeof QUERY, 2, &number));
+    IS(TORA_INTAKE_NO_NEIGHBOUR, number);
+    IS(TORA_OK, tora_router_datagram(one, 2, NULL, 0, 2, &number));
+    IS(TORA_INTAKE_SHORT, number);
+    IS(TORA_OK, tora_router_tally(one, 2, &tally));
+    IS(1, tally.bad == 1 && tally.accepted > 0 && tally.stale == 0);
+    IS(TORA_ROOM, tora_router_show(one, NULL, 0, &size));
+    IS(TORA_OK, tora_router_show(one, text, sizeof text, &size));
+    if (size < 3 || memcmp(text, "to ", 3) != 0) failures++;
+}
+
+/* Routers that are refused, and two that are not. */
+static void routers(void) {
+    const uint32_t one[] = {1}, two[] = {2};
+    const tora_times times = TORA_STANDARD_TIMES, none = {1, 1, 1, 0};
+    tora_router router = TORA_ROUTER_NULL, other = TORA_ROUTER_NULL;
+    all_router_calls_are_null(&router);
+    IS(TORA_CHOICE, tora_router_new(&router, 0, LINKS, 2, TABLE, 2, 2, &times, 0));
+    IS(TORA_ZERO, tora_router_new(&router, 0, LINKS, 2, TABLE, 2, TORA_PLAIN, &times, 0));
+    IS(TORA_LIFE, tora_router_new(&router, 2, LINKS, 2, TABLE, 2, TORA_PLAIN, &times, 0));
+    IS(TORA_OWN_ID, tora_router_new(&router, 2, LINKS, 2, TABLE, 2, TORA_PLAIN, &times, 1));
+    all_router_calls_are_null(&router);
+    IS(TORA_OK, tora_router_new(&router, 3, NULL, 0, NULL, 0, TORA_REMEMBERED, &none, 1));
+    IS(TORA_OK, tora_router_new(&router, 1, two, 1, two, 1, TORA_PLAIN, &times, 7));
+    IS(TORA_OK, tora_router_new(&other, 2, one, 1, two, 1, TORA_PLAIN, &none, (uint64_t)1 << 62));
+    router_answers(&router, &other);
+    tora_router_free(&router);
+    all_router_calls_are_null(&router);
+    tora_router_free(&other);
+}
+
+/* As `uses`, of a router. */
+static int uses_router(long after) {
+    const tora_times times = TORA_STANDARD_TIMES;
+    tora_router router = TORA_ROUTER_NULL;
+    uint8_t text[512];
+    uint32_t code;
+    size_t size;
+    int done = 0;
+    left = after;
+    code = tora_router_new(&router, 3, LINKS, 2, TABLE, 2, TORA_PLAIN, &times, 1);
+    if (code == TORA_OK) {
+        IS(TORA_OK, tora_router_tick(&router, 1));
+        code = tora_router_show(&router, text, sizeof text, &size);
+        done = code == TORA_OK;
+    } else if (router.at) failures++;
+    left = -1;
+    if (!done && code != TORA_MEMORY) failures++;
+    tora_router_free(&router);
+    return done;
+}
+
 int main(void) {
     tora_core core = TORA_CORE_NULL, other = TORA_CORE_NULL;
     uint8_t text[16];
     size_t size;
-    long after = 0;
+    long after = 0, after_router = 0;
     if (tora_abi_version() != TORA_ABI_VERSION) failures++;
     IS(TORA_ROOM, tora_version(text, 1, &size));
     IS(TORA_OK, tora_version(text, sizeof text, &size));
@@ -139,7 +277,9 @@ int main(void) {
     all_are_null(&core);
     IS(TORA_OK, tora_core_link_down(&other, 2, 3));
     tora_core_free(&other);
+    routers();
     while (!uses(after)) after++;
-    printf("calls: %ld allocations are refused in turn, %d failures\n", after, failures);
+    while (!uses_router(after_router)) after_router++;
+    printf("calls: %ld allocations are refused in turn, %d failures\n", after + after_router, failures);
     return failures != 0;
 }

@@ -27,7 +27,8 @@ import re
 import sys
 
 sys.path.insert(0, str(pathlib.Path(__file__).resolve().parents[2] / "python" / "src"))
-from tora.lib import Core, Erasure  # noqa: E402
+from tora.core import Core  # noqa: E402
+from tora.lib import Erasure  # noqa: E402
 
 NOW, UPDATE, CLEAR = 1, 2, 3  # the tick, and kinds of a packet: its second byte
 HEIGHT = re.compile(r"\((\d+,\d+,[01]),(-?\d+),(\d+)\)")  # the level, delta, and the node

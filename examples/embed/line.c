@@ -1,80 +1,73 @@
 /* SPDX-License-Identifier: MIT */
-/* A line of four nodes in one program: cores hand each other packets in memory, in the order in which they are sent. */
+/* A line of four nodes in one program: their routers, and an array of datagrams between them. */
 #include <stdio.h>
-#include <string.h>
+#include <stdlib.h>
 #include <tora.h>
 
-enum { NODES = 4, DESTINATION = 4, MOST = 64 };
+enum { NODES = 4, DESTINATION = 4, MOST = 64, ROOM = TORA_LONGEST_DATAGRAM };
 
-/* A packet on its way. */
-struct packet {
+struct datagram {
     uint32_t from, to;
-    uint8_t bytes[TORA_LONGEST_PACKET];
+    uint8_t bytes[ROOM];
     size_t length;
 };
 
-static tora_core cores[NODES + 1];
-static struct packet queue[MOST];
-static size_t first, behind;
+static tora_router routers[NODES + 1];
+static struct datagram sent[MOST];
 
 /* Ends the program at a code that is not TORA_OK. */
-static int failed(const char *call, uint32_t code) {
-    if (code != TORA_OK) fprintf(stderr, "line: %s answers %u\n", call, (unsigned)code);
-    return code != TORA_OK;
+static void done(uint32_t code) {
+    if (code == TORA_OK) return;
+    fprintf(stderr, "line: a call answers %u\n", (unsigned)code);
+    exit(1);
 }
 
-/* Puts each packet of the last input of a node into the queue, once for each of its neighbours. */
-static int broadcast(uint32_t node) {
-    size_t count, place;
-    if (failed("sent_count", tora_core_sent_count(&cores[node], &count))) return 1;
-    for (place = 0; place < count; place++) {
-        uint32_t to;
-        for (to = node > 1 ? node - 1 : 2; to <= NODES && to <= node + 1; to += 2) {
-            struct packet *it = &queue[behind++ % MOST];
+static void make(uint32_t node) {
+    const uint32_t neighbours[] = {node > 1 ? node - 1 : 2, node + 1}, destinations[] = {DESTINATION};
+    const tora_times times = TORA_STANDARD_TIMES;
+    size_t count = node > 1 && node < NODES ? 2 : 1;
+    done(tora_router_new(&routers[node], node, neighbours, count, destinations, 1, TORA_PLAIN, &times, 1));
+}
+
+/* Hands each datagram that is due to the router that it is for, and answers how many there were. */
+static size_t carry(uint64_t now) {
+    size_t count = 0, at;
+    uint32_t node, intake;
+    for (node = 1; node <= NODES; node++) {
+        struct datagram *it = &sent[count];
+        while (tora_router_poll_datagram(&routers[node], now, &it->to, it->bytes, ROOM, &it->length) == TORA_OK) {
             it->from = node;
-            it->to = to;
-            if (failed("sent", tora_core_sent(&cores[node], place, it->bytes, sizeof it->bytes, &it->length))) return 1;
+            if (++count == MOST) return fprintf(stderr, "line: the array is full\n"), exit(1), count;
+            it = &sent[count];
         }
     }
-    return 0;
-}
-
-static int make(uint32_t node) {
-    const uint32_t destinations[] = {DESTINATION}, neighbours[] = {node > 1 ? node - 1 : 2, node + 1};
-    size_t count = node > 1 && node < NODES ? 2 : 1;
-    return failed("new", tora_core_new(&cores[node], node, neighbours, count, destinations, 1, TORA_PLAIN));
+    for (at = 0; at < count; at++)
+        done(tora_router_datagram(&routers[sent[at].to], sent[at].from, sent[at].bytes, sent[at].length, now, &intake));
+    return count;
 }
 
 static void print(uint32_t node) {
     tora_height h;
-    uint32_t hop;
+    uint32_t hop = 0;
     printf("node %u ", (unsigned)node);
-    if (tora_core_height(&cores[node], DESTINATION, &h) == TORA_OK)
-        printf("(%llu,%u,%u,%d,%u)", (unsigned long long)h.tau, (unsigned)h.oid, (unsigned)h.r, (int)h.delta,
-               (unsigned)h.id);
-    else
-        printf("-");
-    if (tora_core_next_hop(&cores[node], DESTINATION, &hop) == TORA_OK) printf(" hop %u\n", (unsigned)hop);
+    if (tora_router_height(&routers[node], DESTINATION, &h) != TORA_OK) printf("-");
+    else printf("(%u,%u,%u,%d,%u)", (unsigned)h.tau, (unsigned)h.oid, (unsigned)h.r, (int)h.delta, (unsigned)h.id);
+    if (tora_router_next_hop(&routers[node], DESTINATION, &hop) == TORA_OK) printf(" hop %u\n", (unsigned)hop);
     else printf(" hop -\n");
 }
 
 int main(void) {
     uint32_t node;
-    for (node = 1; node <= NODES; node++)
-        if (make(node)) return 1;
-    for (node = 1; node < NODES; node++) {
-        if (failed("link_up", tora_core_link_up(&cores[node], node + 1, 0)) || broadcast(node)) return 1;
-        if (failed("link_up", tora_core_link_up(&cores[node + 1], node, 0)) || broadcast(node + 1)) return 1;
-    }
-    if (failed("need", tora_core_need(&cores[1], DESTINATION, 1)) || broadcast(1)) return 1;
-    for (; first < behind; first++) {
-        struct packet it = queue[first % MOST];
-        if (failed("packet", tora_core_packet(&cores[it.to], it.from, it.bytes, it.length, 2))) return 1;
-        if (broadcast(it.to)) return 1;
+    uint64_t now;
+    for (node = 1; node <= NODES; node++) make(node);
+    for (now = 0; now < 2; now++) {
+        for (node = 1; node <= NODES; node++) done(tora_router_tick(&routers[node], now));
+        if (now == 1) done(tora_router_need(&routers[1], DESTINATION, now)); /* all links are up */
+        while (carry(now) > 0) continue;
     }
     for (node = 1; node <= NODES; node++) {
         print(node);
-        tora_core_free(&cores[node]);
+        tora_router_free(&routers[node]);
     }
     return 0;
 }

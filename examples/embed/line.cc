@@ -1,7 +1,6 @@
 // SPDX-License-Identifier: MIT
 // A line of four nodes in one program, by a class that owns a handle.
 #include <cstdint>
-#include <deque>
 #include <iostream>
 #include <map>
 #include <optional>
@@ -12,99 +11,94 @@
 
 #include <tora.h>
 
-using Packet = std::vector<std::uint8_t>;
+using Bytes = std::vector<std::uint8_t>;
 using Ids = std::vector<std::uint32_t>;
 
-// The rules of one node. It is moved, and never copied.
-class Core {
+// A node. It is moved, and never copied.
+class Router {
 public:
-    Core(std::uint32_t me, const Ids &neighbours, const Ids &destinations) {
-        done(tora_core_new(&handle, me, neighbours.data(), neighbours.size(), destinations.data(), destinations.size(),
-                           TORA_PLAIN));
+    Router(std::uint32_t me, const Ids &neighbours, const Ids &destinations, std::uint64_t first_life) {
+        const tora_times times = TORA_STANDARD_TIMES;
+        done(tora_router_new(&handle, me, neighbours.data(), neighbours.size(), destinations.data(),
+                             destinations.size(), TORA_PLAIN, &times, first_life));
     }
-    Core(Core &&other) noexcept : handle(std::exchange(other.handle, TORA_CORE_NULL)) {}
-    Core(const Core &) = delete;
-    Core &operator=(const Core &) = delete;
-    ~Core() { tora_core_free(&handle); }
+    Router(Router &&other) noexcept : handle(std::exchange(other.handle, TORA_ROUTER_NULL)) {}
+    Router(const Router &) = delete;
+    Router &operator=(const Router &) = delete;
+    ~Router() { tora_router_free(&handle); }
 
-    std::vector<Packet> link_up(std::uint32_t k, std::uint64_t now) {
-        return after(tora_core_link_up(&handle, k, now));
+    void tick(std::uint64_t now) { done(tora_router_tick(&handle, now)); }
+    void need(std::uint32_t d, std::uint64_t now) { done(tora_router_need(&handle, d, now)); }
+    void datagram(std::uint32_t peer, const Bytes &bytes, std::uint64_t now) {
+        std::uint32_t intake;
+        done(tora_router_datagram(&handle, peer, bytes.data(), bytes.size(), now, &intake));
     }
-    std::vector<Packet> need(std::uint32_t d, std::uint64_t now) { return after(tora_core_need(&handle, d, now)); }
-    std::vector<Packet> packet(std::uint32_t k, const Packet &bytes, std::uint64_t now) {
-        return after(tora_core_packet(&handle, k, bytes.data(), bytes.size(), now));
+
+    // The next datagram that is due, and the neighbour that it is for.
+    std::optional<std::pair<std::uint32_t, Bytes>> poll_datagram(std::uint64_t now) {
+        std::uint32_t peer;
+        std::size_t length;
+        Bytes bytes(TORA_LONGEST_DATAGRAM);
+        if (absent(tora_router_poll_datagram(&handle, now, &peer, bytes.data(), bytes.size(), &length))) return {};
+        bytes.resize(length);
+        return {{peer, std::move(bytes)}};
     }
 
     std::optional<tora_height> height(std::uint32_t d) {
         tora_height found;
-        std::uint32_t code = tora_core_height(&handle, d, &found);
-        if (code == TORA_ABSENT) return std::nullopt;
-        done(code);
+        if (absent(tora_router_height(&handle, d, &found))) return {};
         return found;
     }
     std::optional<std::uint32_t> next_hop(std::uint32_t d) {
         std::uint32_t hop;
-        std::uint32_t code = tora_core_next_hop(&handle, d, &hop);
-        if (code == TORA_ABSENT) return std::nullopt;
-        done(code);
+        if (absent(tora_router_next_hop(&handle, d, &hop))) return {};
         return hop;
     }
 
 private:
-    tora_core handle = TORA_CORE_NULL;
+    tora_router handle = TORA_ROUTER_NULL;
 
     static void done(std::uint32_t code) {
         if (code != TORA_OK) throw std::runtime_error("tora answers " + std::to_string(code));
     }
-
-    std::vector<Packet> after(std::uint32_t code) {
-        done(code);
-        std::size_t count, length;
-        done(tora_core_sent_count(&handle, &count));
-        std::vector<Packet> sent;
-        for (std::size_t place = 0; place < count; place++) {
-            Packet bytes(TORA_LONGEST_PACKET);
-            done(tora_core_sent(&handle, place, bytes.data(), bytes.size(), &length));
-            bytes.resize(length);
-            sent.push_back(std::move(bytes));
-        }
-        return sent;
+    static bool absent(std::uint32_t code) {
+        if (code != TORA_ABSENT) done(code);
+        return code == TORA_ABSENT;
     }
 };
 
+// Hands each datagram that is due to the router that it is for, until none is.
+static void settle(std::map<std::uint32_t, Router> &routers, std::uint64_t now) {
+    bool carried = true;
+    while (std::exchange(carried, false))
+        for (auto &[node, router] : routers)
+            while (auto sent = router.poll_datagram(now)) {
+                routers.at(sent->first).datagram(node, sent->second, now);
+                carried = true;
+            }
+}
+
 int main() {
     const std::uint32_t nodes = 4, destination = 4;
-    auto beside = [&](std::uint32_t node) {
-        Ids found;
-        if (node > 1) found.push_back(node - 1);
-        if (node < nodes) found.push_back(node + 1);
-        return found;
-    };
-    struct Sent {
-        std::uint32_t from, to;
-        Packet packet;
-    };
-    std::map<std::uint32_t, Core> cores;
-    std::deque<Sent> queue;
-    auto broadcast = [&](std::uint32_t node, const std::vector<Packet> &packets) {
-        for (const Packet &packet : packets)
-            for (std::uint32_t to : beside(node)) queue.push_back({node, to, packet});
-    };
-    for (std::uint32_t node = 1; node <= nodes; node++) cores.emplace(node, Core(node, beside(node), {destination}));
-    for (auto &[node, core] : cores)
-        for (std::uint32_t to : beside(node)) broadcast(node, core.link_up(to, 0));
-    broadcast(1, cores.at(1).need(destination, 1));
-    for (; !queue.empty(); queue.pop_front()) {
-        const Sent &it = queue.front();
-        broadcast(it.to, cores.at(it.to).packet(it.from, it.packet, 2));
+    std::map<std::uint32_t, Router> routers;
+    for (std::uint32_t node = 1; node <= nodes; node++) {
+        Ids neighbours;
+        if (node > 1) neighbours.push_back(node - 1);
+        if (node < nodes) neighbours.push_back(node + 1);
+        routers.emplace(node, Router(node, neighbours, {destination}, 1));
     }
-    for (auto &[node, core] : cores) {
+    for (std::uint64_t now = 0; now < 2; now++) {
+        for (auto &[node, router] : routers) router.tick(now);
+        if (now == 1) routers.at(1).need(destination, now); // all links are up
+        settle(routers, now);
+    }
+    for (auto &[node, router] : routers) {
         std::cout << "node " << node << ' ';
-        if (auto h = core.height(destination))
+        if (auto h = router.height(destination))
             std::cout << '(' << h->tau << ',' << h->oid << ',' << h->r << ',' << h->delta << ',' << h->id << ')';
         else
             std::cout << '-';
-        auto hop = core.next_hop(destination);
+        auto hop = router.next_hop(destination);
         std::cout << " hop " << (hop ? std::to_string(*hop) : "-") << '\n';
     }
 }

@@ -12,7 +12,8 @@ import sys
 import pytest
 
 from tora import lib
-from tora.lib import ClosedError, Core, Erasure, Height, LibraryError, NoLibraryError, PacketError, RefusedError
+from tora.core import Core
+from tora.lib import ClosedError, Erasure, Height, LibraryError, NoLibraryError, PacketError, RefusedError
 from tora.program import Program
 
 EXAMPLES = pathlib.Path(__file__).parents[2] / "examples"
@@ -135,7 +136,9 @@ def test_a_handle_of_null_is_answered() -> None:
     assert calls == [lib.NULL] * len(calls)
 
 
-@pytest.mark.parametrize("words", [["line.py"], ["explore.py", "3", "1-2,2-3", "1", "need 3; cut 1 2"]])
+@pytest.mark.parametrize(
+    "words", [["line.py"], ["two_nodes.py"], ["explore.py", "3", "1-2,2-3", "1", "need 3; cut 1 2"]]
+)
 def test_examples(words: list[str]) -> None:
     environment = {**os.environ, "TORA_LIBRARY": lib.library()._name}
     command = [sys.executable, EXAMPLES / "embed" / words[0], *words[1:]]

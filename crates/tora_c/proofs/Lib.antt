@@ -1,1 +1,1 @@
-pub mod CoreWords
+pub mod NewRouter

@@ -6,7 +6,14 @@ use Rattle.tora_packet.specs.PacketGrammar.{packet_error_number}
 use Rattle.tora_core.specs.declared.errors.CoreError.{CoreError}
 use Rattle.tora_core.specs.declared.errors.StepError.{StepError}
 use Rattle.tora_core.specs.Errors.{core_error_number, step_error_number}
-use Rattle.tora_c.specs.declared.codes.TheConstants.{OK, REFUSED, NO_PACKET}
+use Rattle.tora_frame.specs.FrameGrammar.{frame_error_number}
+use Rattle.tora_arq.specs.declared.verdict.Verdict.{Verdict}
+use Rattle.tora_arq.specs.declared.verdict.Verdict.TheVariants.{Accepted, Repeated, Ahead, Stale, Foreign, Busy}
+use Rattle.tora_router.specs.declared.intake.Intake.{Intake}
+use Rattle.tora_router.specs.declared.intake.Intake.TheVariants.{NoNeighbour, Bad, Seen}
+use Rattle.tora_router.specs.declared.router_error.RouterError.{RouterError}
+use Rattle.tora_router.specs.declared.router_error.RouterError.TheVariants as Fault
+use Rattle.tora_c.specs.declared.codes.TheConstants.{OK, MEMORY, TOO_MANY, REPEATED, OWN_ID, ZERO, LIFE, REFUSED, NO_PACKET, NO_FRAME, NO_NEIGHBOUR}
 
 abbrev pub core_code : CoreError → ℕ
 core_code e = core_error_number e
@@ -16,6 +23,29 @@ refused_code e = REFUSED + step_error_number e
 
 abbrev pub packet_code : PacketError → ℕ
 packet_code e = NO_PACKET + packet_error_number e
+
+abbrev pub router_code : RouterError → ℕ
+router_code Fault.Id = ZERO
+router_code Fault.Times = ZERO
+router_code Fault.Life = LIFE
+router_code Fault.TooMany = TOO_MANY
+router_code Fault.Repeated = REPEATED
+router_code Fault.OwnId = OWN_ID
+router_code Fault.Memory = MEMORY
+
+-- what was made of a datagram
+abbrev pub verdict_code : Verdict → ℕ
+verdict_code Accepted = 1
+verdict_code Repeated = 2
+verdict_code Ahead = 3
+verdict_code Stale = 4
+verdict_code Foreign = 5
+verdict_code Busy = 6
+
+abbrev pub intake_code : Intake → ℕ
+intake_code NoNeighbour = NO_NEIGHBOUR
+intake_code (Bad error) = NO_FRAME + frame_error_number error
+intake_code (Seen verdict) = verdict_code verdict
 
 -- of a call that may be refused
 abbrev pub code_or_ok : Option ℕ → ℕ

@@ -1,5 +1,6 @@
 pub mod Codes
 pub mod CoreNode
-pub mod Held
 pub mod Readers
+pub mod RouterHeld
+pub mod RouterParts
 pub mod Version

@@ -24,22 +24,22 @@ parts_after (Some None) old = old
 parts_after (Some (Some h)) old = parts_of h
 
 -- of what a handle holds
-abbrev pub held_entry_code : (NodeView → Option (Option Quintuple)) → Option NodeView → ℕ
+abbrev pub held_entry_code : {H : Type 0} → (H → Option (Option Quintuple)) → Option H → ℕ
 held_entry_code entry None = NULL
 held_entry_code entry (Some n) = entry_code (entry n)
 
-abbrev pub held_parts : (NodeView → Option (Option Quintuple)) → Option NodeView → HeightParts → HeightParts
+abbrev pub held_parts : {H : Type 0} → (H → Option (Option Quintuple)) → Option H → HeightParts → HeightParts
 held_parts entry None old = old
 held_parts entry (Some n) old = parts_after (entry n) old
 
 -- ---- a number
 
 -- of a number that may be absent
-abbrev pub held_number_code : (NodeView → Option ℕ) → Option NodeView → ℕ
+abbrev pub held_number_code : {H : Type 0} → (H → Option ℕ) → Option H → ℕ
 held_number_code number None = NULL
 held_number_code number (Some n) = option_map_or (λ _. OK) (number n) ABSENT
 
-abbrev pub held_number : (NodeView → Option ℕ) → Option NodeView → ℕ → ℕ
+abbrev pub held_number : {H : Type 0} → (H → Option ℕ) → Option H → ℕ → ℕ
 held_number number None old = old
 held_number number (Some n) old = option_map_or (λ k. k) (number n) old
 

@@ -3,23 +3,13 @@ ghost use Rattle.std.specs.Prelude.{◌≡◌, ◌⊎◌, IfErr, IfOk, MatchOpti
 ghost use Rattle.tora_core.specs.declared.Input.{Input};
 ghost use Rattle.tora_c.specs.CoreNode.{bytes_after, bytes_code, erasure_of, first_node, held_after, held_code, new_refusal};
 
+use crate::boxes::boxed;
 use crate::codes::{MEMORY, NULL, OK, packet_code};
 use crate::core_handle::CoreHandle;
 use crate::core_node::CoreNode;
 use std::alloc::Global;
 use tora_core::Input;
 use tora_packet::decode;
-
-/// A node in a block of its own. An error is its code.
-fn boxed(alloc: Global, node: CoreNode) -> Result<Box<CoreNode, Global>, u32>
-    ensures value { IfOk result (λ b. b.value ≡ node) }
-    ensures memory { IfErr result (λ code. code ≡ MEMORY) }
-{
-    match Box::new(alloc, node) {
-        Ok(node) => Ok(node),
-        Err(_) => Err(MEMORY),
-    }
-}
 
 /// Makes the core of node `me` at `core`, in the place of what was there: no link is up.
 #[unsafe(no_mangle)]

@@ -1,7 +1,8 @@
 //! A core that C holds by a pointer.
 ghost use Rattle.std.specs.Prelude.{◌≡◌, MatchOption, None, Option, Some};
 ghost use Rattle.tora_c.specs.CoreNode.{NodeView};
-ghost use Rattle.tora_c.specs.Held.{held_coded, owned_core};
+ghost use Rattle.tora_handle.specs.Held.{coded_held, owned};
+ghost use Rattle.tora_c.specs.contracts.core_node.CoreNode.{the_row};
 
 use crate::core_node::CoreNode;
 use std::alloc::Global;
@@ -14,11 +15,11 @@ use tora_handle::RawBox;
 #[repr(C)]
 pub struct CoreHandle {
     at: *mut u8,
-    ghost held: { Option NodeView } by { held_coded },
+    ghost held: { Option NodeView } by { coded_held the_row },
 }
 
 impl Model for CoreHandle {
-    ghost also_owns = { λ handle. owned_core handle.at handle.held };
+    ghost also_owns = { λ handle. owned the_row handle.at handle.held };
 }
 
 impl CoreHandle {

@@ -26,7 +26,7 @@ impl Model for CoreNode {
 }
 
 /// The choice of what becomes of erased levels: 0 is `Plain`, 1 is `Remembered`.
-fn erasure_of(choice: u32) -> Option<Erasure>
+pub fn erasure_of(choice: u32) -> Option<Erasure>
     ensures { result ≡ erasure_of choice }
 {
     if choice == 0 {

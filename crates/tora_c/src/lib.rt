@@ -1,14 +1,15 @@
 //! TORA for C: what a program that is no Rattle calls. `include/tora.h` is its header.
 //!
-//! C holds a core by a handle, a struct with one pointer that begins as null. Each call tests what it is given, answers
-//! one of the codes, and changes nothing where it is not `OK`. No call requires anything of what C gives, but that each
-//! pointer leads to what its type says, and that no two calls use one handle at once.
+//! C holds a core or a router by a handle, a struct with one pointer that begins as null. Each call tests what it is
+//! given, answers one of the codes, and changes nothing where it is not `OK`. No call requires anything of what C gives,
+//! but that each pointer leads to what its type says, and that no two calls use one handle at once.
 #![tactic(auto)]
 
 ghost use Rattle.std.specs.Prelude.{◌≡◌, length};
 ghost use Rattle.tora_c.specs.Readers.{room_code, written};
 ghost use Rattle.tora_c.specs.Version.{version_text};
 
+mod boxes;
 mod buffers;
 mod codes;
 mod core_calls;
@@ -16,6 +17,11 @@ mod core_handle;
 mod core_node;
 mod core_readers;
 mod heights;
+mod router_calls;
+mod router_handle;
+mod router_parts;
+mod router_polls;
+mod router_readers;
 
 use buffers::write;
 
@@ -45,19 +51,48 @@ pub extern "C" fn tora_version(text: &mut [u8], len: &mut usize) -> u32
 
 #[cfg(test)]
 mod tests {
-    use crate::codes::{NULL, OK, ROOM};
+    use crate::codes::{ABSENT, NULL, OK, ROOM};
     use crate::core_calls::{
         tora_core_clone, tora_core_free, tora_core_link_up, tora_core_need, tora_core_new,
     };
     use crate::core_handle::CoreHandle;
     use crate::core_readers::{tora_core_sent_count, tora_core_show};
+    use crate::router_calls::{
+        tora_router_datagram, tora_router_free, tora_router_need, tora_router_new, tora_router_tick,
+    };
+    use crate::router_handle::RouterHandle;
+    use crate::router_parts::{ChangeParts, TimesParts};
+    use crate::router_polls::{tora_router_poll_change, tora_router_poll_datagram};
+    use crate::router_readers::{tora_router_next_hop, tora_router_next_life};
     use std::alloc::Global;
+    use tora_frame::LONGEST_FRAME;
 
     // Only C lets a handle go by forgetting it.
     fn let_go(alloc: Global, handle: CoreHandle) {
         if let Some(raw) = handle.into_raw(alloc) {
             drop(raw.into_box());
         }
+    }
+
+    // The same of a router.
+    fn let_router_go(alloc: Global, handle: RouterHandle) {
+        if let Some(raw) = handle.into_raw(alloc) {
+            drop(raw.into_box());
+        }
+    }
+
+    // One datagram goes from a router to its only neighbour, and says whether one was due.
+    fn carry(alloc: Global, from: &mut RouterHandle, to: &mut RouterHandle, sender: u32) -> bool {
+        let (mut peer, mut len, mut intake) = (0, 0, 0);
+        let mut bytes = [0; LONGEST_FRAME];
+        if tora_router_poll_datagram(alloc, from, 1, &mut peer, &mut bytes, &mut len) != OK {
+            return false;
+        }
+        let Some(datagram) = bytes.get(..len) else {
+            return false;
+        };
+        let _ = tora_router_datagram(alloc, to, sender, datagram, 1, &mut intake);
+        true
     }
 
     #[test]
@@ -84,5 +119,51 @@ mod tests {
         assert_eq!(rt; (counted, short, shown), (OK, ROOM, OK));
         assert_eq!(rt; (count, len), (1, 40));
         assert!(rt; text.starts_with(b"to 4 height - flag 1 hop -\nvia 2 - none\n"));
+    }
+
+    #[test]
+    fn two_routers_find_a_route(rt: HostRuntime) {
+        let alloc = rt.alloc();
+        let (mut one, mut two) = (RouterHandle::null(), RouterHandle::null());
+        let times = TimesParts {
+            hello: 0,
+            silent: 0,
+            retry: 0,
+            tries: 0,
+        };
+        let mut change = ChangeParts {
+            kind: 0,
+            node: 0,
+            hop: 0,
+            reason: 0,
+        };
+        let (mut hop, mut life, mut count) = (0, 0, 0);
+        let early = tora_router_tick(alloc, &mut one, 1);
+        let made = tora_router_new(alloc, &mut one, 1, &[2], &[2], 0, &times, 7);
+        let other = tora_router_new(alloc, &mut two, 2, &[1], &[2], 0, &times, 1);
+        let _ = tora_router_tick(alloc, &mut one, 1);
+        let _ = tora_router_tick(alloc, &mut two, 1);
+        let need = tora_router_need(alloc, &mut one, 2, 1);
+        for _ in 0..40 {
+            let there = carry(alloc, &mut one, &mut two, 1);
+            let back = carry(alloc, &mut two, &mut one, 2);
+            count += usize::from(there || back);
+        }
+        let found = tora_router_next_hop(alloc, &mut one, 2, &mut hop);
+        let lives = tora_router_next_life(alloc, &mut one, &mut life);
+        let told = tora_router_poll_change(alloc, &mut one, &mut change);
+        let first = (change.kind, change.node, change.hop, change.reason);
+        let again = tora_router_poll_change(alloc, &mut one, &mut change);
+        let second = (change.kind, change.node, change.hop, change.reason);
+        let all = tora_router_poll_change(alloc, &mut one, &mut change);
+        tora_router_free(alloc, &mut one);
+        let late = tora_router_tick(alloc, &mut one, 2);
+        let_router_go(alloc, one);
+        let_router_go(alloc, two);
+        assert_eq!(rt; (early, made, other, need), (NULL, OK, OK, OK));
+        assert_eq!(rt; (found, hop, lives, life), (OK, 2, OK, 8));
+        assert_eq!(rt; (told, again, all, late), (OK, OK, ABSENT, NULL));
+        assert_eq!(rt; (first, second), ((1, 2, 0, 0), (3, 2, 2, 0)));
+        assert!(rt; 0 < count && count < 40);
     }
 }

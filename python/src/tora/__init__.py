@@ -15,15 +15,18 @@ from typing import TYPE_CHECKING, Any
 from tora.errors import StudyError, UsageError
 
 if TYPE_CHECKING:
-    from tora.lib import Core
+    from tora.core import Core
+    from tora.router import Router
     from tora.run import Run
     from tora.scenario import Scenario
     from tora.trace import Trace
 
-__all__ = ["Core", "Run", "Scenario", "StudyError", "Trace", "UsageError"]
+__all__ = ["Core", "Router", "Run", "Scenario", "StudyError", "Trace", "UsageError"]
 __version__ = "1.0.0.dev0"
 
-MODULES = {"Core": "tora.lib", "Run": "tora.run", "Scenario": "tora.scenario", "Trace": "tora.trace"}
+MODULES = {
+    "Core": "tora.core", "Router": "tora.router", "Run": "tora.run", "Scenario": "tora.scenario", "Trace": "tora.trace",
+}
 
 
 def __getattr__(name: str) -> Any:

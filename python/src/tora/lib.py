@@ -1,14 +1,9 @@
-"""TORA's rules for one node in the own process, by the shared library `libtora`: no program is started.
-
->>> import tora
->>> with tora.Core(3, neighbours=[2, 4], destinations=[4]) as core:    # doctest: +SKIP
-...     core.link_up(4, now=1)
-...     core.need(4, now=2)
-...     core.height(4)
+"""The shared library `libtora` in the own process: no program is started. `tora.core` has the rules of one node, and
+`tora.router` a whole one with its neighbour links.
 
 The library is that which TORA_LIBRARY names, else the first of these that is there: `libtora.so.0` beside this file, in
-`out` of the repository, or where the system looks for libraries, as that of the Debian package libtora0. A `Core` is
-used by one thread at a time.
+`out` of the repository, or where the system looks for libraries, as that of the Debian package libtora0. A `Core` or
+`Router` is used by one thread at a time.
 """
 from __future__ import annotations
 
@@ -21,11 +16,10 @@ import pathlib
 from collections.abc import Iterable
 from ctypes import POINTER, byref, c_int32, c_size_t, c_uint8, c_uint32, c_uint64, c_void_p
 from types import TracebackType
-from typing import NamedTuple
+from typing import Any, ClassVar, NamedTuple, Self
 
 ABI_VERSION = 1
 NAME = "libtora.so.0"
-LONGEST_PACKET = 32  # bytes
 GREATEST_ID = 2**32 - 1
 GREATEST_TICK = 2**64 - 1
 
@@ -38,7 +32,7 @@ WORDS = {
     2: "there are more than 255 neighbours, or more than 64 destinations",
     3: "a neighbour or a destination is named twice",
     4: "the node itself is among its neighbours",
-    5: "the core is closed",
+    5: "it is closed",
     6: "the number of a node is 0",
     7: "there is no such choice",
     10: "the destination is not in the table, or the link is not up",
@@ -47,6 +41,7 @@ WORDS = {
     13: "the link is not up",
     14: "the update is not of the neighbour that sent it",
     15: "the destination is not in the table",
+    16: "the first life number is 0 or above 2^62",
     21: "the bytes spell no packet: there are too few",
     22: "the bytes spell no packet: there are too many",
     23: "the bytes spell no packet: the version is not 1",
@@ -76,7 +71,7 @@ class NoLibraryError(LibraryError):
 
 
 class RefusedError(LibraryError):
-    """The core refuses the input; it is as it was."""
+    """The core or router refuses the input; it is as it was."""
 
 
 class PacketError(LibraryError):
@@ -84,7 +79,7 @@ class PacketError(LibraryError):
 
 
 class ClosedError(LibraryError):
-    """The core was closed."""
+    """The core or router was closed."""
 
 
 class Erasure(enum.IntEnum):
@@ -130,26 +125,51 @@ class _Height(ctypes.Structure):
     _fields_ = [("tau", c_uint64), ("oid", c_uint32), ("r", c_uint32), ("delta", c_int32), ("id", c_uint32)]
 
 
-_CORE, _HEIGHT, _NUMBER, _SIZE = POINTER(_Handle), POINTER(_Height), POINTER(c_uint32), POINTER(c_size_t)
-_BYTES = POINTER(c_uint8)
+class _Times(ctypes.Structure):
+    _fields_ = [(name, c_uint64) for name in ("hello", "silent", "retry", "tries")]
+
+
+class _Change(ctypes.Structure):
+    _fields_ = [(name, c_uint32) for name in ("kind", "node", "hop", "reason")]
+
+
+class _Tally(ctypes.Structure):
+    _fields_ = [(name, c_uint64) for name in ("accepted", "repeated", "ahead", "stale", "foreign", "busy", "bad")]
+
+
+_HELD, _HEIGHT, _NUMBER, _SIZE = POINTER(_Handle), POINTER(_Height), POINTER(c_uint32), POINTER(c_size_t)
+_BYTES, _LONG, _TIMES = POINTER(c_uint8), POINTER(c_uint64), POINTER(_Times)
+_NODE: list[type] = [_HELD, c_uint32, _NUMBER, c_size_t, _NUMBER, c_size_t, c_uint32]  # what makes a node
+_READERS: dict[str, list[type]] = {
+    "free": [_HELD],
+    "need": [_HELD, c_uint32, c_uint64],
+    "height": [_HELD, c_uint32, _HEIGHT],
+    "entry": [_HELD, c_uint32, c_uint32, _HEIGHT],
+    "next_hop": [_HELD, c_uint32, _NUMBER],
+    "flag": [_HELD, c_uint32, _NUMBER],
+    "is_up": [_HELD, c_uint32, _NUMBER],
+    "show": [_HELD, _BYTES, c_size_t, _SIZE],
+}
 _SIGNATURES: dict[str, list[type]] = {
     "tora_abi_version": [],
     "tora_version": [_BYTES, c_size_t, _SIZE],
-    "tora_core_new": [_CORE, c_uint32, _NUMBER, c_size_t, _NUMBER, c_size_t, c_uint32],
-    "tora_core_free": [_CORE],
-    "tora_core_clone": [_CORE, _CORE],
-    "tora_core_link_up": [_CORE, c_uint32, c_uint64],
-    "tora_core_link_down": [_CORE, c_uint32, c_uint64],
-    "tora_core_packet": [_CORE, c_uint32, _BYTES, c_size_t, c_uint64],
-    "tora_core_need": [_CORE, c_uint32, c_uint64],
-    "tora_core_sent_count": [_CORE, _SIZE],
-    "tora_core_sent": [_CORE, c_size_t, _BYTES, c_size_t, _SIZE],
-    "tora_core_height": [_CORE, c_uint32, _HEIGHT],
-    "tora_core_entry": [_CORE, c_uint32, c_uint32, _HEIGHT],
-    "tora_core_next_hop": [_CORE, c_uint32, _NUMBER],
-    "tora_core_flag": [_CORE, c_uint32, _NUMBER],
-    "tora_core_is_up": [_CORE, c_uint32, _NUMBER],
-    "tora_core_show": [_CORE, _BYTES, c_size_t, _SIZE],
+    "tora_core_new": _NODE,
+    "tora_core_clone": [_HELD, _HELD],
+    "tora_core_link_up": [_HELD, c_uint32, c_uint64],
+    "tora_core_link_down": [_HELD, c_uint32, c_uint64],
+    "tora_core_packet": [_HELD, c_uint32, _BYTES, c_size_t, c_uint64],
+    "tora_core_sent_count": [_HELD, _SIZE],
+    "tora_core_sent": [_HELD, c_size_t, _BYTES, c_size_t, _SIZE],
+    "tora_router_new": [*_NODE, _TIMES, c_uint64],
+    "tora_router_datagram": [_HELD, c_uint32, _BYTES, c_size_t, c_uint64, _NUMBER],
+    "tora_router_tick": [_HELD, c_uint64],
+    "tora_router_cut": [_HELD, c_uint32, c_uint64],
+    "tora_router_poll_datagram": [_HELD, c_uint64, _NUMBER, _BYTES, c_size_t, _SIZE],
+    "tora_router_poll_change": [_HELD, POINTER(_Change)],
+    "tora_router_next_due": [_HELD, _LONG],
+    "tora_router_next_life": [_HELD, _LONG],
+    "tora_router_tally": [_HELD, c_uint32, POINTER(_Tally)],
+    **{f"tora_{kind}_{name}": types for kind in ("core", "router") for name, types in _READERS.items()},
 }
 
 
@@ -179,7 +199,7 @@ def _opened(paths: tuple[str, ...]) -> ctypes.CDLL:
             call = getattr(library, name, None)
             if call is None:
                 raise NoLibraryError(OK, f"{path}: it has no call {name}")
-            call.argtypes, call.restype = types, None if name == "tora_core_free" else c_uint32
+            call.argtypes, call.restype = types, None if name.endswith("_free") else c_uint32
         if library.tora_abi_version() != ABI_VERSION:
             version = library.tora_abi_version()
             raise NoLibraryError(OK, f"{path}: its calls are of version {version}, and not {ABI_VERSION}")
@@ -203,11 +223,11 @@ def library() -> ctypes.CDLL:
 def version() -> str:
     """The version of the library."""
     text, length = (c_uint8 * 64)(), c_size_t()
-    _done(library().tora_version(text, len(text), byref(length)))
+    done(library().tora_version(text, len(text), byref(length)))
     return bytes(text[: length.value]).decode()
 
 
-def _done(code: int) -> None:
+def done(code: int) -> None:
     """Raises what a code says, unless it is done."""
     if code == OK:
         return
@@ -222,155 +242,110 @@ def _done(code: int) -> None:
     raise LibraryError(code)
 
 
-def _within(name: str, number: int, most: int) -> int:
+def within(name: str, number: int, most: int) -> int:
     """A number that the library's type holds; ctypes would cut it in silence."""
     if not 0 <= number <= most:
         raise ValueError(f"{name} is from 0 to {most}, and not {number}")
     return number
 
 
-def _numbers(name: str, numbers: Iterable[int]) -> ctypes.Array[c_uint32]:
-    found = [_within(name, it, GREATEST_ID) for it in numbers]
-    return (c_uint32 * len(found))(*found)
+def node(name: str, number: int) -> int:
+    """The number of a node."""
+    return within(name, number, GREATEST_ID)
 
 
-class Core:
-    """The rules of one node.
+def tick(now: int) -> int:
+    """A moment."""
+    return within("now", now, GREATEST_TICK)
 
-    Parameters
-    ----------
-    me : int
-        The node, from 1 on.
-    neighbours : iterable of int
-        The nodes to which there may ever be a link: at most 255.
-    destinations : iterable of int
-        The destinations of the table: at most 64.
-    erasure : Erasure, optional
-        What becomes of erased reference levels.
 
-    Raises
-    ------
-    LibraryError
-        Where there is no such core.
-    """
+def spelt(datagram: bytes) -> ctypes.Array[c_uint8]:
+    """Bytes as the library reads them."""
+    return (c_uint8 * len(datagram)).from_buffer_copy(datagram)
 
-    def __init__(
-        self, me: int, neighbours: Iterable[int], destinations: Iterable[int], erasure: Erasure = Erasure.PLAIN
-    ) -> None:
-        """A core with no link up."""
-        self._handle = _Handle()
-        self._library = library()
-        links, table = _numbers("a neighbour", neighbours), _numbers("a destination", destinations)
-        node = _within("a node", me, GREATEST_ID)
-        _done(self._library.tora_core_new(self._handle, node, links, len(links), table, len(table), int(erasure)))
+
+class Handle:
+    """What a core and a router have in common: the library holds it until it is closed, and it can be read."""
+
+    _KIND: ClassVar[str]
+
+    def _make(self, me: int, neighbours: Iterable[int], destinations: Iterable[int], *words: Any) -> None:
+        """Has the library make what is held."""
+        self._handle, self._library = _Handle(), library()
+        words_of_lists: list[Any] = []
+        for name, numbers in ("a neighbour", neighbours), ("a destination", destinations):
+            found = [node(name, it) for it in numbers]
+            words_of_lists += [(c_uint32 * len(found))(*found), len(found)]
+        done(self._call("new", node("a node", me), *words_of_lists, *words))
+
+    def _call(self, name: str, *words: Any) -> int:
+        """What a call answers."""
+        code: int = getattr(self._library, f"tora_{self._KIND}_{name}")(self._handle, *words)
+        return code
 
     def close(self) -> None:
-        """Frees the core: each later call but this raises `ClosedError`."""
-        self._library.tora_core_free(self._handle)
+        """Frees it: each later call but this raises `ClosedError`."""
+        self._call("free")
 
-    def __enter__(self) -> Core:
-        """The core, which is closed at the end of the block."""
+    def __enter__(self) -> Self:
+        """It is closed at the end of the block."""
         return self
 
     def __exit__(
         self, kind: type[BaseException] | None, error: BaseException | None, trace: TracebackType | None
     ) -> None:
-        """Closes the core."""
+        """Closes it."""
         self.close()
 
     def __del__(self) -> None:
-        """Closes a core that nobody holds."""
+        """Closes it where nobody holds it."""
         if getattr(self, "_library", None) is not None:
             self.close()
 
-    def clone(self) -> Core:
-        """A second core with the same state."""
-        second = Core.__new__(Core)
-        second._handle, second._library = _Handle(), self._library
-        _done(self._library.tora_core_clone(self._handle, second._handle))
-        return second
-
-    def _step(self, code: int) -> list[bytes]:
-        _done(code)
-        return self.sent()
-
-    def link_up(self, k: int, now: int) -> list[bytes]:
-        """The link to neighbour `k` came up at the tick `now`: the packets to every neighbour whose link is up."""
-        tick = _within("now", now, GREATEST_TICK)
-        return self._step(self._library.tora_core_link_up(self._handle, _within("k", k, GREATEST_ID), tick))
-
-    def link_down(self, k: int, now: int) -> list[bytes]:
-        """The link to neighbour `k` went down at the tick `now`: the packets to every neighbour whose link is up."""
-        tick = _within("now", now, GREATEST_TICK)
-        return self._step(self._library.tora_core_link_down(self._handle, _within("k", k, GREATEST_ID), tick))
-
-    def need(self, d: int, now: int) -> list[bytes]:
-        """A route to `d` is needed at the tick `now`: the packets to every neighbour whose link is up."""
-        tick = _within("now", now, GREATEST_TICK)
-        return self._step(self._library.tora_core_need(self._handle, _within("d", d, GREATEST_ID), tick))
-
-    def packet(self, k: int, packet: bytes, now: int) -> list[bytes]:
-        """A packet came from neighbour `k` at the tick `now`: the packets to every neighbour whose link is up."""
-        spelled, tick = (c_uint8 * len(packet)).from_buffer_copy(packet), _within("now", now, GREATEST_TICK)
-        sender = _within("k", k, GREATEST_ID)
-        return self._step(self._library.tora_core_packet(self._handle, sender, spelled, len(packet), tick))
-
-    def sent(self) -> list[bytes]:
-        """The packets that the last input gave which was not refused."""
-        count, length, room = c_size_t(), c_size_t(), (c_uint8 * LONGEST_PACKET)()
-        _done(self._library.tora_core_sent_count(self._handle, byref(count)))
-        found = []
-        for place in range(count.value):
-            _done(self._library.tora_core_sent(self._handle, place, room, LONGEST_PACKET, byref(length)))
-            found.append(bytes(room[: length.value]))
-        return found
-
-    def _height(self, code: int, height: _Height) -> Height | None:
+    def _height(self, name: str, *words: int) -> Height | None:
+        found = _Height()
+        code = self._call(name, *words, byref(found))
         if code == ABSENT:
             return None
-        _done(code)
-        return Height(height.tau, height.oid, height.r, height.delta, height.id)
+        done(code)
+        return Height(found.tau, found.oid, found.r, found.delta, found.id)
 
     def height(self, d: int) -> Height | None:
         """The own height for destination `d`; None where it is NULL."""
-        found = _Height()
-        code = self._library.tora_core_height(self._handle, _within("d", d, GREATEST_ID), byref(found))
-        return self._height(code, found)
+        return self._height("height", node("d", d))
 
     def entry(self, d: int, k: int) -> Height | None:
         """The height that neighbour `k` told for destination `d`; None where it is NULL."""
-        found, node = _Height(), _within("k", k, GREATEST_ID)
-        code = self._library.tora_core_entry(self._handle, _within("d", d, GREATEST_ID), node, byref(found))
-        return self._height(code, found)
+        return self._height("entry", node("d", d), node("k", k))
 
     def next_hop(self, d: int) -> int | None:
         """The next hop to destination `d`; None where no neighbour is downstream."""
         hop = c_uint32()
-        code = self._library.tora_core_next_hop(self._handle, _within("d", d, GREATEST_ID), byref(hop))
+        code = self._call("next_hop", node("d", d), byref(hop))
         if code == ABSENT:
             return None
-        _done(code)
+        done(code)
         return hop.value
 
     def flag(self, d: int) -> bool:
         """Whether a route to destination `d` is required."""
         flag = c_uint32()
-        _done(self._library.tora_core_flag(self._handle, _within("d", d, GREATEST_ID), byref(flag)))
+        done(self._call("flag", node("d", d), byref(flag)))
         return flag.value == 1
 
     def is_up(self, k: int) -> bool:
         """Whether the link to neighbour `k` is up."""
         up = c_uint32()
-        _done(self._library.tora_core_is_up(self._handle, _within("k", k, GREATEST_ID), byref(up)))
+        done(self._call("is_up", node("k", k), byref(up)))
         return up.value == 1
 
     def show(self) -> str:
-        """The whole core as text, as `tora replay` shows it."""
+        """The state of the rules as text, as `tora replay` shows it."""
         length, room = c_size_t(), 512
         while True:
             text = (c_uint8 * room)()
-            code = self._library.tora_core_show(self._handle, text, room, byref(length))
+            code = self._call("show", text, room, byref(length))
             if code != ROOM:
-                _done(code)
+                done(code)
                 return bytes(text[: length.value]).decode()
             room = length.value

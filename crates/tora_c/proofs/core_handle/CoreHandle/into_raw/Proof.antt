@@ -26,7 +26,8 @@ use Rattle.std_alloc.proofs.ResultValues.{and_tt}
 use Rattle.std.proofs.raw_atomic.Walks.{proved_at, leaves}
 use Rattle.std.specs.contracts.impls.GlobalAllocator.TheImpl.{ghosts}
 use Rattle.tora_handle.proofs.Parts.{words, typed, close_parts}
-use Rattle.tora_c.proofs.CoreWords.{Node, Heap, laws, heap, Raw, word, open_handle}
+use Rattle.tora_handle.proofs.Handles.{Heap, laws, heap, Raw, word, open_handle}
+use Rattle.tora_c.specs.contracts.core_node.CoreNode.{the_row}
 use Rattle.tora_c.specs.contracts.core_handle.CoreHandle as handle
 use Rattle.tora_c.specs.contracts.core_handle.CoreHandle.into_raw as own
 use Rattle.tora_c.proofs.core_handle.CoreHandle.into_raw.Statement.{statement}
@@ -49,7 +50,7 @@ into_raw_spec 𝓤 𝓛 𝓜 𝓡 wired =
     qed 𝓛 ((‵ ftrue ⊛ ‵ (owns (types_at own.ended.signature.params κs) z.0.3 z.0.4)) ∷ raw ((clauses κs z.0.3).requires z.1) ∷ []) ∵
     split ! $ drop ! $ fsplit ! $ move ! (1 ∷ []) $ fsplit ! $
     handle_tells heap ! a z.0.4.1.0 (λ h is_heap good. move ! (2 ∷ []) $
-    open_handle ! a self z.0.4.0
+    open_handle the_row ! a self.at self.held z.0.4.0
     -- null: what is left is the allocator, nothing, and what is required
     (λ none is_word. let w : Val = word vnull in
     suffices ! (Run (w ∷ h ∷ [])) (subst (λ (us : List Val). ent 𝓤 (Run (w ∷ h ∷ [])) (Run us)) (sym (λ i. is_word i ++ (is_heap i ++ []))) (id⊢ 𝓤 (Run (w ∷ h ∷ [])))) $
@@ -58,7 +59,7 @@ into_raw_spec 𝓤 𝓛 𝓜 𝓡 wired =
     sets ! (bin ! (get ! refl) (lit ! tt) tt) refl (tt, tt) $ first ! $
     branches ! (get ! refl)
     (λ _. sets ! (agg ! (and_then ! (lit ! tt) (no_more !))) refl (tt, (record { fits = lit< tt }, tt)) $
-    use0 𝓛 (‵ (Answer.own_val None (live 0 vnil ∷ []))) (none_of 𝓛 Raw) $
+    use0 𝓛 (‵ (Answer.own_val None (live 0 vnil ∷ []))) (none_of 𝓛 (Raw the_row)) $
     use0 𝓛 (raw (fact 𝓤 (self.held ≡ None))) (fact_i 𝓤 (self.held ≡ None) (emp 𝓤) none) $ nothing ! $ nothing ! $ fjoin ! $ nothing ! $ fjoin ! $ nothing ! $
     returns_within ! Post refl (look_at ! 0 refl) $ free_all ! refl $ keep ! (0 ∷ 1 ∷ 3 ∷ 2 ∷ []) $
     by ! (leaves 𝓛 own.ended stays clauses z (live 0 vnil) None (tt, (tt, tt)) (tt, (tt, tt))))
@@ -66,10 +67,10 @@ into_raw_spec 𝓤 𝓛 𝓜 𝓡 wired =
     -- a block: it is left too
     (λ b o x some may is_word. let w : Val = word (vptr b o) in
     let made : Val = words (vptr b o) h in
-    let fits = typed Node Heap laws ghosts b o h good in
+    let fits = typed the_row Heap laws ghosts b o h good in
     let answer : Val = live 1 (vcons made vnil) in
     let fits_answer : Good (layout Answer) answer = (and_tt _ fits.0, (record { fits = lit< tt }, (fits.1, tt))) in
-    let parts : Raw.Denot = record { pointer = block_ptr b o; allocator = a; value = x } in
+    let parts : (Raw the_row).Denot = record { pointer = block_ptr b o; allocator = a; value = x } in
     suffices ! (Run (w ∷ h ∷ [])) (subst (λ (us : List Val). ent 𝓤 (Run (w ∷ h ∷ [])) (Run us)) (sym (λ i. is_word i ++ (is_heap i ++ []))) (id⊢ 𝓤 (Run (w ∷ h ∷ [])))) $
     enter ! 𝓣.C 𝓣.Λ code.function (w ∷ h ∷ []) Post $ alloc_all ! (λ l. pass_all ! refl ((tt, (tt, tt)), (good, tt)) $
     sets ! (of_opd ! (get_in ! (fld ! refl (stop !)) (sub ! 0 refl (whole !)))) refl (tt, tt) $
@@ -79,7 +80,7 @@ into_raw_spec 𝓤 𝓛 𝓜 𝓡 wired =
     sets ! (of_opd ! (get ! refl)) refl (tt, tt) $
     sets ! (agg ! (and_then ! (get ! refl) (and_then ! (get ! refl) (no_more !)))) refl fits $
     sets ! (agg ! (and_then ! (lit ! tt) (and_then ! (get ! refl) (no_more !)))) refl fits_answer $
-    close_parts Node Heap laws ghosts ! b o h a x $ use1 𝓛 (‵ (Answer.own_val (Some parts) (answer ∷ []))) (Some-of 𝓛 Raw parts made) $
+    close_parts the_row Heap laws ghosts ! b o h a x $ use1 𝓛 (‵ (Answer.own_val (Some parts) (answer ∷ []))) (Some-of 𝓛 (Raw the_row) parts made) $
     use0 𝓛 (raw (fact 𝓤 (self.held ≡ Some x))) (fact_i 𝓤 (self.held ≡ Some x) (emp 𝓤) some) $ nothing ! $ nothing ! $ fjoin ! $ nothing ! $ fjoin ! $ nothing ! $
     returns ! (look_at ! 0 refl) $ free_all ! refl $ keep ! (0 ∷ 1 ∷ 3 ∷ 2 ∷ []) $
     by ! (leaves 𝓛 own.ended stays clauses z answer (Some parts) (tt, (tt, tt)) (tt, (tt, tt))))))))

@@ -19,7 +19,8 @@ use Rattle.core.specs.declared.option.Option.{Option}
 use Rattle.core.specs.declared.option.Option.TheVariants.{None}
 use Rattle.core.proofs.cell.Inside.{Good}
 use Rattle.std.proofs.raw_atomic.Walks.{proved_at, leaves}
-use Rattle.tora_c.proofs.CoreWords.{Held, word, close_null}
+use Rattle.tora_handle.proofs.Handles.{word, close_null}
+use Rattle.tora_c.specs.contracts.core_node.CoreNode.{the_row}
 use Rattle.tora_c.specs.contracts.core_handle.CoreHandle as handle
 use Rattle.tora_c.specs.contracts.core_handle.CoreHandle.null as own
 use Rattle.tora_c.proofs.core_handle.CoreHandle.null.Statement.{statement}
@@ -34,12 +35,12 @@ null_spec 𝓤 𝓛 𝓜 𝓡 wired =
     proved_at 𝓛 own.ended stays clauses 𝓜 𝓡 tt own.Key.name code.function (code.unfolded 𝓤 H 𝓜 𝓡 wired) (λ z are.
     let κs = z.0.0 in
     let Post : Val → SProp 𝓤 = (walk_of 𝓛 own.ended stays clauses).post z in
-    let none : Option Held = None in
+    let none : Option the_row.Denot = None in
     let good : Good (layout handle.the_row) (word vnull) = (tt, (record { fits = lit< tt }, tt)) in
     qed 𝓛 ((‵ ftrue ⊛ ‵ (owns (types_at own.ended.signature.params κs) z.0.3 z.0.4)) ∷ raw ((clauses κs z.0.3).requires z.1) ∷ []) ∵
     split ! $ drop ! $
     enter ! 𝓣.C 𝓣.Λ code.function [] Post $ alloc_all ! (λ l. pass_all ! refl tt $
     sets ! (agg ! (and_then ! (lit ! tt) (no_more !))) refl good $
-    close_null ! $ use0 𝓛 (raw (fact 𝓤 (none ≡ none))) (fact_i 𝓤 (none ≡ none) (emp 𝓤) refl) $ nothing ! $ nothing ! $
+    close_null the_row ! $ use0 𝓛 (raw (fact 𝓤 (none ≡ none))) (fact_i 𝓤 (none ≡ none) (emp 𝓤) refl) $ nothing ! $ nothing ! $
     returns ! (look_at ! 0 refl) $ free_all ! refl $ keep ! (0 ∷ 1 ∷ 3 ∷ 2 ∷ []) $
     by ! (leaves 𝓛 own.ended stays clauses z (word vnull) (record { at = null_ptr; held = none }) tt tt)))

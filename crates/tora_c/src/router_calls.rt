@@ -1,0 +1,171 @@
+//! The calls that make a router, let it go, and tell it what happens.
+ghost use Rattle.std.specs.Prelude.{◌≡◌, ◌⊎◌, ◌<◌, IfErr, IfOk, MatchOption, None, OnOk, Some, option_map};
+ghost use Rattle.tora_frame.specs.FrameGrammar.{frame_reading};
+ghost use Rattle.tora_router.specs.Router.{after_cut, after_datagram, after_need, after_tick, first_router, router_of};
+ghost use Rattle.tora_c.specs.CoreNode.{erasure_of};
+ghost use Rattle.tora_c.specs.RouterHeld.{config_of, cut_code, datagram_intake, held_router, need_code, new_router_refusal, of_held};
+
+use crate::boxes::boxed;
+use crate::codes::{
+    CHOICE, MEMORY, NULL, OK, UNKNOWN_NEIGHBOUR, intake_code, refused_code, router_code,
+};
+use crate::core_node::erasure_of;
+use crate::router_handle::RouterHandle;
+use crate::router_parts::{TimesParts, times_of};
+use std::alloc::Global;
+use tora_core::CoreLimits;
+use tora_router::{Config, Router};
+
+/// A new router within the greatest limits. An error is its code.
+fn made(
+    alloc: Global,
+    me: u32,
+    neighbours: &[u32],
+    destinations: &[u32],
+    choice: u32,
+    times: &TimesParts,
+    first_life: u64,
+) -> Result<Router, u32>
+    ensures made { IfOk result (λ r. MatchOption (erasure_of choice) ⊥ (λ e. router_of r ≡ first_router (config_of me times.now e) neighbours.now destinations.now first_life)) }
+    ensures accepted { OnOk result (new_router_refusal me neighbours.now destinations.now choice times.now first_life ≡ None) }
+    ensures refused { MatchOption (new_router_refusal me neighbours.now destinations.now choice times.now first_life) (IfErr result (λ code. code ≡ MEMORY)) (λ code. result ≡ Err code) }
+    ensures above { IfErr result (λ code. OK < code) }
+{
+    let Some(erasure) = erasure_of(choice) else {
+        return Err(CHOICE);
+    };
+    let config = Config {
+        me,
+        times: times_of(times),
+        erasure,
+        limits: CoreLimits::GREATEST,
+    };
+    match Router::new(alloc, &config, neighbours, destinations, first_life) {
+        Ok(router) => Ok(router),
+        Err(error) => Err(router_code(error)),
+    }
+}
+
+/// Makes the router of node `me` at `router`, in the place of what was there: all links are closed.
+#[unsafe(no_mangle)]
+pub extern "C" fn tora_router_new(
+    alloc: Global,
+    router: &mut RouterHandle,
+    me: u32,
+    neighbours: &[u32],
+    destinations: &[u32],
+    erasure: u32,
+    times: &TimesParts,
+    first_life: u64,
+) -> u32
+    ensures made { result ≡ OK → MatchOption (erasure_of erasure) ⊥ (λ e. held_router router.new.held ≡ Some (first_router (config_of me times.now e) neighbours.now destinations.now first_life)) }
+    ensures kept { ¬ (result ≡ OK) → router.new.held ≡ router.old.held }
+    ensures code { MatchOption (new_router_refusal me neighbours.now destinations.now erasure times.now first_life) ((result ≡ OK) ⊎ (result ≡ MEMORY)) (λ code. result ≡ code) }
+{
+    let node = match made(
+        alloc,
+        me,
+        neighbours,
+        destinations,
+        erasure,
+        times,
+        first_life,
+    ) {
+        Ok(node) => node,
+        Err(code) => return code,
+    };
+    match boxed(alloc, node) {
+        Ok(node) => {
+            router.put(alloc, node);
+            OK
+        }
+        Err(code) => code,
+    }
+}
+
+/// Lets the router go, and leaves the handle null.
+#[unsafe(no_mangle)]
+pub extern "C" fn tora_router_free(alloc: Global, router: &mut RouterHandle)
+    ensures { router.new.held ≡ None }
+{
+    if let Some(node) = router.take(alloc) {
+        drop(node);
+    }
+}
+
+/// These bytes came from node `peer` at the tick `now`. `intake` tells what was made of them.
+#[unsafe(no_mangle)]
+pub extern "C" fn tora_router_datagram(
+    alloc: Global,
+    router: &mut RouterHandle,
+    peer: u32,
+    bytes: &[u8],
+    now: u64,
+    intake: &mut u32,
+) -> u32
+    ensures code { result ≡ of_held (λ r. OK) router.old.held NULL }
+    ensures router { held_router router.new.held ≡ option_map (after_datagram peer now (frame_reading bytes.now)) (held_router router.old.held) }
+    ensures intake { intake.new ≡ of_held (datagram_intake peer bytes.now now) router.old.held intake.old }
+{
+    let Some(mut node) = router.take(alloc) else {
+        return NULL;
+    };
+    *intake = intake_code(node.on_datagram(peer, bytes, now));
+    router.put(alloc, node);
+    OK
+}
+
+/// It is the tick `now`.
+#[unsafe(no_mangle)]
+pub extern "C" fn tora_router_tick(alloc: Global, router: &mut RouterHandle, now: u64) -> u32
+    ensures code { result ≡ of_held (λ r. OK) router.old.held NULL }
+    ensures router { held_router router.new.held ≡ option_map (after_tick now) (held_router router.old.held) }
+{
+    let Some(mut node) = router.take(alloc) else {
+        return NULL;
+    };
+    node.on_tick(now);
+    router.put(alloc, node);
+    OK
+}
+
+/// A route to destination `d` is needed at the tick `now`.
+#[unsafe(no_mangle)]
+pub extern "C" fn tora_router_need(
+    alloc: Global,
+    router: &mut RouterHandle,
+    d: u32,
+    now: u64,
+) -> u32
+    ensures code { result ≡ of_held (need_code d now) router.old.held NULL }
+    ensures router { held_router router.new.held ≡ option_map (after_need d now) (held_router router.old.held) }
+{
+    let Some(mut node) = router.take(alloc) else {
+        return NULL;
+    };
+    let answer = node.need(d, now);
+    router.put(alloc, node);
+    match answer {
+        Ok(()) => OK,
+        Err(error) => refused_code(error),
+    }
+}
+
+/// The link to neighbour `peer` was lost at the tick `now`.
+#[unsafe(no_mangle)]
+pub extern "C" fn tora_router_cut(
+    alloc: Global,
+    router: &mut RouterHandle,
+    peer: u32,
+    now: u64,
+) -> u32
+    ensures code { result ≡ of_held (cut_code peer) router.old.held NULL }
+    ensures router { held_router router.new.held ≡ option_map (after_cut peer now) (held_router router.old.held) }
+{
+    let Some(mut node) = router.take(alloc) else {
+        return NULL;
+    };
+    let is_neighbour = node.cut(peer, now);
+    router.put(alloc, node);
+    if is_neighbour { OK } else { UNKNOWN_NEIGHBOUR }
+}

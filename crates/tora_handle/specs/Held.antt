@@ -1,0 +1,21 @@
+-- What a struct owns that holds a value by one pointer, which may be null.
+use Rattle.std.specs.Prelude.{Option, None, Some}
+use Rattle.std.specs.Coded.{Coded, coded_option}
+use mir.Syntax.{Ty}
+use base.Fml.{Fml, feq}
+use denote.RattleType.{RattleType}
+use denote.RawPtr.{Ptr, null_ptr}
+use Rattle.std.specs.contracts.impls.GlobalAllocator.TheImpl.{ghosts}
+use Rattle.std_alloc.specs.Box.Ownership.{box_owns}
+
+-- what frees a block of the heap of the C library, whatever `Global` made it
+abbrev pub token : Ty → Ptr → Fml
+token = ghosts.dealloc_token (record { memory = record { seal = tt } })
+
+-- nothing where the pointer is null, and else the block that it points to, with the value there
+abbrev pub owned : (Value : RattleType) → Ptr → Option Value.Denot → Fml
+owned Value p None = feq Ptr p null_ptr
+owned Value p (Some x) = box_owns token Value p x
+
+abbrev pub coded_held : (Value : RattleType) → Coded (Option Value.Denot)
+coded_held Value = coded_option Value.coded

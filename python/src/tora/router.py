@@ -1,0 +1,226 @@
+"""A whole node of TORA in the own process, by the shared library `libtora`: no sockets, threads or clocks.
+
+>>> import tora
+>>> with tora.Router(1, neighbours=[2], destinations=[9], first_life=1) as router:    # doctest: +SKIP
+...     router.tick(now=0)
+...     for peer, datagram in router.datagrams(now=0):
+...         send(peer, datagram)
+
+A tick is 100 ms. Datagrams may be lost, repeated, reordered and delayed; the host forges none. `tora.h` of the library
+says what a host does in which order, and what it owes.
+"""
+from __future__ import annotations
+
+import enum
+from collections.abc import Iterable, Iterator
+from ctypes import byref, c_size_t, c_uint8, c_uint32, c_uint64
+from typing import Any, NamedTuple
+
+from tora.lib import ABSENT, GREATEST_TICK, Erasure, Handle, _Change, _Tally, _Times, done, node, spelt, tick, within
+
+LONGEST_DATAGRAM = 560  # bytes
+
+
+class Times(NamedTuple):
+    """The times of a router's links. A part that is 0 stands for the standard one.
+
+    Attributes
+    ----------
+    hello : int
+        How many ticks after a HELLO the next one is due; standard: 10.
+    silent : int
+        After how many ticks without hearing the neighbour a link goes down; standard: 50.
+    retry : int
+        How many ticks after its last try a packet is due again, or is given up; standard: 5.
+    tries : int
+        How many times a packet is sent before it is given up; standard: 8.
+    """
+
+    hello: int = 0
+    silent: int = 0
+    retry: int = 0
+    tries: int = 0
+
+
+class Intake(enum.IntEnum):
+    """What a router made of a datagram. From 11 to 20 its bytes spell no frame."""
+
+    ACCEPTED = 1
+    REPEATED = 2
+    AHEAD = 3
+    STALE = 4
+    FOREIGN = 5
+    BUSY = 6
+    SHORT = 11
+    LONG = 12
+    VERSION = 13
+    KIND = 14
+    LENGTH = 15
+    ID = 16
+    LIFE = 17
+    NUMBER = 18
+    PACKET = 19
+    COUNT = 20
+    NO_NEIGHBOUR = 30
+
+
+class Kind(enum.IntEnum):
+    """What changed."""
+
+    LINK_UP = 1
+    LINK_DOWN = 2
+    NEXT_HOP = 3
+
+
+class Reason(enum.IntEnum):
+    """Why a link is down."""
+
+    SILENT = 1
+    NEW_PEER = 2
+    FULL = 3
+    CUT = 4
+    SPENT = 5
+
+
+class Change(NamedTuple):
+    """What changed at a router.
+
+    Attributes
+    ----------
+    kind : Kind
+        Whether it is a link or a next hop.
+    node : int
+        The neighbour, or the destination.
+    hop : int or None
+        The next hop; None where there is none, and of a link.
+    reason : Reason or None
+        Why a link is down; else None.
+    """
+
+    kind: Kind
+    node: int
+    hop: int | None = None
+    reason: Reason | None = None
+
+
+class Tally(NamedTuple):
+    """How many datagrams of a neighbour came to what; those that are bad spell no frame."""
+
+    accepted: int
+    repeated: int
+    ahead: int
+    stale: int
+    foreign: int
+    busy: int
+    bad: int
+
+
+class Router(Handle):
+    """A node: the rules, and a link end for each neighbour.
+
+    Parameters
+    ----------
+    me : int
+        The node, from 1 on.
+    neighbours : iterable of int
+        The nodes to which there may ever be a link: at most 255.
+    destinations : iterable of int
+        The destinations of the table: at most 64.
+    erasure : Erasure, optional
+        What becomes of erased reference levels.
+    times : Times, optional
+        The times of its links.
+    first_life : int
+        The first life number, from 1 to 2^62: none from it on was ever given to a link of this node.
+
+    Raises
+    ------
+    LibraryError
+        Where there is no such router.
+    """
+
+    _KIND = "router"
+
+    def __init__(
+        self,
+        me: int,
+        neighbours: Iterable[int],
+        destinations: Iterable[int],
+        erasure: Erasure = Erasure.PLAIN,
+        times: Times = Times(),
+        *,
+        first_life: int,
+    ) -> None:
+        """A router whose links are closed until the first tick."""
+        parts = _Times(*(within(name, it, GREATEST_TICK) for name, it in times._asdict().items()))
+        life = within("first_life", first_life, GREATEST_TICK)
+        self._room = (c_uint8 * LONGEST_DATAGRAM)()
+        self._make(me, neighbours, destinations, int(erasure), byref(parts), life)
+
+    def datagram(self, peer: int, datagram: bytes, now: int) -> Intake:
+        """A datagram of any bytes came from node `peer` at the tick `now`: what was made of it."""
+        intake = c_uint32()
+        done(self._call("datagram", node("peer", peer), spelt(datagram), len(datagram), tick(now), byref(intake)))
+        return Intake(intake.value)
+
+    def tick(self, now: int) -> None:
+        """It is the tick `now`: closed links open, and silent ones go down."""
+        done(self._call("tick", tick(now)))
+
+    def need(self, d: int, now: int) -> None:
+        """A route to destination `d` is needed at the tick `now`."""
+        done(self._call("need", node("d", d), tick(now)))
+
+    def cut(self, peer: int, now: int) -> None:
+        """The link to neighbour `peer` was lost at the tick `now`; the next tick opens it anew."""
+        done(self._call("cut", node("peer", peer), tick(now)))
+
+    def poll_datagram(self, now: int) -> tuple[int, bytes] | None:
+        """The next datagram to be sent at the tick `now`, and the neighbour that it is for; None where none is due."""
+        peer, length = c_uint32(), c_size_t()
+        words = byref(peer), self._room, LONGEST_DATAGRAM, byref(length)
+        code = self._call("poll_datagram", tick(now), *words)
+        if code == ABSENT:
+            return None
+        done(code)
+        return peer.value, bytes(self._room[: length.value])
+
+    def datagrams(self, now: int) -> Iterator[tuple[int, bytes]]:
+        """Each datagram to be sent at the tick `now`, and the neighbour that it is for."""
+        while found := self.poll_datagram(now):
+            yield found
+
+    def poll_change(self) -> Change | None:
+        """What changed and was not told yet; None where all was told."""
+        found = _Change()
+        code = self._call("poll_change", byref(found))
+        if code == ABSENT:
+            return None
+        done(code)
+        reason = Reason(found.reason) if found.reason else None
+        return Change(Kind(found.kind), found.node, found.hop or None, reason)
+
+    def changes(self) -> Iterator[Change]:
+        """Each change that was not told yet: those of links first, and then those of next hops."""
+        while found := self.poll_change():
+            yield found
+
+    def _number(self, name: str) -> int:
+        number = c_uint64()
+        done(self._call(name, byref(number)))
+        return number.value
+
+    def next_due(self) -> int:
+        """The tick before which nothing is due, unless something else happens; 2^64 - 1 where nothing ever is."""
+        return self._number("next_due")
+
+    def next_life(self) -> int:
+        """The next life number: it and those above it were not given to any link."""
+        return self._number("next_life")
+
+    def tally(self, k: int) -> Tally:
+        """What was made of the datagrams of neighbour `k`."""
+        found = _Tally()
+        done(self._call("tally", node("k", k), byref(found)))
+        parts: list[Any] = [getattr(found, name) for name in Tally._fields]
+        return Tally(*parts)
