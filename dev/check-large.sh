@@ -45,7 +45,7 @@ within() {
     [ "$(grep '^node' answers | cmp - printed && echo same)" = same ] && [ "$(tail -n 1 answers)" = ok ] && ! grep -q fault answers
 }
 
-# What is beyond it is a fault of the line behind the links, in both, with the cause; the drive goes on.
+# What exceeds it is a fault of the line after the links, in both, with the cause; the drive continues.
 beyond() {
   local status=0 at
   "$1" "$2" >file
@@ -85,7 +85,7 @@ check_limits() {
 
 # ---- many nodes
 
-# Behind heights of D and `exact D`, the walks of all nodes, ascending, are those that the printed next hops make.
+# After heights of D and `exact D`, the walks of all nodes, ascending, are those that the printed next hops make.
 walks() {
   awk -v to="$1" '
     $1 == "node" { node[++count] = $2; hop[$2] = $5 }

@@ -167,7 +167,7 @@ check_install() {
   agrees "$work/wanted" "$work/found" 'what stays behind uninstall'
 }
 
-# Completion for bash: what is offered behind words, and for a beginning of the next.
+# Completion for bash: what is offered after words, and for the beginning of the next word.
 check_completion() {
   local it
   while IFS= read -r it; do

@@ -46,7 +46,7 @@ def help_of(command):
 
 
 def rt_path():
-    """The path of whoever runs this, behind Debian's programs, since ./tora may have to compile."""
+    """The path of the caller, after Debian's programs, because ./tora may have to compile."""
     import os
     return {"PATH": "/usr/bin:/bin:" + os.environ.get("PATH", "")}
 

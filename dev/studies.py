@@ -54,7 +54,7 @@ def cells(label, *some):
 # ---- numbers
 
 def number(value, digits):
-    """A number with so many digits behind the point, and none where it is 0 or 1."""
+    """A number with so many decimal places, and none if it is 0 or 1."""
     return f"{value:.0f}" if value in (0, 1) else f"{value:,.{digits}f}"
 
 
@@ -74,7 +74,7 @@ def shares(value):
 
 
 def fixed(digits):
-    """Numbers with so many digits behind the point."""
+    """Numbers with so many decimal places."""
     return lambda value: f"{value:,.{digits}f}"
 
 

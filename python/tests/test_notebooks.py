@@ -19,6 +19,8 @@ NOTEBOOKS = REPOSITORY / "examples" / "notebooks"
 @pytest.mark.parametrize("name", sorted(path.name for path in NOTEBOOKS.glob("*.ipynb")))
 def test_notebook(tmp_path: Path, program: Program, name: str) -> None:
     """No cell fails, and each cell that ends with a value shows it."""
+    pytest.importorskip("nbconvert", reason="the package python3-nbconvert is missing")
+    pytest.importorskip("ipykernel", reason="the package python3-ipykernel is missing")
     told = json.loads((NOTEBOOKS / name).read_text())
     code = [cell for cell in told["cells"] if cell["cell_type"] == "code"]
     assert code and not any(cell["outputs"] or cell["execution_count"] for cell in code)
