@@ -174,7 +174,7 @@ def told(values, digits):
     if not len(values):
         return "-"
     found = stats.order_interval(values)
-    shown = lambda it: "none" if it == float("inf") else f"{it:,.{digits}f}"  # noqa: E731
+    shown = lambda it: "none" if it == float("inf") else f"{it:,.{digits if it < 100 else 0}f}"  # noqa: E731
     if found.low == found.low:
         return f"{shown(found.value)} [{shown(found.low)} .. {shown(found.high)}]"
     return f"{shown(found.value)} ({shown(values.min())} to {shown(values.max())})"

@@ -50,10 +50,10 @@ TABLES = (
     ("the daemons started again", "killed", "repair", ("working_ms", "gap_ms", "lost", "stretch")),
 )
 MENDED = (
-    ("down", "fault", "link set down"),
-    ("silent", "fault", "silent, 100 %"),
-    ("killed", "fault", "daemons killed"),
-    ("killed", "repair", "started again"),
+    ("down", "fault", "a cable loses its carrier (down)"),
+    ("silent", "fault", "a cable loses all frames (silent)"),
+    ("killed", "fault", "a daemon is killed"),
+    ("killed", "repair", "the daemon is started again"),
 )
 COST = (
     ("control_bytes_rate", "control, B/s a host"),
@@ -61,7 +61,7 @@ COST = (
     ("processor_percent", "processor, % a host"),
     ("memory_mb", "memory, MB a host"),
 )
-SMALLEST = 0.1  # ms, in place of 0 on a logarithmic axis
+SMALLEST, GREATEST = 0.1, 1e5  # ms, of a logarithmic axis; the first stands for 0
 DRAWN = "each run, their median, and its 95 % interval by order statistics"
 MOST_STOLEN = 0.05  # of the time of the processors in a phase that counts
 
@@ -73,8 +73,8 @@ def read(path: pathlib.Path) -> Table:
     """
     table = read_table(path, DESIGN)
     frame = table.frame[~(table.frame["stolen"] > MOST_STOLEN)].copy()
-    has_none = frame["working_ms"].isna() & (frame["lost"] > 0) & ~((frame["fault"] == "lossy") & (frame["phase"] == "fault"))
-    frame.loc[has_none, "working_ms"] = math.inf
+    is_lossy = (frame["fault"] == "lossy") & (frame["phase"] == "fault")
+    frame.loc[frame["working_ms"].isna() & (frame["lost"] > 0) & ~is_lossy, "working_ms"] = math.inf
     return Table(table.path, frame, table.design)
 
 
@@ -105,12 +105,13 @@ def tables(table: Table, statistic: str = "median") -> list[str]:
 @styled
 def mended(table: Table) -> Figure:
     """How long no route works after each fault, by protocol."""
-    figure, axes = panels_of(len(MENDED), f"time until a route works again, ms: {DRAWN}")
+    figure, axes = panels_of(len(MENDED), f"time until a route works again (0.1 ms for no loss): {DRAWN}")
     for panel, (fault, phase, title) in zip(axes, MENDED):
         part = chosen(table, fault, phase)
         if part is not None:
             _draw(panel, table, part, "working_ms", SMALLEST)
             panel.set_yscale("log")
+            panel.set_ylim(SMALLEST / 2, GREATEST)
         panel.set_title(title, fontsize=9)
         panel.set_ylabel("ms")
     return figure
@@ -135,7 +136,7 @@ def _draw(panel: Axes, table: Table, part: Table, measure: str, least: float) ->
     held = part.frame[part.frame[measure].notna()]
     most = held[measure][np.isfinite(held[measure])].max()
     # the same places and colours in each panel
-    kinds = sorted(set(zip(table.frame["protocol"], table.frame["timing"])))
+    kinds = sorted(set(zip(table.frame["protocol"], table.frame["timing"])), key=lambda it: ("tora" not in it[0], it))
     sizes = sorted(set(table.frame["nodes"]))
     for at, size in enumerate(sizes):
         line = Line(f"{text_of(size)} hosts", COLOURS[at % len(COLOURS)], DASHES[0], MARKS[at % len(MARKS)])
@@ -155,7 +156,8 @@ def _draw(panel: Axes, table: Table, part: Table, measure: str, least: float) ->
         rotation=20,
     )
     panel.set_xlim(-0.5, len(kinds) - 0.2)
-    panel.legend(fontsize=7)
+    if len(sizes) > 1:
+        panel.legend(fontsize=7)
 
 
 def write(folder: pathlib.Path) -> list[str]:
