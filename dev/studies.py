@@ -117,6 +117,21 @@ def across(size, measure, digits):
     return lines
 
 
+BEFORE = {"TORA": ("ns3", "500 m, without notice"), WAITS.replace(",", ";"): ("ns3-proved", "500 m"),
+          WAITS.replace(",", ";") + ";erasure=remembered": ("sparse", "1,000 m, remembered")}
+
+
+def routers():
+    """The module with a router in each node beside the one before it, in pairs of runs: a line for each network and greatest speed."""
+    lines = [cells("side of the square", "greatest speed", "pairs", "delivery before", "delivery now", "control bytes, ratio"), "|" + "---|" * 6]
+    for (protocol, speed), now in table("ns3-routers").frame.groupby(["protocol", "speed"]):
+        name, label = BEFORE[protocol]
+        both = now.merge(table(name, protocol=protocol, nodes=20, flows=5).frame, on=["protocol", "speed", "seed"], suffixes=("", "_before"))
+        ratio = both["control_bytes"].sum() / both["control_bytes_before"].sum()
+        lines.append(cells(label, f"{speed:g} m/s", str(len(both)), f"{both['delivery_before'].mean():.3f}", f"{both['delivery'].mean():.3f}", f"{ratio:.2f}"))
+    return lines
+
+
 # ---- tables of sparse networks
 
 PLAIN, REMEMBERED = (f"TORA:notice=1;waits=1;erasure={word}" for word in ("plain", "remembered"))
@@ -268,6 +283,7 @@ WITH_NOTICE = {"available": 3, "no_hop": 3, "looping": 3, "rounds_lost_by_outage
 WHOLE = {f"ns3-{size}-{kind}": (lambda kind=kind, size=size: whole(kind, size)) for size in SIZES for kind in ("runs", "aims", "losses")}
 WHOLE |= {f"ns3-{size}-delivery": (lambda size=size: across(size, "delivery", 3)) for size in SIZES}
 WHOLE |= {f"ns3-{size}-control_rate": (lambda size=size: across(size, "control_rate", 2)) for size in ("20-5", "50-10")}
+WHOLE |= {"ns3-routers": routers}
 WHOLE |= {"sparse-delivery": lambda: sparse("delivery_reachable", 1, 3), "sparse-bytes": lambda: sparse("control_bytes", 1000, 0),
           "sparse-most": lambda: sparse("control_most", 1000, 1), "sparse-erasures": erasures}
 WHOLE |= {"live-working": lambda: hosts("working_ms", 1, "down", "silent", "killed", "started again"),

@@ -22,13 +22,14 @@ RoutingProtocol::NoteSender(Ptr<NetDevice>,
                             const Address&,
                             NetDevice::PacketType)
 {
-    m_sender = {packet->GetUid(), from};
+    m_cameWith = packet->GetUid();
+    m_cameFrom = from;
 }
 
 uint32_t
 RoutingProtocol::FindSender(Ptr<const Packet> packet) const
 {
-    return m_sender.packet == packet->GetUid() ? FindDevice(m_sender.device) : 0;
+    return m_cameWith == packet->GetUid() ? FindDevice(m_cameFrom) : 0;
 }
 
 uint32_t
@@ -66,7 +67,7 @@ RoutingProtocol::RouteTo(Ipv4Address destination) const
     {
         return nullptr;
     }
-    Ptr<Ipv4Route> route = m_interfaces.GetDirectRoute(destination, neighbour->second.interface);
+    Ptr<Ipv4Route> route = m_interfaces.GetDirectRoute(destination, neighbour->second.heardOn);
     route->SetGateway(neighbour->second.address);
     return route;
 }

@@ -271,12 +271,12 @@ RoutingProtocol::Hear(const ToraHeader& header,
     bool isNew = m_neighbours.count(number) == 0;
     Neighbour& neighbour = m_neighbours[number];
     neighbour.address = address;
-    neighbour.interface = interface;
+    neighbour.heardOn = interface;
     neighbour.heard = Simulator::Now();
     neighbour.isNoticed = false;
-    if (m_sender.packet == packet)
+    if (m_cameWith == packet)
     {
-        neighbour.device = m_sender.device;
+        neighbour.device = m_cameFrom;
     }
     m_interfaces.Revive(address, interface);
     for (const auto& frame : header.GetFrames())

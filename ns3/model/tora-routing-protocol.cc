@@ -357,7 +357,7 @@ RoutingProtocol::Close(uint32_t interface)
     }
     for (auto& [number, neighbour] : m_neighbours)
     {
-        neighbour.heard = neighbour.interface == interface ? Time::Min() : neighbour.heard;
+        neighbour.heard = neighbour.heardOn == interface ? Time::Min() : neighbour.heard;
     }
     ExpireNeighbours();
 }

@@ -42,8 +42,7 @@ enum WifiMacDropReason : uint8_t; // opaque enum declaration
 namespace tora
 {
 
-/// The types of the callbacks of Ipv4RoutingProtocol::RouteInput(): values up to ns-3.38, and
-/// references from ns-3.39 on.
+/// The callbacks of Ipv4RoutingProtocol::RouteInput(): values, and from ns-3.39 on references.
 template <typename T>
 struct InputOf;
 
@@ -63,11 +62,9 @@ struct InputOf<bool (Ipv4RoutingProtocol::*)(P, H, D, U, M, L, E)>
  */
 struct Neighbour
 {
-    Ipv4Address address; //!< its address on the interface
-    Address device;      //!< the hardware address of its device there
-    uint32_t interface {
-        0
-    };                          //!< the interface of this node on which it was heard last
+    Ipv4Address address;        //!< its address on the interface
+    Address device;             //!< the hardware address of its device there
+    uint32_t heardOn{0};        //!< the interface of this node on which it was heard last
     Time heard;                 //!< when it was heard last
     uint8_t newest{0};          //!< the newest version of frames that it has shown
     bool isSuspect{false};      //!< whether the radio gave up a frame to it since it was heard
@@ -90,22 +87,16 @@ struct Surroundings
  * \ingroup tora
  * \brief TORA: the router of a node, its control packets, and the node's data packets.
  *
- * The router is made once the node is initialized and an interface is up. It is ended when the last
- * interface goes down, and made anew when one comes up again: what it knew is lost then, and its
- * life numbers go on. Its neighbours and destinations are those of the ToraHelper, or of the
- * attributes Neighbours and Destinations, as they are at that moment.
+ * The router is made once the node is initialized and an interface is up, with the neighbours and
+ * destinations of that moment. It is ended when the last interface goes down, and made anew when
+ * one comes up: what it knew is lost then, and its life numbers go on.
  *
  * Frames that came are handed to the router in the next tick, neighbour by neighbour. Where it took
  * them as they came, sparse networks had more loops and up to ten times the control bytes.
  *
  * Frames that are due in a tick go out in one broadcast packet, at a random moment within the tick,
- * and only to neighbours that were heard lately. A HELLO that says nothing new waits for other
- * frames, at most for BeaconInterval; then a packet goes out also without frames. At most one such
- * packet of a node waits for the radio; what is due meanwhile waits in the node, and a later frame
- * that says the same takes the place of an earlier one.
- *
- * A data packet without a next hop waits, at most for MaxQueueTime, and is then dropped; its source
- * gets an ICMP message "host unreachable". doc/tora.rst tells the rest.
+ * and only to neighbours that were heard lately. At most one such packet of a node waits for the
+ * radio. A data packet without a next hop waits, too. README.md tells the rest.
  */
 class RoutingProtocol : public Ipv4RoutingProtocol
 {
@@ -154,7 +145,6 @@ class RoutingProtocol : public Ipv4RoutingProtocol
                                        const Ipv4Header& header,
                                        DropReason reason);
 
-    /// \brief Get the type ID.
     /// \return the object TypeId
     static TypeId GetTypeId();
 
@@ -249,13 +239,6 @@ class RoutingProtocol : public Ipv4RoutingProtocol
     void DoDispose() override;
 
   private:
-    /// The neighbour that the packet came from that the node has at hand.
-    struct Sender
-    {
-        uint64_t packet{0}; //!< the number of the packet in ns-3
-        Address device;     //!< the hardware address that its frame came from
-    };
-
     /// Adds the attributes of the router and its times to the type.
     static void AddRouter(TypeId& tid);
     /// Adds the attributes of links and of data packets that wait to the type.
@@ -351,9 +334,7 @@ class RoutingProtocol : public Ipv4RoutingProtocol
     void ServeQueue();
     /// Schedules ServeQueue().
     void ScheduleQueue(Time delay = Time(0));
-    /// Sends packets that wait for a destination. ARP keeps three packets for a neighbour whose
-    /// hardware address it does not know: until it does, the first one goes alone, and the others
-    /// wait.
+    /// Sends packets that wait for a destination: one alone until ARP knows the next hop.
     void Release(Ipv4Address destination, Ptr<Ipv4Route> route);
 
     // Attributes
@@ -389,7 +370,8 @@ class RoutingProtocol : public Ipv4RoutingProtocol
     RequestQueue m_queue;                             //!< packets that wait for a route
     std::map<uint32_t, std::vector<Frame>> m_arrived; //!< frames since the last tick, by sender
     std::vector<Frame> m_due;                         //!< frames that wait to be broadcast
-    Sender m_sender;                                  //!< who sent the packet that is at hand
+    uint64_t m_cameWith{0};         //!< the number in ns-3 of the packet of IPv4 that came last
+    Address m_cameFrom;             //!< the hardware address that it came from
     bool m_isUrgent{false};         //!< whether a frame that is due is more than an old HELLO
     bool m_isScheduled{false};      //!< whether a broadcast is scheduled
     bool m_isQueueScheduled{false}; //!< whether ServeQueue() is scheduled
