@@ -28,7 +28,7 @@ impl Model for CoreCopy {
     ghost view = { λ c. record { core = c.core; lives = c.lives.items; routes = c.routes.items } };
 }
 
-/// Whether no number is 0. `are_ids` has the contract that callers use.
+/// Whether no number is 0, as it is computed.
 fn has_no_zero(numbers: &[Id]) -> bool
     ensures { result ≡ list_all (λ n. nat_lt 0 n) numbers.now }
 {

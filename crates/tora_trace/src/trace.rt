@@ -109,7 +109,7 @@ fn first_copy(
     CoreCopy::new(alloc, erasure, n, neighbours.as_slice(), destinations)
 }
 
-/// The index of the copy of a node's core. The copies are in the order of these names, so the names alone decide it.
+/// The place of the copy of a node's core, where the copies stand in the order of these nodes: no copy is looked at.
 fn place(names: &Names, copies: &[CoreCopy], n: Id) -> Option<usize>
     requires { owners_of copies.now ≡ names.now }
     ensures { result ≡ position (is_copy_of n) copies.now }
