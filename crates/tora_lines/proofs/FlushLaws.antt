@@ -1,12 +1,12 @@
 -- The end of a run whose output is handed on last.
-use Rattle.std.proofs.Common.{◌≡◌, ◌⊎◌, inl, inr, ℕ, Bool, true, false, List, [], ◌∷◌, Result, Ok, Err, refl, subst, sym}
+use Rattle.std.proofs.Common.{◌≡◌, inl, inr, ℕ, Bool, true, false, List, Result, Ok, Err, refl, subst, sym}
 use Rattle.std.specs.Prelude.{IfErr}
 use Rattle.tora_lines.specs.Flushing.{after_flush, IsFlushed}
 use Rattle.tora_lines.specs.Reads.{Given, NoneFailed, AreToTheEnd, IsReadSo, IsUnwritten}
 use Rattle.tora_lines.specs.declared.ended.Ended.{Ended}
 use Rattle.tora_lines.specs.declared.ended.Ended.TheVariants.{Whole, Fault}
 use Rattle.tora_lines.specs.declared.ended.ReplayError.{ReplayError}
-use Rattle.tora_lines.specs.declared.ended.ReplayError.TheVariants.{Memory, Read, Write}
+use Rattle.tora_lines.specs.declared.ended.ReplayError.TheVariants.{Write}
 
 none_failed : (reads : List Given) → AreToTheEnd reads → NoneFailed reads
 none_failed reads h = subst NoneFailed (sym h.1) (tt, h.2)
