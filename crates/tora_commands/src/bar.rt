@@ -106,13 +106,12 @@ impl<T: Eprint + Clock> Bar<'_, T> {
 }
 
 /// Reads a piece at most.
-fn read_piece<R: Input>(reader: &mut R, buf: &mut [u8]) -> io::Result<usize>
-    ensures call { R.did_read reader.old (given_by result buf.new) reader.new }
+fn read_piece<R: Read>(reader: &mut R, buf: &mut [u8]) -> io::Result<usize>
     ensures bound { ReadsAtMost result buf.new }
     ensures bytes { ReadConsumes (R.remaining reader.old) (R.remaining reader.new) result buf.new }
 {
     let most = buf.len().min(PIECE);
-    let n = reader.get_some(&mut buf[..most])?;
+    let n = reader.read(&mut buf[..most])?;
     Ok(n)
 }
 
@@ -123,7 +122,7 @@ pub struct Paced<'a, T, R> {
     bar: Bar<'a, T>,
 }
 
-impl<'a, T: Eprint + Clock, R> Paced<'a, T, R> {
+impl<'a, T: Eprint + Clock, R: Read> Paced<'a, T, R> {
     /// Nothing was read yet. The lines ask for so many rounds, where that is known, and not more than these are done.
     pub fn new(rt: &'a T, total: Option<u64>, until: Option<u64>, reader: R) -> Paced<'a, T, R>
         ensures { result.reader ≡ reader }
@@ -143,12 +142,10 @@ impl<'a, T: Eprint + Clock, R> Paced<'a, T, R> {
     }
 }
 
-impl<T: Eprint + Clock, R: Input> Input for Paced<'_, T, R> {
+impl<T: Eprint + Clock, R: Read> Read for Paced<'_, T, R> {
     ghost remaining = { λ p. R.remaining p.reader };
 
-    ghost did_read = { λ old given new. R.did_read old.reader given new.reader };
-
-    fn get_some(&mut self, buf: &mut [u8]) -> io::Result<usize> {
+    fn read(&mut self, buf: &mut [u8]) -> io::Result<usize> {
         self.bar.show();
         let n = read_piece(&mut self.reader, buf)?;
         match buf.get(..n) {

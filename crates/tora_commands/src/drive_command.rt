@@ -8,21 +8,21 @@ ghost use Rattle.tora_drive.specs.DriveText.{Drives, IsDriveBegun};
 ghost use Rattle.tora_commands.specs.Driving.{EndsDrive};
 ghost use Rattle.tora_commands.specs.SetupWords.{asked_options};
 ghost use Rattle.tora_commands.specs.TimesWord.{asked_times};
-ghost use Rattle.tora_lines.specs.Reads.{IsReadSo};
 
 use crate::setup_words::asked_options;
 use crate::sim_command::tell;
 use crate::{INPUT, SetupFault, USAGE, asked_times, status, stop};
 use std::alloc::Global;
+use std::io::Read;
 use std::process::ExitCode;
 use tora_arq::Times;
 use tora_drive::{Driven, drive_in, greet};
-use tora_lines::{Ended, Input, Output, Recent, ReplayError, flushed};
+use tora_lines::{Ended, Output, Recent, ReplayError, flushed};
 use tora_script::WorldOptions;
 use tora_sim::Sim;
 
 /// Drives a world, and flushes the writer: `Write` where that alone fails.
-fn drive_and_flush<S: Driven, R: Input, W: Output>(
+fn drive_and_flush<S: Driven, R: Read, W: Output>(
     alloc: Global,
     options: WorldOptions,
     times: Times,
@@ -35,15 +35,14 @@ fn drive_and_flush<S: Driven, R: Input, W: Output>(
     ensures at_end { result ≡ Ok Ended.Whole → IsAtEnd (R.remaining reader.new) }
     ensures begun { IfErr result (λ e. e ≢ ReplayError.Write →
         IsDriveBegun options times (R.remaining reader.old) (R.remaining reader.new) (W.contents writer.old) (W.contents writer.new)) }
-    ensures reads { IsReadSo R.did_read reader.old reader.new result }
-    ensures flushed { IsFlushed W.did_write W.did_flush result writer.new }
+    ensures flushed { IsFlushed W.did_flush result writer.new }
 {
     let result = drive_in::<S, R, W>(alloc, options, times, reader, writer);
     flushed(writer, result)
 }
 
 /// Drives a world with these options, whose link ends have these times.
-fn run_with<T: AllocGlobal + Eprint, R: Input + Drop, W: Output>(
+fn run_with<T: AllocGlobal + Eprint, R: Read + Drop, W: Output>(
     rt: &T,
     options: WorldOptions,
     times: Times,
@@ -51,7 +50,7 @@ fn run_with<T: AllocGlobal + Eprint, R: Input + Drop, W: Output>(
     writer: &mut W,
 ) -> ExitCode
     requires { IsTimes times }
-    ensures { EndsDrive options times R.remaining R.did_read W.contents W.did_write W.did_flush reader writer.old writer.new (exit_status result) }
+    ensures { EndsDrive options times W.contents W.did_flush (R.remaining reader) writer.old writer.new (exit_status result) }
 {
     let Ok(()) = greet(writer) else {
         return stop(rt, INPUT, "input");
@@ -68,7 +67,7 @@ fn run_with<T: AllocGlobal + Eprint, R: Input + Drop, W: Output>(
 /// writing failed, 5 where memory was refused. A word that gives no times or no erasure is a fault of usage, and nothing is written.
 ///
 /// The writer has to hand on at once what is written: whoever drives waits for it.
-pub fn run<T: AllocGlobal + Eprint, R: Input + Drop, W: Output>(
+pub fn run<T: AllocGlobal + Eprint, R: Read + Drop, W: Output>(
     rt: &T,
     times: Option<&str>,
     erasure: Option<&str>,
@@ -79,7 +78,7 @@ pub fn run<T: AllocGlobal + Eprint, R: Input + Drop, W: Output>(
     ensures times { asked_times (option_map (λ w. w.now) times.entry) ≡ None → (exit_status result ≡ 2) × (writer.new ≡ writer.old) }
     ensures erasure { asked_options is_large (option_map (λ w. w.now) erasure.entry) ≡ None → (exit_status result ≡ 2) × (writer.new ≡ writer.old) }
     ensures ends { IfSome (asked_times (option_map (λ w. w.now) times.entry)) (λ t. IfSome (asked_options is_large (option_map (λ w. w.now) erasure.entry)) (λ o.
-        EndsDrive o t R.remaining R.did_read W.contents W.did_write W.did_flush reader writer.old writer.new (exit_status result))) }
+        EndsDrive o t W.contents W.did_flush (R.remaining reader) writer.old writer.new (exit_status result))) }
 {
     let Some(times) = asked_times(times) else {
         return stop(rt, USAGE, SetupFault::Times.cause());

@@ -7,17 +7,17 @@ ghost use Rattle.tora_lines.specs.LineText.{fault_of};
 ghost use Rattle.tora_replay.specs.ReplayText.{first_fault_with, ReplaysWith, IsBegunWith};
 ghost use Rattle.tora_script.specs.SimulationText.{first_simulation_fault, Simulates, IsSimulationBegun};
 ghost use Rattle.tora_lines.specs.Flushing.{after_flush};
-ghost use Rattle.tora_lines.specs.Reads.{IsReadSo};
 
 use std::alloc::Global;
+use std::io::Read;
 use tora_arq::Times;
 use tora_core::Erasure;
-use tora_lines::{Ended, Input, Output, ReplayError, flushed};
+use tora_lines::{Ended, Output, ReplayError, flushed};
 use tora_replay::replay_with;
 use tora_script::{Simulator, simulate_in, simulate_told};
 
 /// Replays for a node that makes this of erased levels, and flushes the writer: `Write` where that alone fails.
-pub fn replay_and_flush<R: Input, W: Output>(
+pub fn replay_and_flush<R: Read, W: Output>(
     alloc: Global,
     erasure: Erasure,
     reader: &mut R,
@@ -29,15 +29,14 @@ pub fn replay_and_flush<R: Input, W: Output>(
     ensures fault { IfOk result (λ ended. IfSome (R.remaining reader.old) (λ input. fault_of ended ≡ first_fault_with erasure input)) }
     ensures begun { IfErr result (λ e. e ≢ ReplayError.Write →
         IsBegunWith erasure (R.remaining reader.old) (R.remaining reader.new) (W.contents writer.old) (W.contents writer.new)) }
-    ensures reads { IsReadSo R.did_read reader.old reader.new result }
-    ensures flushed { IsFlushed W.did_write W.did_flush result writer.new }
+    ensures flushed { IsFlushed W.did_flush result writer.new }
 {
     let result = replay_with(alloc, erasure, reader, writer);
     flushed(writer, result)
 }
 
 /// Simulates with these times of each link end, and flushes the writer: `Write` where that alone fails.
-pub fn simulate_and_flush<S: Simulator, R: Input, W: Output>(
+pub fn simulate_and_flush<S: Simulator, R: Read, W: Output>(
     alloc: Global,
     times: Times,
     reader: &mut R,
@@ -50,15 +49,14 @@ pub fn simulate_and_flush<S: Simulator, R: Input, W: Output>(
     ensures fault { IfOk result (λ ended. IfSome (R.remaining reader.old) (λ input. fault_of ended ≡ first_simulation_fault times input)) }
     ensures begun { IfErr result (λ e. e ≢ ReplayError.Write →
         IsSimulationBegun times (R.remaining reader.old) (R.remaining reader.new) (W.contents writer.old) (W.contents writer.new)) }
-    ensures reads { IsReadSo R.did_read reader.old reader.new result }
-    ensures flushed { IsFlushed W.did_write W.did_flush result writer.new }
+    ensures flushed { IsFlushed W.did_flush result writer.new }
 {
     let result = simulate_in::<S, R, W>(alloc, times, reader, writer);
     flushed(writer, result)
 }
 
 /// Simulates with these times of each link end, tells on standard error what is refused, and flushes the writer: `Write` where that alone fails.
-pub fn simulate_told_and_flush<S: Simulator, T: Eprint, R: Input, W: Output>(
+pub fn simulate_told_and_flush<S: Simulator, T: Eprint, R: Read, W: Output>(
     rt: &T,
     alloc: Global,
     times: Times,
@@ -72,8 +70,7 @@ pub fn simulate_told_and_flush<S: Simulator, T: Eprint, R: Input, W: Output>(
     ensures fault { IfOk result (λ ended. IfSome (R.remaining reader.old) (λ input. fault_of ended ≡ first_simulation_fault times input)) }
     ensures begun { IfErr result (λ e. e ≢ ReplayError.Write →
         IsSimulationBegun times (R.remaining reader.old) (R.remaining reader.new) (W.contents writer.old) (W.contents writer.new)) }
-    ensures reads { IsReadSo R.did_read reader.old reader.new result }
-    ensures flushed { IsFlushed W.did_write W.did_flush result writer.new }
+    ensures flushed { IsFlushed W.did_flush result writer.new }
 {
     let result = simulate_told::<S, T, R, W>(rt, alloc, times, reader, writer);
     flushed(writer, result)

@@ -10,7 +10,6 @@ ghost use Rattle.tora_channel.specs.Table.{lines_of};
 ghost use Rattle.tora_script.specs.SimulationText.{rules_with, SimulatesWith, IsBegunWith};
 ghost use Rattle.tora_simulate.specs.Statuses.{traced_status};
 ghost use Rattle.tora_traced.specs.TraceOuts.{IsHandedOn};
-ghost use Rattle.tora_lines.specs.Reads.{IsReadSo};
 
 use crate::bar::{Paced, Wiping};
 use crate::channel_file::ChannelFile;
@@ -20,11 +19,11 @@ use crate::sim_command::{refuse, tell};
 use crate::{INPUT, MEMORY, status, stop};
 use std::alloc::Global;
 use std::io;
-use std::io::{BufWriter, ErrorKind};
+use std::io::{BufWriter, ErrorKind, Read};
 use std::process::ExitCode;
 use std::time::Clock;
 use tora_channel::ChannelTable;
-use tora_lines::{Ended, Input, Output, Recent, ReplayError, flushed};
+use tora_lines::{Ended, Output, Recent, ReplayError, flushed};
 use tora_script::Setup;
 use tora_simulate::{Paths, tell_at};
 use tora_traced::{TraceOut, Watched, simulate_traced};
@@ -66,7 +65,7 @@ pub fn traced_status<T: Eprint, V: Output>(
 
 /// Simulates what is made with this over a channel that the lines of a table change, writes the trace, and flushes the writer:
 /// `Write` where that alone fails.
-fn simulate_and_flush<S: Watched, T: Eprint, R: Input, W: Output, V: Output>(
+fn simulate_and_flush<S: Watched, T: Eprint, R: Read, W: Output, V: Output>(
     rt: &T,
     alloc: Global,
     setup: Setup,
@@ -82,8 +81,7 @@ fn simulate_and_flush<S: Watched, T: Eprint, R: Input, W: Output, V: Output>(
     ensures at_end { result ≡ Ok Ended.Whole → IsAtEnd (R.remaining reader.new) }
     ensures begun { IfErr result (λ e. e ≢ ReplayError.Write →
         IsBegunWith setup (lines_of table) (R.remaining reader.old) (R.remaining reader.new) (W.contents writer.old) (W.contents writer.new)) }
-    ensures reads { IsReadSo R.did_read reader.old reader.new result }
-    ensures flushed { IsFlushed W.did_write W.did_flush result writer.new }
+    ensures flushed { IsFlushed W.did_flush result writer.new }
 {
     let result = simulate_traced::<S, T, R, W, V>(
         rt, alloc, setup, table, reader, writer, out, is_verbose,
@@ -92,7 +90,7 @@ fn simulate_and_flush<S: Watched, T: Eprint, R: Input, W: Output, V: Output>(
 }
 
 /// Writes the last record of a trace whose input was taken whole, with the digest of the input.
-fn finish<R: Input + Drop, V: Output>(
+fn finish<R: Read + Drop, V: Output>(
     alloc: Global,
     reader: Hashing<R>,
     ended: Result<Ended, ReplayError>,
@@ -109,7 +107,7 @@ fn finish<R: Input + Drop, V: Output>(
 
 /// Simulates the lines that a reader gives, in a world that is made with this and over the channel of a channel file, writes the
 /// trace to the file at a path, and hands both on.
-pub fn run_over<S: Watched, T: AllocGlobal + Eprint, R: Input + Drop, W: Output, V: Output>(
+pub fn run_over<S: Watched, T: AllocGlobal + Eprint, R: Read + Drop, W: Output, V: Output>(
     rt: &T,
     setup: Setup,
     file: ChannelFile,
@@ -120,7 +118,7 @@ pub fn run_over<S: Watched, T: AllocGlobal + Eprint, R: Input + Drop, W: Output,
     out: &mut TraceOut<V>,
 ) -> ExitCode
     requires { IsTimes setup.times }
-    ensures ends { EndsBy (rules_with setup (lines_of file.table)) R.remaining R.did_read W.contents W.did_write W.did_flush reader writer.old writer.new (is_some out.new.failure) (exit_status result) }
+    ensures ends { EndsBy (rules_with setup (lines_of file.table)) W.contents W.did_flush (R.remaining reader) writer.old writer.new (is_some out.new.failure) (exit_status result) }
     ensures trace { (before : TraceOut V) × IsHandedOn V.did_flush before out.new }
 {
     let alloc = rt.alloc();
@@ -180,7 +178,7 @@ pub fn run<S: Watched, T: Paths + AllocGlobal + Eprint + Clock, W: Output>(
     writer: &mut W,
 ) -> ExitCode
     requires { IsTimes setup.times }
-    ensures ends { EndsTraced (T.did_open rt.now) (T.did_create rt.now) T.File.remaining T.did_get (rules_with setup (lines_of file.table)) W.contents W.did_write W.did_flush paths.entry.0.now paths.entry.1.now writer.old writer.new (exit_status result) }
+    ensures ends { EndsTraced (T.did_open rt.now) (T.did_create rt.now) T.File.remaining (rules_with setup (lines_of file.table)) W.contents W.did_flush paths.entry.0.now paths.entry.1.now writer.old writer.new (exit_status result) }
     ensures same { paths.entry.0.now ≡ paths.entry.1.now → (exit_status result ≡ 1) × (writer.new ≡ writer.old) }
 {
     let (path, trace) = paths;

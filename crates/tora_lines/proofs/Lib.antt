@@ -2,7 +2,6 @@ pub mod Digits
 pub mod Ends
 pub mod FaultLaws
 pub mod Flow
-pub mod FlushLaws
 pub mod Grammar
 pub mod KindLaws
 pub mod ListLaws

@@ -1,9 +1,10 @@
 -- The reads of a run over lines, one after another.
-use Rattle.std.proofs.Common.{◌≡◌, ◌≢◌, inl, inr, ℕ, ◌+◌, ◌^◌, List, [], ◌∷◌, take, Option, Result, Ok, Err, refl, ap, ◌∙◌, subst, arith}
+use Rattle.std.proofs.Common.{◌≡◌, ◌≢◌, ◌⊎◌, inl, inr, ℕ, ◌+◌, ◌^◌, List, [], ◌∷◌, ◌++◌, length, take, Option, Result, Ok, Err, refl, sym, ap, ◌∙◌, subst, arith}
+use Rattle.std.specs.Prelude.{Bool, IfErr, OnErr}
 use Rattle.std.specs.IoError.{error_kind}
 use Rattle.std.specs.declared.io.Error.{Error}
 use Rattle.std.specs.declared.io.ErrorKind.TheVariants.{Interrupted}
-use Rattle.tora_lines.specs.Reads.{Given, given_by, AreReads, GoesOn, IsReadSo, HasRead}
+use Rattle.tora_lines.specs.Reads.{Given, given_by, AreReads, GoesOn, NoneFailed, IsReadSo, HasRead}
 use Rattle.tora_lines.specs.LineText.{Text, faulty}
 use Rattle.tora_lines.specs.Engine.{Kind, Stops, Finishes, Ends}
 use Rattle.tora_lines.specs.Shortened.{TakesBytes, WritesText}

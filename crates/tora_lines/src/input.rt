@@ -7,9 +7,8 @@ ghost use Rattle.tora_lines.specs.Reads.{Given, given_by, Gives};
 use std::io;
 use std::io::Read;
 
-/// A reader whose calls contracts tell: that a call was made, and what it gave. Every `Read` is one.
-///
-/// A type that hands on what a reader gives is one by itself, and no `Read`: its calls gave what the reader's gave.
+/// A reader whose calls contracts tell: that a call was made, and what it gave. Every `Read` is one. A type that hands on what a reader
+/// gives is one by itself, and no `Read`: what its calls gave is what the reader's gave.
 pub trait Input {
     /// The bytes that reads will give from here on, where they are known.
     ghost remaining: { Self → Option (List ℕ) };

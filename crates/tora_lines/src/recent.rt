@@ -1,9 +1,9 @@
 //! A reader that keeps the lines that were read last.
 ghost use Rattle.std.specs.Prelude.{◌≡◌};
 
-use crate::input::Input;
 use std::alloc::Global;
 use std::io;
+use std::io::Read;
 
 /// How many bytes are counted at once: a byte can count as many.
 const PIECE: usize = 128;
@@ -80,10 +80,10 @@ pub struct Recent<R> {
     lines: LastLines,
 }
 
-impl<R> Recent<R> {
+impl<R: Read> Recent<R> {
     /// Nothing was read yet.
     pub fn new(alloc: Global, reader: R) -> Recent<R>
-        ensures { result.reader ≡ reader }
+        ensures { R.remaining result.reader ≡ R.remaining reader }
     {
         Recent {
             reader,
@@ -106,13 +106,11 @@ impl<R> Recent<R> {
     }
 }
 
-impl<R: Input> Input for Recent<R> {
+impl<R: Read> Read for Recent<R> {
     ghost remaining = { λ r. R.remaining r.reader };
 
-    ghost did_read = { λ old given new. R.did_read old.reader given new.reader };
-
-    fn get_some(&mut self, buf: &mut [u8]) -> io::Result<usize> {
-        let n = self.reader.get_some(buf)?;
+    fn read(&mut self, buf: &mut [u8]) -> io::Result<usize> {
+        let n = self.reader.read(buf)?;
         if let Some(given) = buf.get(..n) {
             self.lines.keep(given);
         }

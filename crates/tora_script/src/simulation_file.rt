@@ -11,7 +11,6 @@ ghost use Rattle.tora_channel.specs.Table.{lines_of};
 ghost use Rattle.tora_script.specs.RunningView.{running_view};
 ghost use Rattle.tora_script.specs.SimulationView.{progress_of, simulation_kind};
 ghost use Rattle.tora_script.specs.SimulationText.{Progress, first_progress, with_link, is_linked, with_mark_line, first_run, behind_links, run_begun, end_of_links, simulation_reply, first_simulation_fault, first_fault_with, IsFirstFaultWith, Simulates, IsSimulationBegun};
-ghost use Rattle.tora_lines.specs.Reads.{IsReadSo, IsUnwritten};
 
 use crate::link_lines::LinkLines;
 use crate::node_marks::Mark;
@@ -21,11 +20,12 @@ use crate::setup::Setup;
 use crate::simulation::{Simulation, Stage};
 use crate::simulator::Simulator;
 use std::alloc::{AllocError, Global};
+use std::io::{Read, Write};
 use tora_arq::Times;
 use tora_channel::ChannelTable;
 use tora_height::Id;
 use tora_lines::words::LineError;
-use tora_lines::{Ended, FileKind, Input, Output, ReplayError, read_lines};
+use tora_lines::{Ended, FileKind, ReplayError, read_lines};
 use tora_sim::{Limits, topology_fault_within};
 
 /// Takes the first line.
@@ -226,7 +226,7 @@ impl<S: Simulator> FileKind for Simulation<S> {
 /// printed for each, in a simulator of this kind whose link ends have these times, none of which is 0. `docs/formats.md`,
 /// "Simulation files", says what a file is.
 #[tactic(auto, unfolding(tora_lines::specs::Engine::text_of))]
-pub fn simulate_in<S: Simulator, R: Input, W: Output>(
+pub fn simulate_in<S: Simulator, R: Read, W: Write>(
     alloc: Global,
     times: Times,
     reader: &mut R,
@@ -241,8 +241,6 @@ pub fn simulate_in<S: Simulator, R: Input, W: Output>(
     // What was written begins the text of what was read.
     ensures begun { IfErr result (λ e. e ≢ ReplayError.Write →
         IsSimulationBegun times (R.remaining reader.old) (R.remaining reader.new) (W.contents writer.old) (W.contents writer.new)) }
-    ensures reads { IsReadSo R.did_read reader.old reader.new result }
-    ensures failed { IfErr result (λ e. e ≡ ReplayError.Write → IsUnwritten W.did_write writer.new) }
 {
     let state: Simulation<S> = Simulation::new(Setup::plain(times));
     read_lines(alloc, state, reader, writer)

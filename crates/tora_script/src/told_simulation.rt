@@ -6,7 +6,6 @@ ghost use Rattle.tora_lines.specs.LineText.{fault_of};
 ghost use Rattle.tora_channel.specs.Table.{lines_of};
 ghost use Rattle.tora_script.specs.ToldView.{told_kind};
 ghost use Rattle.tora_script.specs.SimulationText.{first_simulation_fault, Simulates, IsSimulationBegun, first_fault_with, SimulatesWith, IsBegunWith};
-ghost use Rattle.tora_lines.specs.Reads.{IsReadSo, IsUnwritten};
 
 use crate::causes::{SimulationCause, end_cause, simulation_cause_within};
 use crate::parse::simulation_line;
@@ -16,11 +15,12 @@ use crate::setup::Setup;
 use crate::simulation::{Simulation, Stage};
 use crate::simulator::Simulator;
 use std::alloc::{AllocError, Global};
+use std::io::{Read, Write};
 use tora_arq::Times;
 use tora_channel::ChannelTable;
 use tora_height::Id;
 use tora_lines::words::LineError;
-use tora_lines::{Ended, FileKind, Input, Output, ReplayError, read_last_lines, read_lines};
+use tora_lines::{Ended, FileKind, ReplayError, read_last_lines, read_lines};
 use tora_world::Event;
 
 /// A simulation file, and where is told why a line is a fault and, where it is verbose, why an event is refused.
@@ -99,7 +99,7 @@ impl<S: Simulator, T: Eprint> FileKind for Told<'_, S, T> {
 /// Simulates what is made with this over a channel that the lines of a table change, and tells on standard error why a line is a
 /// fault, unless it is too long, and where it is verbose, why an event is refused.
 #[tactic(auto, unfolding(tora_lines::specs::Engine::text_of))]
-pub fn simulate_telling<S: Simulator, T: Eprint, R: Input, W: Output>(
+pub fn simulate_telling<S: Simulator, T: Eprint, R: Read, W: Write>(
     rt: &T,
     alloc: Global,
     setup: Setup,
@@ -115,8 +115,6 @@ pub fn simulate_telling<S: Simulator, T: Eprint, R: Input, W: Output>(
     ensures fault { IfOk result (λ ended. IfSome (R.remaining reader.old) (λ input. fault_of ended ≡ first_fault_with setup (lines_of table) input)) }
     ensures begun { IfErr result (λ e. e ≢ ReplayError.Write →
         IsBegunWith setup (lines_of table) (R.remaining reader.old) (R.remaining reader.new) (W.contents writer.old) (W.contents writer.new)) }
-    ensures reads { IsReadSo R.did_read reader.old reader.new result }
-    ensures failed { IfErr result (λ e. e ≡ ReplayError.Write → IsUnwritten W.did_write writer.new) }
 {
     let state: Told<'_, S, T> = Told {
         rt,
@@ -130,7 +128,7 @@ pub fn simulate_telling<S: Simulator, T: Eprint, R: Input, W: Output>(
 /// Simulates as `simulate_telling` does, for a program that ends behind it: what the world took is left to the system, and not given back piece by
 /// piece, which for a world of a thousand nodes takes a tenth of the time.
 #[tactic(auto, unfolding(tora_lines::specs::Engine::text_of))]
-pub fn simulate_telling_last<S: Simulator, T: Eprint, R: Input, W: Output>(
+pub fn simulate_telling_last<S: Simulator, T: Eprint, R: Read, W: Write>(
     rt: &T,
     alloc: Global,
     setup: Setup,
@@ -146,8 +144,6 @@ pub fn simulate_telling_last<S: Simulator, T: Eprint, R: Input, W: Output>(
     ensures fault { IfOk result (λ ended. IfSome (R.remaining reader.old) (λ input. fault_of ended ≡ first_fault_with setup (lines_of table) input)) }
     ensures begun { IfErr result (λ e. e ≢ ReplayError.Write →
         IsBegunWith setup (lines_of table) (R.remaining reader.old) (R.remaining reader.new) (W.contents writer.old) (W.contents writer.new)) }
-    ensures reads { IsReadSo R.did_read reader.old reader.new result }
-    ensures failed { IfErr result (λ e. e ≡ ReplayError.Write → IsUnwritten W.did_write writer.new) }
 {
     let state: Told<'_, S, T> = Told {
         rt,
@@ -159,7 +155,7 @@ pub fn simulate_telling_last<S: Simulator, T: Eprint, R: Input, W: Output>(
 }
 
 /// Simulates with these times of each link end, and tells on standard error why an event is refused and why a line is a fault, unless it is too long.
-pub fn simulate_told<S: Simulator, T: Eprint, R: Input, W: Output>(
+pub fn simulate_told<S: Simulator, T: Eprint, R: Read, W: Write>(
     rt: &T,
     alloc: Global,
     times: Times,
@@ -173,8 +169,6 @@ pub fn simulate_told<S: Simulator, T: Eprint, R: Input, W: Output>(
     ensures fault { IfOk result (λ ended. IfSome (R.remaining reader.old) (λ input. fault_of ended ≡ first_simulation_fault times input)) }
     ensures begun { IfErr result (λ e. e ≢ ReplayError.Write →
         IsSimulationBegun times (R.remaining reader.old) (R.remaining reader.new) (W.contents writer.old) (W.contents writer.new)) }
-    ensures reads { IsReadSo R.did_read reader.old reader.new result }
-    ensures failed { IfErr result (λ e. e ≡ ReplayError.Write → IsUnwritten W.did_write writer.new) }
 {
     let (setup, table) = (Setup::plain(times), ChannelTable::none());
     simulate_telling::<S, T, R, W>(rt, alloc, setup, table, reader, writer, true)

@@ -6,16 +6,16 @@ ghost use Rattle.tora_channel.specs.Table.{lines_of};
 ghost use Rattle.tora_lines.specs.Flushing.{IsFlushed};
 ghost use Rattle.tora_lines.specs.LineText.{fault_of};
 ghost use Rattle.tora_script.specs.SimulationText.{first_fault_with, SimulatesWith, IsBegunWith};
-ghost use Rattle.tora_lines.specs.Reads.{IsReadSo};
 
 use std::alloc::Global;
+use std::io::Read;
 use tora_channel::ChannelTable;
-use tora_lines::{Ended, Input, Output, ReplayError, flushed};
+use tora_lines::{Ended, Output, ReplayError, flushed};
 use tora_script::{Setup, Simulator, simulate_telling, simulate_telling_last};
 
 /// Simulates what is made with this over a channel that the lines of a table change, tells on standard error why a line is a fault
 /// and, where it is verbose, what is refused, and flushes the writer: `Write` where that alone fails.
-pub fn simulate_telling_and_flush<S: Simulator, T: Eprint, R: Input, W: Output>(
+pub fn simulate_telling_and_flush<S: Simulator, T: Eprint, R: Read, W: Output>(
     rt: &T,
     alloc: Global,
     setup: Setup,
@@ -31,15 +31,14 @@ pub fn simulate_telling_and_flush<S: Simulator, T: Eprint, R: Input, W: Output>(
     ensures fault { IfOk result (λ ended. IfSome (R.remaining reader.old) (λ input. fault_of ended ≡ first_fault_with setup (lines_of table) input)) }
     ensures begun { IfErr result (λ e. e ≢ ReplayError.Write →
         IsBegunWith setup (lines_of table) (R.remaining reader.old) (R.remaining reader.new) (W.contents writer.old) (W.contents writer.new)) }
-    ensures reads { IsReadSo R.did_read reader.old reader.new result }
-    ensures flushed { IsFlushed W.did_write W.did_flush result writer.new }
+    ensures flushed { IsFlushed W.did_flush result writer.new }
 {
     let ended = simulate_telling::<S, T, R, W>(rt, alloc, setup, table, reader, writer, is_verbose);
     flushed(writer, ended)
 }
 
 /// Simulates as `simulate_telling_and_flush` does, for a program that ends behind it: what the world took is not given back (`simulate_telling_last`).
-pub fn simulate_last_and_flush<S: Simulator, T: Eprint, R: Input, W: Output>(
+pub fn simulate_last_and_flush<S: Simulator, T: Eprint, R: Read, W: Output>(
     rt: &T,
     alloc: Global,
     setup: Setup,
@@ -55,8 +54,7 @@ pub fn simulate_last_and_flush<S: Simulator, T: Eprint, R: Input, W: Output>(
     ensures fault { IfOk result (λ ended. IfSome (R.remaining reader.old) (λ input. fault_of ended ≡ first_fault_with setup (lines_of table) input)) }
     ensures begun { IfErr result (λ e. e ≢ ReplayError.Write →
         IsBegunWith setup (lines_of table) (R.remaining reader.old) (R.remaining reader.new) (W.contents writer.old) (W.contents writer.new)) }
-    ensures reads { IsReadSo R.did_read reader.old reader.new result }
-    ensures flushed { IsFlushed W.did_write W.did_flush result writer.new }
+    ensures flushed { IsFlushed W.did_flush result writer.new }
 {
     let ended = simulate_telling_last::<S, T, R, W>(
         rt, alloc, setup, table, reader, writer, is_verbose,

@@ -5,11 +5,11 @@ ghost use Rattle.tora_arq.specs.declared.times.TheConstants.Times.{STANDARD};
 ghost use Rattle.tora_arq.specs.Settings.{IsTimes};
 ghost use Rattle.tora_lines.specs.LineText.{fault_of};
 ghost use Rattle.tora_script.specs.SimulationText.{first_simulation_fault, Simulates, IsSimulationBegun};
-ghost use Rattle.tora_lines.specs.Reads.{IsReadSo, IsUnwritten};
 
 use std::alloc::Global;
+use std::io::{Read, Write};
 use tora_arq::{Times, standard_times};
-use tora_lines::{Ended, Input, Output, ReplayError};
+use tora_lines::{Ended, ReplayError};
 use tora_script::simulate_in;
 use tora_sim::Sim;
 
@@ -27,7 +27,7 @@ use tora_sim::Sim;
 /// `Memory` where memory was refused; `Read` where a read failed, or 2^32 reads came to no end (a read that was
 /// interrupted is made again, and counts); `Write` where a write failed. No line is taken in part: at `Memory` and `Read`
 /// whole lines' answers were written.
-pub fn simulate<R: Input, W: Output>(
+pub fn simulate<R: Read, W: Write>(
     alloc: Global,
     reader: &mut R,
     writer: &mut W,
@@ -40,8 +40,6 @@ pub fn simulate<R: Input, W: Output>(
     // What was written begins the text of what was read.
     ensures begun { IfErr result (λ e. e ≢ ReplayError.Write →
         IsSimulationBegun STANDARD (R.remaining reader.old) (R.remaining reader.new) (W.contents writer.old) (W.contents writer.new)) }
-    ensures reads { IsReadSo R.did_read reader.old reader.new result }
-    ensures failed { IfErr result (λ e. e ≡ ReplayError.Write → IsUnwritten W.did_write writer.new) }
 {
     standard_times();
     simulate_with(alloc, Times::STANDARD, reader, writer)
@@ -51,7 +49,7 @@ pub fn simulate<R: Input, W: Output>(
 ///
 /// # Errors
 /// Those of `simulate`.
-pub fn simulate_with<R: Input, W: Output>(
+pub fn simulate_with<R: Read, W: Write>(
     alloc: Global,
     times: Times,
     reader: &mut R,
@@ -66,8 +64,6 @@ pub fn simulate_with<R: Input, W: Output>(
     // What was written begins the text of what was read.
     ensures begun { IfErr result (λ e. e ≢ ReplayError.Write →
         IsSimulationBegun times (R.remaining reader.old) (R.remaining reader.new) (W.contents writer.old) (W.contents writer.new)) }
-    ensures reads { IsReadSo R.did_read reader.old reader.new result }
-    ensures failed { IfErr result (λ e. e ≡ ReplayError.Write → IsUnwritten W.did_write writer.new) }
 {
     simulate_in::<Sim, R, W>(alloc, times, reader, writer)
 }

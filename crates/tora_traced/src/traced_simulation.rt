@@ -12,15 +12,15 @@ ghost use Rattle.tora_traced.specs.TracingView.{traced_world, tracing_kind};
 ghost use Rattle.tora_channel.specs.Table.{lines_of};
 ghost use Rattle.tora_traced.specs.TraceOuts.{waiting, waiting_behind, emptied, ArePut};
 ghost use Rattle.tora_script.specs.SimulationText.{first_fault_with, SimulatesWith, IsBegunWith};
-ghost use Rattle.tora_lines.specs.Reads.{IsReadSo, IsUnwritten};
 
 use crate::trace_out::TraceOut;
 use crate::traced_simulator::Traced;
 use crate::watched::Watched;
 use std::alloc::{AllocError, Global};
+use std::io::{Read, Write};
 use tora_channel::ChannelTable;
 use tora_lines::words::LineError;
-use tora_lines::{Ended, FileKind, Input, Output, ReplayError, read_lines};
+use tora_lines::{Ended, FileKind, Output, ReplayError, read_lines};
 use tora_script::{Running, Setup, Simulation, SimulationLine, Stage, Told, simulation_line};
 
 /// A simulation file whose trace is written line by line; why a line is a fault is told and, where it is verbose, why an event is
@@ -120,7 +120,7 @@ impl<S: Watched, T: Eprint, W: Output> FileKind for Tracing<'_, S, T, W> {
 ///
 /// A trace that can't be written stops nothing; `out` says so then.
 #[tactic(auto, unfolding(tora_lines::specs::Engine::text_of))]
-pub fn simulate_traced<S: Watched, T: Eprint, R: Input, W: Output, V: Output>(
+pub fn simulate_traced<S: Watched, T: Eprint, R: Read, W: Write, V: Output>(
     rt: &T,
     alloc: Global,
     setup: Setup,
@@ -137,8 +137,6 @@ pub fn simulate_traced<S: Watched, T: Eprint, R: Input, W: Output, V: Output>(
     ensures fault { IfOk result (λ ended. IfSome (R.remaining reader.old) (λ input. fault_of ended ≡ first_fault_with setup (lines_of table) input)) }
     ensures begun { IfErr result (λ e. e ≢ ReplayError.Write →
         IsBegunWith setup (lines_of table) (R.remaining reader.old) (R.remaining reader.new) (W.contents writer.old) (W.contents writer.new)) }
-    ensures reads { IsReadSo R.did_read reader.old reader.new result }
-    ensures failed { IfErr result (λ e. e ≡ ReplayError.Write → IsUnwritten W.did_write writer.new) }
 {
     let state: Tracing<'_, S, T, V> = Tracing {
         told: Told {

@@ -34,7 +34,7 @@ returns-in-Err g c =
         r.offered,
         core_is c.accepted_inputs_make_the_core.ensures.runs ks (state_of c.args.seat) (state_of c.loop.end.seat) r.xs r.served,
         (λ none. r.written),
-        subst (λ (f : Option NodeError). EndsSo f r.xs _) (sym c.loop.invariant.faultless) (inr (r.goes, gone.1)),
+        subst (λ (f : Option NodeError). EndsSo f r.xs c.take.new.self.gone) (sym c.loop.invariant.faultless) (inr (r.goes, gone.1)),
       );
       neighbours = c.loop.invariant.neighbours;
       lane = c.take.ensures.lane.0 ∙ c.loop.invariant.lane;
@@ -59,7 +59,7 @@ returns-then-is_quit g c =
         d.offered,
         core_is c.accepted_inputs_make_the_core.ensures.runs ks (state_of c.args.seat) (state_of c.serve-answer.new.self) (d.front ++ d.x ∷ []) d.served,
         (λ none. d.written text (subst (λ (w : What). Appends text text (reply_text (told_in c.loop.watch) c.in-Ok.item.now w v.answer v.seat)) (sym quit) (Appends-nil text))),
-        subst (λ (f : Option NodeError). EndsSo f (d.front ++ d.x ∷ []) _) (sym h.faultless) (inl (d.front, d.x, refl, d.goes, ap (λ (i : Item). i.what) d.item_is ∙ quit)),
+        subst (λ (f : Option NodeError). EndsSo f (d.front ++ d.x ∷ []) c.take.new.self.gone) (sym h.faultless) (inl (d.front, d.x, refl, d.goes, ap (λ (i : Item). i.what) d.item_is ∙ quit)),
       );
       neighbours = c.serve-answer.ensures.neighbours ∙ h.neighbours;
       lane = c.take.ensures.lane.0 ∙ h.lane;

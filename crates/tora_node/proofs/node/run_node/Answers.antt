@@ -35,8 +35,8 @@ returns-in-Err-new_links g c =
     not_started g.W.Wire.did_send g.W.Wire.did_receive (g.C.Clock.did_tell c.args.clock.now) g.T.Ticks.did_read (IsOpened g.D.Disk.syncs g.D.Disk.reads g.D.Disk.writes) g.Wr.Write.contents c.args.config c.args.wires.items c.args.disks.items c.args.ticks.items (g.Rd.Read.remaining c.args.reader.now)
     c.args.writer (map link_ended c.in-Some.ends.items) c.in-Err-new_links.fault ends c.in-Err-new_links.ensures.fault c.in-Err-new_links.ensures.failed
 
-pub settled-requires-clause-ends : goal.settled-requires-clause-ends
-settled-requires-clause-ends g c =
+pub settled-ended-requires-clause-ends : goal.settled-ended-requires-clause-ends
+settled-ended-requires-clause-ends g c =
     let same = c.into_core-core.ensures.same in
     let rests = c.in-Some-run_threads.rests in
     let lanes = c.in-Ok.lanes in
