@@ -4,9 +4,9 @@
 usage: bench/sweep.py [RUNS] [NODES] [ROUNDS]     the defaults are 200 runs of 20 nodes for 1,200 rounds
   TORA   the program; without it the repository's ./tora
 
-The sweep makes RUNS runs with seeds 1 to RUNS, its table, summary and picture. Then the same runs are made and measured again, one after
-another in this process, which has loaded all modules. The last line says how much longer the sweep took, in seconds and relative to
-the runs alone.
+The sweep makes RUNS runs with seeds 1 to RUNS, its table, summary and picture, one run at a time. Then the same runs are made and
+measured again in this process, which has loaded all modules. The last line says how much longer the sweep took, in seconds and relative
+to the runs alone.
 """
 import pathlib
 import resource
@@ -34,7 +34,7 @@ def main():
         return 2
     runs, nodes, rounds = [int(it) for it in sys.argv[1:]] + [200, 20, 1200][len(sys.argv) - 1 :]
     with tempfile.TemporaryDirectory() as work:
-        words = ["sweep", f"{work}/study", "--nodes", str(nodes), "--seeds", str(runs), "--rounds", str(rounds)]
+        words = ["sweep", f"{work}/study", "--nodes", str(nodes), "--seeds", str(runs), "--rounds", str(rounds), "--jobs", "1"]
         begin = processor()
         subprocess.run([TOP / "python/tora-study", *words], check=True, stdout=subprocess.DEVNULL)
         sweep = processor() - begin

@@ -9,7 +9,7 @@ usage: ./tora deb [--unproved] [--twice] [--out DIR]
   --out DIR    where the packages go; the default is out/deb
 
   tora           the program, its manual pages, completion, units for systemd, dissector, examples and documents
-  ns3-tora       the module for ns-3 as sources and, if ns-3 is installed (package libns3-dev), as a library
+  ns3-tora       the module for ns-3 as sources and, if ns-3 (package libns3-dev) and the library for C are there, as a library
   python3-tora   the Python package tora with tora-study and tora-routes, if the repository has the folder python
   libtora0       the library for C, if `./tora build --lib` has built it
   libtora-dev    its header, archive, file for pkg-config, guide and examples, likewise
@@ -67,9 +67,10 @@ class State:
             stop("there is no out/tora_unproved (./tora sim FILE makes it)" if is_unproved else "the program is not built (./tora build)")
         self.time = int(git("log", "-1", "--format=%ct"))
         self.version = self.full_version(is_unproved)
-        self.has_ns3 = bool(shutil.which("cmake")) and os.path.exists("/usr/include/ns3/wifi-module.h")
         self.has_python = os.path.exists(f"{TOP}/python/pyproject.toml")
         self.has_library = os.path.exists(f"{TOP}/out/{library.NAME}")
+        has_ns3 = bool(shutil.which("cmake")) and os.path.exists("/usr/include/ns3/wifi-module.h")
+        self.has_ns3 = has_ns3 and self.has_library
         if self.has_library and not library.is_current():
             stop("the library is older than its sources (./tora build --lib)")
 
@@ -226,7 +227,7 @@ def main():
     os.umask(0o022)
     state = State(words.unproved)
     if not state.has_ns3:
-        print("tora: no ns-3 (packages libns3-dev and cmake); ns3-tora has the sources alone")
+        print("tora: no ns-3 (packages libns3-dev and cmake), or no library; ns3-tora has the sources alone")
     if not state.has_library:
         print("tora: the library is not built (./tora build --lib); libtora0 and libtora-dev are left out")
     os.makedirs(words.out, exist_ok=True)

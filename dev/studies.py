@@ -28,6 +28,7 @@ from tora import Scenario, heights, plots, stats  # noqa: E402
 from tora.comparison import report  # noqa: E402
 from tora.derived import with_derived  # noqa: E402
 from tora.errors import StudyError  # noqa: E402
+from tora.live import report as live  # noqa: E402
 from tora.summary import compare  # noqa: E402
 from tora.table import Table, read_table  # noqa: E402
 
@@ -162,6 +163,43 @@ def salvage():
     return [[f"{speed:g} m/s", str(len(rows)), *(f"{rows[name].mean():.{some}f}" for name, some in digits.items())] for speed, rows in groups]
 
 
+# ---- tables of hosts
+
+PHASES = {"down": ("down", "fault"), "silent": ("silent", "fault"), "lossy": ("lossy", "fault"), "killed": ("killed", "fault"),
+          "plugged in": ("down", "repair"), "started again": ("killed", "repair"), "rest": ("rest", "rest")}
+
+
+def told(values, digits):
+    """A median with its interval by order statistics, or with the least and the greatest of fewer values than that takes."""
+    if not len(values):
+        return "-"
+    found = stats.order_interval(values)
+    shown = lambda it: "none" if it == float("inf") else f"{it:,.{digits}f}"  # noqa: E731
+    if found.low == found.low:
+        return f"{shown(found.value)} [{shown(found.low)} .. {shown(found.high)}]"
+    return f"{shown(found.value)} ({shown(values.min())} to {shown(values.max())})"
+
+
+def hosts(measure, digits, *phases):
+    """A measure of the comparison of hosts: a line for each protocol and its hello times, a column for each phase."""
+    held = live.read(STORED / "live.csv")
+    lines = [cells("protocol", "hello times", "runs", *phases), "|" + "---|" * (len(phases) + 3)]
+    for (protocol, timing), rows in sorted(held.groups(["protocol", "timing"]).items()):
+        parts = [live.chosen(Table(held.path, rows, held.design), *PHASES[name]) for name in phases]
+        found = [[] if part is None else part.frame[measure].dropna().to_numpy(float) for part in parts]
+        lines.append(cells(protocol, timing, str(len(rows.groupby(["topology", "nodes", "seed"]))), *(told(values, digits) for values in found)))
+    return lines
+
+
+def at_rest(**measures):
+    """Measures of hosts at rest: a line for each protocol and its hello times."""
+    parts = [hosts(name, digits, "rest") for name, digits in measures.items()]
+    lines = [[line.split(" | ")[-1].rstrip(" |") for line in part[2:]] for part in parts]
+    heads = [line.split(" | ")[:3] for line in parts[0][2:]]
+    first = [cells("protocol", "hello times", "runs", *measures), "|" + "---|" * (len(measures) + 3)]
+    return first + [cells(head[0].removeprefix("| "), *head[1:], *some) for head, *some in zip(heads, *lines)]
+
+
 # ---- tables of TORA
 
 def study():
@@ -232,6 +270,13 @@ WHOLE |= {f"ns3-{size}-delivery": (lambda size=size: across(size, "delivery", 3)
 WHOLE |= {f"ns3-{size}-control_rate": (lambda size=size: across(size, "control_rate", 2)) for size in ("20-5", "50-10")}
 WHOLE |= {"sparse-delivery": lambda: sparse("delivery_reachable", 1, 3), "sparse-bytes": lambda: sparse("control_bytes", 1000, 0),
           "sparse-most": lambda: sparse("control_most", 1000, 1), "sparse-erasures": erasures}
+WHOLE |= {"live-working": lambda: hosts("working_ms", 1, "down", "silent", "killed", "started again"),
+          "live-gap": lambda: hosts("gap_ms", 0, "down", "silent", "lossy", "killed", "started again"),
+          "live-lost": lambda: hosts("lost", 0, "down", "silent", "lossy", "killed", "started again"),
+          "live-tcp": lambda: hosts("tcp_stall_ms", 0, "down", "silent", "lossy", "killed", "started again"),
+          "live-bytes": lambda: hosts("control_bytes_rate", 0, "rest", "down", "silent", "lossy", "killed"),
+          "live-processor": lambda: hosts("processor_percent", 3, "rest", "down", "silent", "lossy", "started again"),
+          "live-rest": lambda: at_rest(control_packets_rate=2, memory_mb=1, stretch=2, routes_left=0)}
 TABLES = {
     "ns3-notice": lambda: beside(NOTICE, "TORA"),
     "ns3-waits": lambda: beside(WAITS, NOTICE),
@@ -354,6 +399,8 @@ PICTURES = {
     "ns3.png": lambda: draw("ns3", "comparison"),
     **{f"ns3-{size}.png": (lambda size=size: draw(f"ns3-{size}", "comparison", of="ns3-proved", nodes=SIZES[size][0], flows=SIZES[size][1])) for size in SIZES},
     "ns3-delivery.png": lambda: draw("ns3-delivery", "comparison", of="ns3-proved", measures=("delivery", "control_rate"), nodes=50, flows=5),
+    "live-mended.png": lambda: plots.write_picture(live.mended(live.read(STORED / "live.csv")), STORED / "live-mended.png", overwrite=True),
+    "live-cost.png": lambda: plots.write_picture(live.cost(live.read(STORED / "live.csv")), STORED / "live-cost.png", overwrite=True),
     "storms.png": lambda: draw("storms", "storms"),
     "storms-mended.png": lambda: draw("storms-mended", "storms"),
     "storm.png": draw_storm,

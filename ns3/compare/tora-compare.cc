@@ -4,8 +4,8 @@
 /*
  * One run of a comparison: moving nodes with radios, flows of data packets, and one of four routing
  * protocols. The same seed gives the same motion, flows and radios, whatever the protocol. It
- * prints one row of CSV; docs/studies/ns-3.md tells the columns, and ns3/compare/Snakefile makes many
- * runs.
+ * prints one row of CSV; docs/studies/ns-3.md tells the columns, and ns3/compare/Snakefile makes
+ * many runs.
  *
  *   tora-compare --protocol=TORA --nodes=20 --speed=10 --flows=5 --seed=1 [--header]
  *   tora-compare --help lists all words
@@ -39,28 +39,20 @@ main(int argc, char* argv[])
     cmd.AddValue("seconds", "how long packets are sent", setup.seconds);
     cmd.AddValue("rate", "packets a second of each flow", setup.rate);
     cmd.AddValue("size", "bytes of a packet's payload", setup.size);
-    cmd.AddValue("program", "TORA: the engine", setup.program);
-    cmd.AddValue("times", "TORA: times of link ends", setup.times);
+    cmd.AddValue("times", "TORA: the times of links, HELLO,SILENT,RETRY,TRIES", setup.times);
     cmd.AddValue("tick", "TORA: the tick", setup.tick);
     cmd.AddValue("notice", "TORA: the radio's reports cut links", setup.isNoticing);
-    cmd.AddValue("returns", "TORA: packets that come back cut links", setup.isReturnNoticed);
     cmd.AddValue("waits", "TORA: packets that come back wait", setup.isReturnWaiting);
     cmd.AddValue("salvage", "TORA: packets that the radio gives up wait", setup.isSalvaging);
     cmd.AddValue("erasure",
                  "TORA: what nodes make of erased levels, plain or remembered",
                  setup.erasure);
-    cmd.AddValue("record", "TORA: the file for the engine's record of the run", setup.record);
-    cmd.AddValue("large", "TORA: nodes may have more than 32 neighbours", setup.isLarge);
     cmd.AddValue("header", "print the names of the columns, too", setup.hasHeader);
     cmd.Parse(argc, argv);
 
     ToraComparison comparison(setup);
     comparison.Run();
     comparison.Print();
-    if (!setup.record.empty())
-    {
-        comparison.PrintHeights();
-    }
     Simulator::Destroy();
     return 0;
 }

@@ -21,7 +21,7 @@ namespace
 {
 
 /// The UDP ports of the four protocols: AODV, OLSR, DSDV and TORA.
-const std::vector<uint16_t> CONTROL_PORTS{654, 698, 269, ToraRouting::PORT};
+const std::vector<uint16_t> CONTROL_PORTS{654, 698, 269, tora::RoutingProtocol::PORT};
 
 } // namespace
 
@@ -39,7 +39,7 @@ ToraComparison::WatchPackets()
             });
         ip->TraceConnectWithoutContext("UnicastForward", forward);
         WatchDrops(i);
-        if (auto tora = m_nodes.Get(i)->GetObject<ToraRouting>())
+        if (auto tora = m_nodes.Get(i)->GetObject<tora::RoutingProtocol>())
         {
             WatchTora(tora);
         }
@@ -77,15 +77,18 @@ ToraComparison::WatchDrops(uint32_t node)
 }
 
 void
-ToraComparison::WatchTora(Ptr<ToraRouting> tora)
+ToraComparison::WatchTora(Ptr<tora::RoutingProtocol> tora)
 {
     tora->TraceConnectWithoutContext("Control", MakeCallback(&ToraComparison::CountFrames, this));
     tora->TraceConnectWithoutContext(
         "Drop",
-        Callback<void, Ptr<const Packet>, const Ipv4Header&, ToraRouting::DropReason>(
-            [this](Ptr<const Packet> packet, const Ipv4Header&, ToraRouting::DropReason reason) {
-                m_late += reason == ToraRouting::TIME_OVER;
-                Note(packet, reason == ToraRouting::CAME_BACK ? Fate::CAME_BACK : Fate::LATE);
+        Callback<void, Ptr<const Packet>, const Ipv4Header&, tora::RoutingProtocol::DropReason>(
+            [this](Ptr<const Packet> packet,
+                   const Ipv4Header&,
+                   tora::RoutingProtocol::DropReason reason) {
+                m_late += reason == tora::RoutingProtocol::TIME_OVER;
+                Note(packet,
+                     reason == tora::RoutingProtocol::CAME_BACK ? Fate::CAME_BACK : Fate::LATE);
             }));
 }
 
@@ -164,7 +167,7 @@ ToraComparison::CountControl(Ptr<const Packet> packet, Ptr<Ipv4>, uint32_t)
 }
 
 void
-ToraComparison::CountFrames(Ptr<const Packet>, const ToraHeader& header)
+ToraComparison::CountFrames(Ptr<const Packet>, const tora::ToraHeader& header)
 {
     for (const auto& frame : header.GetFrames())
     {

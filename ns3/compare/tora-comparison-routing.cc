@@ -9,6 +9,8 @@
 #include "ns3/olsr-helper.h"
 #include "ns3/tora-helper.h"
 
+#include <sstream>
+
 namespace ns3
 {
 
@@ -25,18 +27,38 @@ constexpr int64_t ROUTING_STREAM = 90000; ///< the routing protocol
  * \param word the word of the command line
  * \returns the choice
  */
-ToraRouting::Erasure
+tora::Erasure
 ErasureOf(const std::string& word)
 {
     if (word == "plain")
     {
-        return ToraRouting::PLAIN;
+        return tora::PLAIN;
     }
     if (word == "remembered")
     {
-        return ToraRouting::REMEMBERED;
+        return tora::REMEMBERED;
     }
     NS_FATAL_ERROR("no erasure " << word << ": plain or remembered");
+}
+
+/**
+ * Sets the times of links.
+ *
+ * \param tora the helper
+ * \param words four numbers with commas between them, or nothing
+ */
+void
+SetTimes(ToraHelper& tora, const std::string& words)
+{
+    std::istringstream numbers(words);
+    std::string number;
+    for (const char* name : {"HelloTicks", "SilentTicks", "RetryTicks", "Tries"})
+    {
+        if (std::getline(numbers, number, ','))
+        {
+            tora.Set(name, StringValue(number));
+        }
+    }
 }
 
 } // namespace
@@ -45,19 +67,15 @@ std::unique_ptr<Ipv4RoutingHelper>
 ToraComparison::MakeTora() const
 {
     auto tora = std::make_unique<ToraHelper>();
-    tora->Set("Program", StringValue(m_setup.program));
-    tora->Set("Times", StringValue(m_setup.times));
+    SetTimes(*tora, m_setup.times);
     tora->Set("Tick", StringValue(m_setup.tick));
     tora->Set("Notice", BooleanValue(m_setup.isNoticing));
-    tora->Set("NoticeReturn", BooleanValue(m_setup.isReturnNoticed));
     tora->Set("WaitReturn", BooleanValue(m_setup.isReturnWaiting));
     tora->Set("Salvage", BooleanValue(m_setup.isSalvaging));
     if (!m_setup.erasure.empty())
     {
         tora->Set("Erasure", EnumValue(ErasureOf(m_setup.erasure)));
     }
-    tora->Set("Record", StringValue(m_setup.record));
-    tora->Set("Large", BooleanValue(m_setup.isLarge));
     return tora;
 }
 
@@ -87,18 +105,19 @@ void
 ToraComparison::MakeRouting()
 {
     InternetStackHelper stack;
-    std::unique_ptr<Ipv4RoutingHelper> routing = MakeHelper();
-    stack.SetRoutingHelper(*routing);
+    m_routing = MakeHelper();
+    stack.SetRoutingHelper(*m_routing);
     stack.Install(m_nodes);
     Ipv4AddressHelper addresses("10.1.0.0", "255.255.0.0");
     m_interfaces = addresses.Assign(m_devices);
     stack.AssignStreams(m_nodes, STACK_STREAM);
-    AssignStreams(routing.get());
+    AssignStreams();
 }
 
 void
-ToraComparison::AssignStreams(Ipv4RoutingHelper* routing)
+ToraComparison::AssignStreams()
 {
+    Ipv4RoutingHelper* routing = m_routing.get();
     if (auto* tora = dynamic_cast<ToraHelper*>(routing))
     {
         tora->AssignStreams(m_nodes, ROUTING_STREAM);

@@ -31,7 +31,7 @@ ToraComparison::DelayAt(double share) const
 }
 
 uint64_t
-ToraComparison::CountOf(ToraFrame::Kind kind) const
+ToraComparison::CountOf(tora::Frame::Kind kind) const
 {
     auto frames = m_frames.find(kind);
     return frames == m_frames.end() ? 0 : frames->second;
@@ -43,7 +43,7 @@ ToraComparison::CameBack() const
     uint32_t count = 0;
     for (auto node = m_nodes.Begin(); node != m_nodes.End(); node++)
     {
-        Ptr<ToraRouting> tora = (*node)->GetObject<ToraRouting>();
+        Ptr<tora::RoutingProtocol> tora = (*node)->GetObject<tora::RoutingProtocol>();
         count += tora ? tora->GetCameBack() : 0;
     }
     return count;
@@ -86,8 +86,8 @@ ToraComparison::Print() const
                "delivery_reachable,control_most\n";
     }
     PrintMeans(std::cout);
-    std::cout << "," << CameBack() << "," << m_late << "," << CountOf(ToraFrame::HELLO) << ","
-              << CountOf(ToraFrame::DATA) << "," << CountOf(ToraFrame::ACK);
+    std::cout << "," << CameBack() << "," << m_late << "," << CountOf(tora::Frame::HELLO) << ","
+              << CountOf(tora::Frame::DATA) << "," << CountOf(tora::Frame::ACK);
     for (Fate fate :
          {Fate::RADIO, Fate::ARP, Fate::NO_ROUTE, Fate::CAME_BACK, Fate::LATE, Fate::NONE})
     {

@@ -5,12 +5,11 @@
 
 #include "ns3/core-module.h"
 #include "ns3/mobility-module.h"
-#include "ns3/tora-world.h"
+#include "ns3/tora-helper.h"
 #include "ns3/wifi-module.h"
 #include "ns3/yans-wifi-helper.h"
 
 #include <algorithm>
-#include <iostream>
 
 namespace ns3
 {
@@ -114,6 +113,11 @@ ToraComparison::MakeFlows()
     {
         uint32_t from = random->GetInteger(0, m_setup.nodes - 1);
         uint32_t to = (from + random->GetInteger(1, m_setup.nodes - 1)) % m_setup.nodes;
+        if (auto* helper = dynamic_cast<ToraHelper*>(m_routing.get());
+            helper && m_setup.nodes > tora::Router::MOST_DESTINATIONS)
+        {
+            helper->AddDestinations(NodeContainer(m_nodes.Get(to)));
+        }
         Ptr<Socket> source = Socket::CreateSocket(m_nodes.Get(from), UdpSocketFactory::GetTypeId());
         source->Connect(InetSocketAddress(m_interfaces.GetAddress(to), DATA_PORT));
         m_sockets.push_back(source);
@@ -136,19 +140,6 @@ ToraComparison::Run()
     Simulator::Stop(Seconds(START + m_setup.seconds + REST));
     Simulator::Run();
     std::sort(m_delays.begin(), m_delays.end());
-}
-
-void
-ToraComparison::PrintHeights() const
-{
-    for (uint32_t i = 0; i < m_nodes.GetN(); i++)
-    {
-        std::string line = "heights " + std::to_string(m_interfaces.GetAddress(i).Get());
-        for (const auto& text : ToraWorld::Get()->Tell(line).text)
-        {
-            std::cerr << text << std::endl;
-        }
-    }
 }
 
 } // namespace ns3

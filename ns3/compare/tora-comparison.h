@@ -4,12 +4,13 @@
 #ifndef TORA_COMPARISON_H
 #define TORA_COMPARISON_H
 
+#include "tora-peak.h"
+
 #include "ns3/internet-module.h"
 #include "ns3/network-module.h"
 #include "ns3/tora-frame.h"
 #include "ns3/tora-header.h"
-#include "ns3/tora-peak.h"
-#include "ns3/tora-routing.h"
+#include "ns3/tora-routing-protocol.h"
 
 #include <cstdint>
 #include <map>
@@ -39,16 +40,12 @@ struct ToraComparisonSetup
     double seconds{120};          //!< how long packets are sent, from 10 s on
     double rate{4};               //!< packets a second of each flow
     uint32_t size{64};            //!< bytes of a packet's payload
-    std::string program{"tora"};  //!< TORA's engine
-    std::string times;            //!< its times
-    std::string tick{"100ms"};    //!< its tick
-    bool isNoticing{false};       //!< whether it is told of neighbours that are gone
-    bool isReturnNoticed{false};  //!< whether links are cut that packets come back from
-    bool isReturnWaiting{false};  //!< whether packets that come back wait for another next hop
-    bool isSalvaging{false};      //!< whether packets that the radio gives up wait once more
-    std::string erasure;          //!< what nodes make of erased levels, or nothing: as ToraRouting
-    std::string record;           //!< the file for the engine's record
-    bool isLarge{false};          //!< whether nodes may have more than 32 neighbours
+    std::string times;            //!< TORA: the times of links, HELLO,SILENT,RETRY,TRIES
+    std::string tick{"100ms"};    //!< TORA: the tick
+    bool isNoticing{true};        //!< TORA: whether links are cut whose neighbour is gone
+    bool isReturnWaiting{true};   //!< TORA: whether packets that come back wait
+    bool isSalvaging{false};      //!< TORA: whether packets that the radio gives up wait
+    std::string erasure;          //!< TORA: the erasure, or nothing for the module's default
     bool hasHeader{false};        //!< whether the names of the columns are printed, too
 };
 
@@ -72,9 +69,6 @@ class ToraComparison
     void Run();
     /// Prints the row of the run.
     void Print() const;
-    /// TORA: prints the heights of all destinations on standard error; the lines that ask are the
-    /// record's last.
-    void PrintHeights() const;
 
   private:
     /// When data packets begin, in seconds.
@@ -117,12 +111,8 @@ class ToraComparison
     std::unique_ptr<Ipv4RoutingHelper> MakeTora() const;
     /// Installs IP and the routing protocol.
     void MakeRouting();
-    /**
-     * Gives the routing protocol its streams of random numbers.
-     *
-     * \param routing its helper
-     */
-    void AssignStreams(Ipv4RoutingHelper* routing);
+    /// Gives the routing protocol its streams of random numbers.
+    void AssignStreams();
     /// Makes flows.
     void MakeFlows();
     /**
@@ -149,7 +139,7 @@ class ToraComparison
      *
      * \param header what it broadcasts
      */
-    void CountFrames(Ptr<const Packet>, const ToraHeader& header);
+    void CountFrames(Ptr<const Packet>, const tora::ToraHeader& header);
     /**
      * A node forwards a packet.
      *
@@ -179,7 +169,7 @@ class ToraComparison
      *
      * \param tora the routing of a node
      */
-    void WatchTora(Ptr<ToraRouting> tora);
+    void WatchTora(Ptr<tora::RoutingProtocol> tora);
     /**
      * Something happened to a packet.
      *
@@ -205,7 +195,7 @@ class ToraComparison
      * \param kind a kind of frames
      * \returns how many of them nodes of TORA broadcast
      */
-    uint64_t CountOf(ToraFrame::Kind kind) const;
+    uint64_t CountOf(tora::Frame::Kind kind) const;
     /**
      * Prints the columns of what the run was, what arrived and what it cost.
      *
@@ -213,25 +203,26 @@ class ToraComparison
      */
     void PrintMeans(std::ostream& os) const;
 
-    ToraComparisonSetup m_setup;          //!< what the run is
-    NodeContainer m_nodes;                //!< the nodes
-    NetDeviceContainer m_devices;         //!< their radios
-    Ipv4InterfaceContainer m_interfaces;  //!< their interfaces
-    std::vector<Ptr<Socket>> m_sockets;   //!< sources and sinks
-    std::map<uint64_t, UnderWay> m_under; //!< packets under way, by their number in ns-3
-    uint32_t m_sequence{0};               //!< how many packets were sent
-    uint32_t m_reachable{0};              //!< how many of them had a path as they were sent
-    uint32_t m_reached{0};                //!< how many of these arrived
-    std::set<uint32_t> m_arrived;         //!< those that arrived, by number
-    std::vector<double> m_delays;         //!< delays of those that arrived, in ms
-    uint64_t m_hops{0};                   //!< their hops
-    uint64_t m_leastHops{0};              //!< hops of shortest paths, of those that had one
-    uint64_t m_pathHops{0};               //!< the hops of these
+    ToraComparisonSetup m_setup;                  //!< what the run is
+    NodeContainer m_nodes;                        //!< the nodes
+    NetDeviceContainer m_devices;                 //!< their radios
+    Ipv4InterfaceContainer m_interfaces;          //!< their interfaces
+    std::unique_ptr<Ipv4RoutingHelper> m_routing; //!< the helper of the routing protocol
+    std::vector<Ptr<Socket>> m_sockets;           //!< sources and sinks
+    std::map<uint64_t, UnderWay> m_under;         //!< packets under way, by their number in ns-3
+    uint32_t m_sequence{0};                       //!< how many packets were sent
+    uint32_t m_reachable{0};                      //!< how many of them had a path as they were sent
+    uint32_t m_reached{0};                        //!< how many of these arrived
+    std::set<uint32_t> m_arrived;                 //!< those that arrived, by number
+    std::vector<double> m_delays;                 //!< delays of those that arrived, in ms
+    uint64_t m_hops{0};                           //!< their hops
+    uint64_t m_leastHops{0};                      //!< hops of shortest paths, of those that had one
+    uint64_t m_pathHops{0};                       //!< the hops of these
     uint64_t m_controlBytes{0};   //!< bytes of control packets, with headers of IPv4 and UDP
     uint64_t m_controlPackets{0}; //!< control packets
     ToraPeak m_controlMost;       //!< the most of these bytes in any second
-    std::map<ToraFrame::Kind, uint64_t> m_frames; //!< TORA: frames by kind
-    uint32_t m_late{0};                           //!< TORA: packets whose time in a queue was over
+    std::map<tora::Frame::Kind, uint64_t> m_frames; //!< TORA: frames by kind
+    uint32_t m_late{0}; //!< TORA: packets whose time in a queue was over
 };
 
 } // namespace ns3

@@ -3,10 +3,10 @@
 
 /*
  * Three fixed nodes on a line, each in range of the next alone. The first sends 100 packets to the
- * third, four a second from 10 s on; then the routing tables are printed. ns3/README.md tells what
+ * third, four a second from 10 s on; then the routing tables are printed. README.md tells what
  * comes out.
  *
- *   tora-line [--program=PATH] [--pcap=PREFIX] [--record=FILE]
+ *   tora-line [--pcap=PREFIX]
  */
 #include "ns3/core-module.h"
 #include "ns3/internet-module.h"
@@ -54,19 +54,12 @@ MakeRadios(const NodeContainer& nodes, YansWifiPhyHelper& phy)
  *
  * \param nodes the nodes
  * \param devices their radios
- * \param program the engine
- * \param record the file for the engine's record of the run, or nothing
  * \returns their interfaces
  */
 Ipv4InterfaceContainer
-MakeRouting(const NodeContainer& nodes,
-            const NetDeviceContainer& devices,
-            const std::string& program,
-            const std::string& record)
+MakeRouting(const NodeContainer& nodes, const NetDeviceContainer& devices)
 {
     ToraHelper tora;
-    tora.Set("Program", StringValue(program));
-    tora.Set("Record", StringValue(record));
     InternetStackHelper stack;
     stack.SetRoutingHelper(tora);
     stack.Install(nodes);
@@ -79,19 +72,15 @@ MakeRouting(const NodeContainer& nodes,
 int
 main(int argc, char* argv[])
 {
-    std::string program = "tora";
     std::string pcap;
-    std::string record;
     CommandLine cmd(__FILE__);
-    cmd.AddValue("program", "the engine", program);
     cmd.AddValue("pcap", "the beginning of the names of pcap files", pcap);
-    cmd.AddValue("record", "the file for the engine's record of the run", record);
     cmd.Parse(argc, argv);
 
     NodeContainer nodes(3);
     YansWifiPhyHelper phy;
     NetDeviceContainer devices = MakeRadios(nodes, phy);
-    Ipv4InterfaceContainer interfaces = MakeRouting(nodes, devices, program, record);
+    Ipv4InterfaceContainer interfaces = MakeRouting(nodes, devices);
 
     uint32_t received = 0;
     Ptr<Socket> sink = Socket::CreateSocket(nodes.Get(2), UdpSocketFactory::GetTypeId());

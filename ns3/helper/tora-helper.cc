@@ -5,15 +5,15 @@
 
 #include "ns3/ipv4-list-routing.h"
 #include "ns3/ipv4.h"
-#include "ns3/tora-routing.h"
-#include "ns3/tora-world.h"
+#include "ns3/tora-routing-protocol.h"
 
 namespace ns3
 {
 
 ToraHelper::ToraHelper()
+    : m_network(ns3::Create<ToraNetwork>())
 {
-    m_factory.SetTypeId("ns3::ToraRouting");
+    m_factory.SetTypeId("ns3::tora::RoutingProtocol");
 }
 
 ToraHelper*
@@ -25,7 +25,9 @@ ToraHelper::Copy() const
 Ptr<Ipv4RoutingProtocol>
 ToraHelper::Create(Ptr<Node> node) const
 {
-    Ptr<ToraRouting> routing = m_factory.Create<ToraRouting>();
+    Ptr<tora::RoutingProtocol> routing = m_factory.Create<tora::RoutingProtocol>();
+    m_network->Add(node);
+    routing->SetSurroundings(MakeCallback(&ToraNetwork::Look, m_network));
     node->AggregateObject(routing);
     return routing;
 }
@@ -39,7 +41,16 @@ ToraHelper::Set(std::string name, const AttributeValue& value)
 void
 ToraHelper::AddLink(Ptr<Node> a, Ptr<Node> b) const
 {
-    ToraWorld::Get()->AddLink(a->GetId(), b->GetId());
+    m_network->AddLink(a, b);
+}
+
+void
+ToraHelper::AddDestinations(const NodeContainer& nodes) const
+{
+    for (auto node = nodes.Begin(); node != nodes.End(); node++)
+    {
+        m_network->AddDestination(*node);
+    }
 }
 
 int64_t
@@ -48,7 +59,7 @@ ToraHelper::AssignStreams(NodeContainer c, int64_t stream) const
     int64_t current = stream;
     for (auto node = c.Begin(); node != c.End(); node++)
     {
-        Ptr<ToraRouting> routing = (*node)->GetObject<ToraRouting>();
+        Ptr<tora::RoutingProtocol> routing = (*node)->GetObject<tora::RoutingProtocol>();
         NS_ASSERT_MSG(routing, "TORA is not installed on node " << (*node)->GetId());
         current += routing->AssignStreams(current);
     }

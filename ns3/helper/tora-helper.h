@@ -4,6 +4,8 @@
 #ifndef TORA_HELPER_H
 #define TORA_HELPER_H
 
+#include "tora-network.h"
+
 #include "ns3/ipv4-routing-helper.h"
 #include "ns3/node-container.h"
 #include "ns3/node.h"
@@ -17,6 +19,12 @@ namespace ns3
 /**
  * \ingroup tora
  * \brief Helper class that adds TORA routing to nodes.
+ *
+ * The nodes that a helper and its copies are installed on are a network: each of them may meet each
+ * other one, and each is a destination. A node takes the others as they are when it starts, so all
+ * nodes that it is to meet have to have their addresses by then. A node has at most 255 neighbours
+ * and 64 destinations; with more nodes AddLink() names those that may meet, and AddDestinations()
+ * those that routes are found to.
  */
 class ToraHelper : public Ipv4RoutingHelper
 {
@@ -44,18 +52,25 @@ class ToraHelper : public Ipv4RoutingHelper
      * \param name the name of the attribute to set
      * \param value the value of the attribute to set.
      *
-     * This method controls the attributes of ns3::ToraRouting
+     * This method controls the attributes of ns3::tora::RoutingProtocol
      */
     void Set(std::string name, const AttributeValue& value);
 
     /**
-     * Names a link between two nodes. Without it every two nodes have one, and with it only those
-     * that it names; a node has at most 32.
+     * Names two nodes that may meet. From the first call on only those that are named may; so no
+     * frames are prepared for others.
      *
      * \param a a node
      * \param b another
      */
     void AddLink(Ptr<Node> a, Ptr<Node> b) const;
+
+    /**
+     * Names destinations. From the first call on routes are found only to those that are named.
+     *
+     * \param nodes the nodes
+     */
+    void AddDestinations(const NodeContainer& nodes) const;
 
     /**
      * Assign a fixed random variable stream number to the random variables
@@ -71,7 +86,8 @@ class ToraHelper : public Ipv4RoutingHelper
     int64_t AssignStreams(NodeContainer c, int64_t stream) const;
 
   private:
-    ObjectFactory m_factory; //!< the factory to create ToraRouting objects
+    ObjectFactory m_factory;    //!< the factory to create tora::RoutingProtocol objects
+    Ptr<ToraNetwork> m_network; //!< the nodes, the same for all copies of the helper
 };
 
 } // namespace ns3

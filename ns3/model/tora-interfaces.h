@@ -4,6 +4,7 @@
 #ifndef TORA_INTERFACES_H
 #define TORA_INTERFACES_H
 
+#include "ns3/arp-cache.h"
 #include "ns3/ipv4-route.h"
 #include "ns3/ipv4.h"
 #include "ns3/net-device.h"
@@ -12,20 +13,18 @@
 #include <cstdint>
 #include <map>
 
-namespace ns3
+namespace ns3::tora
 {
 
 /**
  * \ingroup tora
- * \brief The interfaces of a node that TORA uses, each with a socket for its broadcast packets, and
- * the routes that need no next hop.
+ * \brief The interfaces of a node that TORA uses, each with a socket for its broadcast packets and
+ * ARP, and the routes that need no next hop.
  */
-class ToraInterfaces
+class Interfaces
 {
   public:
-    /**
-     * \param ipv4 IP of the node, whose interface 0 is loopback
-     */
+    /// \param ipv4 IP of the node, whose interface 0 is loopback
     void SetIpv4(Ptr<Ipv4> ipv4);
     /**
      * Opens the socket of an interface.
@@ -35,54 +34,64 @@ class ToraInterfaces
      * \param receive what is called when packets come
      */
     void Open(uint32_t interface, uint16_t port, Callback<void, Ptr<Socket>> receive);
-    /**
-     * Closes the socket of an interface.
-     *
-     * \param interface the interface
-     * \returns whether it was open
-     */
-    bool Close(uint32_t interface);
+    /// Closes the socket of an interface, where it is open.
+    /// \param interface the interface
+    void Close(uint32_t interface);
     /// Closes all sockets, and lets go of IP.
     void CloseAll();
-    /**
-     * \returns the sockets by interface
-     */
-    const std::map<uint32_t, Ptr<Socket>>& GetSockets() const;
-    /**
-     * \param device a device of the node
-     * \returns whether it is the loopback device
-     */
-    bool IsLoopback(Ptr<const NetDevice> device) const;
-    /**
-     * A route over a given interface without a next hop.
-     *
-     * \param destination the destination
-     * \param interface the interface
-     * \returns the route
-     */
+
+    /// \param interface an interface
+    /// \returns whether its socket is open
+    bool IsOpen(uint32_t interface) const
+    {
+        return m_sockets.count(interface) > 0;
+    }
+
+    /// \returns the sockets by interface
+    const std::map<uint32_t, Ptr<Socket>>& GetSockets() const
+    {
+        return m_sockets;
+    }
+
+    /// \returns the first address of the node as a number, or 0 where it has none but loopback's
+    uint32_t GetNumber() const;
+
+    /// \param device a device of the node
+    /// \returns whether it is the loopback device
+    bool IsLoopback(Ptr<const NetDevice> device) const
+    {
+        return device == m_lo;
+    }
+
+    /// \param destination the destination of a packet
+    /// \param interface the interface that it goes over
+    /// \returns its route without a next hop
     Ptr<Ipv4Route> GetDirectRoute(Ipv4Address destination, uint32_t interface) const;
-    /**
-     * A route to this node itself, over which a packet comes to RouteInput() of the routing.
-     *
-     * \param destination the destination
-     * \param oif the device that is asked for, or none
-     * \returns the route
-     */
+    /// \param destination the destination of a packet
+    /// \param oif the device that is asked for, or none
+    /// \returns a route over which the packet comes to RouteInput() of this node's routing
     Ptr<Ipv4Route> GetLoopbackRoute(Ipv4Address destination, Ptr<NetDevice> oif) const;
-    /**
-     * Finds the interface that an address is a broadcast address of.
-     *
-     * \param address the address
-     * \returns the interface, or -1
-     */
+    /// \param address an address
+    /// \returns the interface that it is a broadcast or multicast address of, or -1
     int32_t GetOfBroadcast(Ipv4Address address) const;
+    /// \param route the route of a packet
+    /// \returns whether the packet can go at once: ARP knows the next hop, or is not needed
+    bool IsResolved(Ptr<Ipv4Route> route) const;
+    /// Lets ARP ask for a neighbour anew that it gave up: it is heard.
+    /// \param address its address
+    /// \param interface the interface
+    void Revive(Ipv4Address address, uint32_t interface) const;
 
   private:
+    /// \param interface an interface
+    /// \returns its ARP cache, or nothing where its device needs none
+    Ptr<ArpCache> CacheOf(uint32_t interface) const;
+
     Ptr<Ipv4> m_ipv4;                          //!< IP of the node
     Ptr<NetDevice> m_lo;                       //!< its loopback device
     std::map<uint32_t, Ptr<Socket>> m_sockets; //!< sockets by interface
 };
 
-} // namespace ns3
+} // namespace ns3::tora
 
 #endif /* TORA_INTERFACES_H */

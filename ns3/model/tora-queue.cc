@@ -3,90 +3,69 @@
 
 #include "tora-queue.h"
 
-#include <algorithm>
+#include "ns3/simulator.h"
 
-namespace ns3
+#include <algorithm>
+#include <iterator>
+
+namespace ns3::tora
 {
 
 namespace
 {
 
-/**
- * Takes entries out of a list.
- *
- * \tparam Test the type of the test
- * \param entries the list
- * \param test whether an entry goes
- * \returns the entries that went, in order
- */
-template <typename Test>
-std::vector<ToraQueueEntry>
-TakeIf(std::list<ToraQueueEntry>& entries, Test test)
-{
-    std::vector<ToraQueueEntry> taken;
-    for (auto entry = entries.begin(); entry != entries.end();)
-    {
-        if (test(*entry))
-        {
-            taken.push_back(*entry);
-            entry = entries.erase(entry);
-        }
-        else
-        {
-            entry++;
-        }
-    }
-    return taken;
-}
+/// How long a data packet is known that was sent or forwarded.
+const Time SEEN_LIMIT = Seconds(10);
 
 } // namespace
 
 bool
-ToraQueueEntry::MayGoTo(uint32_t hop) const
+QueueEntry::MayGoTo(uint32_t hop) const
 {
     return hop == 0 || (hop != from && hop != avoided);
 }
 
-void
-ToraQueue::SetMaxLength(uint32_t length)
-{
-    m_maxLength = length;
-}
-
-uint32_t
-ToraQueue::GetMaxLength() const
-{
-    return m_maxLength;
-}
-
-std::optional<ToraQueueEntry>
-ToraQueue::Enqueue(const ToraQueueEntry& entry)
+std::optional<QueueEntry>
+RequestQueue::Enqueue(const QueueEntry& entry)
 {
     m_entries.push_back(entry);
     if (m_entries.size() <= m_maxLength)
     {
         return std::nullopt;
     }
-    ToraQueueEntry first = m_entries.front();
+    QueueEntry first = m_entries.front();
     m_entries.pop_front();
     return first;
 }
 
 bool
-ToraQueue::Has(Ipv4Address destination, uint32_t hop) const
+RequestQueue::Has(Ipv4Address destination, uint32_t hop) const
 {
-    return std::any_of(m_entries.begin(),
-                       m_entries.end(),
-                       [destination, hop](const ToraQueueEntry& entry) {
-                           return entry.header.GetDestination() == destination &&
-                                  entry.MayGoTo(hop);
-                       });
+    return std::any_of(m_entries.begin(), m_entries.end(), [=](const QueueEntry& entry) {
+        return entry.header.GetDestination() == destination && entry.MayGoTo(hop);
+    });
 }
 
-std::vector<ToraQueueEntry>
-ToraQueue::Take(Ipv4Address destination, uint32_t hop, uint32_t most)
+std::vector<QueueEntry>
+RequestQueue::TakeIf(const std::function<bool(const QueueEntry&)>& test)
 {
-    return TakeIf(m_entries, [destination, hop, &most](const ToraQueueEntry& entry) {
+    std::vector<QueueEntry> taken;
+    for (auto entry = m_entries.begin(); entry != m_entries.end();)
+    {
+        bool isTaken = test(*entry);
+        if (isTaken)
+        {
+            taken.push_back(*entry);
+        }
+        entry = isTaken ? m_entries.erase(entry) : std::next(entry);
+    }
+    return taken;
+}
+
+std::vector<QueueEntry>
+RequestQueue::Take(Ipv4Address destination, uint32_t hop, uint32_t most)
+{
+    return TakeIf([destination, hop, &most](const QueueEntry& entry) {
         bool isTaken =
             entry.header.GetDestination() == destination && entry.MayGoTo(hop) && most > 0;
         most -= isTaken;
@@ -94,20 +73,14 @@ ToraQueue::Take(Ipv4Address destination, uint32_t hop, uint32_t most)
     });
 }
 
-std::vector<ToraQueueEntry>
-ToraQueue::TakeExpired(Time now)
+std::vector<QueueEntry>
+RequestQueue::TakeExpired(Time now)
 {
-    return TakeIf(m_entries, [now](const ToraQueueEntry& entry) { return entry.until <= now; });
-}
-
-std::vector<ToraQueueEntry>
-ToraQueue::TakeAll()
-{
-    return TakeIf(m_entries, [](const ToraQueueEntry&) { return true; });
+    return TakeIf([now](const QueueEntry& entry) { return entry.until <= now; });
 }
 
 std::set<Ipv4Address>
-ToraQueue::GetDestinations() const
+RequestQueue::GetDestinations() const
 {
     std::set<Ipv4Address> destinations;
     for (const auto& entry : m_entries)
@@ -117,10 +90,53 @@ ToraQueue::GetDestinations() const
     return destinations;
 }
 
-uint32_t
-ToraQueue::GetSize() const
+void
+PacketHistory::Add(const Ipv4Header& header)
 {
-    return m_entries.size();
+    m_seen[NameOf(header)] = {Simulator::Now(), 0};
 }
 
-} // namespace ns3
+void
+PacketHistory::SetHop(const Ipv4Header& header, uint32_t hop)
+{
+    auto seen = m_seen.find(NameOf(header));
+    if (seen != m_seen.end())
+    {
+        seen->second.hop = hop;
+    }
+}
+
+std::optional<uint32_t>
+PacketHistory::GetHop(const Ipv4Header& header) const
+{
+    auto seen = m_seen.find(NameOf(header));
+    return seen == m_seen.end() ? std::nullopt : std::optional<uint32_t>(seen->second.hop);
+}
+
+void
+PacketHistory::Expire()
+{
+    Time now = Simulator::Now();
+    for (auto it = m_seen.begin(); it != m_seen.end();)
+    {
+        it = it->second.last + SEEN_LIMIT < now ? m_seen.erase(it) : std::next(it);
+    }
+}
+
+void
+PacketHistory::Clear()
+{
+    m_seen.clear();
+}
+
+PacketHistory::Name
+PacketHistory::NameOf(const Ipv4Header& header)
+{
+    return {header.GetSource().Get(),
+            header.GetDestination().Get(),
+            header.GetProtocol(),
+            header.GetIdentification(),
+            header.GetFragmentOffset()};
+}
+
+} // namespace ns3::tora

@@ -10,19 +10,22 @@
 #include "ns3/packet.h"
 
 #include <cstdint>
+#include <functional>
 #include <list>
+#include <map>
 #include <optional>
 #include <set>
+#include <tuple>
 #include <vector>
 
-namespace ns3
+namespace ns3::tora
 {
 
 /**
  * \ingroup tora
  * \brief A data packet that waits for a route.
  */
-struct ToraQueueEntry
+struct QueueEntry
 {
     Ptr<const Packet> packet;                            //!< the packet, without its header
     Ipv4Header header;                                   //!< its header
@@ -32,13 +35,8 @@ struct ToraQueueEntry
     uint32_t from{0};    //!< the number of the neighbour that it came from, or 0
     uint32_t avoided{0}; //!< the number of the next hop that it came back from, or 0
 
-    /**
-     * Tells whether the packet may go to a neighbour: not where it came from, nor where it was
-     * before.
-     *
-     * \param hop the number of the neighbour
-     * \returns whether it may go there
-     */
+    /// \param hop the number of a neighbour
+    /// \returns whether the packet may go there: it did not come from there, nor back from there
     bool MayGoTo(uint32_t hop) const;
 };
 
@@ -46,24 +44,28 @@ struct ToraQueueEntry
  * \ingroup tora
  * \brief The data packets of a node that wait for routes, in the order in which they came.
  */
-class ToraQueue
+class RequestQueue
 {
   public:
-    /**
-     * \param length the most packets that wait
-     */
-    void SetMaxLength(uint32_t length);
-    /**
-     * \returns the most packets that wait
-     */
-    uint32_t GetMaxLength() const;
+    /// \param length the most packets that wait
+    void SetMaxLength(uint32_t length)
+    {
+        m_maxLength = length;
+    }
+
+    /// \returns the most packets that wait
+    uint32_t GetMaxLength() const
+    {
+        return m_maxLength;
+    }
+
     /**
      * Adds a packet at the end. Where the queue is full the packet at its front goes.
      *
      * \param entry the packet
      * \returns the packet that had to go, which is the new one where the greatest length is 0
      */
-    std::optional<ToraQueueEntry> Enqueue(const ToraQueueEntry& entry);
+    std::optional<QueueEntry> Enqueue(const QueueEntry& entry);
     /**
      * Tells whether packets wait that may go to a neighbour.
      *
@@ -80,36 +82,78 @@ class ToraQueue
      * \param most how many at most
      * \returns the packets that may go there, in order
      */
-    std::vector<ToraQueueEntry> Take(Ipv4Address destination,
-                                     uint32_t hop = 0,
-                                     uint32_t most = UINT32_MAX);
-    /**
-     * Takes out all packets whose time is over.
-     *
-     * \param now the present moment
-     * \returns the packets, in order
-     */
-    std::vector<ToraQueueEntry> TakeExpired(Time now);
-    /**
-     * Takes out all packets.
-     *
-     * \returns the packets, in order
-     */
-    std::vector<ToraQueueEntry> TakeAll();
-    /**
-     * \returns the destinations that packets wait for
-     */
+    std::vector<QueueEntry> Take(Ipv4Address destination,
+                                 uint32_t hop = 0,
+                                 uint32_t most = UINT32_MAX);
+    /// \param now the present moment
+    /// \returns the packets whose time is over, which are taken out, in order
+    std::vector<QueueEntry> TakeExpired(Time now);
+
+    /// Takes out all packets.
+    void Clear()
+    {
+        m_entries.clear();
+    }
+
+    /// \returns the destinations that packets wait for
     std::set<Ipv4Address> GetDestinations() const;
-    /**
-     * \returns how many packets wait
-     */
-    uint32_t GetSize() const;
+
+    /// \returns how many packets wait
+    uint32_t GetSize() const
+    {
+        return m_entries.size();
+    }
 
   private:
-    uint32_t m_maxLength{64};            //!< the most packets that wait
-    std::list<ToraQueueEntry> m_entries; //!< the packets
+    /// \param test whether an entry is taken
+    /// \returns the entries that are taken out, in order
+    std::vector<QueueEntry> TakeIf(const std::function<bool(const QueueEntry&)>& test);
+
+    uint32_t m_maxLength{64};        //!< the most packets that wait
+    std::list<QueueEntry> m_entries; //!< the packets
 };
 
-} // namespace ns3
+/**
+ * \ingroup tora
+ * \brief The data packets that a node sent or forwarded within 10 s.
+ */
+class PacketHistory
+{
+  public:
+    /// The node takes a packet, which waits as yet.
+    /// \param header its header
+    void Add(const Ipv4Header& header);
+    /// The node sends a packet; nothing is noted of one that isn't known.
+    /// \param header its header
+    /// \param hop the number of the next hop
+    void SetHop(const Ipv4Header& header, uint32_t hop);
+    /// \param header the header of a packet
+    /// \returns the number of the next hop that it went to, 0 where it waits; nothing where it
+    /// isn't known
+    std::optional<uint32_t> GetHop(const Ipv4Header& header) const;
+    /// Forgets the packets whose time is over.
+    void Expire();
+    /// Forgets all packets.
+    void Clear();
+
+  private:
+    /// What tells a packet of IPv4 from others: source, destination, protocol, number and offset.
+    using Name = std::tuple<uint32_t, uint32_t, uint8_t, uint16_t, uint16_t>;
+
+    /// A data packet that was sent or forwarded.
+    struct Seen
+    {
+        Time last;       //!< when it was taken last
+        uint32_t hop{0}; //!< the number of the next hop that it went to, or 0 where it waits
+    };
+
+    /// \param header the header of a packet
+    /// \returns what tells it from others
+    static Name NameOf(const Ipv4Header& header);
+
+    std::map<Name, Seen> m_seen; //!< the packets
+};
+
+} // namespace ns3::tora
 
 #endif /* TORA_QUEUE_H */

@@ -1,13 +1,7 @@
 // SPDX-FileCopyrightText: 2026 the Ginavoru authors
 // SPDX-License-Identifier: GPL-2.0-only
 
-#define NS_LOG_APPEND_CONTEXT                                                                      \
-    if (m_ipv4)                                                                                    \
-    {                                                                                              \
-        std::clog << "[node " << m_ipv4->GetObject<Node>()->GetId() << "] ";                       \
-    }
-
-#include "tora-routing.h"
+#include "tora-routing-protocol.h"
 
 #include "ns3/ipv4-route.h"
 #include "ns3/log.h"
@@ -15,87 +9,57 @@
 
 #include <algorithm>
 
-namespace ns3
+namespace ns3::tora
 {
 
 NS_LOG_COMPONENT_DEFINE("ToraRoutingData");
 
-namespace
-{
-
-/// Marks a packet of this node that has no route yet.
-class ToraDeferTag : public Tag
-{
-  public:
-    /**
-     * \brief Get the type ID.
-     * \return the object TypeId
-     */
-    static TypeId GetTypeId()
-    {
-        static TypeId tid = TypeId("ns3::ToraDeferTag")
-                                .SetParent<Tag>()
-                                .SetGroupName("Tora")
-                                .AddConstructor<ToraDeferTag>();
-        return tid;
-    }
-
-    TypeId GetInstanceTypeId() const override
-    {
-        return GetTypeId();
-    }
-
-    uint32_t GetSerializedSize() const override
-    {
-        return 0;
-    }
-
-    void Serialize(TagBuffer) const override
-    {
-    }
-
-    void Deserialize(TagBuffer) override
-    {
-    }
-
-    void Print(std::ostream& os) const override
-    {
-        os << "waits for a route";
-    }
-};
-
-} // namespace
-
 void
-ToraRouting::OnTick()
+RoutingProtocol::NoteSender(Ptr<NetDevice>,
+                            Ptr<const Packet> packet,
+                            uint16_t,
+                            const Address& from,
+                            const Address&,
+                            NetDevice::PacketType)
 {
-    if (!m_world)
-    {
-        return;
-    }
-    Time now = Simulator::Now();
-    ExpireNeighbours();
-    for (auto& entry : m_queue.TakeExpired(now))
-    {
-        Drop(entry, TIME_OVER);
-    }
-    m_history.Expire();
-    ServeQueue();
-    if (m_isUrgent || now + m_tick >= m_lastBroadcast + m_beaconInterval)
-    {
-        ScheduleBroadcast(m_tick);
-    }
+    m_sender = {packet->GetUid(), from};
 }
 
 uint32_t
-ToraRouting::HopTo(Ipv4Address destination) const
+RoutingProtocol::FindSender(Ptr<const Packet> packet) const
 {
-    auto hop = m_hops.find(m_world ? m_world->IdOf(destination) : 0);
+    return m_sender.packet == packet->GetUid() ? FindDevice(m_sender.device) : 0;
+}
+
+uint32_t
+RoutingProtocol::FindDevice(const Address& device) const
+{
+    for (const auto& [number, neighbour] : m_neighbours)
+    {
+        if (!device.IsInvalid() && neighbour.device == device)
+        {
+            return number;
+        }
+    }
+    return 0;
+}
+
+uint32_t
+RoutingProtocol::NumberOf(Ipv4Address address) const
+{
+    auto number = m_numbers.find(address);
+    return number == m_numbers.end() ? 0 : number->second;
+}
+
+uint32_t
+RoutingProtocol::HopTo(Ipv4Address destination) const
+{
+    auto hop = m_hops.find(NumberOf(destination));
     return hop == m_hops.end() ? 0 : hop->second;
 }
 
 Ptr<Ipv4Route>
-ToraRouting::RouteTo(Ipv4Address destination) const
+RoutingProtocol::RouteTo(Ipv4Address destination) const
 {
     auto neighbour = m_neighbours.find(HopTo(destination));
     if (neighbour == m_neighbours.end() || neighbour->second.isSuspect)
@@ -108,10 +72,10 @@ ToraRouting::RouteTo(Ipv4Address destination) const
 }
 
 Ptr<Ipv4Route>
-ToraRouting::RouteOutput(Ptr<Packet> p,
-                         const Ipv4Header& header,
-                         Ptr<NetDevice> oif,
-                         Socket::SocketErrno& sockerr)
+RoutingProtocol::RouteOutput(Ptr<Packet>,
+                             const Ipv4Header& header,
+                             Ptr<NetDevice> oif,
+                             Socket::SocketErrno& sockerr)
 {
     NS_LOG_FUNCTION(this << header << oif);
     Ipv4Address destination = header.GetDestination();
@@ -128,8 +92,7 @@ ToraRouting::RouteOutput(Ptr<Packet> p,
         return m_interfaces.GetDirectRoute(destination,
                                            oif ? m_ipv4->GetInterfaceForDevice(oif) : interface);
     }
-    bool isStarted = m_world && m_world->IsStarted();
-    if (m_interfaces.GetSockets().empty() || (isStarted && m_world->IdOf(destination) == 0))
+    if (m_interfaces.GetSockets().empty() || (m_router.IsMade() && NumberOf(destination) == 0))
     {
         sockerr = Socket::ERROR_NOROUTETOHOST;
         return nullptr;
@@ -140,49 +103,26 @@ ToraRouting::RouteOutput(Ptr<Packet> p,
         sockerr = Socket::ERROR_NOROUTETOHOST;
         return nullptr;
     }
-    if (route)
-    {
-        if (p)
-        {
-            MarkHop(p);
-        }
-        return route;
-    }
-    // The packet comes back over loopback, complete, and waits then.
-    ToraDeferTag tag;
-    if (p && !p->PeekPacketTag(tag))
-    {
-        p->AddPacketTag(tag);
-    }
-    return m_interfaces.GetLoopbackRoute(destination, oif);
+    // Without a route the packet comes back over loopback, complete, and waits then.
+    return route ? route : m_interfaces.GetLoopbackRoute(destination, oif);
 }
 
 bool
-ToraRouting::RouteInput(Ptr<const Packet> p,
-                        const Ipv4Header& header,
-                        Ptr<const NetDevice> idev,
-                        UnicastForwardCallback ucb,
-                        MulticastForwardCallback,
-                        LocalDeliverCallback lcb,
-                        ErrorCallback ecb)
+RoutingProtocol::RouteInput(Ptr<const Packet> p,
+                            const Ipv4Header& header,
+                            Ptr<const NetDevice> idev,
+                            Input::Unicast ucb,
+                            Input::Multicast,
+                            Input::Local lcb,
+                            Input::Error ecb)
 {
     NS_LOG_FUNCTION(this << p->GetUid() << header << idev);
     int32_t interface = m_ipv4->GetInterfaceForDevice(idev);
     NS_ASSERT_MSG(interface >= 0, "a packet comes from a device of this node");
-    ToraQueueEntry entry{p, header, ucb, ecb, Simulator::Now() + m_maxQueueTime};
-    ToraHopTag hop;
-    if (m_isReturnWaiting && p->PeekPacketTag(hop))
-    {
-        entry.from = hop.GetSender();
-    }
-    if (m_interfaces.IsLoopback(idev))
-    {
-        if (TakeDeferred(entry))
-        {
-            return true;
-        }
-    }
-    else if (m_ipv4->GetInterfaceForAddress(header.GetSource()) >= 0)
+    QueueEntry entry{p, header, ucb, ecb, Simulator::Now() + m_maxQueueTime};
+    bool isLoopback = m_interfaces.IsLoopback(idev);
+    entry.from = isLoopback || !m_isReturnWaiting ? 0 : FindSender(p);
+    if (!isLoopback && m_ipv4->GetInterfaceForAddress(header.GetSource()) >= 0)
     {
         Return(entry);
         return true;
@@ -199,28 +139,24 @@ ToraRouting::RouteInput(Ptr<const Packet> p,
         }
         return true;
     }
+    if (isLoopback)
+    {
+        TakeDeferred(entry);
+        return true;
+    }
     return Pass(entry, interface);
 }
 
-bool
-ToraRouting::TakeDeferred(ToraQueueEntry entry)
+void
+RoutingProtocol::TakeDeferred(QueueEntry entry)
 {
-    ToraDeferTag tag;
-    if (!entry.packet->PeekPacketTag(tag))
-    {
-        return false;
-    }
-    Ptr<Packet> packet = entry.packet->Copy();
-    packet->RemovePacketTag(tag);
-    entry.packet = packet;
     // Forwarding takes one off, and a node's own packets have not passed a hop yet.
     entry.header.SetTtl(std::min(entry.header.GetTtl() + 1, 255));
     Forward(entry);
-    return true;
 }
 
 bool
-ToraRouting::Pass(const ToraQueueEntry& entry, uint32_t interface)
+RoutingProtocol::Pass(const QueueEntry& entry, uint32_t interface)
 {
     if (entry.header.GetDestination().IsMulticast() || entry.header.GetDestination().IsBroadcast())
     {
@@ -242,10 +178,10 @@ ToraRouting::Pass(const ToraQueueEntry& entry, uint32_t interface)
 }
 
 void
-ToraRouting::Forward(const ToraQueueEntry& entry)
+RoutingProtocol::Forward(const QueueEntry& entry)
 {
     Ipv4Address destination = entry.header.GetDestination();
-    if (m_world->IsStarted() && m_world->IdOf(destination) == 0)
+    if (m_router.IsMade() && NumberOf(destination) == 0)
     {
         Drop(entry, NO_DESTINATION);
         return;
@@ -262,50 +198,32 @@ ToraRouting::Forward(const ToraQueueEntry& entry)
 }
 
 void
-ToraRouting::Send(const ToraQueueEntry& entry, Ptr<Ipv4Route> route)
+RoutingProtocol::Send(const QueueEntry& entry, Ptr<Ipv4Route> route)
 {
-    Ptr<const Packet> packet = entry.packet;
     if (m_isReturnWaiting)
     {
         m_history.Add(entry.header);
-        Ptr<Packet> copy = packet->Copy();
-        MarkHop(copy);
-        packet = copy;
     }
     if (uint32_t hop = HopTo(entry.header.GetDestination()))
     {
         m_history.SetHop(entry.header, hop);
     }
-    entry.forward(route, packet, entry.header);
+    entry.forward(route, entry.packet, entry.header);
 }
 
 void
-ToraRouting::Return(const ToraQueueEntry& entry)
+RoutingProtocol::Return(const QueueEntry& entry)
 {
-    uint32_t hop = HopTo(entry.header.GetDestination());
-    if (m_isReturnNoticed && hop != 0 && m_history.GetHop(entry.header) == hop)
-    {
-        m_world->Notice(m_id, hop);
-    }
     m_cameBack++;
     if (!m_isReturnWaiting)
     {
         Drop(entry, CAME_BACK);
         return;
     }
-    ToraQueueEntry waiting = entry;
+    QueueEntry waiting = entry;
+    uint32_t hop = HopTo(entry.header.GetDestination());
     waiting.avoided = m_history.GetHop(entry.header).value_or(hop);
     Wait(waiting);
 }
 
-void
-ToraRouting::MarkHop(Ptr<Packet> packet) const
-{
-    ToraHopTag tag(m_id);
-    if (m_isReturnWaiting)
-    {
-        packet->ReplacePacketTag(tag);
-    }
-}
-
-} // namespace ns3
+} // namespace ns3::tora

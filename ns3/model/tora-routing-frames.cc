@@ -1,13 +1,7 @@
 // SPDX-FileCopyrightText: 2026 the Ginavoru authors
 // SPDX-License-Identifier: GPL-2.0-only
 
-#define NS_LOG_APPEND_CONTEXT                                                                      \
-    if (m_ipv4)                                                                                    \
-    {                                                                                              \
-        std::clog << "[node " << m_ipv4->GetObject<Node>()->GetId() << "] ";                       \
-    }
-
-#include "tora-routing.h"
+#include "tora-routing-protocol.h"
 
 #include "ns3/inet-socket-address.h"
 #include "ns3/log.h"
@@ -17,7 +11,7 @@
 
 #include <algorithm>
 
-namespace ns3
+namespace ns3::tora
 {
 
 NS_LOG_COMPONENT_DEFINE("ToraRoutingFrames");
@@ -30,77 +24,156 @@ constexpr uint32_t IP_UDP_SIZE = 28;
 /// How long a broadcast packet is waited for that a radio does not send.
 const Time RADIO_LIMIT = Seconds(1);
 
+/// Adds a frame to a list, in the place of those that say nothing that it doesn't say.
+void
+Replace(std::vector<Frame>& frames, const Frame& frame)
+{
+    frames.erase(std::remove_if(frames.begin(),
+                                frames.end(),
+                                [&frame](const Frame& earlier) {
+                                    return frame.Supersedes(earlier);
+                                }),
+                 frames.end());
+    frames.push_back(frame);
+}
+
 } // namespace
 
 void
-ToraRouting::TakeFrames(const std::vector<ToraFrame>& frames)
+RoutingProtocol::OnTick()
 {
-    for (const ToraFrame& frame : frames)
+    m_tickEvent = Simulator::Schedule(m_tick, &RoutingProtocol::OnTick, this);
+    if (!m_router.IsMade())
     {
-        auto neighbour = m_neighbours.find(frame.GetReceiver());
-        bool isHello = frame.GetKind() == ToraFrame::HELLO;
-        if (neighbour == m_neighbours.end() ||
-            (isHello && !m_isOld && frame.GetVersion() < neighbour->second.newest))
-        {
-            continue;
-        }
-        m_due.erase(std::remove_if(
-                        m_due.begin(),
-                        m_due.end(),
-                        [&frame](const ToraFrame& earlier) { return frame.Supersedes(earlier); }),
-                    m_due.end());
-        m_due.push_back(frame);
-        std::vector<uint8_t> lives = frame.GetLives();
-        m_isUrgent |= !isHello || lives != neighbour->second.hello;
+        return;
+    }
+    Time now = Simulator::Now();
+    m_router.Tick(GetTick());
+    TakeFrames();
+    TakeChanges();
+    ExpireNeighbours();
+    for (auto& entry : m_queue.TakeExpired(now))
+    {
+        Drop(entry, TIME_OVER);
+    }
+    m_history.Expire();
+    ServeQueue();
+    if (m_isUrgent || now + m_tick >= m_lastBroadcast + m_beaconInterval)
+    {
+        ScheduleBroadcast(m_tick);
+    }
+}
+
+void
+RoutingProtocol::TakeFrames()
+{
+    uint64_t tick = GetTick();
+    while (auto frame = m_router.PollFrame(tick))
+    {
+        TakeFrame(*frame);
+    }
+}
+
+void
+RoutingProtocol::TakeFrame(const Frame& frame)
+{
+    bool isHello = frame.GetKind() == Frame::HELLO;
+    auto neighbour = m_neighbours.find(frame.GetReceiver());
+    if (neighbour == m_neighbours.end())
+    {
+        // It is not sent to a node that is not heard. A HELLO is kept for when it is.
         if (isHello)
         {
-            neighbour->second.hello = lives;
+            Replace(m_hellos[frame.GetReceiver()], frame);
+        }
+        return;
+    }
+    if (isHello && frame.GetVersion() < neighbour->second.newest)
+    {
+        return;
+    }
+    Replace(m_due, frame);
+    std::vector<uint8_t> lives = frame.GetLives();
+    m_isUrgent |= !isHello || lives != neighbour->second.hello;
+    if (isHello)
+    {
+        neighbour->second.hello = lives;
+    }
+}
+
+void
+RoutingProtocol::TakeChanges()
+{
+    while (auto change = m_router.PollChange())
+    {
+        switch (change->kind)
+        {
+        case Change::LINK_UP:
+            NS_LOG_LOGIC("link to " << Ipv4Address(change->node) << " up");
+            m_linkUpTrace(Ipv4Address(change->node));
+            break;
+        case Change::LINK_DOWN:
+            NS_LOG_LOGIC("link to " << Ipv4Address(change->node) << " down: " << change->reason);
+            m_linkDownTrace(Ipv4Address(change->node), change->reason);
+            break;
+        case Change::NEXT_HOP:
+            SetNextHop(change->node, change->hop);
+            break;
         }
     }
 }
 
 void
-ToraRouting::ScheduleBroadcast(Time within)
+RoutingProtocol::SetNextHop(uint32_t destination, uint32_t neighbour)
+{
+    NS_LOG_LOGIC("next hop to " << Ipv4Address(destination) << ": " << Ipv4Address(neighbour));
+    uint32_t& hop = m_hops[destination];
+    uint32_t before = hop;
+    hop = neighbour;
+    m_routeTrace(Ipv4Address(destination), Ipv4Address(before), Ipv4Address(neighbour));
+    if (neighbour != 0 && m_queue.GetSize() > 0)
+    {
+        ScheduleQueue();
+    }
+}
+
+void
+RoutingProtocol::ScheduleBroadcast(Time within)
 {
     if (!m_isScheduled)
     {
         m_isScheduled = true;
         Simulator::ScheduleWithContext(GetNodeNumber(),
                                        m_random->GetValue(0, 1) * within,
-                                       &ToraRouting::Broadcast,
-                                       Ptr<ToraRouting>(this));
+                                       &RoutingProtocol::Broadcast,
+                                       Ptr<RoutingProtocol>(this));
     }
 }
 
 void
-ToraRouting::Broadcast()
+RoutingProtocol::Broadcast()
 {
     m_isScheduled = false;
     Time now = Simulator::Now();
-    if (m_interfaces.GetSockets().empty() || (m_unsent > 0 && now < m_lastBroadcast + RADIO_LIMIT))
-    {
-        return;
-    }
-    if (!m_isUrgent && now + m_tick < m_lastBroadcast + m_beaconInterval)
+    bool isWaiting = !m_unsent.empty() && now < m_lastBroadcast + RADIO_LIMIT;
+    if (!m_router.IsMade() || isWaiting ||
+        (!m_isUrgent && now + m_tick < m_lastBroadcast + m_beaconInterval))
     {
         return;
     }
     ToraHeader header = TakePacket();
-    std::vector<uint64_t> ids;
-    for (const auto& frame : header.GetFrames())
-    {
-        ids.push_back(frame.GetId());
-    }
-    m_serial++;
     m_lastBroadcast = now;
-    m_unsent = m_radios.size();
+    m_unsent.clear();
     for (const auto& [interface, socket] : m_interfaces.GetSockets())
     {
         Ptr<Packet> packet = Create<Packet>();
         packet->AddHeader(header);
         m_controlTrace(packet, header);
         m_controlBytes += packet->GetSize() + IP_UDP_SIZE;
-        packet->AddPacketTag(ToraTag(m_id, m_serial, ids));
+        if (m_radios.count(interface) > 0)
+        {
+            m_unsent.insert(packet->GetUid());
+        }
         socket->SendTo(packet, 0, InetSocketAddress(Ipv4Address::GetBroadcast(), PORT));
     }
     m_isUrgent = !m_due.empty();
@@ -111,9 +184,9 @@ ToraRouting::Broadcast()
 }
 
 ToraHeader
-ToraRouting::TakePacket()
+RoutingProtocol::TakePacket()
 {
-    ToraHeader header(m_id);
+    ToraHeader header(m_number);
     uint32_t size = IP_UDP_SIZE + header.GetSerializedSize();
     auto frame = m_due.begin();
     while (frame != m_due.end() && size + frame->GetSize() < MAX_PACKET_SIZE)
@@ -127,68 +200,78 @@ ToraRouting::TakePacket()
 }
 
 void
-ToraRouting::OnTxBegin(Ptr<const Packet> packet, double)
+RoutingProtocol::OnTxBegin(Ptr<const Packet> packet, double)
 {
-    ToraTag tag;
-    if (m_unsent > 0 && packet->PeekPacketTag(tag) && tag.GetSender() == m_id &&
-        tag.GetSerial() == m_serial)
+    // Its number stays the same through the headers of the stack.
+    if (m_unsent.erase(packet->GetUid()) > 0 && m_unsent.empty() && m_isUrgent)
     {
-        m_unsent--;
-        if (m_unsent == 0 && m_isUrgent)
-        {
-            ScheduleBroadcast(m_tick / 10);
-        }
+        ScheduleBroadcast(m_tick / 10);
     }
 }
 
 void
-ToraRouting::Receive(Ptr<Socket> socket)
+RoutingProtocol::Receive(Ptr<Socket> socket)
 {
     Address from;
     while (Ptr<Packet> packet = socket->RecvFrom(from))
     {
-        ToraTag tag;
         ToraHeader header;
-        bool hasTag = packet->PeekPacketTag(tag);
         packet->RemoveHeader(header);
-        if (!m_world || !m_world->IsStarted() || !hasTag || !header.IsValid() ||
-            header.GetSender() == m_id || tag.GetIds().size() != header.GetFrames().size())
+        if (!header.IsValid() || packet->GetSize() > 0)
         {
             NS_LOG_LOGIC("a packet that is none of TORA");
+            m_malformed++;
+            continue;
+        }
+        uint32_t sender = header.GetSender();
+        if (!m_router.IsMade() || m_peers.count(sender) == 0)
+        {
+            NS_LOG_LOGIC("a packet of " << Ipv4Address(sender) << ", which is no neighbour");
             continue;
         }
         int32_t interface = m_ipv4->GetInterfaceForDevice(socket->GetBoundNetDevice());
-        Hear(header, InetSocketAddress::ConvertFrom(from).GetIpv4(), interface);
-        std::vector<ToraFrame> frames;
-        for (std::size_t i = 0; i < header.GetFrames().size(); i++)
-        {
-            if (header.GetFrames()[i].GetReceiver() == m_id)
-            {
-                frames.push_back(header.GetFrames()[i]);
-                frames.back().SetId(tag.GetIds()[i]);
-            }
-        }
-        if (!frames.empty())
-        {
-            m_world->Receive(m_id, header.GetSender(), frames);
-        }
+        Ipv4Address address = InetSocketAddress::ConvertFrom(from).GetIpv4();
+        Hear(header, address, interface, packet->GetUid());
+        HandIn(header);
     }
 }
 
 void
-ToraRouting::Hear(const ToraHeader& header, Ipv4Address address, uint32_t interface)
+RoutingProtocol::HandIn(const ToraHeader& header)
 {
-    bool isNew = m_neighbours.count(header.GetSender()) == 0;
-    ToraNeighbour& neighbour = m_neighbours[header.GetSender()];
+    for (const auto& frame : header.GetFrames())
+    {
+        if (frame.GetReceiver() == m_number && !m_router.Take(header.GetSender(), frame, GetTick()))
+        {
+            NS_LOG_LOGIC("a frame that is none of the link: " << frame);
+            m_malformed++;
+        }
+    }
+    TakeChanges();
+}
+
+void
+RoutingProtocol::Hear(const ToraHeader& header,
+                      Ipv4Address address,
+                      uint32_t interface,
+                      uint64_t packet)
+{
+    uint32_t number = header.GetSender();
+    bool isNew = m_neighbours.count(number) == 0;
+    Neighbour& neighbour = m_neighbours[number];
     neighbour.address = address;
     neighbour.interface = interface;
     neighbour.heard = Simulator::Now();
-    m_arp.Revive(address, interface);
+    neighbour.isNoticed = false;
+    if (m_sender.packet == packet)
+    {
+        neighbour.device = m_sender.device;
+    }
+    m_interfaces.Revive(address, interface);
     for (const auto& frame : header.GetFrames())
     {
-        neighbour.newest = std::max(neighbour.newest, frame.GetVersion());
+        neighbour.newest = std::max(neighbour.newest, std::min(frame.GetVersion(), Frame::NEWEST));
     }
-    neighbour.isNoticed = false;
     if (neighbour.isSuspect)
     {
         neighbour.isSuspect = false;
@@ -197,23 +280,35 @@ ToraRouting::Hear(const ToraHeader& header, Ipv4Address address, uint32_t interf
     if (isNew)
     {
         NS_LOG_LOGIC("hears " << address);
-        m_world->SetNear(m_id, header.GetSender(), true);
-        m_linkUpTrace(address);
+        std::vector<Frame> hellos;
+        m_hellos[number].swap(hellos);
+        for (const auto& hello : hellos)
+        {
+            TakeFrame(hello);
+        }
     }
 }
 
 void
-ToraRouting::ExpireNeighbours()
+RoutingProtocol::Cut(uint32_t neighbour)
+{
+    NS_LOG_LOGIC("cuts the link to " << Ipv4Address(neighbour));
+    m_router.Cut(neighbour, GetTick());
+    TakeChanges();
+}
+
+void
+RoutingProtocol::ExpireNeighbours()
 {
     Time now = Simulator::Now();
     Time missed = 2 * (m_beaconInterval + m_tick);
     for (auto it = m_neighbours.begin(); it != m_neighbours.end();)
     {
-        auto& [id, neighbour] = *it;
+        auto& [number, neighbour] = *it;
         if (m_isNoticing && !neighbour.isNoticed && neighbour.heard + missed < now)
         {
             neighbour.isNoticed = true;
-            m_world->Notice(m_id, id);
+            Cut(number);
         }
         if (neighbour.heard + m_heardTimeout >= now)
         {
@@ -221,54 +316,44 @@ ToraRouting::ExpireNeighbours()
             continue;
         }
         NS_LOG_LOGIC("hears no more of " << neighbour.address);
-        m_due.erase(
-            std::remove_if(m_due.begin(),
-                           m_due.end(),
-                           [id = id](const ToraFrame& frame) { return frame.GetReceiver() == id; }),
-            m_due.end());
-        m_world->SetNear(m_id, id, false);
-        m_linkDownTrace(neighbour.address);
+        DropFrames(number);
         it = m_neighbours.erase(it);
     }
 }
 
 void
-ToraRouting::OnDroppedMpdu(WifiMacDropReason reason, Ptr<const WifiMpdu> mpdu)
+RoutingProtocol::DropFrames(uint32_t neighbour)
 {
-    if (reason != WIFI_MAC_DROP_REACHED_RETRY_LIMIT || !m_world)
+    m_due.erase(std::remove_if(m_due.begin(),
+                               m_due.end(),
+                               [neighbour](const Frame& frame) {
+                                   return frame.GetReceiver() == neighbour;
+                               }),
+                m_due.end());
+}
+
+void
+RoutingProtocol::OnDroppedMpdu(WifiMacDropReason reason, Ptr<const WifiMpdu> mpdu)
+{
+    if (reason != WIFI_MAC_DROP_REACHED_RETRY_LIMIT)
     {
         return;
     }
-    uint32_t id = m_world->IdOfDevice(mpdu->GetHeader().GetAddr1());
-    auto neighbour = m_neighbours.find(id);
-    if (id == 0 || neighbour == m_neighbours.end())
+    uint32_t number = FindDevice(mpdu->GetHeader().GetAddr1());
+    if (number == 0)
     {
         return;
     }
-    NS_LOG_LOGIC("the radio gives up a frame to " << Ipv4Address(id));
+    NS_LOG_LOGIC("the radio gives up a frame to " << Ipv4Address(number));
     if (m_isSalvaging)
     {
-        neighbour->second.isSuspect = true;
+        m_neighbours[number].isSuspect = true;
         Salvage(mpdu->GetPacket());
     }
     if (m_isNoticing)
     {
-        m_world->Notice(m_id, id);
+        Cut(number);
     }
 }
 
-void
-ToraRouting::SetNextHop(uint32_t destination, uint32_t neighbour)
-{
-    NS_LOG_LOGIC("next hop to " << Ipv4Address(destination) << ": " << Ipv4Address(neighbour));
-    uint32_t& hop = m_hops[destination];
-    uint32_t before = hop;
-    hop = neighbour;
-    m_routeTrace(Ipv4Address(destination), Ipv4Address(before), Ipv4Address(neighbour));
-    if (neighbour != 0 && m_queue.GetSize() > 0)
-    {
-        ScheduleQueue();
-    }
-}
-
-} // namespace ns3
+} // namespace ns3::tora

@@ -1,13 +1,7 @@
 // SPDX-FileCopyrightText: 2026 the Ginavoru authors
 // SPDX-License-Identifier: GPL-2.0-only
 
-#define NS_LOG_APPEND_CONTEXT                                                                      \
-    if (m_ipv4)                                                                                    \
-    {                                                                                              \
-        std::clog << "[node " << m_ipv4->GetObject<Node>()->GetId() << "] ";                       \
-    }
-
-#include "tora-routing.h"
+#include "tora-routing-protocol.h"
 
 #include "ns3/icmpv4-l4-protocol.h"
 #include "ns3/icmpv4.h"
@@ -16,7 +10,7 @@
 #include "ns3/log.h"
 #include "ns3/simulator.h"
 
-namespace ns3
+namespace ns3::tora
 {
 
 NS_LOG_COMPONENT_DEFINE("ToraRoutingQueue");
@@ -32,7 +26,7 @@ const Time RESOLVE_INTERVAL = MilliSeconds(10);
 } // namespace
 
 void
-ToraRouting::Wait(const ToraQueueEntry& entry)
+RoutingProtocol::Wait(const QueueEntry& entry)
 {
     if (auto first = m_queue.Enqueue(entry))
     {
@@ -42,31 +36,31 @@ ToraRouting::Wait(const ToraQueueEntry& entry)
 }
 
 void
-ToraRouting::ScheduleQueue(Time delay)
+RoutingProtocol::ScheduleQueue(Time delay)
 {
     if (!m_isQueueScheduled)
     {
         m_isQueueScheduled = true;
         Simulator::ScheduleWithContext(GetNodeNumber(),
                                        delay,
-                                       &ToraRouting::ServeQueue,
-                                       Ptr<ToraRouting>(this));
+                                       &RoutingProtocol::ServeQueue,
+                                       Ptr<RoutingProtocol>(this));
     }
 }
 
 void
-ToraRouting::ServeQueue()
+RoutingProtocol::ServeQueue()
 {
     m_isQueueScheduled = false;
-    if (!m_world || !m_world->IsStarted())
+    if (!m_router.IsMade())
     {
         return;
     }
     Time now = Simulator::Now();
     for (Ipv4Address destination : m_queue.GetDestinations())
     {
-        uint32_t id = m_world->IdOf(destination);
-        if (id == 0)
+        uint32_t number = NumberOf(destination);
+        if (number == 0)
         {
             for (auto& entry : m_queue.Take(destination))
             {
@@ -77,16 +71,17 @@ ToraRouting::ServeQueue()
         {
             Release(destination, route);
         }
-        else if (m_asked.count(id) == 0 || m_asked[id] + NEED_INTERVAL <= now)
+        else if (m_asked.count(number) == 0 || m_asked[number] + NEED_INTERVAL <= now)
         {
-            m_asked[id] = now;
-            m_world->Need(m_id, id);
+            m_asked[number] = now;
+            m_router.Need(number, GetTick());
+            TakeChanges();
         }
     }
 }
 
 void
-ToraRouting::Release(Ipv4Address destination, Ptr<Ipv4Route> route)
+RoutingProtocol::Release(Ipv4Address destination, Ptr<Ipv4Route> route)
 {
     Time now = Simulator::Now();
     uint32_t hop = HopTo(destination);
@@ -95,7 +90,7 @@ ToraRouting::Release(Ipv4Address destination, Ptr<Ipv4Route> route)
     {
         return;
     }
-    if (!m_arp.IsResolved(route))
+    if (!m_interfaces.IsResolved(route))
     {
         ScheduleQueue(RESOLVE_INTERVAL);
         auto asked = m_resolving.find(route->GetGateway());
@@ -113,7 +108,7 @@ ToraRouting::Release(Ipv4Address destination, Ptr<Ipv4Route> route)
 }
 
 void
-ToraRouting::Salvage(Ptr<const Packet> packet)
+RoutingProtocol::Salvage(Ptr<const Packet> packet)
 {
     Ptr<Packet> copy = packet->Copy();
     LlcSnapHeader llc;
@@ -132,19 +127,21 @@ ToraRouting::Salvage(Ptr<const Packet> packet)
     header.SetTtl(header.GetTtl() - 1);
     Wait({copy,
           header,
-          MakeCallback(&ToraRouting::SendSalvaged, this),
+          MakeCallback(&RoutingProtocol::SendSalvaged, this),
           ErrorCallback(),
           Simulator::Now() + m_maxQueueTime});
 }
 
 void
-ToraRouting::SendSalvaged(Ptr<Ipv4Route> route, Ptr<const Packet> packet, const Ipv4Header& header)
+RoutingProtocol::SendSalvaged(Ptr<Ipv4Route> route,
+                              Ptr<const Packet> packet,
+                              const Ipv4Header& header)
 {
     m_ipv4->SendWithHeader(packet->Copy(), header, route);
 }
 
 void
-ToraRouting::Drop(const ToraQueueEntry& entry, DropReason reason)
+RoutingProtocol::Drop(const QueueEntry& entry, DropReason reason)
 {
     NS_LOG_LOGIC("drops a packet to " << entry.header.GetDestination() << ": " << reason);
     m_drop(entry.packet, entry.header, reason);
@@ -159,7 +156,7 @@ ToraRouting::Drop(const ToraQueueEntry& entry, DropReason reason)
 }
 
 void
-ToraRouting::SendUnreachable(const ToraQueueEntry& entry)
+RoutingProtocol::SendUnreachable(const QueueEntry& entry)
 {
     Ipv4Address source = entry.header.GetSource();
     if (m_interfaces.GetSockets().empty() ||
@@ -185,4 +182,4 @@ ToraRouting::SendUnreachable(const ToraQueueEntry& entry)
     m_ipv4->Send(packet, own, source, Icmpv4L4Protocol::PROT_NUMBER, nullptr);
 }
 
-} // namespace ns3
+} // namespace ns3::tora

@@ -4,7 +4,7 @@
 /**
  * \file
  * \ingroup tora
- * The suite "tora-frame": frames and packets on the air; it needs no engine.
+ * The suite "tora-frame": frames and packets on the air.
  */
 #include "ns3/packet.h"
 #include "ns3/test.h"
@@ -44,7 +44,7 @@ Bytes(const std::string& text)
     return bytes;
 }
 
-// Frames of docs/formats.md
+// Frames
 /// A HELLO of version 1.
 const std::string HELLO = "01010000 00000001 00000002 0000000000000005 0000000000000000";
 /// A DATA frame of version 1.
@@ -62,7 +62,7 @@ const std::string DATA_V2 =
 
 /**
  * \ingroup tora
- * \brief Frames are looked at as docs/formats.md has them.
+ * \brief Frames are looked at as their format has them.
  */
 class ToraFrameTestCase : public TestCase
 {
@@ -81,18 +81,18 @@ class ToraFrameTestCase : public TestCase
      */
     void Short(const std::string& frame, const std::string& form)
     {
-        std::vector<uint8_t> bytes = ToraFrame(1, Bytes(frame)).GetShort();
+        std::vector<uint8_t> bytes = tora::Frame(Bytes(frame)).GetShort();
         NS_TEST_EXPECT_MSG_EQ((bytes == Bytes(form)), true, "short form of " << frame);
         const uint8_t* at = bytes.data();
         uint32_t sender = Bytes(frame)[7];
-        auto read = ToraFrame::ReadShort(sender, at, bytes.data() + bytes.size());
+        auto read = tora::Frame::ReadShort(sender, at, bytes.data() + bytes.size());
         NS_TEST_ASSERT_MSG_EQ(read.has_value(), true, "it is read");
         NS_TEST_EXPECT_MSG_EQ((read->GetBytes() == Bytes(frame)), true, "as it was");
         NS_TEST_EXPECT_MSG_EQ((at == bytes.data() + bytes.size()), true, "to its end");
         for (std::size_t size = 0; size < bytes.size(); size++)
         {
             at = bytes.data();
-            read = ToraFrame::ReadShort(sender, at, bytes.data() + size);
+            read = tora::Frame::ReadShort(sender, at, bytes.data() + size);
             NS_TEST_EXPECT_MSG_EQ(read.has_value(), false, size << " bytes are too few");
         }
     }
@@ -103,7 +103,7 @@ class ToraFrameTestCase : public TestCase
      * \param hello a HELLO
      * \param data a DATA frame of version 2
      */
-    void Supersede(const ToraFrame& hello, const ToraFrame& data)
+    void Supersede(const tora::Frame& hello, const tora::Frame& data)
     {
         std::vector<uint8_t> second = Bytes(DATA_V2);
         second[35] = 2;
@@ -112,28 +112,28 @@ class ToraFrameTestCase : public TestCase
         std::vector<uint8_t> elsewhere = Bytes(HELLO);
         elsewhere[11] = 3;
         NS_TEST_EXPECT_MSG_EQ(hello.Supersedes(hello), true, "a HELLO of later");
-        NS_TEST_EXPECT_MSG_EQ(hello.Supersedes(ToraFrame(0, elsewhere)), false, "of another");
+        NS_TEST_EXPECT_MSG_EQ(hello.Supersedes(tora::Frame(elsewhere)), false, "of another");
         NS_TEST_EXPECT_MSG_EQ(data.Supersedes(data), true, "the same packets once more");
-        NS_TEST_EXPECT_MSG_EQ(data.Supersedes(ToraFrame(0, second)), false, "other packets");
-        NS_TEST_EXPECT_MSG_EQ(data.Supersedes(ToraFrame(0, other)), false, "another life");
+        NS_TEST_EXPECT_MSG_EQ(data.Supersedes(tora::Frame(second)), false, "other packets");
+        NS_TEST_EXPECT_MSG_EQ(data.Supersedes(tora::Frame(other)), false, "another life");
         NS_TEST_EXPECT_MSG_EQ(data.Supersedes(hello), false, "another kind");
     }
 
     void DoRun() override
     {
-        ToraFrame hello(7, Bytes(HELLO));
-        NS_TEST_EXPECT_MSG_EQ(hello.GetKind(), ToraFrame::HELLO, "kind");
+        tora::Frame hello(Bytes(HELLO));
+        NS_TEST_EXPECT_MSG_EQ(hello.GetKind(), tora::Frame::HELLO, "kind");
         NS_TEST_EXPECT_MSG_EQ(+hello.GetVersion(), 1, "version");
         NS_TEST_EXPECT_MSG_EQ(hello.GetSender(), 1, "sender");
         NS_TEST_EXPECT_MSG_EQ(hello.GetReceiver(), 2, "receiver");
         NS_TEST_EXPECT_MSG_EQ(hello.GetFirst(), 0, "a HELLO has no number");
         NS_TEST_EXPECT_MSG_EQ(hello.GetSize(), 28, "length");
-        ToraFrame data(8, Bytes(DATA_V2));
+        tora::Frame data(Bytes(DATA_V2));
         NS_TEST_EXPECT_MSG_EQ(data.GetFirst(), 1, "the number of the first packet");
-        std::vector<ToraFrame::PacketKind> packets{ToraFrame::QRY, ToraFrame::CLR};
+        std::vector<tora::Frame::PacketKind> packets{tora::Frame::QRY, tora::Frame::CLR};
         NS_TEST_EXPECT_MSG_EQ((data.GetPackets() == packets), true, "packets of version 2");
-        std::vector<ToraFrame::PacketKind> query{ToraFrame::QRY};
-        NS_TEST_EXPECT_MSG_EQ((ToraFrame(9, Bytes(DATA_V1)).GetPackets() == query),
+        std::vector<tora::Frame::PacketKind> query{tora::Frame::QRY};
+        NS_TEST_EXPECT_MSG_EQ((tora::Frame(Bytes(DATA_V1)).GetPackets() == query),
                               true,
                               "packets of version 1");
 
@@ -149,16 +149,11 @@ class ToraFrameTestCase : public TestCase
         // What the short form does not say makes a frame whole: a reserved byte, an unknown kind.
         std::vector<uint8_t> odd = Bytes(DATA_V2);
         odd[45] = 1;
-        NS_TEST_EXPECT_MSG_EQ(+ToraFrame(0, odd).GetShort()[0], 0, "a reserved byte");
-        NS_TEST_EXPECT_MSG_EQ(ToraFrame(0, odd).GetShort().size(), odd.size() + 1, "whole");
+        NS_TEST_EXPECT_MSG_EQ(+tora::Frame(odd).GetShort()[0], 0, "a reserved byte");
+        NS_TEST_EXPECT_MSG_EQ(tora::Frame(odd).GetShort().size(), odd.size() + 1, "whole");
         odd = Bytes(HELLO);
         odd[1] = 4;
-        NS_TEST_EXPECT_MSG_EQ(+ToraFrame(0, odd).GetShort()[0], 0, "an unknown kind");
-
-        ToraFrame standIn = ToraFrame::StandIn(3, 1, 2, 36);
-        NS_TEST_EXPECT_MSG_EQ(standIn.GetSize(), 36, "length of a frame of unknown bytes");
-        NS_TEST_EXPECT_MSG_EQ(standIn.GetKind(), ToraFrame::ACK, "its kind, by its length");
-        NS_TEST_EXPECT_MSG_EQ(standIn.GetReceiver(), 2, "its receiver");
+        NS_TEST_EXPECT_MSG_EQ(+tora::Frame(odd).GetShort()[0], 0, "an unknown kind");
     }
 };
 
@@ -181,45 +176,39 @@ class ToraHeaderTestCase : public TestCase
      * \param text hexadecimal digits
      * \returns the header
      */
-    ToraHeader Read(const std::string& text) const
+    tora::ToraHeader Read(const std::string& text) const
     {
         std::vector<uint8_t> bytes = Bytes(text);
         Ptr<Packet> packet = Create<Packet>(bytes.data(), bytes.size());
-        ToraHeader header;
+        tora::ToraHeader header;
         packet->RemoveHeader(header);
         return header;
     }
 
     void DoRun() override
     {
-        ToraHeader header(1);
-        NS_TEST_EXPECT_MSG_EQ(header.GetType(), ToraHeader::BEACON, "no frames");
-        header.AddFrame(ToraFrame(1, Bytes(HELLO)));
-        header.AddFrame(ToraFrame(2, Bytes(DATA_V2)));
-        NS_TEST_EXPECT_MSG_EQ(header.GetType(), ToraHeader::FRAMES, "frames");
+        tora::ToraHeader header(1);
+        NS_TEST_EXPECT_MSG_EQ(header.GetType(), tora::ToraHeader::BEACON, "no frames");
+        header.AddFrame(tora::Frame(Bytes(HELLO)));
+        header.AddFrame(tora::Frame(Bytes(DATA_V2)));
+        NS_TEST_EXPECT_MSG_EQ(header.GetType(), tora::ToraHeader::FRAMES, "frames");
         Ptr<Packet> packet = Create<Packet>();
         packet->AddHeader(header);
-        packet->AddPacketTag(ToraTag(5, 6, {1, 2}));
         NS_TEST_EXPECT_MSG_EQ(packet->GetSize(), 8 + 7 + 38, "length");
         std::vector<uint8_t> bytes(8);
         packet->CopyData(bytes.data(), 8);
         NS_TEST_EXPECT_MSG_EQ((bytes == Bytes("01020002 00000001")), true, "bytes");
 
-        ToraHeader read;
-        ToraTag tag;
+        tora::ToraHeader read;
         packet->RemoveHeader(read);
-        packet->PeekPacketTag(tag);
         NS_TEST_EXPECT_MSG_EQ(read.IsValid(), true, "it is a header");
         NS_TEST_EXPECT_MSG_EQ(read.GetSender(), 1, "sender");
         NS_TEST_ASSERT_MSG_EQ(read.GetFrames().size(), 2, "frames");
         NS_TEST_EXPECT_MSG_EQ((read.GetFrames()[1].GetBytes() == Bytes(DATA_V2)), true, "bytes");
-        NS_TEST_EXPECT_MSG_EQ((tag.GetIds() == std::vector<uint64_t>{1, 2}), true, "numbers");
-        NS_TEST_EXPECT_MSG_EQ(tag.GetSerial(), 6, "serial");
         std::ostringstream os;
         read.Print(os);
         NS_TEST_EXPECT_MSG_EQ(os.str(),
-                              "FRAMES of 0.0.0.1; to 0.0.0.2 HELLO lives 5 0; "
-                              "to 0.0.0.2 DATA 1 lives 5 9 QRY CLR",
+                              "FRAMES of 0.0.0.1; HELLO to 0.0.0.2; DATA to 0.0.0.2 QRY CLR",
                               "text");
 
         NS_TEST_EXPECT_MSG_EQ(Read("01010000 0a010101").IsValid(), true, "a beacon");
@@ -245,10 +234,10 @@ class ToraFrameTestSuite : public TestSuite
 {
   public:
     ToraFrameTestSuite()
-        : TestSuite("tora-frame", UNIT)
+        : TestSuite("tora-frame", Type::UNIT)
     {
-        AddTestCase(new ToraFrameTestCase, TestCase::QUICK);
-        AddTestCase(new ToraHeaderTestCase, TestCase::QUICK);
+        AddTestCase(new ToraFrameTestCase);
+        AddTestCase(new ToraHeaderTestCase);
     }
 };
 

@@ -9,20 +9,20 @@
 #include "ns3/inet-socket-address.h"
 #include "ns3/internet-stack-helper.h"
 #include "ns3/ipv4-address-helper.h"
+#include "ns3/ipv4-l3-protocol.h"
 #include "ns3/mobility-helper.h"
 #include "ns3/mobility-model.h"
 #include "ns3/node-container.h"
 #include "ns3/rng-seed-manager.h"
 #include "ns3/simulator.h"
-#include "ns3/string.h"
 #include "ns3/tora-helper.h"
-#include "ns3/tora-routing.h"
+#include "ns3/tora-routing-protocol.h"
 #include "ns3/udp-socket-factory.h"
 #include "ns3/wifi-helper.h"
 #include "ns3/wifi-mac-helper.h"
+#include "ns3/yans-wifi-channel.h"
 #include "ns3/yans-wifi-helper.h"
 
-#include <cstdlib>
 #include <map>
 #include <string>
 #include <vector>
@@ -38,24 +38,19 @@ class ToraNet
 {
   public:
     /**
-     * \returns the engine for the tests: the program that the environment variable TORA_PROGRAM
-     * names, or `tora` on the path
-     */
-    static std::string Program()
-    {
-        const char* program = std::getenv("TORA_PROGRAM");
-        return program ? program : "tora";
-    }
-
-    /**
      * \param xs where the nodes stand, in metres along a line
      * \param tora the routing
+     * \param channel the channel of another net, or nothing for one of its own
+     * \param base the first address
      */
-    ToraNet(const std::vector<double>& xs, ToraHelper tora)
+    ToraNet(const std::vector<double>& xs,
+            ToraHelper tora,
+            Ptr<YansWifiChannel> channel = nullptr,
+            const char* base = "10.1.1.0")
+        : m_channel(channel)
     {
         RngSeedManager::SetSeed(1);
         RngSeedManager::SetRun(1);
-        tora.Set("Program", StringValue(Program()));
         m_nodes.Create(xs.size());
         MobilityHelper mobility;
         mobility.SetMobilityModel("ns3::ConstantPositionMobilityModel");
@@ -64,23 +59,18 @@ class ToraNet
         {
             Move(i, xs[i]);
         }
-        YansWifiChannelHelper channel;
-        channel.SetPropagationDelay("ns3::ConstantSpeedPropagationDelayModel");
-        channel.AddPropagationLoss("ns3::RangePropagationLossModel", "MaxRange", DoubleValue(250));
-        YansWifiPhyHelper phy;
-        phy.SetChannel(channel.Create());
-        WifiMacHelper mac;
-        mac.SetType("ns3::AdhocWifiMac");
-        WifiHelper wifi;
-        wifi.SetStandard(WIFI_STANDARD_80211b);
-        NetDeviceContainer devices = wifi.Install(phy, mac, m_nodes);
+        if (!m_channel)
+        {
+            m_channel = MakeChannel();
+        }
+        NetDeviceContainer devices = AddRadios(m_nodes, m_channel);
         InternetStackHelper stack;
         stack.SetRoutingHelper(tora);
         stack.Install(m_nodes);
-        Ipv4AddressHelper addresses("10.1.1.0", "255.255.255.0");
+        Ipv4AddressHelper addresses(base, "255.255.255.0");
         m_interfaces = addresses.Assign(devices);
-        int64_t stream = 100;
-        stream += wifi.AssignStreams(devices, stream);
+        int64_t stream = 100 + 1000 * m_nodes.Get(0)->GetId();
+        stream += WifiHelper().AssignStreams(devices, stream);
         stream += tora.AssignStreams(m_nodes, stream);
         stack.AssignStreams(m_nodes, stream);
     }
@@ -88,6 +78,34 @@ class ToraNet
     ~ToraNet()
     {
         Simulator::Destroy();
+    }
+
+    /**
+     * \returns a channel on which radios reach 250 m
+     */
+    static Ptr<YansWifiChannel> MakeChannel()
+    {
+        YansWifiChannelHelper channel;
+        channel.SetPropagationDelay("ns3::ConstantSpeedPropagationDelayModel");
+        channel.AddPropagationLoss("ns3::RangePropagationLossModel", "MaxRange", DoubleValue(250));
+        return channel.Create();
+    }
+
+    /**
+     * Gives nodes radios.
+     *
+     * \param nodes the nodes
+     * \param channel their channel
+     * \returns their radios
+     */
+    NetDeviceContainer AddRadios(const NodeContainer& nodes, Ptr<YansWifiChannel> channel)
+    {
+        m_phy.SetChannel(channel);
+        WifiMacHelper mac;
+        mac.SetType("ns3::AdhocWifiMac");
+        WifiHelper wifi;
+        wifi.SetStandard(WIFI_STANDARD_80211b);
+        return wifi.Install(m_phy, mac, nodes);
     }
 
     // Delete copy constructor and assignment operator: sockets call back to the object
@@ -118,9 +136,52 @@ class ToraNet
      * \param node its place
      * \returns its routing
      */
-    Ptr<ToraRouting> RoutingOf(uint32_t node) const
+    Ptr<tora::RoutingProtocol> RoutingOf(uint32_t node) const
     {
-        return m_nodes.Get(node)->GetObject<ToraRouting>();
+        return m_nodes.Get(node)->GetObject<tora::RoutingProtocol>();
+    }
+
+    /**
+     * A node sends a packet of IPv4 to its neighbour, whatever its routing says.
+     *
+     * \param from its place
+     * \param to the place of the neighbour
+     * \param source the source of the packet
+     * \param destination the destination of the packet
+     * \param number the number of the packet
+     */
+    void Inject(uint32_t from,
+                uint32_t to,
+                Ipv4Address source,
+                Ipv4Address destination,
+                uint16_t number) const
+    {
+        Ptr<Packet> packet = Create<Packet>(20);
+        Ipv4Header header;
+        header.SetSource(source);
+        header.SetDestination(destination);
+        header.SetIdentification(number);
+        header.SetTtl(64);
+        header.SetProtocol(253); // for experiments: no node takes it
+        header.SetPayloadSize(packet->GetSize());
+        packet->AddHeader(header);
+        m_nodes.Get(from)->GetDevice(0)->Send(packet,
+                                              m_nodes.Get(to)->GetDevice(0)->GetAddress(),
+                                              Ipv4L3Protocol::PROT_NUMBER);
+    }
+
+    /**
+     * Counts the packets that a node forwards.
+     *
+     * \param node its place
+     * \param count how many
+     */
+    void CountForwarded(uint32_t node, uint32_t& count) const
+    {
+        m_nodes.Get(node)->GetObject<Ipv4L3Protocol>()->TraceConnectWithoutContext(
+            "UnicastForward",
+            Callback<void, const Ipv4Header&, Ptr<const Packet>, uint32_t>(
+                [&count](const Ipv4Header&, Ptr<const Packet>, uint32_t) { count++; }));
     }
 
     /**
@@ -166,6 +227,7 @@ class ToraNet
     uint32_t m_unreachable{0}; //!< how many ICMP messages "host unreachable" sources had
     uint32_t m_unsent{0};      //!< how many packets the socket refused
     NodeContainer m_nodes;     //!< the nodes
+    YansWifiPhyHelper m_phy;   //!< the helper of their radios
 
   private:
     /**
@@ -205,6 +267,7 @@ class ToraNet
         m_unreachable += type == 3 && code == 1;
     }
 
+    Ptr<YansWifiChannel> m_channel;          //!< their channel
     Ipv4InterfaceContainer m_interfaces;     //!< their interfaces
     std::map<uint32_t, Ptr<Socket>> m_sinks; //!< sinks by place
     Ptr<Socket> m_source;                    //!< the source of the last flow

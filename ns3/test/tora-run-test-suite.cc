@@ -4,13 +4,14 @@
 /**
  * \file
  * \ingroup tora
- * The suite "tora-run": small simulations with an engine, whose nodes and interfaces come and go.
+ * The suite "tora-run": small simulations, whose nodes and interfaces come and go.
  */
 #include "tora-net.h"
 
 #include "ns3/ipv4.h"
 #include "ns3/output-stream-wrapper.h"
 #include "ns3/test.h"
+#include "ns3/uinteger.h"
 
 #include <algorithm>
 #include <sstream>
@@ -37,8 +38,8 @@ class ToraLineTestCase : public TestCase
         uint32_t count = 0;
         net.RoutingOf(1)->TraceConnectWithoutContext(
             "Control",
-            Callback<void, Ptr<const Packet>, const ToraHeader&>(
-                [&biggest, &count](Ptr<const Packet> packet, const ToraHeader&) {
+            Callback<void, Ptr<const Packet>, const tora::ToraHeader&>(
+                [&biggest, &count](Ptr<const Packet> packet, const tora::ToraHeader&) {
                     biggest = std::max(biggest, packet->GetSize() + 28);
                     count++;
                 }));
@@ -47,7 +48,9 @@ class ToraLineTestCase : public TestCase
         NS_TEST_EXPECT_MSG_EQ(net.m_received, 100, "packets that arrive");
         NS_TEST_EXPECT_MSG_EQ(net.m_leastTtl, 63, "two hops");
         NS_TEST_EXPECT_MSG_EQ(net.m_unreachable, 0, "no ICMP");
-        NS_TEST_EXPECT_MSG_LT_OR_EQ(biggest, ToraRouting::MAX_PACKET_SIZE, "size of a packet");
+        NS_TEST_EXPECT_MSG_LT_OR_EQ(biggest,
+                                    tora::RoutingProtocol::MAX_PACKET_SIZE,
+                                    "size of a packet");
         NS_TEST_EXPECT_MSG_GT(count, 35, "a packet a second at least");
         NS_TEST_EXPECT_MSG_EQ(net.RoutingOf(0)->GetNextHop(net.AddressOf(2)),
                               net.AddressOf(1),
@@ -92,9 +95,11 @@ class ToraGoneTestCase : public TestCase
     {
         net.RoutingOf(0)->TraceConnectWithoutContext(
             "Drop",
-            Callback<void, Ptr<const Packet>, const Ipv4Header&, ToraRouting::DropReason>(
-                [this](Ptr<const Packet>, const Ipv4Header&, ToraRouting::DropReason reason) {
-                    m_late += reason == ToraRouting::TIME_OVER;
+            Callback<void, Ptr<const Packet>, const Ipv4Header&, tora::RoutingProtocol::DropReason>(
+                [this](Ptr<const Packet>,
+                       const Ipv4Header&,
+                       tora::RoutingProtocol::DropReason reason) {
+                    m_late += reason == tora::RoutingProtocol::TIME_OVER;
                 }));
         Ipv4Address last = net.AddressOf(2);
         net.RoutingOf(0)->TraceConnectWithoutContext(
@@ -108,8 +113,8 @@ class ToraGoneTestCase : public TestCase
                 }));
         net.RoutingOf(0)->TraceConnectWithoutContext(
             "LinkDown",
-            Callback<void, Ipv4Address>(
-                [this](Ipv4Address neighbour) { m_lost.push_back(neighbour); }));
+            Callback<void, Ipv4Address, tora::DownReason>(
+                [this](Ipv4Address neighbour, tora::DownReason) { m_lost.push_back(neighbour); }));
     }
 
     void DoRun() override
@@ -172,13 +177,13 @@ class ToraClearTestCase : public TestCase
         {
             net.RoutingOf(i)->TraceConnectWithoutContext(
                 "Control",
-                Callback<void, Ptr<const Packet>, const ToraHeader&>(
-                    [&clears](Ptr<const Packet>, const ToraHeader& header) {
+                Callback<void, Ptr<const Packet>, const tora::ToraHeader&>(
+                    [&clears](Ptr<const Packet>, const tora::ToraHeader& header) {
                         for (const auto& frame : header.GetFrames())
                         {
                             for (auto packet : frame.GetPackets())
                             {
-                                clears += packet == ToraFrame::CLR;
+                                clears += packet == tora::Frame::CLR;
                             }
                         }
                     }));
@@ -202,19 +207,18 @@ class ToraClearTestCase : public TestCase
 
 /**
  * \ingroup tora
- * \brief Interfaces go down and come up, nodes begin anew, old nodes are understood, and frames are
- * handed over as bytes.
+ * \brief Interfaces and addresses go and come, and a node begins anew.
  */
 class ToraChangesTestCase : public TestCase
 {
   public:
     ToraChangesTestCase()
-        : TestCase("Interfaces, addresses and nodes go and come, old nodes, frames as bytes")
+        : TestCase("Interfaces, addresses and nodes go and come")
     {
     }
 
   private:
-    /// An interface goes down and comes up, and a node begins anew.
+    /// An interface goes down and comes up.
     void GoDownAndUp()
     {
         ToraNet net({0, 200, 400}, ToraHelper());
@@ -226,16 +230,41 @@ class ToraChangesTestCase : public TestCase
         net.Run(25);
         NS_TEST_EXPECT_MSG_EQ(net.RoutingOf(0)->GetHeard().size(), 0, "it is not heard");
         NS_TEST_EXPECT_MSG_EQ(net.RoutingOf(1)->GetHeard().size(), 0, "and hears nobody");
+        NS_TEST_EXPECT_MSG_EQ(net.RoutingOf(1)->GetNumber(), Ipv4Address::GetAny(), "no router");
         middle->SetUp(1);
         net.Run(30);
         net.Flow(0, 2, 0.1, 20);
         net.Run(40);
         NS_TEST_EXPECT_MSG_EQ(net.m_received, 40, "packets after");
+    }
+
+    /// A node begins anew.
+    void Restart()
+    {
+        ToraNet net({0, 200, 400}, ToraHelper());
+        uint64_t life = 0;
+        net.RoutingOf(1)->TraceConnectWithoutContext(
+            "Control",
+            Callback<void, Ptr<const Packet>, const tora::ToraHeader&>(
+                [&life](Ptr<const Packet>, const tora::ToraHeader& header) {
+                    for (const auto& frame : header.GetFrames())
+                    {
+                        life = std::max<uint64_t>(life, frame.GetLives()[7]);
+                    }
+                }));
+        net.Flow(0, 2, 5, 20);
+        net.Run(15);
+        uint64_t before = life;
+        NS_TEST_EXPECT_MSG_EQ(net.m_received, 20, "packets before");
         net.RoutingOf(1)->Restart();
-        net.Run(50);
+        NS_TEST_EXPECT_MSG_EQ(net.RoutingOf(1)->GetNextHop(net.AddressOf(2)),
+                              Ipv4Address::GetAny(),
+                              "it knows no route");
+        net.Run(25);
         net.Flow(0, 2, 0.1, 20);
-        net.Run(60);
-        NS_TEST_EXPECT_MSG_EQ(net.m_received, 60, "packets after the node began anew");
+        net.Run(35);
+        NS_TEST_EXPECT_MSG_EQ(net.m_received, 40, "packets after");
+        NS_TEST_EXPECT_MSG_GT(life, before, "its life numbers go on");
     }
 
     /// A node loses its address, and has it again.
@@ -260,22 +289,8 @@ class ToraChangesTestCase : public TestCase
     void DoRun() override
     {
         GoDownAndUp();
+        Restart();
         LoseAddress();
-        {
-            ToraNet net({0, 200, 400}, ToraHelper());
-            net.RoutingOf(1)->SetAttribute("Old", BooleanValue(true));
-            net.Flow(0, 2, 5, 20);
-            net.Run(15);
-            NS_TEST_EXPECT_MSG_EQ(net.m_received, 20, "packets over an old node");
-        }
-        {
-            ToraHelper tora;
-            tora.Set("Take", BooleanValue(true));
-            ToraNet net({0, 200, 400}, tora);
-            net.Flow(0, 2, 5, 20);
-            net.Run(15);
-            NS_TEST_EXPECT_MSG_EQ(net.m_received, 20, "packets with frames handed over as bytes");
-        }
     }
 };
 
@@ -295,15 +310,18 @@ class ToraShortTimesTestCase : public TestCase
     void DoRun() override
     {
         ToraHelper tora;
-        tora.Set("Times", StringValue("5,15,2,6"));
-        ToraNet net({0, 25, 50, 75, 100, 125, 150, 175, 400}, tora);
+        tora.Set("HelloTicks", UintegerValue(5));
+        tora.Set("SilentTicks", UintegerValue(15));
+        tora.Set("RetryTicks", UintegerValue(2));
+        tora.Set("Tries", UintegerValue(6));
+        ToraNet net({0, 25, 50, 75, 100, 125, 150, 175, 300}, tora);
         std::vector<uint32_t> counts(net.m_nodes.GetN());
         for (uint32_t i = 0; i < counts.size(); i++)
         {
             net.RoutingOf(i)->TraceConnectWithoutContext(
                 "Control",
-                Callback<void, Ptr<const Packet>, const ToraHeader&>(
-                    [&counts, i](Ptr<const Packet>, const ToraHeader&) { counts[i]++; }));
+                Callback<void, Ptr<const Packet>, const tora::ToraHeader&>(
+                    [&counts, i](Ptr<const Packet>, const tora::ToraHeader&) { counts[i]++; }));
         }
         net.Flow(0, 8, 5, 80);
         net.Run(30);
@@ -324,13 +342,13 @@ class ToraRunTestSuite : public TestSuite
 {
   public:
     ToraRunTestSuite()
-        : TestSuite("tora-run", SYSTEM)
+        : TestSuite("tora-run", Type::SYSTEM)
     {
-        AddTestCase(new ToraLineTestCase, TestCase::QUICK);
-        AddTestCase(new ToraGoneTestCase, TestCase::QUICK);
-        AddTestCase(new ToraClearTestCase, TestCase::QUICK);
-        AddTestCase(new ToraChangesTestCase, TestCase::QUICK);
-        AddTestCase(new ToraShortTimesTestCase, TestCase::QUICK);
+        AddTestCase(new ToraLineTestCase);
+        AddTestCase(new ToraGoneTestCase);
+        AddTestCase(new ToraClearTestCase);
+        AddTestCase(new ToraChangesTestCase);
+        AddTestCase(new ToraShortTimesTestCase);
     }
 };
 

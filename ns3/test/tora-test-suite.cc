@@ -4,18 +4,14 @@
 /**
  * \file
  * \ingroup tora
- * The suite "tora": the queue, the most bytes in a second, and an engine that is none; it needs no
- * engine.
+ * The suite "tora": the queue and the router of the library, without a simulation.
  */
 #include "ns3/packet.h"
 #include "ns3/test.h"
-#include "ns3/tora-engine.h"
-#include "ns3/tora-peak.h"
 #include "ns3/tora-queue.h"
+#include "ns3/tora-router.h"
 
-#include <csignal>
-#include <fstream>
-#include <sys/stat.h>
+#include <vector>
 
 using namespace ns3;
 
@@ -37,9 +33,9 @@ class ToraQueueTestCase : public TestCase
      * \param until when its time is over
      * \returns a packet that waits
      */
-    ToraQueueEntry Entry(const char* destination, double until) const
+    tora::QueueEntry Entry(const char* destination, double until) const
     {
-        ToraQueueEntry entry;
+        tora::QueueEntry entry;
         entry.packet = Create<Packet>();
         entry.header.SetDestination(Ipv4Address(destination));
         entry.until = Seconds(until);
@@ -48,9 +44,9 @@ class ToraQueueTestCase : public TestCase
 
     void DoRun() override
     {
-        ToraQueue queue;
+        tora::RequestQueue queue;
         queue.SetMaxLength(3);
-        ToraQueueEntry first = Entry("10.1.1.1", 30);
+        tora::QueueEntry first = Entry("10.1.1.1", 30);
         NS_TEST_EXPECT_MSG_EQ(queue.Enqueue(first).has_value(), false, "there is room");
         queue.Enqueue(Entry("10.1.1.2", 31));
         queue.Enqueue(Entry("10.1.1.1", 32));
@@ -64,7 +60,7 @@ class ToraQueueTestCase : public TestCase
         NS_TEST_EXPECT_MSG_EQ(queue.Take(Ipv4Address("10.1.1.1")).size(), 0, "none is left");
         NS_TEST_EXPECT_MSG_EQ(queue.Take(Ipv4Address("10.1.1.3")).size(), 1, "one is");
         NS_TEST_EXPECT_MSG_EQ(queue.GetSize(), 0, "and none then");
-        ToraQueueEntry returned = Entry("10.1.1.1", 30);
+        tora::QueueEntry returned = Entry("10.1.1.1", 30);
         returned.from = 7;
         returned.avoided = 8;
         queue.Enqueue(returned);
@@ -83,142 +79,99 @@ class ToraQueueTestCase : public TestCase
 
 /**
  * \ingroup tora
- * \brief The most bytes in any second.
+ * \brief Two routers of the library find each other.
  */
-class ToraPeakTestCase : public TestCase
+class ToraRouterTestCase : public TestCase
 {
   public:
-    ToraPeakTestCase()
-        : TestCase("The most bytes in any second")
-    {
-    }
-
-  private:
-    void DoRun() override
-    {
-        ToraPeak peak;
-        NS_TEST_EXPECT_MSG_EQ(peak.GetMost(), 0, "none");
-        peak.Add(MilliSeconds(200), 100);
-        peak.Add(NanoSeconds(999999999), 50);
-        NS_TEST_EXPECT_MSG_EQ(peak.GetMost(), 150, "100 + 50 in the first second");
-        peak.Add(Seconds(1), 120);
-        NS_TEST_EXPECT_MSG_EQ(peak.GetMost(), 150, "1 s is of the next one");
-        peak.Add(MilliSeconds(1500), 31);
-        NS_TEST_EXPECT_MSG_EQ(peak.GetMost(), 151, "120 + 31 in the second one");
-        peak.Add(MilliSeconds(7100), 151);
-        peak.Add(MilliSeconds(8000), 90);
-        NS_TEST_EXPECT_MSG_EQ(peak.GetMost(), 151, "later ones have no more");
-        peak.Add(Seconds(8), 5000000000);
-        NS_TEST_EXPECT_MSG_EQ(peak.GetMost(), 5000000090, "more than 32 bits hold");
-    }
-};
-
-/**
- * \ingroup tora
- * \brief An engine that is none tells why.
- */
-class ToraNoEngineTestCase : public TestCase
-{
-  public:
-    ToraNoEngineTestCase()
-        : TestCase("An engine that is none tells why")
+    ToraRouterTestCase()
+        : TestCase("Two routers find each other, and a route")
     {
     }
 
   private:
     /**
-     * Makes a program.
-     *
-     * \param name its name
-     * \param text its text, for a shell
-     * \returns its path
+     * \param me the number of a node
+     * \param other the number of its neighbour
+     * \returns what its router is to be
      */
-    std::string Script(const std::string& name, const std::string& text)
+    tora::RouterConfig Config(uint32_t me, uint32_t other) const
     {
-        std::string path = CreateTempDirFilename(name);
-        std::ofstream(path) << "#!/bin/sh\n" << text << "\n";
-        chmod(path.c_str(), 0700);
-        return path;
+        tora::RouterConfig config;
+        config.me = me;
+        config.neighbours = {other};
+        config.destinations = {1, 2};
+        return config;
     }
 
     /**
-     * Starts an engine and asks a line, which fails.
+     * Gives the frames of a router to another.
      *
-     * \param program the program
-     * \param kind the kind of error that is expected
-     * \param words words that its message has
+     * \param from the router that sends
+     * \param peer its number
+     * \param to the router that receives
+     * \param now the tick
      */
-    void Fails(const std::string& program,
-               ToraEngineError::Kind kind,
-               const std::vector<std::string>& words)
+    void Carry(tora::Router& from, uint32_t peer, tora::Router& to, uint64_t now)
     {
-        try
+        while (auto frame = from.PollFrame(now))
         {
-            ToraEngine engine(program, {});
-            engine.Order("step");
-            NS_TEST_EXPECT_MSG_EQ(true, false, program << " is no engine");
-        }
-        catch (const ToraEngineError& error)
-        {
-            NS_TEST_EXPECT_MSG_EQ(error.GetKind(), kind, error.what());
-            std::vector<std::string> all = words;
-            all.push_back(program);
-            for (const auto& word : all)
-            {
-                NS_TEST_EXPECT_MSG_NE(std::string(error.what()).find(word),
-                                      std::string::npos,
-                                      word << " is not in: " << error.what());
-            }
+            NS_TEST_EXPECT_MSG_EQ(frame->GetSender(), peer, "it is its own frame");
+            NS_TEST_EXPECT_MSG_EQ(to.Take(peer, *frame, now), true, "it is taken");
         }
     }
 
     void DoRun() override
     {
-        const std::string first = "echo 'tora drive 1'; ";
-        Fails("/nowhere/tora", ToraEngineError::NOT_STARTED, {"can't be started"});
-        Fails(Script("silent", "exit 3"), ToraEngineError::ENDED, {"status 3 after 0 lines"});
-        Fails(Script("other", "echo 'tora drive 2'; read line"),
-              ToraEngineError::OTHER_VERSION,
-              {"'tora drive 2'", "'tora drive 1'"});
-        Fails(Script("ends", first + "read line; exit 5"),
-              ToraEngineError::ENDED,
-              {"status 5 after 1 lines"});
-        Fails(Script("killed", first + "read line; kill -9 $$"),
-              ToraEngineError::ENDED,
-              {"signal 9 after 1 lines"});
-        Fails(Script("refuses", first + "read line; echo 'refused 2'; read line"),
-              ToraEngineError::REFUSED,
-              {"'step'", "refused 2"});
-        Fails(Script("faults", first + "read line; echo 'fault 1 no such line'; read line"),
-              ToraEngineError::FAULT,
-              {"'step'", "1 no such line"});
-        Fails(Script("mumbles", first + "read line; echo 'sent 1 2 x 4'; read line"),
-              ToraEngineError::NO_ANSWER,
-              {"'sent 1 2 x 4'"});
-        // An engine that does not end by itself is ended.
-        pid_t process = 0;
+        tora::Router one;
+        tora::Router two;
+        NS_TEST_EXPECT_MSG_EQ(one.IsMade(), false, "there is none yet");
+        NS_TEST_EXPECT_MSG_EQ(one.PollFrame(0).has_value(), false, "it sends nothing");
+        one.Make(Config(1, 2));
+        two.Make(Config(2, 1));
+        NS_TEST_EXPECT_MSG_EQ(one.GetNextLife(), 1, "no life is drawn");
+        for (uint64_t now = 1; now < 10; now++)
         {
-            ToraEngine engine(Script("stays", first + "trap '' TERM; while :; do sleep 1; done"),
-                              {});
-            process = engine.GetProcess();
+            one.Tick(now);
+            two.Tick(now);
+            Carry(one, 1, two, now);
+            Carry(two, 2, one, now);
         }
-        NS_TEST_EXPECT_MSG_EQ(kill(process, 0), -1, "the process is gone");
+        auto change = one.PollChange();
+        NS_TEST_ASSERT_MSG_EQ(change.has_value(), true, "something changed");
+        NS_TEST_EXPECT_MSG_EQ(change->kind, tora::Change::LINK_UP, "the link is up");
+        change = one.PollChange();
+        NS_TEST_ASSERT_MSG_EQ(change.has_value(), true, "and more");
+        NS_TEST_EXPECT_MSG_EQ(change->kind, tora::Change::NEXT_HOP, "there is a next hop");
+        NS_TEST_EXPECT_MSG_EQ(change->node, 2, "to the neighbour");
+        NS_TEST_EXPECT_MSG_EQ(change->hop, 2, "which is the neighbour");
+        NS_TEST_EXPECT_MSG_NE(one.Show().find("to 2 "), std::string::npos, "it shows its heights");
+        std::vector<uint8_t> bytes(tora::Frame::HEADER_SIZE, 9);
+        NS_TEST_EXPECT_MSG_EQ(one.Take(2, tora::Frame(bytes), 10), false, "this is no frame");
+        one.Cut(2, 10);
+        change = one.PollChange();
+        NS_TEST_ASSERT_MSG_EQ(change.has_value(), true, "it is cut");
+        NS_TEST_EXPECT_MSG_EQ(change->kind, tora::Change::LINK_DOWN, "the link is down");
+        NS_TEST_EXPECT_MSG_EQ(change->reason, tora::CUT, "and why");
+        one.Tick(11);
+        NS_TEST_EXPECT_MSG_EQ(one.GetNextLife(), 3, "two lives were drawn");
+        one.Free();
+        NS_TEST_EXPECT_MSG_EQ(one.IsMade(), false, "it is gone");
     }
 };
 
 /**
  * \ingroup tora
- * \brief Tests that need no engine.
+ * \brief Tests without a simulation.
  */
 class ToraTestSuite : public TestSuite
 {
   public:
     ToraTestSuite()
-        : TestSuite("tora", UNIT)
+        : TestSuite("tora", Type::UNIT)
     {
-        AddTestCase(new ToraQueueTestCase, TestCase::QUICK);
-        AddTestCase(new ToraPeakTestCase, TestCase::QUICK);
-        AddTestCase(new ToraNoEngineTestCase, TestCase::QUICK);
+        AddTestCase(new ToraQueueTestCase);
+        AddTestCase(new ToraRouterTestCase);
     }
 };
 

@@ -53,7 +53,7 @@ def test_workflow(tmp_path: Path, capsys: pytest.CaptureFixture[str]) -> None:
     compare.chmod(0o755)
     words = [
         sys.executable, "-m", "snakemake", "--snakefile", str(REPOSITORY / "ns3/compare/Snakefile"), "--directory", str(tmp_path / "cmp"), "--cores", "2", "--quiet", "all",
-        "--config", "protocols=AODV TORA:notice=1,waits=1", "speeds=0 5", "seeds=2", f"out={tmp_path}", f"engine={compare}", "words=--side=790",
+        "--config", "protocols=AODV TORA:notice=1,waits=1", "speeds=0 5", "seeds=2", f"out={tmp_path}", "words=--side=790",
     ]
     done = subprocess.run(words, capture_output=True, text=True)
     assert done.returncode == 0, done.stderr
@@ -72,5 +72,5 @@ def test_workflow(tmp_path: Path, capsys: pytest.CaptureFixture[str]) -> None:
     compare.write_text(STUB.replace('"500"', '"501"'))
     assert main(["verify", str(tmp_path / "cmp")]) == 1
     assert "another one than that of the manifest" in capsys.readouterr().err
-    again = subprocess.run([*words[:-7], "--config", "nodes=20 20", f"out={tmp_path}", f"engine={compare}"], capture_output=True, text=True)
+    again = subprocess.run([*words[:-6], "--config", "nodes=20 20", f"out={tmp_path}"], capture_output=True, text=True)
     assert again.returncode == 1 and "compare: nodes: 20 stands twice" in again.stderr

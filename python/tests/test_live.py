@@ -2,6 +2,7 @@
 from __future__ import annotations
 
 import csv
+import math
 import pathlib
 import random
 
@@ -9,11 +10,12 @@ import networkx
 import pytest
 
 from conftest import refusal
-from tora.live import cli
+from tora.live import cli, report
 from tora.live.experiment import COLUMNS, Plan
 from tora.live.measures import STEADY, fared, longest_stall
 from tora.live.protocols import PROTOCOLS
 from tora.live.topologies import KINDS, Network, cable_to_break, host_to_kill, network
+from tora.live.traffic import RECORD, Records
 
 
 @pytest.mark.parametrize(("kind", "cables"), [("line", 9), ("ring", 10), ("grid", 13)])
@@ -70,6 +72,16 @@ def test_how_packets_fared() -> None:
     assert fared({}, set(), 2.0, 5.0).sent == 0 and STEADY == 50
 
 
+def test_records_are_read_as_they_are_written(tmp_path: pathlib.Path) -> None:
+    held = Records(tmp_path / "sent")
+    assert held.read() == {}
+    with open(tmp_path / "sent", "wb", buffering=0) as sink:
+        sink.write(RECORD.pack(1, 500_000_000) + RECORD.pack(2, 750_000_000)[:9])
+        assert held.read() == {1: 0.5}
+        sink.write(RECORD.pack(2, 750_000_000)[9:])
+        assert list(held.read().items()) == [(1, 0.5), (2, 0.75)]
+
+
 def test_the_longest_stall() -> None:
     intervals = [(at / 10, at / 10 + 0.1, 0 if 10 <= at < 15 or at == 20 else 9) for at in range(30)]
     assert longest_stall(intervals, 0.0, 3.0) == pytest.approx(0.5)
@@ -93,8 +105,26 @@ def test_plans() -> None:
     assert "--protocols: `tora` stands twice" in refusal(lambda: plans("--protocols", "tora tora"))
     assert "--nodes: `65` is none of" in refusal(lambda: plans("--nodes", "65"))
     assert "--seeds: `0` is not above 0" in refusal(lambda: plans("--seeds", "0"))
+    assert "--jobs: `0` is not above 0" in refusal(lambda: plans("--jobs", "0"))
     assert "--faults: it is empty" in refusal(lambda: plans("--faults", " "))
     assert PROTOCOLS["batman-adv"].missing() is not None
+
+
+def test_what_of_a_table_counts(tmp_path: pathlib.Path) -> None:
+    phase = {"protocol": "tora", "timing": "default", "topology": "ring", "nodes": 10, "phase": "fault", "lost": 5}
+    rows: list[dict[str, object]] = [
+        {**phase, "seed": 1, "fault": "down", "working_ms": 3, "stolen": 0.05},
+        {**phase, "seed": 2, "fault": "down", "working_ms": 4, "stolen": 0.06},  # the host took too much
+        {**phase, "seed": 3, "fault": "down", "stolen": 0},  # no route came
+        {**phase, "seed": 3, "fault": "lossy", "stolen": 0},
+    ]
+    with open(tmp_path / "live.csv", "w", newline="") as sink:
+        writer = csv.DictWriter(sink, COLUMNS, lineterminator="\n", restval="")
+        writer.writeheader()
+        writer.writerows(rows)
+    held = report.read(tmp_path / "live.csv").frame
+    assert list(held["seed"]) == [1, 3, 3]
+    assert list(held["working_ms"])[:2] == [3, math.inf] and math.isnan(list(held["working_ms"])[2])
 
 
 def test_tables_and_plots(tmp_path: pathlib.Path) -> None:

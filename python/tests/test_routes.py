@@ -19,6 +19,7 @@ from tora.routes.configuration import Configuration, Network, read
 from tora.routes.events import Interfaces
 from tora.routes.held import MOST, Held
 from tora.routes.lines import Hops, hops_of
+from tora.routes.netlink import event_of, messages_of, route_message
 from tora.routes.packets import Holders, destination_of
 from tora.routes.place import line_of
 from tora.routes.requests import Requests
@@ -321,6 +322,43 @@ def test_a_neighbour_that_does_not_answer_ends_its_link(held: Configuration) -> 
         [],
     ]
     assert found.take({"event": "RTM_NEWNEIGH", "ifindex": 7, "state": FAILED, "attrs": []}) == []
+
+
+def attribute(kind: int, data: bytes) -> bytes:
+    """An attribute of a message of the kernel."""
+    return struct.pack("=HH", 4 + len(data), kind) + data + bytes(-len(data) % 4)
+
+
+def word(value: int) -> bytes:
+    """Four bytes in the order of the machine."""
+    return struct.pack("=L", value)
+
+
+def test_requests_for_routes() -> None:
+    via, source = ipaddress.ip_address("10.77.0.2"), ipaddress.ip_address("10.99.0.1")
+    route = Route(net("10.99.0.4/31"), "eth0", 32, via, source)
+    place = attribute(1, bytes([10, 99, 0, 4])) + attribute(6, word(32))
+    onward = attribute(4, word(7)) + attribute(7, source.packed) + attribute(5, via.packed)
+    head = bytes([2, 31, 0, 0, 254, 84, 0, 1])
+    assert route_message(route, 254, 84, 7) == head + word(4) + place + attribute(15, word(254)) + onward
+    assert route_message(route, 254, 84, None) == head + word(0) + place + attribute(15, word(254))
+    six = Route(net("fd99::/64"), "tora", 9)
+    told = attribute(1, net("fd99::/64").network_address.packed) + attribute(6, word(9)) + attribute(15, word(1000))
+    head = bytes([10, 64, 0, 0, 0, 5, 0, 1])  # the number of a table from 256 on has an attribute alone
+    assert route_message(six, 1000, 5, 3) == head + word(0) + told + attribute(4, word(3))
+
+
+def test_messages_of_the_kernel() -> None:
+    interface = struct.pack("=BxHiLL", 0, 1, 7, ABLE, 0) + attribute(13, b"pfifo\0") + attribute(3, b"eth0\0")
+    assert event_of(16, interface) == link(7, "eth0", ABLE)
+    assert event_of(17, interface) == link(7, "eth0", ABLE, "RTM_DELLINK")
+    neighbour = struct.pack("=BxxxiHBB", 10, 8, FAILED, 0, 1) + attribute(1, ipaddress.ip_address("fe80::2").packed)
+    told = {"event": "RTM_NEWNEIGH", "ifindex": 8, "state": FAILED, "attrs": [("NDA_DST", "fe80::2")]}
+    assert event_of(28, neighbour) == told and event_of(29, neighbour) is None
+    assert event_of(28, neighbour[:12] + bytes(8)) == {**told, "attrs": []}  # an attribute without a length
+    data = struct.pack("=LHHLL", 18, 16, 0, 3, 0) + b"ab\0\0" + struct.pack("=LHHLL", 16, 2, 0, 4, 0)
+    assert list(messages_of(data)) == [(16, 3, b"ab"), (2, 4, b"")]
+    assert list(messages_of(data[:30])) == [(16, 3, b"ab")]
 
 
 def test_a_route_prints_as_the_command_ip_prints_it() -> None:

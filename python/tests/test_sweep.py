@@ -69,6 +69,7 @@ def test_runs_stand_in_order() -> None:
         (["--limit", "33"], "--limit: 33 is not 1 to 32"),
         (["--ns2", "x", "--nodes", "5"], "a movement file says how many nodes there are"),
         (["--spee", "1-3"], "unrecognized arguments"),
+        (["--batches", "2"], "--batches: it stands with --profile"),
     ],
 )
 def test_refusals(tmp_path: Path, capsys: pytest.CaptureFixture[str], words: list[str], cause: str) -> None:
@@ -121,6 +122,9 @@ def test_a_sweep_goes_on(tmp_path: Path, capsys: pytest.CaptureFixture[str]) -> 
     assert sweep(folder, "--seeds", "4", program=stub) == 0
     assert {name: (folder / "rows" / name).stat().st_mtime_ns for name in made} == made
     assert len(rows_of(folder)) == 8
+    finished = {name: (folder / name).stat().st_mtime_ns for name in ("study.csv", "manifest.json", "summary.txt")}
+    assert sweep(folder, "--seeds", "4", program=stub) == 0
+    assert {name: (folder / name).stat().st_mtime_ns for name in finished} == finished
     capsys.readouterr()
     assert sweep(folder, "--seeds", "5", program=stub) == 1
     assert "study.json: the folder holds another study" in capsys.readouterr().err

@@ -18,7 +18,7 @@ use Rattle.tora_seat.specs.Serving.{SeatState, Offer, Answers, Serving, put_one,
 use Rattle.tora_node.specs.CoreRuns.{answers_told}
 use Rattle.tora_router.specs.declared.link.Link.{Link}
 use Rattle.tora_router.specs.Links.{with_state, given, polled, may_open, opened, ticked, sent, at_place}
-use Rattle.tora_router.specs.Router.{RouterState, all_put, serving, after_offers, after_item, item_at, next_number}
+use Rattle.tora_router.specs.Router.{RouterState, serving, after_offers, after_item, item_at, next_number}
 use Rattle.tora_world.specs.Topology.{Topology, neighbours_of, is_node}
 use Rattle.tora_world.specs.LinkMachine.{put_at}
 use Rattle.tora_world.specs.World.Sending.{Goes}
@@ -208,7 +208,7 @@ module _ (t : Topology) (times : Times) (n : ℕ) (once : has_repeat (neighbours
         (record {
           core = record {
             seat_is = ap (λ (x : Serving). x.seat) same;
-            neighbours = neighbours_stay all_put r.seat.core.neighbours r.seat (item_at place now what) ∙ i.core.neighbours;
+            neighbours = neighbours_stay r.seat.core.neighbours r.seat (item_at place now what) ∙ i.core.neighbours;
             put_is = λ k. ap₂ (λ (cs : List Cargo) (x : Serving). cs ++ put_to k x.offers) (i.core.put_is k) same;
             inputs_is = ap₂ (λ is (x : Serving). is ++ x.inputs) i.core.inputs_is same;
             steps_is = λ k. ap₂ (λ ps (x : Serving). ps ++ stepped_from k x.steps) (i.core.steps_is k) same;

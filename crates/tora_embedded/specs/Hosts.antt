@@ -20,7 +20,7 @@ use Rattle.tora_running.specs.Network.{IsRefusal}
 
 -- ---- the calls
 
--- what a host does at the router of a node, each time it can be a call of `Router`
+-- a call that a host makes at the router of a node
 pub data RouterCall : Type 0 where
   -- a router is made anew, with the first number for its link ends
   New : (config : Config) (neighbours destinations : List ℕ) (first_life : ℕ) → RouterCall
@@ -46,11 +46,13 @@ router_after PollChange r = after_poll_change r
 
 abbrev pub served_event : ℕ → RouterState → Option (ℕ × LinkEvent) → List Serving
 served_event now r None = []
-served_event now r (Some found) = serving (record r { links = at_place (polled found.1) found.0 r.links }) (item_at found.0 now (what_of found.1)) ∷ []
+served_event now r (Some found) =
+    serving (record r { links = at_place (polled found.1) found.0 r.links }) (item_at found.0 now (what_of found.1)) ∷ []
 
 abbrev pub served_events : ℕ → ℕ → RouterState → List Serving
 served_events zero now r = []
-served_events (suc count) now r = served_events count now r ++ served_event now (after_events count now r) (first_in event_of (after_events count now r).links)
+served_events (suc count) now r =
+    served_events count now r ++ served_event now (after_events count now r) (first_in event_of (after_events count now r).links)
 
 -- until no event waits
 abbrev pub served_settling : ℕ → RouterState → List Serving
@@ -59,9 +61,11 @@ served_settling now r = served_events (waiting r.links) now r
 abbrev pub served_in : RouterCall → RouterState → List Serving
 served_in (New config neighbours destinations first_life) r = []
 served_in (OnTick now) r = served_settling now (ticked_before (length r.links) now r)
-served_in (OnDatagram k reading now) r = at_link [] (λ place. served_settling now (record r { links = at_place (heard now reading) place r.links })) (first_in (to_peer k) r.links)
+served_in (OnDatagram k reading now) r =
+    at_link [] (λ place. served_settling now (record r { links = at_place (heard now reading) place r.links })) (first_in (to_peer k) r.links)
 served_in (Need d now) r = serving r (need_item r d now) ∷ served_settling now (after_item r (need_item r d now))
-served_in (Cut k now) r = at_link [] (λ place. served_settling now (record r { links = at_place cut place r.links })) (first_in (to_peer k) r.links)
+served_in (Cut k now) r =
+    at_link [] (λ place. served_settling now (record r { links = at_place cut place r.links })) (first_in (to_peer k) r.links)
 served_in (PollDatagram now) r = []
 served_in PollChange r = []
 
@@ -78,7 +82,11 @@ abbrev pub first_history : History
 first_history = record { frames = λ k. []; put = λ k. []; inputs = []; steps = λ k. [] }
 
 abbrev pub with_serving : History → Serving → History
-with_serving h v = record h { put = λ k. h.put k ++ put_to k v.offers; inputs = h.inputs ++ v.inputs; steps = λ k. h.steps k ++ stepped_from k v.steps }
+with_serving h v = record h {
+  put = λ k. h.put k ++ put_to k v.offers;
+  inputs = h.inputs ++ v.inputs;
+  steps = λ k. h.steps k ++ stepped_from k v.steps;
+}
 
 abbrev pub with_servings : History → List Serving → History
 with_servings h [] = h
@@ -86,7 +94,8 @@ with_servings h (v ∷ servings) = with_servings (with_serving h v) servings
 
 abbrev pub with_frame : RouterState → History → Option (ℕ × FrameParts) → History
 with_frame r h None = h
-with_frame r h (Some found) = record h { frames = put_one h.frames (peer_at found.0 r.links) (h.frames (peer_at found.0 r.links) ++ found.1 ∷ []) }
+with_frame r h (Some found) =
+    record h { frames = put_one h.frames (peer_at found.0 r.links) (h.frames (peer_at found.0 r.links) ++ found.1 ∷ []) }
 
 -- what a call adds beside what its items do
 abbrev pub beside : RouterCall → RouterState → History → History
@@ -106,7 +115,10 @@ pub record Host : Type 0 where
   pub history : History
 
 abbrev pub host_after : RouterCall → Host → Host
-host_after call host = record { router = router_after call host.router; history = with_servings (beside call host.router host.history) (served_in call host.router) }
+host_after call host = record {
+  router = router_after call host.router;
+  history = with_servings (beside call host.router host.history) (served_in call host.router);
+}
 
 abbrev pub Hosts : Type 0
 Hosts = ℕ → Host
@@ -143,8 +155,10 @@ IsRefused (Seen verdict) = IsRefusal verdict
 -- that neighbour gave for this node, at any time before and however often it came. Ticks, needs, cuts and polls are any
 abbrev pub MayCall : Topology → Times → Hosts → ℕ → RouterCall → Type 0
 MayCall t times hosts n (New config neighbours destinations first_life) =
-    (first_core_of config.erasure config.me neighbours destinations ≡ new_core t n) × (config.times ≡ times) × ((hosts n).router.next_life ≤ first_life)
-MayCall t times hosts n (OnDatagram k reading now) = IsOneOf ((hosts k).history.frames n) reading ⊎ IsRefused (intake_from k now reading (hosts n).router)
+    (first_core_of config.erasure config.me neighbours destinations ≡ new_core t n) × (config.times ≡ times)
+    × ((hosts n).router.next_life ≤ first_life)
+MayCall t times hosts n (OnDatagram k reading now) =
+    IsOneOf ((hosts k).history.frames n) reading ⊎ IsRefused (intake_from k now reading (hosts n).router)
 MayCall t times hosts n (OnTick now) = Unit {0}
 MayCall t times hosts n (Need d now) = Unit {0}
 MayCall t times hosts n (Cut k now) = Unit {0}
@@ -154,4 +168,5 @@ MayCall t times hosts n PollChange = Unit {0}
 -- each call may be made when it is made, and is made at a node of the topology
 abbrev pub IsHosted : Topology → Times → Hosts → List HostedCall → Type 0
 IsHosted t times hosts [] = Unit {0}
-IsHosted t times hosts (c ∷ calls) = IsTrue (is_node t c.node) × MayCall t times hosts c.node c.call × IsHosted t times (after_call hosts c) calls
+IsHosted t times hosts (c ∷ calls) =
+    IsTrue (is_node t c.node) × MayCall t times hosts c.node c.call × IsHosted t times (after_call hosts c) calls

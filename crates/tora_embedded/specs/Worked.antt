@@ -59,7 +59,8 @@ start = first_hosts pair times
 -- the first HELLO of node 1 is lost, the next one and two more bind both ends; node 1's update comes twice
 abbrev pub first_life : List Reads
 first_life =
-    needs 1 2 ∷ ticks 1 0 ∷ ticks 2 0 ∷ polls 1 ∷ polls 1 ∷ hears 2 1 1 ∷ polls 2 ∷ hears 1 2 0 ∷ polls 1 ∷ hears 2 1 2 ∷ polls 1 ∷ hears 2 1 3 ∷ hears 2 1 3 ∷ []
+    needs 1 2 ∷ ticks 1 0 ∷ ticks 2 0 ∷ polls 1 ∷ polls 1 ∷ hears 2 1 1 ∷ polls 2 ∷ hears 1 2 0 ∷ polls 1 ∷ hears 2 1 2
+    ∷ polls 1 ∷ hears 2 1 3 ∷ hears 2 1 3 ∷ []
 
 abbrev pub first_calls : List HostedCall
 first_calls = read_from start first_life
@@ -70,7 +71,8 @@ met = after_calls first_calls start
 -- both routers are made anew, that of node 1 with a number that leaves some out. An old datagram comes first; the update comes twice again
 abbrev pub second_life : List Reads
 second_life =
-    makes 1 2 5 ∷ makes 2 1 2 ∷ needs 1 2 ∷ ticks 1 0 ∷ ticks 2 0 ∷ hears 2 1 1 ∷ polls 1 ∷ hears 2 1 4 ∷ polls 2 ∷ hears 1 2 1 ∷ polls 1 ∷ hears 2 1 5 ∷ polls 1 ∷ hears 2 1 6 ∷ hears 2 1 6 ∷ []
+    makes 1 2 5 ∷ makes 2 1 2 ∷ needs 1 2 ∷ ticks 1 0 ∷ ticks 2 0 ∷ hears 2 1 1 ∷ polls 1 ∷ hears 2 1 4 ∷ polls 2 ∷ hears 1 2 1
+    ∷ polls 1 ∷ hears 2 1 5 ∷ polls 1 ∷ hears 2 1 6 ∷ hears 2 1 6 ∷ []
 
 abbrev pub second_calls : List HostedCall
 second_calls = read_from met second_life
@@ -109,7 +111,8 @@ pub record HasLeft (hosts : Hosts) : Type 0 where
 
 -- both routers are made anew with the number of the first life, and its old datagram comes
 abbrev pub numbers_again : List Reads
-numbers_again = makes 1 2 1 ∷ makes 2 1 1 ∷ ticks 1 0 ∷ ticks 2 0 ∷ polls 1 ∷ hears 2 1 4 ∷ polls 2 ∷ hears 1 2 1 ∷ polls 1 ∷ hears 2 1 5 ∷ hears 2 1 3 ∷ []
+numbers_again =
+    makes 1 2 1 ∷ makes 2 1 1 ∷ ticks 1 0 ∷ ticks 2 0 ∷ polls 1 ∷ hears 2 1 4 ∷ polls 2 ∷ hears 1 2 1 ∷ polls 1 ∷ hears 2 1 5 ∷ hears 2 1 3 ∷ []
 
 abbrev pub given_again : Hosts
 given_again = after_calls (read_from met numbers_again) met

@@ -1,6 +1,6 @@
 //! The laws of programs that embed routers. Each stands over the definitions alone: a function without parameters that does nothing.
-ghost use Rattle.tora_embedded.specs.Laws.{AreAWorld, CoresFollow, AllHosts, HoldsOfSound, IsWithoutGap, RefusesOnlyUnknown, TakenBeginsSent};
 ghost use Rattle.tora_embedded.specs.Hosts.{IsHosted};
+ghost use Rattle.tora_embedded.specs.Laws.{AllHosts, AreAWorld, CoresFollow, HoldsOfSound, IsWithoutGap, RefusesOnlyUnknown, TakenBeginsSent};
 ghost use Rattle.tora_embedded.specs.Worked.{start, first_calls, met, second_calls, met_again, last_calls, left, HasMet, HasLeft, given_again, TakesTwice, new_life};
 ghost use Rattle.tora_running.specs.Laws.{RestingEntriesAreHeights, RestingRoutesArrive, WalksArrive};
 ghost use Rattle.tora_world.specs.Worked.{life, pair, times};

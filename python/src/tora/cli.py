@@ -68,6 +68,8 @@ def parser() -> Parser:
 def _add_word(words: argparse._SubParsersAction[Parser], name: str, help_: str, text_: str) -> Parser:
     """Adds a word, whose body is the function of its name in `tora.words`."""
     def body(found: argparse.Namespace) -> int:
+        if name == "sweep":  # its runs share the processors, so numpy is to start no threads
+            os.environ |= {"OMP_NUM_THREADS": "1", "OPENBLAS_NUM_THREADS": "1"}
         # matplotlib and scipy are read only where they are needed
         done: Body = getattr(importlib.import_module("tora.studying" if name == "sweep" else "tora.words"), f"do_{name}")
         return done(found)
@@ -126,7 +128,7 @@ def _add_sweep(words: argparse._SubParsersAction[Parser]) -> None:
         words, "sweep", "make the runs of a study, its table and its pictures",
         "Runs every size with every value of each --vary and every seed. FOLDER gets study.csv (a row for each run), manifest.json, summary.txt and\n"
         "study.png. The same command continues a sweep that was interrupted. A value that is given twice is refused, and so is an option that is\n"
-        f"both given and varied. Snakemake makes the runs.\n{PROGRAM}",
+        f"both given and varied. With --profile, snakemake makes the runs on a cluster.\n{PROGRAM}",
     )
     added.add_argument("folder", metavar="FOLDER", type=text, help="a new folder, or one of the same study")
     added.add_argument("--nodes", metavar="NUMBER,..", action=Once, type=names, help="sizes, 2 to 64 nodes, or to 1024 with --large, such as 10,20,40")
@@ -139,7 +141,7 @@ def _add_sweep(words: argparse._SubParsersAction[Parser]) -> None:
     added.add_argument("--keep", action=Flag, default=False, help="keep each run's files in FOLDER/runs")
     added.add_argument("--page", action=Flag, default=False, help="make a page that plays each run, and FOLDER/index.html")
     added.add_argument("--jobs", metavar="NUMBER", action=Once, type=count, help="runs at a time, 1 or more (as many as processors)")
-    added.add_argument("--batches", metavar="NUMBER", action=Once, type=count, help="number of parts into which the runs are divided, 1 or more (1; with --profile two for each of --jobs)")
+    added.add_argument("--batches", metavar="NUMBER", action=Once, type=count, help="with --profile: number of jobs into which the runs are divided, 1 or more (two for each of --jobs)")
     added.add_argument("--profile", metavar="PROFILE", action=Once, type=text, help="a profile of snakemake, or `slurm` for the one of this package")
     _add_program(added)
     add_options(added, SCENARIO, "options of each scenario", leave_out=["nodes"])

@@ -8,6 +8,7 @@ import itertools
 import json
 import os
 import re
+import subprocess
 from collections.abc import Iterator, Sequence
 from typing import Any
 
@@ -68,7 +69,16 @@ def runs_of(config: dict[str, Any]) -> dict[str, list[str]]:
     return found
 
 
-def write_table(config: dict[str, Any], compare: str, engine: str) -> None:
+def files_of(compare: str) -> list[str]:
+    """The program tora-compare, and the libraries of TORA that it loads: that of the module, and libtora."""
+    try:
+        told = subprocess.run(("ldd", compare), capture_output=True, text=True, timeout=60, stdin=subprocess.DEVNULL).stdout
+    except (OSError, subprocess.TimeoutExpired):
+        return [compare]
+    return [compare, *(os.path.realpath(path) for path in re.findall(r"lib(?:ns3-)?tora\.so\S* => (/\S+)", told))]
+
+
+def write_table(config: dict[str, Any], compare: str) -> None:
     """Writes ``compare.csv`` and ``manifest.json`` in this folder of the rows of all runs."""
     runs, head, lines, digests = runs_of(config), "", [], {}
     for name in runs:
@@ -82,9 +92,10 @@ def write_table(config: dict[str, Any], compare: str, engine: str) -> None:
         digests[name] = hashlib.sha256(text.encode()).hexdigest()
     _check_seeds(head, lines, runs)
     table = "\n".join([head, *lines, ""])
-    programs = {name: manifest.digest_of_file(path) for name, path in (("tora-compare", compare), ("engine", engine)) if os.path.exists(path)}
+    paths = files_of(compare)
+    programs = {os.path.basename(path): manifest.digest_of_file(path) for path in paths}
     told = {
-        "format": 1, "commit": manifest.commit_of(Program((engine,))), "program": {"sha256": programs, "paths": [compare, engine]},
+        "format": 1, "commit": manifest.commit_of(Program((compare,))), "program": {"sha256": programs, "paths": paths},
         "arguments": {name: config[name] for name in sorted(config) if name in DEFAULTS}, "seeds": parts_of(config)["seeds"], **sweeping.versions(),
         "table": hashlib.sha256(table.encode()).hexdigest(), "runs": {name: {"words": words, "sha256": {"row": digests[name]}} for name, words in runs.items()},
     }
@@ -116,16 +127,16 @@ def verify(folder: str, told: dict[str, Any], names: Sequence[str], everything: 
     with reading(os.path.join(folder, "compare.csv"), "utf-8") as source:
         if hashlib.sha256(source.read().encode()).hexdigest() != told["table"]:
             raise StudyError("it is not the table of the manifest", file=os.path.join(folder, "compare.csv"))
-    compare, engine = told["program"]["paths"]
-    for what, path in (("tora-compare", compare), ("engine", engine)):
-        if manifest.digest_of_file(path) != told["program"]["sha256"].get(what):
+    paths = told["program"]["paths"]
+    for path in paths:
+        if manifest.digest_of_file(path) != told["program"]["sha256"].get(os.path.basename(path)):
             raise StudyError("the program is another one than that of the manifest", file=path)
     for name in names:
         if name not in told["runs"]:
             raise UsageError(f"the comparison has no run `{shown(name)}`", file=folder)
     yield f"{folder}/compare.csv: the table of the manifest, {len(told['runs'])} runs"
     for name in told["runs"] if everything else names or list(told["runs"])[:1]:
-        output = Program((compare,)).run("--header=1", f"--program={engine}", *told["runs"][name]["words"]).output
+        output = Program((paths[0],)).run("--header=1", *told["runs"][name]["words"]).output
         if hashlib.sha256(output.encode()).hexdigest() != told["runs"][name]["sha256"]["row"]:
             raise StudyError("the run that is made again has another row", file=name)
         yield f"{name}: the same row"

@@ -47,7 +47,7 @@ def of_run(
         "program": {"version": version, "sha256": digests_of_program(program)}, "commit": commit_of(program),
         "inputs": inputs,
         "outputs": {"trace": digest_of_file(trace), "printed": hashlib.sha256(output.encode()).hexdigest()},
-        "python": platform.python_version(), "libraries": {name: _library_version(name) for name in LIBRARIES},
+        "python": platform.python_version(), "libraries": {name: library_version(name) for name in LIBRARIES},
     }
     return json.dumps(told, indent=1, sort_keys=True) + "\n"
 
@@ -171,7 +171,7 @@ def _version(program: Program, identity: Identity) -> str:
     return program.version()
 
 
-def _library_version(name: str) -> str | None:
+def library_version(name: str) -> str | None:
     """The version of a library that is installed."""
     try:
         return importlib.metadata.version(name)

@@ -1,8 +1,9 @@
-"""The parts of a sweep that the workflow calls: a batch of runs, and the table and the manifest of all.
+"""The parts of a sweep: a batch of runs, and the table and the manifest of all.
 
-  python -m tora.sweeping batch DIR NUMBER OF JOBS   makes the runs NUMBER, NUMBER + OF, .. (from 0) that have no row yet, so many at a time
-  python -m tora.sweeping table DIR                  DIR/study.csv and DIR/manifest.json, once all runs have rows; then DIR/summary.txt, and
-                                                     DIR/study.png and DIR/index.html where the study has them
+  python -m tora.sweeping all DIR JOBS               makes every run that has no row yet, JOBS at a time, and then the table
+  python -m tora.sweeping batch DIR NUMBER OF JOBS   makes the runs NUMBER, NUMBER + OF, .. (from 0) that have no row yet, JOBS at a time
+  python -m tora.sweeping table DIR                  makes DIR/study.csv and DIR/manifest.json, once all runs have rows; then DIR/summary.txt,
+                                                     and DIR/study.png and DIR/index.html if the study has them
 
 A run leaves DIR/rows/NAME.json, whole or not at all; a run that fails leaves DIR/logs/NAME.log, and the others go on. Exit status: 0 where all is done, else
 that of the first failure.
@@ -11,7 +12,6 @@ from __future__ import annotations
 
 import functools
 import hashlib
-import importlib.metadata
 import json
 import multiprocessing
 import os
@@ -68,6 +68,11 @@ def row_path(folder: str, name: str) -> str:
     return os.path.join(folder, ROWS, f"{name}.json")
 
 
+def products(study: Study) -> list[str]:
+    """The files that a study has once all runs have rows."""
+    return ["study.csv", "manifest.json", "summary.txt", *(["study.png"] if study.picture() else []), *(["index.html"] if study.page else [])]
+
+
 def missing(folder: str, study: Study) -> list[Planned]:
     """The runs that have no row yet."""
     return [run for run in study.runs() if not os.path.exists(row_path(folder, run.name))]
@@ -81,9 +86,19 @@ def make_batch(folder: str, number: int, of: int, jobs: int) -> int:
     one = functools.partial(try_run, folder, study, program, time_limit)
     if jobs <= 1 or len(left) <= 1:
         return max(map(one, left), default=0)
-    # a fork has read all modules already
+    import scipy.spatial  # noqa: F401  # a fork has read all modules that a run needs
     with ProcessPoolExecutor(min(jobs, len(left)), mp_context=multiprocessing.get_context("fork")) as pool:
         return max(pool.map(one, left))
+
+
+def make_all(folder: str, jobs: int) -> int:
+    """Makes the runs that have no row, and then the table, unless nothing of either is missing; answers the exit status."""
+    study = Study.read(folder)
+    is_made = not missing(folder, study) and all(os.path.exists(os.path.join(folder, name)) for name in products(study))
+    status = make_batch(folder, 0, 1, jobs)
+    if not status and not is_made:
+        make_table(folder)
+    return status
 
 
 def try_run(folder: str, study: Study, program: Program, time_limit: float, run: Planned) -> int:
@@ -94,6 +109,8 @@ def try_run(folder: str, study: Study, program: Program, time_limit: float, run:
     except StudyError as cause:
         write_file(log, f"{cause}\n", overwrite=True)
         return cause.status
+    except KeyboardInterrupt:
+        os._exit(130)  # a process of a pool would begin its next run
     if os.path.exists(log):
         os.remove(log)
     return 0
@@ -132,7 +149,7 @@ def _copy(source: str, target: str) -> None:
 
 
 def make_table(folder: str) -> None:
-    """Writes ``study.csv`` and ``manifest.json``, once all runs have rows."""
+    """Writes ``study.csv`` and ``manifest.json``, once all runs have rows; then what shows them."""
     study = Study.read(folder)
     left = missing(folder, study)
     if left:
@@ -146,13 +163,12 @@ def make_table(folder: str) -> None:
     table = ",".join(names) + "\n" + "".join(metrics.row_text(record["row"], names) + "\n" for record in records)
     paths = {name: os.path.join(folder, name) for name in ("study.csv", "manifest.json")}
     write_files({paths["study.csv"]: table, paths["manifest.json"]: manifest_text(folder, study, records, table)}, overwrite=True)
+    show(folder)
 
 
 def show(folder: str) -> None:
     """Writes the summary, the picture and the page of a study that has a table."""
-    from tora import plots  # these take longer to read than a run to make
-    from tora.derived import with_derived
-    from tora.page.index import write_index
+    from tora.derived import with_derived  # these take longer to read than a run to make
     from tora.summary import summarize, text_lines
     from tora.table import read_table
 
@@ -160,8 +176,10 @@ def show(folder: str) -> None:
     table, by = with_derived(read_table(path)), study.picture()
     write_file(os.path.join(folder, "summary.txt"), "\n".join(text_lines(summarize(table))) + "\n", [path], overwrite=True)
     if by is not None:
+        from tora import plots
         plots.write_picture(plots.by_column(table, by), os.path.join(folder, "study.png"), [path], overwrite=True)
     if study.page:
+        from tora.page.index import write_index
         write_index(folder, overwrite=True)
 
 
@@ -183,20 +201,20 @@ def manifest_text(folder: str, study: Study, records: list[dict[str, Any]], tabl
 def versions() -> dict[str, Any]:
     """The versions of Python and of the libraries that a study is made with."""
     names = (*manifest.LIBRARIES, "matplotlib", "snakemake")
-    held = {each.metadata["Name"]: each.version for each in importlib.metadata.distributions()}
-    return {"python": platform.python_version(), "libraries": {name: held.get(name) for name in names}}
+    return {"python": platform.python_version(), "libraries": {name: manifest.library_version(name) for name in names}}
 
 
 def main(words: Sequence[str]) -> int:
-    """Does what the workflow asks for; answers the exit status."""
+    """Does what the sweep or the workflow asks for; answers the exit status."""
     try:
+        if len(words) == 3 and words[0] == "all" and words[2].isdecimal():
+            return make_all(words[1], int(words[2]))
         if len(words) == 5 and words[0] == "batch" and all(word.isdecimal() for word in words[2:]):
             return make_batch(words[1], *map(int, words[2:]))
         if len(words) == 2 and words[0] == "table":
             make_table(words[1])
-            show(words[1])
             return 0
-        raise UsageError("batch DIR NUMBER OF JOBS, or table DIR, is needed; tora-study sweep calls this")
+        raise UsageError("all DIR JOBS, batch DIR NUMBER OF JOBS, or table DIR is needed; tora-study sweep calls this")
     except StudyError as cause:
         print(f"tora-study: {cause}", file=sys.stderr)
         return cause.status

@@ -9,6 +9,7 @@ from __future__ import annotations
 import argparse
 import contextlib
 import csv
+import multiprocessing
 import os
 import pathlib
 import platform
@@ -18,16 +19,18 @@ import subprocess
 import sys
 import time
 from collections.abc import Iterator, Sequence
+from multiprocessing.connection import wait
 
 from tora.errors import StudyError, UsageError
 from tora.files import write_file
 
 from tora.live.experiment import COLUMNS, FAULTS, Experiment, Plan
+from tora.live.hosts import shield
 from tora.live.protocols import GROUPS, PROTOCOLS
 from tora.live.topologies import KINDS, network
 from tora.program import Program
 
-NEEDED = ("ip", "nft", "iperf3", "sysctl")
+NEEDED = ("ip", "nft", "iperf3", "nsenter", "sysctl")
 
 
 def parser() -> argparse.ArgumentParser:
@@ -53,6 +56,12 @@ def parser() -> argparse.ArgumentParser:
     found.add_argument("--rest", type=float, default=30.0, help="seconds at rest (30)")
     found.add_argument("--most", type=float, default=60.0, help="seconds in which a route may come back (60)")
     found.add_argument("--every", type=int, default=1000, help="microseconds from one packet to the next (1000)")
+    found.add_argument("--jobs", type=int, default=1, help="runs at once (1)")
+    found.add_argument(
+        "--shield",
+        action="store_true",
+        help="give daemons and traffic a real-time priority, so that other work of the machine does not slow them",
+    )
     found.add_argument("--no-tcp", action="store_true", help="without iperf3")
     found.add_argument(
         "--program",
@@ -92,6 +101,7 @@ def plans(found: argparse.Namespace) -> Iterator[Plan]:
         ("--rest", found.rest),
         ("--most", found.most),
         ("--every", found.every),
+        ("--jobs", found.jobs),
     ):
         if not value > 0:
             raise UsageError(f"`{value}` is not above 0", key=key)
@@ -115,6 +125,7 @@ def plans(found: argparse.Namespace) -> Iterator[Plan]:
                                 found.rest,
                                 found.most,
                                 tcp=not found.no_tcp,
+                                shield=found.shield,
                             )
 
 
@@ -143,14 +154,14 @@ def _done(found: argparse.Namespace) -> int:
             raise UsageError("network namespaces need root")
         missing = next((it for it in NEEDED if shutil.which(it) is None), None)
         if missing:
-            raise UsageError(f"the program {missing} is missing (packages iproute2, nftables, iperf3, procps)")
+            packages = "iproute2, nftables, iperf3, util-linux, procps"
+            raise UsageError(f"the program {missing} is missing (packages {packages})")
         program = Program.find(found.program)
         able = _able({it.protocol for it in held})
         (out / "rows").mkdir(parents=True, exist_ok=True)
         _describe(out, found, program)
         todo = [it for it in held if it.protocol in able and not (out / "rows" / f"{it.name}.csv").exists()]
-        for at, plan in enumerate(todo, 1):
-            failed += not _run(plan, out, program, found.keep, f"{at} of {len(todo)}")
+        failed = _make(todo, out, program, found.keep, found.jobs)
     _gather(out)
     from tora.live import report
 
@@ -171,8 +182,38 @@ def _able(names: set[str]) -> set[str]:
     return found
 
 
-def _run(plan: Plan, out: pathlib.Path, program: Program, keep: bool, place: str) -> bool:
-    """Makes a run and writes its rows; answers whether it came to its end."""
+def _make(todo: Sequence[Plan], out: pathlib.Path, program: Program, keep: bool, jobs: int) -> int:
+    """Makes runs, so many at once, each in a process of its own; answers how many failed."""
+    failed = 0
+    under_way: dict[int, multiprocessing.Process] = {}
+    try:
+        for at, plan in enumerate(todo, 1):
+            if len(under_way) == jobs:
+                failed += _ended(under_way)
+            process = multiprocessing.Process(target=_run, args=(plan, out, program, keep, f"{at} of {len(todo)}"))
+            process.start()
+            under_way[process.sentinel] = process
+        while under_way:
+            failed += _ended(under_way)
+    finally:
+        for process in under_way.values():
+            process.terminate()
+        for process in under_way.values():
+            process.join()
+    return failed
+
+
+def _ended(under_way: dict[int, multiprocessing.Process]) -> int:
+    """Waits until some runs have ended, and forgets them; answers how many of them failed."""
+    ended = [under_way.pop(it) for it in wait(list(under_way)) if isinstance(it, int)]
+    return sum(it.exitcode != 0 for it in ended)
+
+
+def _run(plan: Plan, out: pathlib.Path, program: Program, keep: bool, place: str) -> None:
+    """Makes a run and writes its rows; ends this process with status 1 where that fails."""
+    if plan.shield:
+        shield()
+    signal.signal(signal.SIGINT, signal.SIG_IGN)  # the process that started this one ends it by the other signal
     folder = out / "runs" / plan.name
     shutil.rmtree(folder, ignore_errors=True)
     folder.mkdir(parents=True)
@@ -181,7 +222,9 @@ def _run(plan: Plan, out: pathlib.Path, program: Program, keep: bool, place: str
         rows = Experiment(plan, folder, program.words[0]).run()
     except (StudyError, OSError) as cause:
         print(f"live/run: {plan.name} ({place}) failed: {cause}; its logs are in {folder}", file=sys.stderr)
-        return False
+        sys.exit(1)
+    except KeyboardInterrupt:
+        sys.exit(130)
     part = out / "rows" / f"{plan.name}.csv.part"
     with open(part, "w", newline="") as sink:
         writer = csv.DictWriter(sink, COLUMNS, lineterminator="\n")
@@ -193,7 +236,6 @@ def _run(plan: Plan, out: pathlib.Path, program: Program, keep: bool, place: str
         with contextlib.suppress(OSError):
             folder.parent.rmdir()
     print(f"{plan.name} ({place}): {time.monotonic() - begin:.0f} s", flush=True)
-    return True
 
 
 def _cell(value: object) -> object:

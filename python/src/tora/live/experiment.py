@@ -2,6 +2,7 @@
 from __future__ import annotations
 
 import dataclasses
+import itertools
 import json
 import pathlib
 import random
@@ -18,7 +19,7 @@ from tora.live.hosts import TCP_PORT, Hosts
 from tora.live.measures import Fared, fared, longest_stall
 from tora.live.protocols import PROTOCOLS
 from tora.live.topologies import Network, cable_to_break, host_to_kill, network
-from tora.live.traffic import read_records
+from tora.live.traffic import Records
 
 FAULTS = ("down", "silent", "lossy", "killed")
 DESIGN = ("protocol", "timing", "topology", "nodes", "fault", "phase")
@@ -39,11 +40,14 @@ COLUMNS = (
     "processor_percent",
     "memory_mb",
     "busy",
+    "stolen",
     "routes_left",
 )
 START = 90.0  # seconds in which the first packet arrives
 SETTLE = 10.0  # seconds after the first packet, and after a repair
 STEADY_FOR = 3.0  # seconds that packets have to arrive until a phase ends
+LEAST = 5.0  # seconds of a phase
+RESTARTED = 15.0  # of the one in which a daemon is started again: its neighbours may take away their routes late
 LOSSY_FOR = 20.0  # seconds of a phase in which a fifth is lost
 
 
@@ -61,6 +65,8 @@ class Plan:
         Seconds of a phase in which no route works again.
     hopeless : float
         Seconds of a fault that leaves no other way, or of a daemon that is dead.
+    shield : bool
+        Whether daemons and traffic have a real-time priority.
     """
 
     protocol: str
@@ -74,6 +80,7 @@ class Plan:
     most: float = 60.0
     hopeless: float = 10.0
     tcp: bool = True
+    shield: bool = False
 
     @property
     def name(self) -> str:
@@ -95,6 +102,7 @@ class Phase:
     processor: float | None  # None where a daemon was killed, and its time with it
     memory: float
     busy: float
+    stolen: float
     stretch: float | None
 
 
@@ -110,6 +118,7 @@ class Experiment:
         self.rng = random.Random()  # of a fault: which cable, which host
         self.daemons: dict[int, subprocess.Popen[str]] = {}
         self.client: subprocess.Popen[str] | None = None
+        self.sent, self.received = Records(folder / "sent"), Records(folder / "received")
         self.began = self.arrived_at = self.tcp_began = 0.0
 
     def run(self) -> list[dict[str, object]]:
@@ -118,7 +127,9 @@ class Experiment:
             self.hosts.set_up()
             self._begin()
             self._phase("rest", "rest", True, lambda: time.sleep(self.plan.rest))
-            for fault in self.plan.faults:
+            for at, fault in enumerate(self.plan.faults):
+                if at:
+                    time.sleep(SETTLE)
                 self._fault(fault)
             left = self._stop()
             return self._rows(left)
@@ -135,11 +146,11 @@ class Experiment:
             self.daemons[host] = self.protocol.start(self.hosts, host, self.plan.timing, self.program)
         words = [*traffic, "send", source, destination, str(self.plan.every), "sent"]
         self.hosts.start(self.network.source, words, "log-send", False)
-        while not self._received():
+        while not self.received.read():
             if time.monotonic() - self.began > START:
                 raise StudyError(f"{self.plan.name}: no packet has arrived within {START:g} seconds")
             time.sleep(0.1)
-        self.arrived_at = min(self._received().values())
+        self.arrived_at = min(self.received.read().values())
         if self.plan.tcp:
             server = ["iperf3", "-s", "-1", "-B", destination, "-i", "0.1", "-J"]  # its receiver tells what arrived
             self.hosts.start(self.network.destination, server, "tcp.json", False)
@@ -147,15 +158,12 @@ class Experiment:
             self.tcp_began = time.monotonic()
             client = ["iperf3", "-c", destination, "-B", source, "-b", "500K", "-l", "1K", "-t", "86400"]
             self.client = self.hosts.start(self.network.source, client, "log-client", False)
+        if self.plan.shield:
+            self.hosts.hasten()
         time.sleep(SETTLE)
 
-    def _received(self) -> dict[int, float]:
-        """The packets that arrived so far."""
-        path = self.folder / "received"
-        return read_records(str(path)) if path.exists() else {}
-
     def _fault(self, fault: str) -> None:
-        """A fault on the way of the data, and its repair; where protocols have the same way, it is at the same place."""
+        """A fault on the way of the data, and its repair: at the same place where protocols have the same way."""
         self.rng = random.Random(f"{self.plan.topology} {self.plan.nodes} {self.plan.seed} {fault}")
         path = self.hosts.path()
         until = time.monotonic() + self.plan.most
@@ -177,7 +185,6 @@ class Experiment:
         seconds = LOSSY_FOR if fault == "lossy" else None if spare else self.plan.hopeless
         self._phase(fault, "fault", spare, lambda: self._wait(seconds), break_it)
         self._phase(fault, "repair", spare, lambda: self._wait(None), mend_it)
-        time.sleep(SETTLE)
 
     def _killed(self, path: list[int]) -> None:
         """The daemons of a host on the way are killed, and started again."""
@@ -188,39 +195,43 @@ class Experiment:
 
         def start() -> None:
             self.daemons[host] = self.protocol.start(self.hosts, host, self.plan.timing, self.program)
+            if self.plan.shield:
+                self.hosts.hasten()
 
         self._phase("killed", "fault", spare, lambda: self._wait(self.plan.hopeless), self.daemons[host].kill)
-        self._phase("killed", "repair", spare, lambda: self._wait(None), start)
-        time.sleep(SETTLE)
+        self._phase("killed", "repair", spare, lambda: self._wait(None, RESTARTED), start)
 
-    def _wait(self, seconds: float | None) -> None:
-        """Waits so long, or until the packets arrive again for a while."""
+    def _wait(self, seconds: float | None, least: float = LEAST) -> None:
+        """Waits so long, or until the packets arrive again for a while, and a least time."""
         begin = time.monotonic()
         if seconds is not None:
             time.sleep(seconds)
             return
         while time.monotonic() - begin < self.plan.most:
             time.sleep(0.5)
-            now = time.monotonic()
-            if now - begin < STEADY_FOR + 2:
-                continue
-            sent = read_records(str(self.folder / "sent"))
-            late = {number for number, moment in sent.items() if now - STEADY_FOR - 0.5 <= moment < now - 0.5}
-            if late and len(late & self._received().keys()) >= 0.999 * len(late):
+            if time.monotonic() - begin >= least and self._is_steady(time.monotonic() - 0.5):
                 return
+
+    def _is_steady(self, now: float) -> bool:
+        """Whether the packets that were sent in the last seconds before a moment have arrived."""
+        arrived = self.received.read()
+        recent = itertools.takewhile(lambda it: it[1] >= now - STEADY_FOR, reversed(self.sent.read().items()))
+        late = [number in arrived for number, moment in recent if moment < now]
+        return sum(late) >= max(1, 0.999 * len(late))
 
     def _phase(
         self, fault: str, phase: str, spare: bool, wait: Callable[[], None], act: Callable[[], None] | None = None
     ) -> None:
         """A stretch of time, which begins with an act."""
-        used, counted, work = self.hosts.used(), self.hosts.counted(), system.busy()
+        before = time.monotonic()
+        used, counted, work = self.hosts.used(), self.hosts.counted(), system.spent()
         begin = time.monotonic()
         if act is not None:
             act()
         wait()
         end = time.monotonic()
-        then, sent, worked = self.hosts.used(), self.hosts.counted(), system.busy()
-        span = end - begin
+        span = end - before  # from one look at the counters to the next, each of which takes as long
+        then, sent, worked = self.hosts.used(), self.hosts.counted(), system.spent()
         path = self.hosts.path()
         shortest = self._shortest(fault, phase)
         self.phases.append(
@@ -234,7 +245,8 @@ class Experiment:
                 (sent.bytes - counted.bytes) / span,
                 None if fault == "killed" and phase == "fault" else (then.processor - used.processor) / span,
                 then.memory,
-                (worked[0] - work[0]) / max(1.0, worked[1] - work[1]),
+                (worked.worked - work.worked) / max(1.0, worked.all - work.all),
+                (worked.stolen - work.stolen) / max(1.0, worked.all - work.all),
                 None if path is None or shortest is None else (len(path) - 1) / shortest,
             )
         )
@@ -260,8 +272,7 @@ class Experiment:
 
     def _rows(self, left: int) -> list[dict[str, object]]:
         """A row for the start, and one for each phase."""
-        sent = read_records(str(self.folder / "sent"))
-        arrived = set(read_records(str(self.folder / "received")))
+        sent, arrived = self.sent.read(), set(self.received.read())
         intervals = self._intervals()
         distance = networkx.shortest_path_length(self.network.graph(), self.network.source, self.network.destination)
         common: dict[str, object] = dict.fromkeys(COLUMNS)
@@ -291,6 +302,7 @@ class Experiment:
                     "processor_percent": None if it.processor is None else 100 * it.processor / self.plan.nodes,
                     "memory_mb": it.memory / self.plan.nodes / 1e6,
                     "busy": it.busy,
+                    "stolen": it.stolen,
                     "routes_left": left,
                 }
             )

@@ -8,7 +8,7 @@ import pathlib
 import signal
 import subprocess
 import time
-from collections.abc import Iterable, Sequence
+from collections.abc import Iterable, Iterator, Sequence
 from typing import NamedTuple
 
 from tora.errors import StudyError
@@ -16,18 +16,22 @@ from tora.live.topologies import Network
 from tora.live.traffic import PORT
 
 TCP_PORT = 5201
-FRAME = 14  # bytes of an Ethernet header, which the counters of an interface have and those of nftables do not
-COUNTERS = f"""table inet live {{
+COUNTERS = f"""table netdev live {{
   counter data {{ }}
+  counter control {{ }}
   chain out {{
-    type filter hook postrouting priority 300;
-    oifname "e*" udp dport {PORT} counter name data
-    oifname "e*" tcp dport {TCP_PORT} counter name data
-    oifname "e*" tcp sport {TCP_PORT} counter name data
-    oifname "e*" icmp type destination-unreachable counter name data
+    type filter hook egress devices = {{ %s }} priority 0;
+    udp dport {PORT} counter name data accept
+    tcp dport {TCP_PORT} counter name data accept
+    tcp sport {TCP_PORT} counter name data accept
+    icmp type destination-unreachable counter name data accept
+    counter name control
   }}
 }}
-"""
+"""  # of what goes out at these interfaces, with its Ethernet headers
+NAMESPACES = pathlib.Path("/run/netns")  # of `ip netns`
+REAL_TIME = 20  # the priority of daemons and traffic that are shielded
+NICE = -15  # of the runner that shields them, with its commands
 SYSCTLS = (
     "net.ipv4.ip_forward=1 net.ipv6.conf.all.forwarding=1 net.ipv6.conf.default.accept_dad=0 "
     "net.ipv4.conf.all.rp_filter=0 "
@@ -64,14 +68,17 @@ class Hosts:
     def __init__(self, network: Network, folder: pathlib.Path) -> None:
         self.network, self.folder = network, folder
         self._prefix = f"live-{os.getpid()}"
-        self._own: dict[int, int] = {}  # by the process that keeps a namespace its inode
+        self._own: dict[int, int] = {}  # by the inode of a namespace its host
         self._others: set[int] = set()  # processes that are no daemons
-        self._anchors: dict[int, subprocess.Popen[str]] = {}
         self.started: list[subprocess.Popen[str]] = []
 
     def name(self, host: int) -> str:
         """The name of a host's namespace."""
         return f"{self._prefix}-{host}"
+
+    def at(self, host: int) -> list[str]:
+        """The words before a command at a host. `ip netns exec` would make a namespace of mounts, too, and is slow."""
+        return ["nsenter", f"--net={NAMESPACES / self.name(host)}"]
 
     def address(self, host: int, peer: int) -> str:
         """The address of a host at its cable to a peer."""
@@ -80,38 +87,25 @@ class Hosts:
 
     def set_up(self) -> None:
         """Makes the namespaces and the cables."""
-        lines = []
         for host in self.network.hosts:
             run(["ip", "netns", "add", self.name(host)])
-            script = f"sysctl -qw {SYSCTLS} && nft -f - && echo && exec sleep infinity"
-            anchor = subprocess.Popen(
-                ["ip", "netns", "exec", self.name(host), "sh", "-c", script],
-                stdin=subprocess.PIPE,
-                stdout=subprocess.PIPE,
-                text=True,
-            )
-            assert anchor.stdin is not None and anchor.stdout is not None
-            anchor.stdin.write(COUNTERS)
-            anchor.stdin.close()
-            if anchor.stdout.readline() != "\n":
-                raise StudyError("a namespace can't be set up: sysctl or nft fails in it")
-            self._anchors[host] = anchor
-            self._others.add(anchor.pid)
-            self._own[os.stat(f"/proc/{anchor.pid}/ns/net").st_ino] = host
-        for a, b in self.network.cables:
-            lines.append(f"link add e{b} netns {self.name(a)} type veth peer name e{a} netns {self.name(b)}")
-        run(["ip", "-batch", "-"], "\n".join(lines) + "\n")
+            self._own[os.stat(NAMESPACES / self.name(host)).st_ino] = host
+            run([*self.at(host), "sysctl", "-qw", *SYSCTLS.split()])
+        ends = [(f"e{b} netns {self.name(a)}", f"e{a} netns {self.name(b)}") for a, b in self.network.cables]
+        run(["ip", "-batch", "-"], "".join(f"link add {a} type veth peer name {b}\n" for a, b in ends))
         for host in self.network.hosts:
             lines = ["link set lo up", f"address add 10.99.0.{host}/32 dev lo"]
             for peer in self.network.neighbours(host):
                 lines += [f"address add {self.address(host, peer)}/24 dev e{peer}", f"link set e{peer} up"]
-            run(["ip", "-n", self.name(host), "-batch", "-"], "\n".join(lines) + "\n")
+            run([*self.at(host), "ip", "-batch", "-"], "\n".join(lines) + "\n")
+            devices = ", ".join(f"e{peer}" for peer in self.network.neighbours(host))
+            run([*self.at(host), "nft", "-f", "-"], COUNTERS % devices)
 
     def start(self, host: int, words: Sequence[str], log: str, is_daemon: bool = True) -> subprocess.Popen[str]:
         """Starts a process at a host, in the folder."""
         with open(self.folder / log, "a") as sink:
             process = subprocess.Popen(
-                ["ip", "netns", "exec", self.name(host), *words],
+                [*self.at(host), *words],
                 cwd=self.folder,
                 stdin=subprocess.DEVNULL,
                 stdout=sink,
@@ -124,16 +118,29 @@ class Hosts:
             self._others.add(process.pid)
         return process
 
-    def daemons(self) -> dict[int, list[int]]:
-        """By the host its processes that are daemons."""
-        found: dict[int, list[int]] = {host: [] for host in self.network.hosts}
+    def _processes(self) -> Iterator[tuple[int, int]]:
+        """The processes in the namespaces, each with its host."""
         for name in os.listdir("/proc"):
-            if name.isdecimal() and int(name) not in self._others:
+            if name.isdecimal():
                 with contextlib.suppress(OSError):
                     host = self._own.get(os.stat(f"/proc/{name}/ns/net").st_ino)
                     if host is not None:
-                        found[host].append(int(name))
+                        yield int(name), host
+
+    def daemons(self) -> dict[int, list[int]]:
+        """By the host its processes that are daemons."""
+        found: dict[int, list[int]] = {host: [] for host in self.network.hosts}
+        for process, host in self._processes():
+            if process not in self._others:
+                found[host].append(process)
         return found
+
+    def hasten(self) -> None:
+        """Gives daemons and traffic a real-time priority."""
+        for process, _ in self._processes():
+            with contextlib.suppress(OSError):
+                for task in os.listdir(f"/proc/{process}/task"):
+                    os.sched_setscheduler(int(task), os.SCHED_FIFO, os.sched_param(REAL_TIME))
 
     def used(self) -> Used:
         """What the daemons have used so far."""
@@ -150,17 +157,12 @@ class Hosts:
     def counted(self) -> Counted:
         """What the hosts have sent over their cables so far, without data."""
         packets = size = 0
-        for host, anchor in self._anchors.items():
-            for line in pathlib.Path(f"/proc/{anchor.pid}/net/dev").read_text().splitlines()[2:]:
-                name, cells = line.split(":")
-                if name.strip().startswith("e"):
-                    packets += int(cells.split()[9])
-                    size += int(cells.split()[8])
-            told = json.loads(run(["ip", "netns", "exec", self.name(host), "nft", "-j", "list", "counters"]))
-            for it in told["nftables"]:
-                if "counter" in it:
-                    packets -= it["counter"]["packets"]
-                    size -= it["counter"]["bytes"] + FRAME * it["counter"]["packets"]
+        for host in self.network.hosts:
+            words = [*self.at(host), "nft", "-j", "list", "counters"]
+            for it in json.loads(run(words))["nftables"]:
+                if it.get("counter", {}).get("name") == "control":
+                    packets += it["counter"]["packets"]
+                    size += it["counter"]["bytes"]
         return Counted(packets, size)
 
     def path(self) -> list[int] | None:
@@ -169,7 +171,7 @@ class Hosts:
         found, here = [self.network.source], self.network.source
         target = f"10.99.0.{self.network.destination}"
         while here != self.network.destination:
-            words = run(["ip", "-n", self.name(here), "route", "get", target], check=False).split()
+            words = run([*self.at(here), "ip", "route", "get", target], check=False).split()
             name = words[words.index("dev") + 1] if "dev" in words else ""
             if not name.startswith("e") or int(name[1:]) in found:
                 return None
@@ -182,7 +184,7 @@ class Hosts:
         return sum(
             len(
                 run(
-                    ["ip", "-n", self.name(host), version, "route", "show", "table", "all", "proto", str(number)]
+                    [*self.at(host), "ip", version, "route", "show", "table", "all", "proto", str(number)]
                 ).splitlines()
             )
             for host in self.network.hosts
@@ -191,7 +193,7 @@ class Hosts:
 
     def cable(self, a: int, b: int, state: str) -> None:
         """Sets the interface of A to B up or down."""
-        run(["ip", "-n", self.name(a), "link", "set", f"e{b}", state])
+        run([*self.at(a), "ip", "link", "set", f"e{b}", state])
 
     def lose(self, a: int, b: int, percent: int) -> None:
         """Loses so many of a hundred frames that come over a cable, either way, by nftables as they come in; 0 ends
@@ -202,18 +204,17 @@ class Hosts:
             if percent:
                 hook = f"type filter hook ingress device e{there} priority 0;"
                 text = f"table netdev loss {{\nchain in {{\n{hook}\n{rule}drop\n}}\n}}\n"
-            run(["ip", "netns", "exec", self.name(here), "nft", "-f", "-"], text)
+            run([*self.at(here), "nft", "-f", "-"], text)
 
     def close(self) -> None:
         """Ends all that runs in the namespaces, and takes them away."""
-        for processes in self.daemons().values():
-            for process in processes:
-                with contextlib.suppress(ProcessLookupError):
-                    os.kill(process, signal.SIGKILL)
-        for started in [*self.started, *self._anchors.values()]:
+        for process, _ in self._processes():
+            with contextlib.suppress(ProcessLookupError):
+                os.kill(process, signal.SIGKILL)
+        for started in self.started:
             started.kill()
             started.wait()
-        for host in self._anchors:
+        for host in self._own.values():
             run(["ip", "netns", "del", self.name(host)], check=False)
 
 
@@ -232,7 +233,25 @@ def end(processes: Iterable[subprocess.Popen[str]], seconds: float = 5.0) -> Non
             process.wait()
 
 
-def busy() -> tuple[float, float]:
-    """The seconds of all processors so far: those in which they worked, and all."""
+def shield() -> None:
+    """Puts this process before other work of the machine, in a session of its own: between sessions the kernel shares
+    the processors by the priority of each session."""
+    os.setsid()
+    os.setpriority(os.PRIO_PROCESS, 0, NICE)
+    with contextlib.suppress(FileNotFoundError):  # a kernel without such groups
+        pathlib.Path("/proc/self/autogroup").write_text(str(NICE))
+
+
+class Spent(NamedTuple):
+    """The seconds of all processors so far: those in which they worked, those that the host of a virtual machine took
+    for others, and all."""
+
+    worked: float
+    stolen: float
+    all: float
+
+
+def spent() -> Spent:
+    """What the processors have done so far."""
     cells = [int(it) for it in pathlib.Path("/proc/stat").read_text().split("\n", 1)[0].split()[1:9]]
-    return float(sum(cells) - cells[3] - cells[4]), float(sum(cells))
+    return Spent(float(sum(cells) - cells[3] - cells[4]), float(cells[7]), float(sum(cells)))

@@ -1,6 +1,7 @@
 """Tables with intervals and two plots of what the runs measured."""
 from __future__ import annotations
 
+import math
 import pathlib
 
 import numpy as np
@@ -9,7 +10,6 @@ from matplotlib.axes import Axes
 from matplotlib.figure import Figure
 
 from tora import stats
-from tora.columns import SEED
 from tora.drawing import COLOURS, DASHES, MARKS, Line, draw_points, panels_of, styled, write_picture
 from tora.errors import UsageError
 from tora.files import write_file
@@ -62,11 +62,20 @@ COST = (
     ("memory_mb", "memory, MB a host"),
 )
 SMALLEST = 0.1  # ms, in place of 0 on a logarithmic axis
+DRAWN = "each run, their median, and its 95 % interval by order statistics"
+MOST_STOLEN = 0.05  # of the time of the processors in a phase that counts
 
 
 def read(path: pathlib.Path) -> Table:
-    """The table of the runs."""
-    return read_table(path, DESIGN)
+    """The table of the runs, without phases in which a host of virtual machines took much of the processors' time.
+
+    A time to a working route is infinite where none came.
+    """
+    table = read_table(path, DESIGN)
+    frame = table.frame[~(table.frame["stolen"] > MOST_STOLEN)].copy()
+    has_none = frame["working_ms"].isna() & (frame["lost"] > 0) & ~((frame["fault"] == "lossy") & (frame["phase"] == "fault"))
+    frame.loc[has_none, "working_ms"] = math.inf
+    return Table(table.path, frame, table.design)
 
 
 def chosen(table: Table, fault: str, phase: str) -> Table | None:
@@ -95,13 +104,8 @@ def tables(table: Table, statistic: str = "median") -> list[str]:
 
 @styled
 def mended(table: Table) -> Figure:
-    """How long no route works after each fault, by protocol; of all topologies and sizes, each run a point of its
-    protocol's median."""
-    figure, axes = panels_of(
-        len(MENDED),
-        "time until a route works again, ms, of runs in which one does: "
-        "the median over seeds and its 95 % interval by order statistics",
-    )
+    """How long no route works after each fault, by protocol."""
+    figure, axes = panels_of(len(MENDED), f"time until a route works again, ms: {DRAWN}")
     for panel, (fault, phase, title) in zip(axes, MENDED):
         part = chosen(table, fault, phase)
         if part is not None:
@@ -115,7 +119,7 @@ def mended(table: Table) -> Figure:
 @styled
 def cost(table: Table) -> Figure:
     """What a protocol takes at rest."""
-    figure, axes = panels_of(len(COST), "at rest: the median over seeds and its 95 % interval by order statistics")
+    figure, axes = panels_of(len(COST), f"at rest: {DRAWN}")
     part = chosen(table, "rest", "rest")
     if part is None:
         raise UsageError("there is no phase at rest", file=table.path)
@@ -127,25 +131,23 @@ def cost(table: Table) -> Figure:
 
 
 def _draw(panel: Axes, table: Table, part: Table, measure: str, least: float) -> None:
-    """A point for each protocol and timing, with a mark for each size; a seed counts once, by its topologies' mean."""
-    rows = pd.DataFrame(
-        [
-            [*key, *stats.order_interval(runs.groupby(SEED)[measure].mean().dropna().to_numpy(dtype=float))]
-            for key, runs in part.groups(["protocol", "timing", "nodes"]).items()
-            if runs[measure].notna().any()
-        ],
-        columns=["protocol", "timing", "nodes", "value", "low", "high"],
-    )
+    """A mark for each protocol and timing, and each size, with a point for each run, which is a topology and a seed."""
+    held = part.frame[part.frame[measure].notna()]
+    most = held[measure][np.isfinite(held[measure])].max()
     # the same places and colours in each panel
     kinds = sorted(set(zip(table.frame["protocol"], table.frame["timing"])))
     sizes = sorted(set(table.frame["nodes"]))
     for at, size in enumerate(sizes):
-        own = rows[rows["nodes"] == size].copy()
-        places = np.array([kinds.index(it) for it in zip(own["protocol"], own["timing"])], dtype=float)
-        for column in ("value", "low", "high"):
-            own[column] = own[column].clip(lower=least)
         line = Line(f"{text_of(size)} hosts", COLOURS[at % len(COLOURS)], DASHES[0], MARKS[at % len(MARKS)])
-        draw_points(panel, places + 0.16 * at, own, line, join=False)
+        rows = []
+        for place, (protocol, timing) in enumerate(kinds):
+            own = held[(held["protocol"] == protocol) & (held["timing"] == timing) & (held["nodes"] == size)]
+            values = own[measure].clip(least, most).to_numpy(dtype=float)
+            if len(values):
+                panel.plot([place + 0.16 * at + 0.08] * len(values), values, ".", color=line.colour, alpha=0.3, ms=4)
+                rows.append([place + 0.16 * at, *stats.order_interval(values)])
+        points = pd.DataFrame(rows, columns=["place", "value", "low", "high"])
+        draw_points(panel, points["place"].to_numpy(), points, line, join=False)
     panel.set_xticks(
         range(len(kinds)),
         [name if timing == "default" else f"{name}\n{timing}" for name, timing in kinds],

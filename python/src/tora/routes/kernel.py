@@ -1,10 +1,11 @@
-"""The kernel's routes and interfaces, by pyroute2."""
+"""The kernel's routes and interfaces."""
 from __future__ import annotations
 
 import errno
 import ipaddress
+import os
 import socket
-from collections.abc import Iterator, Mapping
+from collections.abc import Iterator, Mapping, Sequence
 from typing import Any
 
 from pyroute2.iproute.linux import IPRoute
@@ -12,14 +13,14 @@ from pyroute2.netlink.exceptions import NetlinkError
 
 from tora.errors import StudyError
 from tora.routes.events import address_of
+from tora.routes.netlink import CREATE, FAMILY, REMOVE_ROUTE, REPLACE, SET_ROUTE, Netlink, route_message
 from tora.routes.table import Route, Routes
 
-FAMILY: dict[int, int] = {4: socket.AF_INET, 6: socket.AF_INET6}
 ANY = {socket.AF_INET: "0.0.0.0", socket.AF_INET6: "::"}
 LINK_GROUP, NEIGHBOUR_GROUP = 0x1, 0x4  # of rtnetlink.h: RTMGRP_LINK, RTMGRP_NEIGH
-ONLINK = 4  # the gateway is at the interface, whatever its prefixes are (rtnetlink.h, RTNH_F_ONLINK)
 GONE = (errno.ESRCH, errno.ENOENT, errno.ENODEV)
 FORBIDDEN = (errno.EPERM, errno.EACCES)
+NOT_ALLOWED = "the kernel lets this process change no routes: root or CAP_NET_ADMIN is needed"
 
 
 class RouteRefused(Exception):
@@ -31,11 +32,12 @@ class Kernel:
 
     def __init__(self, table: int, protocol: int) -> None:
         self._table, self._protocol = table, protocol
-        self._netlink = IPRoute()
+        self._netlink, self._requests = IPRoute(), Netlink()
 
     def close(self) -> None:
-        """Ends the conversation with the kernel."""
+        """Ends the conversations with the kernel."""
         self._netlink.close()
+        self._requests.close()
 
     def set(self, route: Route, index: int) -> None:
         """Sets a route at the interface of this number, in place of one with its prefix and metric.
@@ -47,25 +49,14 @@ class Kernel:
         StudyError
             Where this process may not set routes.
         """
-        words: dict[str, Any] = {**self._words(route), "oif": index}
-        if route.via is not None:
-            words.update(gateway=str(route.via), flags=ONLINK)
-        if route.source is not None:
-            words["prefsrc"] = str(route.source)
-        try:
-            self._netlink.route("replace", **words)
-        except NetlinkError as cause:
-            _refuse_forbidden(cause)
-            raise RouteRefused(f"{route}: {cause.args[1] if len(cause.args) > 1 else cause}") from None
+        body = route_message(route, self._table, self._protocol, index)
+        _refuse(self._requests.ask(SET_ROUTE, CREATE | REPLACE, body), route)
 
     def remove(self, route: Route) -> None:
         """Takes a route away; one that is gone already is no fault."""
-        try:
-            self._netlink.route("del", **self._words(route))
-        except NetlinkError as cause:
-            _refuse_forbidden(cause)
-            if cause.code not in GONE:
-                raise RouteRefused(f"{route}: {cause.args[1] if len(cause.args) > 1 else cause}") from None
+        error = self._requests.ask(REMOVE_ROUTE, 0, route_message(route, self._table, self._protocol, None))
+        if error not in GONE:
+            _refuse(error, route)
 
     def routes(self) -> Routes:
         """The routes that the kernel has."""
@@ -95,39 +86,25 @@ class Kernel:
         try:
             self._netlink.link("set", index=index, state="up")
         except NetlinkError as cause:
-            _refuse_forbidden(cause)
+            if cause.code in FORBIDDEN:
+                raise StudyError(NOT_ALLOWED) from None
             raise
-
-    def _words(self, route: Route) -> dict[str, Any]:
-        """What tells a route from others."""
-        return {
-            "family": FAMILY[route.prefix.version],
-            "dst": str(route.prefix),
-            "table": self._table,
-            "proto": self._protocol,
-            "priority": route.metric,
-        }
 
 
 class Events:
     """What the kernel tells of interfaces and neighbours from now on."""
 
     def __init__(self) -> None:
-        self._netlink = IPRoute()
-        self._netlink.bind(groups=LINK_GROUP | NEIGHBOUR_GROUP)
+        self._netlink = Netlink(LINK_GROUP | NEIGHBOUR_GROUP)
 
     def fileno(self) -> int:
         """The socket, to wait for."""
-        return int(self._netlink.fileno())
+        return self._netlink.fileno()
 
-    def messages(self) -> list[Mapping[str, Any]] | None:
+    def messages(self) -> Sequence[Mapping[str, Any]] | None:
         """The messages that came; None where some were lost, so that all has to be asked for again."""
         try:
-            return list(self._netlink.get())
-        except NetlinkError as cause:
-            if cause.code == errno.ENOBUFS:
-                return None
-            raise
+            return self._netlink.events()
         except OSError as cause:
             if cause.errno == errno.ENOBUFS:
                 return None
@@ -152,7 +129,9 @@ def _route(message: Mapping[str, Any], attributes: Mapping[str, Any], family: in
     )
 
 
-def _refuse_forbidden(cause: NetlinkError) -> None:
-    """Refuses to go on where this process may not change routes."""
-    if cause.code in FORBIDDEN:
-        raise StudyError("the kernel lets this process change no routes: root or CAP_NET_ADMIN is needed") from None
+def _refuse(error: int, route: Route) -> None:
+    """Refuses by the number of an error, 0 for none: what is forbidden for good, and another for this route."""
+    if error in FORBIDDEN:
+        raise StudyError(NOT_ALLOWED)
+    if error:
+        raise RouteRefused(f"{route}: {os.strerror(error)}")

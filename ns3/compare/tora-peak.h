@@ -37,18 +37,16 @@ class ToraPeak
         m_most = std::max(m_most, m_bytes);
     }
 
-    /**
-     * \returns the most bytes in any second until now, or 0 where there were none
-     */
+    /// \returns the most bytes in any second until now, or 0 where there were none
     uint64_t GetMost() const
     {
         return m_most;
     }
 
   private:
-    int64_t m_second{0};  //!< the second of the last bytes
-    uint64_t m_bytes{0};  //!< bytes in it
-    uint64_t m_most{0};   //!< the most of all seconds
+    int64_t m_second{0}; //!< the second of the last bytes
+    uint64_t m_bytes{0}; //!< bytes in it
+    uint64_t m_most{0};  //!< the most of all seconds
 };
 
 } // namespace ns3
