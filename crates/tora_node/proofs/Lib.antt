@@ -2,6 +2,7 @@ mod Told
 mod Served
 mod Refusals
 mod Faults
+mod CommandReads
 mod Commanding
 mod Lists
 mod Openings

@@ -1,6 +1,7 @@
 -- What reading commands puts into the lane of the core.
-use Rattle.std.specs.Prelude.{◌≡◌, ℕ, nat_lt, ◌==◌, if◌then◌else◌, Bool, true, false, List, [], ◌∷◌, ◌++◌, length, map, Option}
+use Rattle.std.specs.Prelude.{◌≡◌, ◌⊎◌, ℕ, nat_lt, ◌==◌, if◌then◌else◌, Bool, true, false, List, [], ◌∷◌, ◌++◌, length, map, Option}
 use Rattle.std.specs.Io.KnownBytes.{Consumes, IsAtEnd}
+use Rattle.tora_lines.specs.Reads.{Given, AreReads, NoneFailed, AreToTheEnd, FailedLast}
 use Rattle.tora_lane.specs.Ports.{InEnd}
 use Rattle.tora_neighbour.specs.LaneHub.{IsSamePort}
 use Rattle.tora_seat.specs.declared.item.Item.{Item}
@@ -67,6 +68,18 @@ pub record Commands (told : ℕ → Type 0) (old_reader new_reader : Option (Lis
   pub read : Consumes old_reader new_reader given
   pub put : HasPut told before items after
   pub ends : EndsAt end given items new_reader after.gone
+
+-- why it has ended by these reads, the last of them first: with End where the last one gave nothing, with Read where it failed, and none
+-- before it did; a line that asks for the end, and a port that has answered Gone, may end it at any read
+abbrev pub EndsByReads : CommandsEnd → List Given → Type 0
+EndsByReads Ends.Quit reads = NoneFailed reads
+EndsByReads Ends.End reads = AreToTheEnd reads
+EndsByReads Ends.Read reads = FailedLast reads
+EndsByReads Ends.Gone reads = NoneFailed reads ⊎ FailedLast reads
+
+-- These reads led from one reader to another, and it has ended by them.
+abbrev pub AreReadBy : {R : Type 0} → (R → Given → R → Type 0) → R → R → CommandsEnd → Type 0
+AreReadBy did_read old new end = (reads : List Given) × AreReads did_read old reads new × EndsByReads end reads
 
 -- and what has become of the input is not said
 abbrev pub CommandsFrom : (ℕ → Type 0) → Option (List ℕ) → InEnd → InEnd → CommandsEnd → Type 0

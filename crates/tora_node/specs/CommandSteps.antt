@@ -1,6 +1,10 @@
 -- Steps of reading commands.
-use Rattle.std.specs.Prelude.{◌≡◌, ◌⊎◌, ◌<◌, ℕ, Bool, true, false, List, [], ◌++◌, length, Option, Some, None}
+use Rattle.std.specs.Prelude.{◌≡◌, ◌≢◌, ◌⊎◌, ◌<◌, ℕ, Bool, true, false, List, [], ◌++◌, length, Option, Some, None, Result, Ok, Err}
+use Rattle.std.specs.IoError.{error_kind}
+use Rattle.std.specs.declared.io.Error.{Error}
+use Rattle.std.specs.declared.io.ErrorKind.TheVariants.{Interrupted}
 use Rattle.std.specs.Io.KnownBytes.{Consumes, IsAtEnd}
+use Rattle.tora_lines.specs.Reads.{Given, GoesOn}
 use Rattle.tora_lane.specs.Ports.{InEnd}
 use Rattle.tora_seat.specs.declared.item.Item.{Item}
 use Rattle.tora_seat.specs.declared.what.What.{What}
@@ -62,3 +66,11 @@ EndsReading Ends.Quit old new = ⊥
 EndsReading Ends.End old new = Consumes old new [] × IsAtEnd new
 EndsReading Ends.Read old new = Consumes old new []
 EndsReading Ends.Gone old new = ⊥
+
+-- What one read came to: it gave bytes or was interrupted, it gave nothing, or it failed.
+abbrev pub ReadsOnce : {R : Type 0} → (R → Given → R → Type 0) → R → R → Result ℕ CommandsEnd → Type 0
+ReadsOnce did_read old new (Ok n) = (given : Given) × did_read old given new × GoesOn given
+ReadsOnce did_read old new (Err Ends.Quit) = ⊥
+ReadsOnce did_read old new (Err Ends.End) = did_read old (Ok []) new
+ReadsOnce did_read old new (Err Ends.Read) = (error : Error) × did_read old (Err error) new × (error_kind error ≢ Interrupted)
+ReadsOnce did_read old new (Err Ends.Gone) = ⊥

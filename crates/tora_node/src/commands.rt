@@ -3,19 +3,19 @@ ghost use Rattle.std.specs.Prelude.{◌≡◌, ◌<◌, ◌≤◌, ◌++◌, ◌
 ghost use Rattle.tora_lines.specs.Fronts.{after};
 ghost use Rattle.std.specs.Io.KnownBytes.{Consumes};
 ghost use Rattle.tora_node.specs.CommandText.{asked_by, cut_in};
-ghost use Rattle.tora_node.specs.CommandRuns.{asked_in, put_for, put_from, IsLine, Commands};
-ghost use Rattle.tora_node.specs.CommandSteps.{Holds, DidPut, PutsAll, PutsLast, is_gone, EndsReading};
+ghost use Rattle.tora_node.specs.CommandRuns.{asked_in, put_for, put_from, IsLine, Commands, AreReadBy};
+ghost use Rattle.tora_node.specs.CommandSteps.{Holds, DidPut, PutsAll, PutsLast, is_gone, EndsReading, ReadsOnce};
 
 use crate::words::is_word;
 use arrayvec::ArrayVec;
 use log::{Log, info, warn};
 use std::fmt::Display;
-use std::io::{ErrorKind, Read};
+use std::io::ErrorKind;
 use std::sync::Wait;
 use tora_height::Id;
 use tora_lane::{InPort, What};
-use tora_lines::after;
 use tora_lines::words::id;
+use tora_lines::{Input, after};
 use tora_neighbour::Clock;
 use tora_seat::Status;
 
@@ -199,27 +199,32 @@ fn put<R: Wait + Log, C: Clock>(
     }
 }
 
-/// Reads the next bytes, and answers how many: at least one.
+/// Reads once, and answers how many bytes it gave: none where it was interrupted, so that it is made again.
 ///
 /// # Errors
-/// `End` at the end of the input, and `Read` where a read fails.
-fn read<Rd: Read>(reader: &mut Rd, chunk: &mut [u8; CHUNK]) -> Result<usize, CommandsEnd>
+/// `End` at the end of the input, and `Read` where the read failed.
+fn read<Rd: Input>(reader: &mut Rd, chunk: &mut [u8; CHUNK]) -> Result<usize, CommandsEnd>
     ensures count { IfOk result (λ n. n ≤ 512) }
     ensures bytes { IfOk result (λ n. Consumes (Rd.remaining reader.old) (Rd.remaining reader.new) (take n chunk.new)) }
     ensures err { IfErr result (λ end. EndsReading end (Rd.remaining reader.old) (Rd.remaining reader.new)) }
+    ensures call { ReadsOnce Rd.did_read reader.old reader.new result }
 {
-    for _ in 0..u64::MAX {
-        match reader.read(chunk.as_mut_slice()) {
-            Ok(0) => return Err(CommandsEnd::End),
-            Ok(count) => return Ok(count),
-            Err(error) => {
-                if error.kind() != ErrorKind::Interrupted {
-                    return Err(CommandsEnd::Read);
-                }
+    match reader.get_some(chunk.as_mut_slice()) {
+        Ok(count) => {
+            if count == 0 {
+                Err(CommandsEnd::End)
+            } else {
+                Ok(count)
+            }
+        }
+        Err(error) => {
+            if error.kind() == ErrorKind::Interrupted {
+                Ok(0)
+            } else {
+                Err(CommandsEnd::Read)
             }
         }
     }
-    Err(CommandsEnd::Read)
 }
 
 /// Puts what the lines ask that end in the bytes, and keeps the rest of them. Nothing follows `quit`, and where nobody takes
@@ -281,13 +286,15 @@ fn is_gone(end: Option<CommandsEnd>) -> bool
 ///
 /// A line that is no command is logged and passed over; so is `help`, which logs the commands. The end of the input and a failed read put `Quit`, and a last
 /// line without its end counts. Each item has the tick of the moment when it is put. It may wait.
-pub fn run_commands<R: Wait + Log, Rd: Read, C: Clock>(
+pub fn run_commands<R: Wait + Log, Rd: Input, C: Clock>(
     rt: &R,
     reader: &mut Rd,
     clock: &C,
     port: &mut InPort,
 ) -> CommandsEnd
-    ensures { Commands (C.did_tell clock.now) (Rd.remaining reader.old) (Rd.remaining reader.new) port.old port.new result }
+    ensures put { Commands (C.did_tell clock.now) (Rd.remaining reader.old) (Rd.remaining reader.new) port.old port.new result }
+    // It ends by its reads: with `Read` where one failed, and with `End` where one gave nothing.
+    ensures reads { AreReadBy Rd.did_read reader.old reader.new result }
 {
     let mut chunk = [0; CHUNK];
     let mut line = Line::new();

@@ -30,5 +30,5 @@ returns-in_ok-links g c =
     let all = gone_over (map begun_by at.handles.items) (into_iter_items at.task-iterator) c.captures.tasks.items left (at.invariant c.if-has_all.true ∙ c.into_iter-task-iterator.ensures.into_iter_gives.0) in (
       subst (λ k. g.K.Task.leaves k c.join-core.result) begun c.join-core.ensures,
       subst (λ l. Each g.T.Task.leaves l c.in_ok-links.links.items) all c.in_ok-links.ensures,
-      (g.Rd.Read.remaining c.run_commands-end.new.reader, c.run_commands-end.ensures),
+      (g.Rd.Read.remaining c.run_commands-end.new.reader, c.run_commands-end.ensures.put),
     )
