@@ -99,7 +99,7 @@ check_module() {
     echo 'release-check: there is no package ns3-tora; it is not tried'
     return
   fi
-  holds 'ns3-tora is installed' 'apt-get install -y --no-install-recommends /packages/ns3-tora_*.deb'
+  holds 'ns3-tora is installed' 'apt-get install -y --no-install-recommends $(ls /packages/libtora0_*.deb 2>/dev/null) /packages/ns3-tora_*.deb'
   if [ -x "$root/usr/libexec/ns3-tora/tora-line" ]; then
     prints 'the example of the module runs' 'received 100 of 100' '/usr/libexec/ns3-tora/tora-line'
   fi
