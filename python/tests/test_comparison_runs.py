@@ -34,14 +34,14 @@ def test_words() -> None:
 @pytest.mark.parametrize(
     ("config", "cause"),
     [
-        ({"nodes": "20 20"}, "nodes: 20 is repeated"), ({"speeds": "5 5.0"}, "speeds: 5.0 is repeated"), ({"protocols": "AODV AODV"}, "is repeated"),
+        ({"nodes": "20 20"}, "nodes: 20 stands twice"), ({"speeds": "5 5.0"}, "speeds: 5.0 stands twice"), ({"protocols": "AODV AODV"}, "stands twice"),
         ({"protocols": "DSR"}, "`DSR` is no protocol"), ({"protocols": "TORA:notice=1;waits=1"}, "is no protocol"), ({"speeds": "fast"}, "is no number"),
         ({"seeds": 0}, "seeds: `0` is not"), ({"nodes": " "}, "it has no value"), ({"words": "--seed=30"}, "the comparison sets --seed=30"),
         ({"words": "--nodes=30"}, "the comparison sets"),
     ],
 )
 def test_refusals(config: dict[str, object], cause: str) -> None:
-    """Values that are repeated, and words that the comparison sets."""
+    """Values that stand twice, and words that the comparison sets."""
     with pytest.raises(UsageError, match=cause):
         parts_of(config)
 
@@ -73,4 +73,4 @@ def test_workflow(tmp_path: Path, capsys: pytest.CaptureFixture[str]) -> None:
     assert main(["verify", str(tmp_path / "cmp")]) == 1
     assert "another one than that of the manifest" in capsys.readouterr().err
     again = subprocess.run([*words[:-7], "--config", "nodes=20 20", f"out={tmp_path}", f"engine={compare}"], capture_output=True, text=True)
-    assert again.returncode == 1 and "compare: nodes: 20 is repeated" in again.stderr
+    assert again.returncode == 1 and "compare: nodes: 20 stands twice" in again.stderr

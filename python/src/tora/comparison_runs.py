@@ -23,7 +23,7 @@ NUMBER = re.compile(r"[0-9]{1,6}(\.[0-9]{1,6})?")
 
 
 def parts_of(config: dict[str, Any]) -> dict[str, list[str]]:
-    """By what varies its values; refuses values that are repeated or are none.
+    """By what varies its values; refuses values that stand twice or are none.
 
     Parameters
     ----------
@@ -44,7 +44,7 @@ def parts_of(config: dict[str, Any]) -> dict[str, list[str]]:
                 raise UsageError(f"`{value}` is no {'protocol' if name == 'protocols' else 'number'}", key=name)
             same = value if name == "protocols" else float(value)
             if same in seen:
-                raise UsageError(f"{value} is repeated: its runs would be counted twice", key=name)
+                raise UsageError(f"{value} stands twice: its runs would be counted twice", key=name)
             seen.append(same)
     for word in str(told["words"]).split():
         if word.removeprefix("--").partition("=")[0] in VARIED:
