@@ -67,7 +67,7 @@ TEXTS = {
     "7": "no scenario",
     '{"seed": ' + "9" * 5000 + "}": "too many digits", "[1]": "no scenario", '{\n"seed": }': ":2: Expecting value",
     "hello world\n": ":1: Expecting value",
-    '{"seed": NaN}': "NaN is no number of JSON", '{"seed": 1, "seed": 2}': ": seed: no scenario: the key stands twice",
+    '{"seed": NaN}': "NaN is no number of JSON", '{"seed": 1, "seed": 2}': ": seed: no scenario: the key is repeated",
 }
 
 

@@ -35,8 +35,8 @@ def refused(tmp_path: Path, capsys: pytest.CaptureFixture[str], monkeypatch: pyt
 
 def test_values_and_rows_that_stand_twice(tmp_path: Path, refused) -> None:  # type: ignore[no-untyped-def]
     """No run counts twice: neither a size or a value of a sweep, nor a row of a table."""
-    refused(2, "`10` stands twice", "sweep", "s", "--nodes", "10,10", "--seeds", 3)
-    refused(2, "`1-3` stands twice", "sweep", "s", "--nodes", 10, "--seeds", 3, "--vary", "speed=1-3,1-3")
+    refused(2, "`10` is repeated", "sweep", "s", "--nodes", "10,10", "--seeds", 3)
+    refused(2, "`1-3` is repeated", "sweep", "s", "--nodes", 10, "--seeds", 3, "--vary", "speed=1-3,1-3")
     lines = (STUDIES / "study.csv").read_text().splitlines()
     (tmp_path / "t.csv").write_text("\n".join([*lines, lines[5]]) + "\n")
     refused(2, f"t.csv:{len(lines) + 1}: ", "summary", "t.csv")
@@ -45,7 +45,7 @@ def test_values_and_rows_that_stand_twice(tmp_path: Path, refused) -> None:  # t
 def test_what_a_study_varies_or_sets_is_not_given_again(refused) -> None:  # type: ignore[no-untyped-def]
     """Neither a seed nor a size after the seeds, nor an option that varies."""
     refused(2, "unrecognized arguments: --seed 30", "sweep", "s", "--nodes", 10, "--seeds", 2, "--seed", 30)
-    refused(2, "--nodes stands twice", "sweep", "s", "--nodes", 10, "--seeds", 2, "--nodes", 30)
+    refused(2, "--nodes is repeated", "sweep", "s", "--nodes", 10, "--seeds", 2, "--nodes", 30)
     refused(2, "--speed: it varies", "sweep", "s", "--nodes", 10, "--seeds", 2, "--vary", "speed=1-3,1-9", "--speed", "1-5")
 
 
@@ -89,7 +89,7 @@ def test_the_quantile_rule_is_told(capsys: pytest.CaptureFixture[str]) -> None:
     ("contact_kept", lambda it: 7, "contact_kept"), ("limit", lambda it: -1, "limit"), ("seed", lambda it: -5, "seed"),
 ])
 def test_faults_of_a_description_by_their_path(tmp_path: Path, refused, key: str, change, where: str) -> None:  # type: ignore[no-untyped-def]
-    """A link, flow or destination that stands twice, and numbers beyond what can be."""
+    """A link, flow or destination that is repeated, and numbers beyond what can be."""
     told = json.loads((STORED / "6-1.json").read_text())
     (tmp_path / "x.json").write_text(json.dumps(told | {key: change(told[key])}))
     refused(1, f"x.json: {where}", "measure", "x.json", STORED / "6-1.trace")
@@ -99,7 +99,7 @@ def test_options_that_do_not_go_together(refused) -> None:  # type: ignore[no-un
     """A movement file has its nodes and its motion; ticks of a hop are of data packets."""
     refused(2, "nodes", "make", "x", "--ns2", STORED / "three.ns2", "--nodes", 50)
     refused(2, "model", "make", "x", "--ns2", STORED / "three.ns2", "--model", "manhattan")
-    refused(2, "hop: it stands with traffic", "measure", STORED / "6-1.json", STORED / "6-1.trace", "--hop", 3)
+    refused(2, "hop: it needs traffic", "measure", STORED / "6-1.json", STORED / "6-1.trace", "--hop", 3)
 
 
 def test_inputs_and_outputs_are_not_overwritten(tmp_path: Path, refused) -> None:  # type: ignore[no-untyped-def]

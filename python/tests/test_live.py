@@ -102,7 +102,7 @@ def test_plans() -> None:
     words = ("--seeds", "1", "--nodes", "10", "--topologies", "ring", "--timings", "default")
     assert {it.protocol for it in plans("--protocols", "bird", *words)} == {"bird-babel", "bird-ospf"}
     assert "--protocols: `ripd` is none of tora" in refusal(lambda: plans("--protocols", "ripd"))
-    assert "--protocols: `tora` stands twice" in refusal(lambda: plans("--protocols", "tora tora"))
+    assert "--protocols: `tora` is repeated" in refusal(lambda: plans("--protocols", "tora tora"))
     assert "--nodes: `65` is none of" in refusal(lambda: plans("--nodes", "65"))
     assert "--seeds: `0` is not above 0" in refusal(lambda: plans("--seeds", "0"))
     assert "--jobs: `0` is not above 0" in refusal(lambda: plans("--jobs", "0"))

@@ -117,7 +117,7 @@ def test_fcd(written: Write) -> None:
     [
         ('<person id="b" x="5" y="7"/>', "", ":3: the vehicle `b` is gone"),
         ('<person id="b" x="5" y="6"/>', "", ":3: the vehicle `b` is not in every time step before"),
-        ('id="b" x="5" y="6"', 'id="a" x="5" y="6"', ":2: the vehicle `a` stands twice"),
+        ('id="b" x="5" y="6"', 'id="a" x="5" y="6"', ":2: the vehicle `a` is repeated"),
         ('time="1.00"', 'time="0.00"', ":3: times go back"),
         ('x="2.00"', 'x="x"', ":3: `x` is no number"), ('x="2.00"', 'x="1e9"', ":3: `x` is no number, or too large"),
         ('x="2.00" ', "", ":3: `x` is no number"),

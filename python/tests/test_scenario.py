@@ -150,7 +150,7 @@ def test_blocks(blocks: Any) -> None:
         ({"degree": 1_000_000, "range": 0.01}, "degree: the side of"), ({"large": 1}, "large: "),
         ({"limit": 33}, "limit: 33 is not 1 to 32"),
         ({"limit": 256, "large": True}, "limit: 256 is not 1 to 255"),
-        ({"area": (100, 100), "degree": 6.0}, "degree: it stands without an area alone"),
+        ({"area": (100, 100), "degree": 6.0}, "degree: it cannot be combined with an area"),
         ({"nods": 3}, "nods: there is no such setting"), ({"alpha": 0.5}, "alpha: there is no such setting"),
         ({"rounds": 2**64}, "rounds: "),
         (
@@ -246,7 +246,7 @@ def test_outputs(tmp_path: pathlib.Path) -> None:
     assert "two outputs have this name" in refusal(
         lambda: scenario.write(tmp_path / "r", channel_file=tmp_path / "r.sim")
     )
-    assert refusal(lambda: scenario.write(tmp_path / "r", edge_loss=0.5)) == "edge_loss: it stands with a channel file"
+    assert refusal(lambda: scenario.write(tmp_path / "r", edge_loss=0.5)) == "edge_loss: it needs a channel file"
     assert refusal(lambda: scenario.write(tmp_path / "r", channel_file=tmp_path / "c", edge_loss=1.5)).startswith(
         "edge_loss: "
     )
@@ -257,7 +257,7 @@ def test_outputs(tmp_path: pathlib.Path) -> None:
     assert os.listdir(tmp_path) == ["r.json"]
     scenario.write(tmp_path / "r", overwrite=True)
     assert json.loads((tmp_path / "r.json").read_text())["nodes"] == 4
-    assert "its simulation file stands beside that" in refusal(
+    assert "its simulation file is beside it" in refusal(
         lambda: Scenario.read(tmp_path / "r.json").write(tmp_path / "s")
     )
 

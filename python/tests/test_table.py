@@ -38,7 +38,7 @@ def test_design_and_measures(tmp_path: Path) -> None:
         ("", ":1", "the table is empty"),
         ("\n", ":1", "the table is empty"),
         (f"{HEAD}\n", ":1", "the table has no run"),
-        (f"{HEAD},nodes\n{ROW},1\n", ":1", "`nodes` stands twice"),
+        (f"{HEAD},nodes\n{ROW},1\n", ":1", "`nodes` is repeated"),
         (f"{HEAD},\n{ROW},1\n", ":1", "a column has no name"),
         (f"{HEAD}\n{ROW}\n{ROW}\n", ":3", "that of line 2: the run would count twice"),
         (f"{HEAD}\n{ROW}\nAODV,20,5.0,5,1,9,0.75\n", ":3", "seed 1 is in line 2, too"),
@@ -57,7 +57,7 @@ def test_design_and_measures(tmp_path: Path) -> None:
     ],
 )
 def test_refusals(tmp_path: Path, text: str | bytes, place: str, cause: str) -> None:
-    """An empty table, a line or a run that stands twice, and cells that are no numbers: status 2, one line."""
+    """An empty table, a line or a run that is repeated, and cells that are no numbers: status 2, one line."""
     path = written(tmp_path, text)
     with pytest.raises(UsageError) as caught:
         read_table(path)

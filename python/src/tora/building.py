@@ -280,7 +280,7 @@ def area_of(nodes: int, reach: float, area: tuple[float, float] | None, degree: 
     They are those of `area`, or of a square in which a node has about `degree` neighbours.
     """
     if area is not None and degree is not None:
-        raise UsageError("it stands without an area alone", key="degree")
+        raise UsageError("it cannot be combined with an area", key="degree")
     side = reach * np.sqrt(
         np.pi * nodes / check_number("degree", 6.0 if degree is None else degree, *bounds.OF_MODELS["degree"])
     )

@@ -57,7 +57,7 @@ def make(
     """
     given = {name: value for name, value in locals().items() if value is not None and name not in OF_FILES}
     if edge_loss is not None and channel_file is None:
-        raise UsageError("it stands with channel_file", key="edge_loss")
+        raise UsageError("it needs channel_file", key="edge_loss")
     scenario = make_scenario(**given)
     inputs = [given[name] for name in FILES if name in given]
     scenario.write(prefix, channel_file=channel_file, edge_loss=edge_loss, overwrite=overwrite, inputs=inputs)
@@ -68,9 +68,9 @@ def make_scenario(**given: Any) -> Scenario:
     """The scenario of options that were given, as of `make`; options that don't go together are refused."""
     kinds = [name for name in FILES if name in given]
     if len(kinds) > 1:
-        raise UsageError(f"it does not stand with {kinds[0]}", key=kinds[1])
+        raise UsageError(f"it cannot be combined with {kinds[0]}", key=kinds[1])
     if kinds and "model" in given:
-        raise UsageError(f"it does not stand with {kinds[0]}, which has a motion of its own", key="model")
+        raise UsageError(f"it cannot be combined with {kinds[0]}, which has its own motion", key="model")
     kind = kinds[0] if kinds else str(given.get("model", "waypoint"))
     if kind not in TAKEN:
         raise UsageError(f"`{shown(kind)}` is no model of motion; there are {', '.join(MODELS)}", key="model")
@@ -183,5 +183,5 @@ def _why_not(name: str, kind: str) -> str:
     if not owners:
         return "there is no such option"
     if kind in FILES:
-        return f"it does not stand with {kind}, which has a motion of its own"
-    return f"it does not stand with the model {kind}; it is of {', '.join(owners)}"
+        return f"it cannot be combined with {kind}, which has its own motion"
+    return f"it cannot be combined with the model {kind}; it belongs to {', '.join(owners)}"

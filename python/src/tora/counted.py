@@ -14,7 +14,7 @@ def value_at(counts: Mapping[float, int], place: int) -> float:
     for value, end in zip(values, itertools.accumulate(counts[value] for value in values)):
         if place < end:
             return value
-    raise IndexError("no value stands at this place")
+    raise IndexError("there is no value at this place")
 
 
 def median_of(counts: Mapping[float, int]) -> float:

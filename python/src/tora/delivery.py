@@ -76,7 +76,7 @@ class Load:
         if rate is None:
             for name, value in (("hop", hop), ("ttl", ttl)):
                 if value is not None:
-                    raise UsageError("it stands with traffic", key=name)
+                    raise UsageError("it needs traffic", key=name)
             return None
         return cls.of(rate, 1 if hop is None else hop, 32 if ttl is None else ttl)
 

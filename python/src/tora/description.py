@@ -105,11 +105,11 @@ def path_text(parts: Iterable[str | int]) -> str:
 def _read_json(path: str) -> Any:
     """The value of a file of JSON."""
     def once(pairs: Sequence[tuple[str, Any]]) -> dict[str, Any]:
-        """An object none of whose keys stands twice."""
+        """An object none of whose keys is repeated."""
         found = dict(pairs)
         if len(found) < len(pairs):
             twice = next(name for at, (name, _) in enumerate(pairs) if name in dict(pairs[:at]))
-            raise StudyError("no scenario: the key stands twice", file=path, key=shown(twice))
+            raise StudyError("no scenario: the key is repeated", file=path, key=shown(twice))
         return found
 
     def constant(text: str) -> Any:
@@ -135,7 +135,7 @@ def _fault_of(error: Any) -> Fault:
     if error.validator == "uniqueItems":
         texts = [json.dumps(item) for item in error.instance]
         twice = next(at for at, text in enumerate(texts) if text in texts[:at])
-        return path_text([*path, twice]), f"{shown(texts[twice])} stands twice"
+        return path_text([*path, twice]), f"{shown(texts[twice])} is repeated"
     told = str(error.message)
     return path_text(path), told if len(told) <= MOST_CAUSE else f"it is not as the schema has it ({error.validator})"
 
@@ -175,7 +175,7 @@ def _link_faults(told: dict[str, Any]) -> Iterator[Fault]:
         if max(a, b) > told["nodes"]:
             yield f"links[{at}]", f"{max(a, b)} is no node; there are {told['nodes']}"
         elif a >= b:
-            yield f"links[{at}]", f"the lower node of [{a}, {b}] does not stand first"
+            yield f"links[{at}]", f"the lower node of [{a}, {b}] is not first"
         for node in (a, b):
             degree[node] = degree.get(node, 0) + 1
             if degree[node] == told["limit"] + 1:

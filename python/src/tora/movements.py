@@ -200,7 +200,7 @@ class _FcdSteps(xml.sax.handler.ContentHandler):
             raise self.refused("a vehicle without an id, or outside of a time step")
         who = str(attrs["id"])
         if who in self.here:
-            raise self.refused(f"the vehicle `{shown(who)}` stands twice in a time step")
+            raise self.refused(f"the vehicle `{shown(who)}` is repeated in a time step")
         way = self.ways.setdefault(who, [])
         if len(way) != self.steps - 1 and not self.may_be_absent:
             raise self.refused(f"the vehicle `{shown(who)}` is not in every time step before (absent: refuse)")

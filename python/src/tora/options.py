@@ -54,19 +54,19 @@ class Parser(argparse.ArgumentParser):
 
 
 class Once(argparse.Action):
-    """Keeps a value; an option that stands twice is refused."""
+    """Keeps a value; an option that is repeated is refused."""
 
     def __call__(self, parser: argparse.ArgumentParser, namespace: argparse.Namespace, values: Any, option_string: str | None = None) -> None:
         """Takes the value of an option."""
         held = namespace.__dict__.setdefault("_given", set())
         if self.dest in held:
-            parser.error(f"{option_string} stands twice")
+            parser.error(f"{option_string} is repeated")
         held.add(self.dest)
         setattr(namespace, self.dest, self.const if self.nargs == 0 else values)
 
 
 class Flag(Once):
-    """Keeps True; an option that stands twice is refused."""
+    """Keeps True; an option that is repeated is refused."""
 
     def __init__(self, option_strings: Sequence[str], dest: str, **more: Any) -> None:
         super().__init__(option_strings, dest, nargs=0, const=True, **more)
@@ -146,7 +146,7 @@ def names(word: str) -> list[str]:
     found = word.split(",")
     for at, name in enumerate(found):
         if not name or name in found[:at]:
-            raise argparse.ArgumentTypeError(f"`{shown(name)}` stands twice" if name else "a name is empty")
+            raise argparse.ArgumentTypeError(f"`{shown(name)}` is repeated" if name else "a name is empty")
     return found
 
 
@@ -251,7 +251,7 @@ def varied_values(word: str) -> tuple[str, list[Any]]:
     Raises
     ------
     UsageError
-        Where the name is none that may vary, a value is none, or a value stands twice, however it is spelled.
+        Where the name is none that may vary, a value is none, or a value is repeated, however it is spelled.
     """
     option, mark, text_ = word.partition("=")
     name = option.replace("-", "_")
@@ -264,7 +264,7 @@ def varied_values(word: str) -> tuple[str, list[Any]]:
         except argparse.ArgumentTypeError as cause:
             raise UsageError(f"{option}: {cause}", key="--vary") from None
         if value in values:
-            raise UsageError(f"{option}: `{shown(part)}` stands twice: its runs would be counted twice", key="--vary")
+            raise UsageError(f"{option}: `{shown(part)}` is repeated: its runs would be counted twice", key="--vary")
         values.append(value)
     return name, values
 

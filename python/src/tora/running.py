@@ -38,7 +38,7 @@ def run_scenario(
     asked.words()  # refuses what can't be, before anything is made
     if edge_loss is not None:
         if asked.channel_file is not None:
-            raise UsageError("it stands without a channel file, which has losses of its own", key="edge_loss")
+            raise UsageError("it cannot be combined with a channel file, which has its own losses", key="edge_loss")
         scenario = scenario.with_edge_loss(edge_loss)
     found = program if isinstance(program, Program) else Program.find(program)
     if prefix is None:

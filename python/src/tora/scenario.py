@@ -282,7 +282,7 @@ class Scenario:
             The paths of the files.
         """
         if edge_loss is not None and channel_file is None:
-            raise UsageError("it stands with a channel file", key="edge_loss")
+            raise UsageError("it needs a channel file", key="edge_loss")
         texts = self.texts(prefix) if channel_file is None else self.with_edge_loss(edge_loss).texts(prefix)
         if channel_file is not None:
             if len({os.path.realpath(path) for path in (channel_file, *texts)}) != len(texts) + 1:
@@ -297,7 +297,7 @@ class Scenario:
         if not os.path.basename(name):
             raise UsageError(f"the prefix `{name}` has no name of a file", key="prefix")
         if self.lines is None:
-            raise UsageError("the scenario was read from its description, and its simulation file stands beside that")
+            raise UsageError("the scenario was read from its description, and its simulation file is beside it")
         found = {f"{name}.sim": simulation_text(self.lines)}
         return found | ({f"{name}.json": description_text(self)} if len(self.positions) else {})
 

@@ -28,7 +28,7 @@ class Simulation:
     delay : int or tuple of int, optional
         After how many rounds a datagram comes, or the least and the most of them; 0 to 10,000.
     channel_seed : int, optional
-        What the random numbers of the channel begin with, 0 where it is not told; it stands with a channel alone.
+        The seed of the random numbers of the channel, 0 by default; it needs a channel.
     notice : bool
         Whether both ends of a link cut its life when it is parted.
     until : int, optional
@@ -65,7 +65,7 @@ class Simulation:
             words += ["--channel-file", str(self.channel_file)]
         if self.channel_seed is not None:
             if not words:
-                raise UsageError("it stands with a channel: loss, repeat, delay, or a channel file", key="channel_seed")
+                raise UsageError("it needs a channel: loss, repeat, delay, or a channel file", key="channel_seed")
             words += ["--seed", str(check_whole("channel_seed", self.channel_seed, 0, MOST_TICKS))]
         if self.notice:
             words.append("--notice")

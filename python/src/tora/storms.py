@@ -124,7 +124,7 @@ def storm_table(
     Parameters
     ----------
     seeds : iterable of int
-        A partition for each; one that stands twice is refused.
+        A partition for each; one that is repeated is refused.
     jobs : int, optional
         Runs at a time; as many as processors.
     is_mended : bool
@@ -138,9 +138,9 @@ def storm_table(
     """
     held, chosen = list(seeds), list(erasures)
     if len(set(held)) < len(held):
-        raise UsageError("a value stands twice", key="seeds")
+        raise UsageError("a value is repeated", key="seeds")
     if len(set(chosen)) < len(chosen):
-        raise UsageError("a value stands twice", key="erasures")
+        raise UsageError("a value is repeated", key="erasures")
     runs = [(draw_partition(seed, is_mended), erasure) for seed in held for erasure in chosen]
     with concurrent.futures.ThreadPoolExecutor(jobs or os.cpu_count()) as pool:
         rests = pool.map(lambda run: rest_of(run[0], run[1], program, time_limit), runs)

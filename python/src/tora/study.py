@@ -120,7 +120,7 @@ class Study:
                 raise UsageError(f"{value} is not 1 or more", key=name)
         for size in self.nodes:
             if self.nodes.count(size) > 1:
-                raise UsageError(f"{size} stands twice: its runs would be counted twice", key="--nodes")
+                raise UsageError(f"{size} is repeated: its runs would be counted twice", key="--nodes")
         for name in self.options:
             if name in self.vary:
                 raise UsageError("it varies, so it can't be given, too", key=flag_of(name))

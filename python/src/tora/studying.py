@@ -37,7 +37,7 @@ def study_of(found: argparse.Namespace) -> Study:
     for word in found.vary:
         name, values = varied_values(word)
         if name in vary:
-            raise UsageError(f"{name} stands twice", key="--vary")
+            raise UsageError(f"{name} is repeated", key="--vary")
         vary[name] = values
     study = Study([int(word) for word in nodes], found.seeds, vary, options, found.traffic, found.hop, found.ttl, found.keep, found.page)
     study.check()
@@ -61,7 +61,7 @@ def do_sweep(found: argparse.Namespace) -> int:
     folder = os.path.abspath(found.folder)
     study = study_of(found)
     if found.batches and found.profile is None:
-        raise UsageError("it stands with --profile", key="--batches")
+        raise UsageError("it needs --profile", key="--batches")
     program = Program.find(found.program)
     study.begin(folder)
     with locked(folder) as lock:

@@ -126,7 +126,7 @@ def read_table(path: Path, design: Sequence[str] | None = None) -> Table:
     ------
     UsageError
         Where the table is empty, a name of a column comes twice, `seed` is missing, a line has another number of cells, a cell is no finite
-        number, a line stands twice, or a run does; with the line.
+        number, a line is repeated, or a run does; with the line.
     """
     with naming(path), open(path, "rb") as source:
         data = source.read()
@@ -178,7 +178,7 @@ def _lines(data: bytes, path: str) -> tuple[list[str], list[tuple[int, list[str]
     names = found[0][1]
     for at, name in enumerate(names):
         if not name or name in names[:at]:
-            raise UsageError(f"the column `{shown(name)}` stands twice" if name else "a column has no name", file=path, line=1)
+            raise UsageError(f"the column `{shown(name)}` is repeated" if name else "a column has no name", file=path, line=1)
     if len(found) == 1:
         raise UsageError("the table has no run", file=path, line=1)
     for number, cells in found[1:]:
@@ -203,7 +203,7 @@ def _design(names: list[str], path: str, design: Sequence[str] | None) -> list[s
 
 
 def _refuse_repeated(lines: list[tuple[int, list[str]]], path: str) -> None:
-    """Refuses a line that stands twice."""
+    """Refuses a line that is repeated."""
     seen: dict[tuple[str, ...], int] = {}
     for number, cells in lines:
         before = seen.setdefault(tuple(cells), number)

@@ -78,7 +78,7 @@ def do_measure(found: argparse.Namespace) -> int:
         text = commands.measure(found.scenario, found.trace, traffic=found.traffic, hop=found.hop, ttl=found.ttl)
         return tell(text.splitlines(), found.output, inputs, found.overwrite)
     if found.traffic is not None:
-        raise UsageError("it does not stand with --traffic", key="--loops")
+        raise UsageError("it cannot be combined with --traffic", key="--loops")
     held = Run.read(found.scenario, found.trace)
     return tell(metrics.loop_lines(held.measure().loops), found.output, inputs, found.overwrite)
 
@@ -89,7 +89,7 @@ def _table(found: argparse.Namespace) -> Table:
     wanted: dict[str, str] = {}
     for name, value in found.where:
         if name in wanted:
-            raise UsageError(f"{name} stands twice", key="--where")
+            raise UsageError(f"{name} is repeated", key="--where")
         wanted[name] = value
     return table.where(wanted) if wanted else table
 
@@ -100,12 +100,12 @@ def do_summary(found: argparse.Namespace) -> int:
         check_outputs([found.output], [found.table], found.overwrite)
     chosen = [name for name in ("report", "growth", "against") if getattr(found, name)]
     for name in chosen[1:]:
-        raise UsageError(f"it does not stand with {flag_of(chosen[0])}", key=flag_of(name))
+        raise UsageError(f"it cannot be combined with {flag_of(chosen[0])}", key=flag_of(name))
     if chosen and (found.statistic, found.interval) != (None, None):
-        raise UsageError(f"it does not stand with {flag_of(chosen[0])}", key="--statistic" if found.statistic else "--interval")
+        raise UsageError(f"it cannot be combined with {flag_of(chosen[0])}", key="--statistic" if found.statistic else "--interval")
     for name, is_given, other in (("--ratio", found.ratio, "against"), ("--tora", found.tora is not None, "report")):
         if is_given and not getattr(found, other):
-            raise UsageError(f"it stands with {flag_of(other)}", key=name)
+            raise UsageError(f"it needs {flag_of(other)}", key=name)
     return tell(_summary_lines(found, _table(found)), found.output, [found.table], found.overwrite)
 
 
@@ -114,13 +114,13 @@ def _summary_lines(found: argparse.Namespace, table: Table) -> list[str]:
     if found.report or found.growth:
         name = "--report" if found.report else "--growth"
         if found.format != "text":
-            raise UsageError(f"it does not stand with {name}", key="--format")
+            raise UsageError(f"it cannot be combined with {name}", key="--format")
         if not found.report:
             return plots.growth_lines(table, found.growth, found.measures, found.pool)
         if found.measures or found.pool:
             raise UsageError("it has columns of its own", key=name)
         if found.tora is not None and found.report != "aims":
-            raise UsageError("it stands with --report aims", key="--tora")
+            raise UsageError("it needs --report aims", key="--tora")
         return report(table, found.report, found.tora or TORA)
     if found.against:
         held = compare(table, dict(found.against), found.measures, ratio=found.ratio, pool=found.pool)
@@ -169,7 +169,7 @@ def _plot_heights(found: argparse.Namespace) -> int:
     held = Run.read(found.scenario, found.trace)
     if found.list:
         if found.output is not None:
-            raise UsageError("it does not stand with --list", key="--output")
+            raise UsageError("it cannot be combined with --list", key="--output")
         return tell(heights.break_lines(heights.breaks(held, found.destination)))
     if found.output is None:
         raise UsageError("it is needed", key="--output")
@@ -192,12 +192,12 @@ def do_page(found: argparse.Namespace) -> int:
     inputs = found.inputs
     if found.read is not None:
         if inputs or any(getattr(found, name) is not None for name in ("output", "place", "program", "time_limit", *CHANNEL)):
-            raise UsageError("it stands alone", key="--read")
+            raise UsageError("it takes no other input or option", key="--read")
         return tell(map(record_text, page.read_page(found.read).records))
     is_run_now = len(inputs) == 1 and inputs[0].endswith(".sim")
     for name in [*given(found, CHANNEL), *(it for it in ("program", "time_limit") if getattr(found, it) is not None)]:
         if not is_run_now:
-            raise UsageError("it is of a simulation file that is run now", key=flag_of(name))
+            raise UsageError("it needs a simulation file that is run now", key=flag_of(name))
     if len(inputs) == 1 and os.path.isdir(inputs[0]):
         for name in ("output", "place"):
             if getattr(found, name) is not None:
@@ -235,7 +235,7 @@ def do_verify(found: argparse.Namespace) -> int:
     """Makes runs again."""
     if os.path.isdir(found.inputs[0]):
         if found.all and found.inputs[1:]:
-            raise UsageError("it does not stand with names of runs", key="--all")
+            raise UsageError("it cannot be combined with names of runs", key="--all")
         return tell(verifying.verify_study(found.inputs[0], found.inputs[1:], found.all, found.program, found.time_limit))
     if found.all:
         raise UsageError("it is of a study", key="--all")

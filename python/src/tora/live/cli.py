@@ -82,7 +82,7 @@ def words_of(text: str, key: str, known: Sequence[str]) -> list[str]:
         if word not in known:
             raise UsageError(f"`{word}` is none of {', '.join(known)}", key=key)
         if word in found[:at]:
-            raise UsageError(f"`{word}` stands twice", key=key)
+            raise UsageError(f"`{word}` is repeated", key=key)
     if not found:
         raise UsageError("it is empty", key=key)
     return found
