@@ -87,7 +87,7 @@ const LINES: &str = "[WARN  tora_keyed::noticed_wire] link 2 unauthenticated dat
 [WARN  tora_keyed::noticed_wire] link 2 unauthenticated datagrams 5\n\
 [INFO  tora_keyed::noticed_wire] link 2 unauthenticated datagrams 6\n";
 
-/// A datagram comes at each turn over the wire, which is lent; one that is forged is not given.
+/// A datagram comes at each turn; one that is forged is not given.
 fn turn_each<L: Log>(
     rt: &impl Abort,
     wire: &mut NoticedWire<'_, GivingWire<'_>, SetClock<'_>, L>,
@@ -97,8 +97,7 @@ fn turn_each<L: Log>(
     for turn in TURNS {
         tick.set(turn.0);
         is_forged.set(turn.1);
-        let mut lent = &mut *wire;
-        let given = Wire::receive(&mut lent, &mut [0; 30]);
+        let given = wire.receive(&mut [0; 30]);
         let wanted = if turn.1 { None } else { Some(MESSAGE.len()) };
         same_at(rt, &given, &Ok(wanted), turn);
     }
