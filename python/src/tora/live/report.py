@@ -61,7 +61,7 @@ COST = (
     ("processor_percent", "processor, % a host"),
     ("memory_mb", "memory, MB a host"),
 )
-SMALLEST, GREATEST = 0.1, 1e5  # ms, of a logarithmic axis; the first stands for 0
+SMALLEST, GREATEST = 0.1, 1e5  # ms, for 0 and for what does not end
 DRAWN = "each run, their median, and its 95 % interval by order statistics"
 MOST_STOLEN = 0.05  # of the time of the processors in a phase that counts
 
@@ -105,13 +105,13 @@ def tables(table: Table, statistic: str = "median") -> list[str]:
 @styled
 def mended(table: Table) -> Figure:
     """How long no route works after each fault, by protocol."""
-    figure, axes = panels_of(len(MENDED), f"time until a route works again (0.1 ms for no loss): {DRAWN}")
+    figure, axes = panels_of(len(MENDED), f"time until a route works again (bottom: no loss; top: none works): {DRAWN}")
     for panel, (fault, phase, title) in zip(axes, MENDED):
         part = chosen(table, fault, phase)
         if part is not None:
             _draw(panel, table, part, "working_ms", SMALLEST)
             panel.set_yscale("log")
-            panel.set_ylim(SMALLEST / 2, GREATEST)
+            panel.set_ylim(SMALLEST / 2, 2 * GREATEST)
         panel.set_title(title, fontsize=9)
         panel.set_ylabel("ms")
     return figure
@@ -134,7 +134,6 @@ def cost(table: Table) -> Figure:
 def _draw(panel: Axes, table: Table, part: Table, measure: str, least: float) -> None:
     """A mark for each protocol and timing, and each size, with a point for each run, which is a topology and a seed."""
     held = part.frame[part.frame[measure].notna()]
-    most = held[measure][np.isfinite(held[measure])].max()
     # the same places and colours in each panel
     kinds = sorted(set(zip(table.frame["protocol"], table.frame["timing"])), key=lambda it: ("tora" not in it[0], it))
     sizes = sorted(set(table.frame["nodes"]))
@@ -143,7 +142,7 @@ def _draw(panel: Axes, table: Table, part: Table, measure: str, least: float) ->
         rows = []
         for place, (protocol, timing) in enumerate(kinds):
             own = held[(held["protocol"] == protocol) & (held["timing"] == timing) & (held["nodes"] == size)]
-            values = own[measure].clip(least, most).to_numpy(dtype=float)
+            values = own[measure].clip(least, GREATEST).to_numpy(dtype=float)
             if len(values):
                 panel.plot([place + 0.16 * at + 0.08] * len(values), values, ".", color=line.colour, alpha=0.3, ms=4)
                 rows.append([place + 0.16 * at, *stats.order_interval(values)])
