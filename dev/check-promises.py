@@ -13,7 +13,7 @@ Without a PAGE it reads docs/reference/promises.md, docs/explanation/*.md, docs/
 - A table whose last heading is `constants` has numbers of the sources: the numbers of a row are those of its constants, in order.
 
 In docs/explanation/architecture.md the tables with the heading `crate`, `content` must name each crate of crates.txt once, after
-all crates that it depends on.
+all crates that it depends on, and in the order of crates.txt.
 
 Each name that does not exist is printed with its page and line. Exit status: 0 if there is none, 1 if there is one.
 """
@@ -206,6 +206,10 @@ def crate_faults(page):
     for name in needs:
         if name not in listed:
             yield 1, f"the list of crates lacks {name}"
+    for name, other in zip(needs, listed):
+        if name != other:
+            yield 1, f"crates.txt has {name} where the list of crates has {other}"
+            break
 
 
 def main():
