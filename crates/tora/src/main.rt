@@ -10,11 +10,10 @@ use std::io;
 use std::io::{BufWriter, IsTerminal};
 use std::process::ExitCode;
 use tora_commands::{
-    MEMORY, SetupWords, USAGE, command, drive_command, key_command, node_command, record_command,
-    replay_command, simulate_file, stop, usage,
+    LogLines, MEMORY, SetupWords, USAGE, command, drive_command, key_command, node_command,
+    record_command, replay_command, simulate_file, stop, usage,
 };
 pub use tora_lines::{Ended, ReplayError, numbers_are_read_as_printed};
-use tora_log::LogLines;
 pub use tora_replay::{
     fault_is_the_first, first_lines_are_read_as_written, lines_are_read_as_written, replay,
 };

@@ -3,3 +3,6 @@ pub mod FaultText
 pub mod Refusal
 pub mod Reading
 pub mod Ways
+pub mod Numbers
+pub mod Addresses
+pub mod ReasonText

@@ -3,7 +3,7 @@ use Rattle.std.specs.Prelude.{codes, string_bytes, ◌≡◌, ℕ, ◌+◌, ◌<
 use Rattle.toml.specs.Data.{Data, Members, as_integer, as_str, as_array, get, get_member}
 use Rattle.toml.specs.View.{items_of}
 use Rattle.std.specs.Result.{result_ok}
-use Rattle.tora_values.specs.Addresses.{end_in, port_of_end}
+use Rattle.tora_config.specs.Addresses.{end_in, port_of_end}
 use Rattle.tora_core.specs.declared.erasure.Erasure.{Erasure}
 use Rattle.tora_core.specs.CoreRun.{core_refusal}
 use Rattle.tora_config.specs.Refusal.{erasure_at}

@@ -11,9 +11,9 @@ use Rattle.tora_config.specs.declared.NodeConfig.{NodeConfig}
 use Rattle.tora_config.specs.declared.fault.ConfigError.{ConfigError}
 use Rattle.tora_config.specs.declared.fault.ConfigError.TheVariants as Error
 use Rattle.tora_config.specs.declared.fault.Place.TheVariants as At
-use Rattle.tora_values.specs.declared.reason.Reason.TheVariants as Is
+use Rattle.tora_config.specs.declared.reason.Reason.TheVariants as Is
 use Rattle.tora_config.specs.NodeConfig.{peers_of}
-use Rattle.tora_values.specs.Numbers.{id_in}
+use Rattle.tora_config.specs.Numbers.{id_in}
 use Rattle.tora_config.specs.Refusal.{Fault, unknown_key, unknown_link_key, refused, no_core, id_at, port_at, text_at, list_at, erasure_at, ok_or, at_place}
 
 -- one step after the other, up to the first fault

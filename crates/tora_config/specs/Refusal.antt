@@ -5,10 +5,10 @@ use Rattle.tora_core.specs.declared.erasure.Erasure.{Erasure}
 use Rattle.tora_core.specs.declared.erasure.Erasure.TheVariants.{Plain, Remembered}
 use Rattle.tora_core.specs.declared.errors.CoreError.{CoreError}
 use Rattle.tora_config.specs.declared.fault.Place.{Place}
-use Rattle.tora_values.specs.declared.reason.Reason.{Reason}
-use Rattle.tora_values.specs.declared.reason.Reason.TheVariants as Is
-use Rattle.tora_values.specs.Addresses.{end_in, port_of_end}
-use Rattle.tora_values.specs.Numbers.{id_in}
+use Rattle.tora_config.specs.declared.reason.Reason.{Reason}
+use Rattle.tora_config.specs.declared.reason.Reason.TheVariants as Is
+use Rattle.tora_config.specs.Addresses.{end_in, port_of_end}
+use Rattle.tora_config.specs.Numbers.{id_in}
 use Rattle.std.specs.declared.net.socket_addr.SocketAddr.{SocketAddr}
 
 pub data Fault : Type 0 where

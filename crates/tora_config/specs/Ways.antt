@@ -3,9 +3,9 @@ use Rattle.std.specs.Prelude.{codes, string_bytes, ℕ, ◌&&◌, Bool, List, []
 use Rattle.std.specs.Option.{is_some}
 use Rattle.std.specs.declared.net.socket_addr.SocketAddr.{SocketAddr}
 use Rattle.toml.specs.Data.{Data, Members, as_table, as_str, get_member}
-use Rattle.tora_values.specs.Addresses.{is_loopback}
-use Rattle.tora_values.specs.declared.reason.Reason.{Reason}
-use Rattle.tora_values.specs.declared.reason.Reason.TheVariants as Is
+use Rattle.tora_config.specs.Addresses.{is_loopback}
+use Rattle.tora_config.specs.declared.reason.Reason.{Reason}
+use Rattle.tora_config.specs.declared.reason.Reason.TheVariants as Is
 use Rattle.tora_config.specs.declared.fault.Place.TheVariants as At
 use Rattle.tora_config.specs.declared.ways.LinkWay.{LinkWay}
 use Rattle.tora_config.specs.Refusal.{Fault, refused, id_at, end_at, list_at, ok_or, at_place}

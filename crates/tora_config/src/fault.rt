@@ -1,10 +1,10 @@
 //! Why a text is no configuration.
+use crate::reason::Reason;
 use std::alloc::{AllocError, AllocFailed};
 use std::fmt;
 use std::fmt::{Display, Formatter};
 use thiserror::Error;
 use tora_core::CoreError;
-use tora_values::Reason;
 
 /// A key of a configuration. Links and destinations are counted from 1, in the order of the text.
 #[derive(Clone, Copy, Debug, PartialEq, Eq, Hash)]

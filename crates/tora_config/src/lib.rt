@@ -22,16 +22,19 @@
 //! but these, of an address its port alone; `read_ways` reads the addresses and the paths.
 #![tactic(auto)]
 
+mod addresses;
 mod fault;
+mod numbers;
 mod reading;
+mod reason;
 mod values;
 mod ways;
 
 pub use fault::{ConfigError, Place};
 pub use reading::read_config;
+pub use reason::Reason;
 use tora_core::Erasure;
 use tora_height::Id;
-pub use tora_values::Reason;
 pub use ways::{LinkWay, read_ways};
 
 /// A link to a neighbour, over UDP.

@@ -11,13 +11,14 @@ ghost use Rattle.tora_config.specs.Refusal.{unknown_key, unknown_link_key};
 ghost use Rattle.tora_config.specs.Reading.{Gives, has_core, Reads, IsNoToml, has_peer, has_local, dest_in, dests_in, link_in, link_beside, listed_links, links_in, configuration_in, keys_in, only_known, keys_of_configuration, keys_of_link};
 
 use crate::fault::{ConfigError, Place};
+use crate::numbers::id_of;
+use crate::reason::Reason;
 use crate::values::{erasure_at, id_at, list_at, port_at, text_at};
 use crate::{LinkConfig, NodeConfig};
 use std::alloc::{AllocError, Global};
 use toml::{Table, Value};
 use tora_core::{Core, CoreError};
 use tora_height::Id;
-use tora_values::{Reason, id_of};
 
 // Whether a configuration has the key.
 fn is_key(key: &str) -> bool

@@ -6,13 +6,15 @@ ghost use Rattle.toml.specs.View.{view, items_view, table_view};
 ghost use Rattle.tora_config.specs.Refusal.{id_at, port_at, end_at, text_at as text_said, list_at, erasure_of, erasure_said, erasure_at, at_place};
 ghost use Rattle.tora_config.specs.NodeConfig.{number_at, port_at as port_said_at, text_at, IsListAt};
 
+use crate::addresses::end_of;
 use crate::fault::{ConfigError, Place};
+use crate::numbers::{id_of, port_of};
+use crate::reason::Reason;
 use std::alloc::Global;
 use std::net::SocketAddr;
 use toml::{Table, Value};
 use tora_core::Erasure;
 use tora_height::Id;
-use tora_values::{Reason, end_of, id_of, port_of};
 
 /// The value at a key, which is required.
 pub fn value_at<'a>(table: &'a Table, key: &str, place: Place) -> Result<&'a Value, ConfigError>

@@ -7,13 +7,14 @@ ghost use Rattle.tora_config.specs.Reading.{Gives, IsNoToml};
 ghost use Rattle.tora_config.specs.Refusal.{at_place};
 ghost use Rattle.tora_config.specs.Ways.{said_way, key_file_at, way_in, way_beside, ways_in, is_open};
 
+use crate::addresses::is_loopback;
 use crate::fault::{ConfigError, Place};
+use crate::reason::Reason;
 use crate::values::{end_at, id_at, list_at, value_at};
 use std::alloc::Global;
 use std::net::SocketAddr;
 use toml::{Table, Value};
 use tora_height::Id;
-use tora_values::{Reason, is_loopback};
 
 /// How the datagrams of a link go.
 #[derive(Debug, Drop)]

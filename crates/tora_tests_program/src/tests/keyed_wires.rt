@@ -7,8 +7,8 @@ use log::{LevelFilter, Log, Logged};
 use std::cell::Cell;
 use std::process::Abort;
 use std::str;
+use tora_commands::LogLines;
 use tora_keyed::{Key, LinkWire, NoticedWire};
-use tora_log::LogLines;
 use tora_neighbour::{Clock, Wire, WireError};
 
 const MESSAGE: &[u8] = b"a datagram";

@@ -8,7 +8,7 @@ use std::io::{Error, ErrorKind as IoErrorKind, Write};
 use std::process::Abort;
 use std::time::{Clock, Duration};
 use std::{io, str};
-use tora_log::LogLines;
+use tora_commands::LogLines;
 
 /// A standard error that is kept, and a clock that stands or can't be read.
 #[derive(Drop)]

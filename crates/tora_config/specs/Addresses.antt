@@ -9,9 +9,9 @@ use Rattle.std.specs.Net.Addr.{ipv4_octets, ipv6_segments}
 use Rattle.std.specs.Net.Reader.{read_socket_v4, read_socket_v6, whole_value}
 use Rattle.std.specs.Net.Socket.{socket_ip, socket_port}
 use Rattle.toml.specs.Data.{Data, as_integer, as_str}
-use Rattle.tora_values.specs.declared.reason.Reason.{Reason}
-use Rattle.tora_values.specs.declared.reason.Reason.TheVariants as Is
-use Rattle.tora_values.specs.Numbers.{port_in}
+use Rattle.tora_config.specs.declared.reason.Reason.{Reason}
+use Rattle.tora_config.specs.declared.reason.Reason.TheVariants as Is
+use Rattle.tora_config.specs.Numbers.{port_in}
 
 -- an address of IPv4 from its octets and its port, and one of IPv6 from its segments, its port and its scope
 abbrev pub v4_address : List ℕ × ℕ → SocketAddr

@@ -1,11 +1,11 @@
 //! The ends of links that stand as values.
 ghost use Rattle.std.specs.Prelude.{◌≡◌, ◌<◌, IfOk};
 ghost use Rattle.toml.specs.View.{view};
-ghost use Rattle.tora_values.specs.Addresses.{address_in, end_in, on_loopback, is_loopback};
+ghost use Rattle.tora_config.specs.Addresses.{address_in, end_in, on_loopback, is_loopback};
 ghost use Rattle.std.specs.Net.Socket.{socket_port};
 
+use crate::numbers::number_of_port;
 use crate::reason::Reason;
-use crate::values::number_of_port;
 use std::net::{Ipv4Addr, SocketAddr, SocketAddrV4};
 use toml::Value;
 

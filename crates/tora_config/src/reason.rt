@@ -31,7 +31,7 @@ pub enum Reason {
 
 impl Reason {
     ghost use Rattle.std.specs.Prelude.{◌≡◌};
-    ghost use Rattle.tora_values.specs.ReasonText.{reason_text};
+    ghost use Rattle.tora_config.specs.ReasonText.{reason_text};
 
     /// The words for it.
     fn words(self) -> &'static str
@@ -55,7 +55,7 @@ impl Reason {
 
 impl Display for Reason {
     ghost use Rattle.std.specs.Prelude.{Some};
-    ghost use Rattle.tora_values.specs.ReasonText.{reason_text};
+    ghost use Rattle.tora_config.specs.ReasonText.{reason_text};
 
     ghost output = { λ reason. Some (reason_text reason) };
 

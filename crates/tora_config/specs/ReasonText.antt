@@ -1,7 +1,7 @@
 -- The words for what is wrong with a value.
 use Rattle.std.specs.Prelude.{codes, List, ℕ}
-use Rattle.tora_values.specs.declared.reason.Reason.{Reason}
-use Rattle.tora_values.specs.declared.reason.Reason.TheVariants as Is
+use Rattle.tora_config.specs.declared.reason.Reason.{Reason}
+use Rattle.tora_config.specs.declared.reason.Reason.TheVariants as Is
 
 abbrev pub reason_text : Reason → List ℕ
 reason_text Is.Missing = codes "is missing"

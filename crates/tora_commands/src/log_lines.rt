@@ -1,6 +1,4 @@
 //! Log lines on standard error, with the time where it is asked for.
-#![tactic(auto)]
-
 ghost use Rattle.std.specs.Prelude.{◌≡◌, true, [], Some};
 
 use jiff::Timestamp;

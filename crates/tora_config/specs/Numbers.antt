@@ -1,7 +1,7 @@
 -- The number of a node and a port, as a value says them, or what is wrong with it.
 use Rattle.std.specs.Prelude.{ℕ, ◌^◌, ◌&&◌, nat_lt, if◌then◌else◌, ℤ, pos, negsuc, Option, Some, None, Result, Ok, Err}
-use Rattle.tora_values.specs.declared.reason.Reason.{Reason}
-use Rattle.tora_values.specs.declared.reason.Reason.TheVariants as Is
+use Rattle.tora_config.specs.declared.reason.Reason.{Reason}
+use Rattle.tora_config.specs.declared.reason.Reason.TheVariants as Is
 
 -- the number of a node, from 1 to 2^32 - 1, or what is wrong with it
 abbrev pub id_in : Option ℤ → Result ℕ Reason

@@ -2,8 +2,8 @@
 ghost use Rattle.std.specs.Prelude.{◌≡◌, ◌<◌, pos, Some, IfOk};
 ghost use Rattle.toml.specs.Data.{as_integer};
 ghost use Rattle.toml.specs.View.{view};
-ghost use Rattle.tora_values.specs.Addresses.{end_in, port_of_end};
-ghost use Rattle.tora_values.specs.Numbers.{id_in, port_in};
+ghost use Rattle.tora_config.specs.Addresses.{end_in, port_of_end};
+ghost use Rattle.tora_config.specs.Numbers.{id_in, port_in};
 
 use crate::addresses::end_of;
 use crate::reason::Reason;

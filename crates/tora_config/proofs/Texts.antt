@@ -10,7 +10,7 @@ use Rattle.std.specs.Net.Grammar.{Parses, IsSocketText, IsSocketV4Text, IsSocket
 use Rattle.std.specs.Net.Reader.{Read, read_socket_v4, read_socket_v6, whole_value}
 use Rattle.std.specs.Net.Socket.{v4_ip, v4_port}
 use Rattle.std.proofs.NetLemmas.Sockets.{read_socket_v4_complete, read_socket_v4_sound, read_socket_v6_complete, read_socket_v6_sound, IsSocketV4Text-not_v6}
-use Rattle.tora_values.specs.Addresses.{address_in}
+use Rattle.tora_config.specs.Addresses.{address_in}
 
 abbrev v4_of : List ℕ × ℕ → SocketAddrV4
 v4_of parts = record { ip = record { octets = parts.0 }; port = parts.1 }
