@@ -1,8 +1,7 @@
-//! The tests of the files of a node: of its life files and its configuration.
+//! The tests of the files of a node: life files, configurations, and keys.
 //!
-//! Each module of tests is over the public names of one crate: of `tora_life` or `tora_config`. They stand apart for the
-//! reason that those of `tora_tests` do: a crate with tests of its own is proved a second time with them. Nothing else is in
-//! this crate, and no other uses it.
+//! Each module tests the public names of one crate: `tora_life`, `tora_config` or `tora_key`. A crate with tests of its own
+//! is proved a second time with them, so the tests have a crate of their own.
 #![tactic(auto)]
 
 #[cfg(test)]

@@ -40,6 +40,11 @@ pub fn same_bytes(rt: &impl Abort, got: &[u8], wanted: &[u8], what: &str) {
     assert_eq!(rt; got, wanted, "{what}");
 }
 
+/// Sees that these bytes are the ones that are wanted, at a row of a table.
+pub fn same_bytes_at(rt: &impl Abort, got: &[u8], wanted: &[u8], row: usize) {
+    assert_eq!(rt; got, wanted, "row {row}");
+}
+
 /// Ends the test: what was to be refused was not, or the other way round.
 pub fn ends(rt: &impl Abort, what: &str) -> ! {
     panic!(rt; "{what}")

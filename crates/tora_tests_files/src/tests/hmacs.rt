@@ -1,5 +1,5 @@
 //! The test vectors of RFC 4231, from its text: section 4.2 to 4.8.
-use super::sees::{same_bytes, sees};
+use super::sees::{same_bytes_at, sees};
 use std::process::Abort;
 use tora_key::{Key, TAG, hmac, is_same};
 
@@ -77,9 +77,9 @@ const VECTORS: &[Row] = &[
 fn each_has_its_hmac(rt: &impl Abort, rows: &[Row]) {
     for (row, (key, message, wanted)) in rows.iter().enumerate() {
         let whole = hmac(key, message);
-        same_bytes(rt, &whole[..wanted.len().min(32)], wanted, row);
+        same_bytes_at(rt, &whole[..wanted.len().min(32)], wanted, row);
         let tag = Key::new(key).tag(message);
-        same_bytes(rt, &tag, &wanted[..wanted.len().min(TAG)], row);
+        same_bytes_at(rt, &tag, &wanted[..wanted.len().min(TAG)], row);
     }
 }
 
@@ -113,7 +113,7 @@ fn cleared_key_opens_nothing(rt: &impl Abort, mut key: Key, room: &mut [u8; 26])
     sees(rt, key.open(&room[..end]).is_some(), "the key opens");
     key.clear();
     sees(rt, key.open(&room[..end]).is_none(), "a cleared key opens");
-    same_bytes(rt, &key.tag(MESSAGE), &Key::new(&[]).tag(MESSAGE), 0);
+    same_bytes_at(rt, &key.tag(MESSAGE), &Key::new(&[]).tag(MESSAGE), 0);
 }
 
 #[test]
