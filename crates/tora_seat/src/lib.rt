@@ -27,6 +27,7 @@ mod laws;
 mod relation;
 mod rows;
 mod seat;
+mod serving;
 mod status;
 mod stepped;
 mod what;

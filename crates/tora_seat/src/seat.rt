@@ -1,18 +1,14 @@
 //! The core's seat, but for the list in which a step's packets stand.
-ghost use Rattle.std.specs.Prelude.{true, false, ◌≡◌, ◌<◌, ◌≤◌, ◌+◌, ◌*◌, ℕ, List, length, [], Option, None, Some, IfOk, IfSome, MatchOption, slice_get, map, is_some, if◌then◌else◌};
-ghost use Rattle.tora_core.specs.Numbers.{has_number, has_repeat, IsAscending};
-ghost use Rattle.tora_core.specs.CoreRun.{up_after};
-ghost use Rattle.tora_core.specs.declared.Input.TheVariants as In;
-ghost use Rattle.tora_seat.specs.Serving.{Answers, Offer, first_cut, with_current, with_pending, after_cuts_tried, after_step, after_settling, after_input, after_down, after_old_down, after_cut_asked, after_life_cut, after_up, after_packet, after_link_item, after_other_item, after_item_of, serving_of, is_current};
+ghost use Rattle.std.specs.Prelude.{true, false, ◌≡◌, ◌<◌, ◌≤◌, ◌+◌, ◌*◌, ℕ, List, length, [], Option, None, Some, IfOk, MatchOption, slice_get};
+ghost use Rattle.tora_core.specs.Numbers.{has_number, IsAscending};
+ghost use Rattle.tora_seat.specs.Serving.{Answers, Offer, first_cut, with_current, with_pending, serving_of};
 ghost use Rattle.tora_seat.specs.Serves.{Serves};
 ghost use Rattle.tora_seat.specs.Offers.{AreOffered, Follows};
-ghost use Rattle.tora_seat.specs.Rows.{SeatView, neighbours_of, current_of, pending_of, state_of, serving_at, first_seat};
-ghost use Rattle.tora_seat.specs.Bodies.{IsSettled, SeatGoes, StepsQuietly};
+ghost use Rattle.tora_seat.specs.Rows.{SeatView, current_of, pending_of, state_of, serving_at, first_seat};
+ghost use Rattle.tora_seat.specs.Bodies.{IsSettled};
 
-use crate::rows::{
-    broadcast_all, first_cut, is_current, left_pending, new_rows, place_in, row_at, try_cuts,
-};
-use crate::{Answer, Cargo, Item, LinkRow, OutLanes, Stepped, What};
+use crate::rows::{first_cut, new_rows, place_in, row_at};
+use crate::{Answer, Item, LinkRow, OutLanes, Stepped, What};
 use std::alloc::{AllocError, Global};
 use std::marker::Model;
 use tora_arq::Life;
@@ -24,15 +20,15 @@ use tora_packet::Packet;
 /// simulation, where it stays at hand. `CoreSeat` is one with a list of its own.
 #[derive(Drop)]
 pub struct BareSeat {
-    core: Core,
-    rows: Vec<LinkRow>,
-    inputs: Vec<Input>,
-    stepped: Option<Stepped>,
-    answer: Answer,
+    pub(crate) core: Core,
+    pub(crate) rows: Vec<LinkRow>,
+    pub(crate) inputs: Vec<Input>,
+    pub(crate) stepped: Option<Stepped>,
+    pub(crate) answer: Answer,
     /// Where it is false, no cut is pending.
-    has_pending: bool,
+    pub(crate) has_pending: bool,
     /// Where it is false, no link is up at the core without a current life.
-    has_cut: bool,
+    pub(crate) has_cut: bool,
 }
 
 impl Model for BareSeat {
@@ -65,7 +61,7 @@ impl BareSeat {
     }
 
     /// The neighbour at a place, from 0 on in ascending order.
-    fn neighbour(&self, place: usize) -> Option<Id>
+    pub(crate) fn neighbour(&self, place: usize) -> Option<Id>
         ensures { result ≡ slice_get self.now.core.neighbours place }
     {
         self.core.neighbours().get(place).copied()
@@ -81,129 +77,29 @@ impl BareSeat {
     }
 
     /// The least neighbour whose link is up at the core without a current life.
-    fn first_cut(&self) -> Option<Id>
+    pub(crate) fn first_cut(&self) -> Option<Id>
         ensures { result ≡ first_cut (state_of self.now) self.now.core.neighbours }
     {
         first_cut(&self.core, &self.rows)
     }
 
     /// Whether it is known that no link is up at the core without a current life.
-    fn is_settled(&self) -> bool
+    pub(crate) fn is_settled(&self) -> bool
         ensures { result ≡ true → IsSettled self.now.core self.now.core.up self.now.rows }
     {
         !self.has_cut
     }
 
     /// Notes that no link is up at the core without a current life.
-    fn note_settled(&mut self)
+    pub(crate) fn note_settled(&mut self)
         requires { IsSettled self.old.core self.old.core.up self.old.rows }
         ensures { self.new ≡ self.old }
     {
         self.has_cut = false;
     }
 
-    /// Steps an input, and sends what the core answers. Answers whether the core accepted it and no life is over by it.
-    fn step<O: OutLanes>(
-        &mut self,
-        input: &Input,
-        now: u64,
-        sends: &mut Sends,
-        outs: &mut O,
-    ) -> bool
-        requires lanes { length self.old.core.neighbours ≤ O.count outs.old }
-        requires room { length self.old.inputs < 2 * (length self.old.core.neighbours + 1) }
-        ensures count { O.count outs.new ≡ O.count outs.old }
-        ensures stepped { length self.new.inputs ≤ length self.old.inputs + 1 }
-        ensures goes { SeatGoes O.did_offer (λ answers ks. after_step answers ks input.now now)
-            now self.old outs.old self.new outs.new }
-        ensures quietly { StepsQuietly result input.now self.old self.new }
-    {
-        self.has_cut = true;
-        match self.core.step_into(input, now, sends) {
-            Ok(()) => {
-                self.inputs.push_reserved(*input);
-                let is_over = broadcast_all(&mut self.rows, sends.as_slice(), outs);
-                self.has_pending |= is_over;
-                !is_over
-            }
-            Err(error) => {
-                self.answer = Answer::Refused(error);
-                false
-            }
-        }
-    }
-
-    /// Steps down each neighbour whose life was cut, the least first, until none is left.
-    fn settle<O: OutLanes>(&mut self, now: u64, sends: &mut Sends, outs: &mut O)
-        requires lanes { length self.old.core.neighbours ≤ O.count outs.old }
-        requires room { length self.old.inputs + length self.old.core.neighbours ≤ 2 * (length self.old.core.neighbours + 1) }
-        ensures count { O.count outs.new ≡ O.count outs.old }
-        ensures stepped { length self.new.inputs ≤ length self.old.inputs + length self.old.core.neighbours }
-        ensures goes { SeatGoes O.did_offer
-            (λ answers ks. after_settling (length ks) answers ks now) now self.old outs.old self.new outs.new }
-    {
-        let most = self.core.neighbours().len();
-        for _round in 0..most {
-            match self.first_cut() {
-                Some(k) => {
-                    self.step(&Input::LinkDown(k), now, sends, outs);
-                }
-                None => {
-                    self.note_settled();
-                    return;
-                }
-            }
-        }
-    }
-
-    /// Steps an input, and then all that follows from what it sends. Where it is known that no link is up without a
-    /// current life once the input is accepted, and no life is over by it, nothing follows.
-    fn take_in<O: OutLanes>(
-        &mut self,
-        input: &Input,
-        now: u64,
-        is_settled: bool,
-        sends: &mut Sends,
-        outs: &mut O,
-    )
-        requires settled { is_settled ≡ true
-            → IsSettled self.old.core (up_after self.old.core.up input.now) self.old.rows }
-        requires lanes { length self.old.core.neighbours ≤ O.count outs.old }
-        requires room { length self.old.inputs ≤ length self.old.core.neighbours + 1 }
-        ensures count { O.count outs.new ≡ O.count outs.old }
-        ensures stepped { length self.new.inputs ≤ length self.old.inputs + length self.old.core.neighbours + 1 }
-        ensures goes { SeatGoes O.did_offer (λ answers ks. after_input answers ks input.now now)
-            now self.old outs.old self.new outs.new }
-    {
-        let is_quiet = self.step(input, now, sends, outs);
-        if is_quiet && is_settled {
-            self.note_settled();
-        } else {
-            self.settle(now, sends, outs);
-        }
-    }
-
-    /// Takes in an input that brings no link up or down.
-    fn take_in_calm<O: OutLanes>(
-        &mut self,
-        input: &Input,
-        now: u64,
-        sends: &mut Sends,
-        outs: &mut O,
-    )
-        requires calm { up_after self.old.core.up input.now ≡ self.old.core.up }
-        requires lanes { length self.old.core.neighbours ≤ O.count outs.old }
-        requires room { length self.old.inputs ≤ length self.old.core.neighbours + 1 }
-        ensures count { O.count outs.new ≡ O.count outs.old }
-        ensures goes { SeatGoes O.did_offer (λ answers ks. after_input answers ks input.now now)
-            now self.old outs.old self.new outs.new }
-    {
-        let is_settled = self.is_settled();
-        self.take_in(input, now, is_settled, sends, outs);
-    }
-
     /// Gives the neighbour at a place another current life.
-    fn set_current(&mut self, place: usize, k: Id, life: Option<Life>)
+    pub(crate) fn set_current(&mut self, place: usize, k: Id, life: Option<Life>)
         requires { slice_get self.old.core.neighbours place ≡ Some k }
         ensures rest { self.new ≡ record self.old { rows = self.new.rows } }
         ensures set { (now : ℕ) (before : List Offer)
@@ -215,7 +111,7 @@ impl BareSeat {
     }
 
     /// Gives the neighbour at a place another life whose cut is pending, or none.
-    fn set_pending(&mut self, place: usize, k: Id, life: Option<Life>)
+    pub(crate) fn set_pending(&mut self, place: usize, k: Id, life: Option<Life>)
         requires { slice_get self.old.core.neighbours place ≡ Some k }
         ensures rest { self.new ≡ record self.old { rows = self.new.rows } }
         ensures set { (now : ℕ) (before : List Offer)
@@ -227,102 +123,8 @@ impl BareSeat {
         row.pending = life;
     }
 
-    /// The current life of the neighbour at a place is over.
-    fn on_end<O: OutLanes>(
-        &mut self,
-        place: usize,
-        k: Id,
-        now: u64,
-        sends: &mut Sends,
-        outs: &mut O,
-    )
-        requires place { slice_get self.old.core.neighbours place ≡ Some k }
-        requires lanes { length self.old.core.neighbours ≤ O.count outs.old }
-        requires room { length self.old.inputs ≤ length self.old.core.neighbours + 1 }
-        ensures count { O.count outs.new ≡ O.count outs.old }
-        ensures stepped { length self.new.inputs ≤ length self.old.inputs + length self.old.core.neighbours + 1 }
-        ensures goes { SeatGoes O.did_offer (λ answers ks. after_down answers ks k now)
-            now self.old outs.old self.new outs.new }
-    {
-        let is_settled = self.is_settled();
-        self.set_current(place, k, None);
-        self.take_in(&Input::LinkDown(k), now, is_settled, sends, outs);
-    }
-
-    /// The current life of the neighbour at a place is over, if there is one.
-    fn on_old_end<O: OutLanes>(
-        &mut self,
-        place: usize,
-        k: Id,
-        now: u64,
-        sends: &mut Sends,
-        outs: &mut O,
-    )
-        requires place { slice_get self.old.core.neighbours place ≡ Some k }
-        requires lanes { length self.old.core.neighbours ≤ O.count outs.old }
-        requires room { length self.old.inputs ≤ 0 }
-        ensures count { O.count outs.new ≡ O.count outs.old }
-        ensures stepped { length self.new.inputs ≤ length self.old.core.neighbours + 1 }
-        ensures goes { SeatGoes O.did_offer
-            (λ answers ks v. after_old_down answers ks k now v (v.seat.current k))
-            now self.old outs.old self.new outs.new }
-    {
-        if self.current(place).is_some() {
-            self.on_end(place, k, now, sends, outs);
-        }
-    }
-
-    /// A life of the neighbour at a place begins.
-    fn on_up<O: OutLanes>(
-        &mut self,
-        place: usize,
-        k: Id,
-        life: Life,
-        now: u64,
-        sends: &mut Sends,
-        outs: &mut O,
-    )
-        requires place { slice_get self.old.core.neighbours place ≡ Some k }
-        requires lanes { length self.old.core.neighbours ≤ O.count outs.old }
-        requires room { length self.old.inputs ≤ 0 }
-        ensures count { O.count outs.new ≡ O.count outs.old }
-        ensures goes { SeatGoes O.did_offer (λ answers ks v. after_up answers ks k life now
-            (after_old_down answers ks k now v (v.seat.current k))) now self.old outs.old self.new outs.new }
-    {
-        self.on_old_end(place, k, now, sends, outs);
-        let is_settled = self.is_settled();
-        self.set_current(place, k, Some(life));
-        self.take_in(&Input::LinkUp(k), now, is_settled, sends, outs);
-    }
-
-    /// Hands a packet of the neighbour at a place to the core, where its life is current.
-    fn on_packet<O: OutLanes>(
-        &mut self,
-        place: usize,
-        k: Id,
-        life: &Life,
-        packet: &Packet,
-        now: u64,
-        sends: &mut Sends,
-        outs: &mut O,
-    )
-        requires place { slice_get self.old.core.neighbours place ≡ Some k }
-        requires lanes { length self.old.core.neighbours ≤ O.count outs.old }
-        requires room { length self.old.inputs ≤ 0 }
-        requires first { self.old.stepped ≡ None }
-        ensures count { O.count outs.new ≡ O.count outs.old }
-        ensures goes { SeatGoes O.did_offer (λ answers ks v. if is_current life.now (v.seat.current k)
-            then after_packet answers ks k life.now packet.now now v else v)
-            now self.old outs.old self.new outs.new }
-    {
-        if is_current(life, &self.current(place)) {
-            self.note_stepped(k, life, packet);
-            self.take_in_calm(&Input::Packet(k, *packet), now, sends, outs);
-        }
-    }
-
     /// Notes a packet that is handed to the core.
-    fn note_stepped(&mut self, k: Id, life: &Life, packet: &Packet)
+    pub(crate) fn note_stepped(&mut self, k: Id, life: &Life, packet: &Packet)
         ensures { self.new ≡ record self.old { stepped = Some (record { from = k; life = life.now; packet = packet.now }) } }
     {
         self.stepped = Some(Stepped {
@@ -332,169 +134,12 @@ impl BareSeat {
         });
     }
 
-    /// A life of the neighbour at a place has ended.
-    fn on_down<O: OutLanes>(
-        &mut self,
-        place: usize,
-        k: Id,
-        life: &Life,
-        now: u64,
-        sends: &mut Sends,
-        outs: &mut O,
-    )
-        requires place { slice_get self.old.core.neighbours place ≡ Some k }
-        requires lanes { length self.old.core.neighbours ≤ O.count outs.old }
-        requires room { length self.old.inputs ≤ 0 }
-        ensures count { O.count outs.new ≡ O.count outs.old }
-        ensures goes { SeatGoes O.did_offer (λ answers ks v. if is_current life.now (v.seat.current k)
-            then after_down answers ks k now v else if is_current life.now (v.seat.pending k)
-            then with_pending v k None else v) now self.old outs.old self.new outs.new }
-    {
-        if is_current(life, &self.current(place)) {
-            self.on_end(place, k, now, sends, outs);
-        } else if is_current(life, &self.pending(place)) {
-            self.set_pending(place, k, None);
-        }
-    }
-
     /// The place of a neighbour, from 0 on in ascending order, if it is one.
-    fn place(&self, k: Id) -> Option<usize>
+    pub(crate) fn place(&self, k: Id) -> Option<usize>
         ensures { MatchOption result (has_number k self.now.core.neighbours ≡ false)
             (λ place. slice_get self.now.core.neighbours place ≡ Some k) }
     {
         place_in(self.core.neighbours(), k)
-    }
-
-    /// Offers the cut of a life to the lane of the neighbour at a place; where it is handed back, it is pending.
-    fn ask_cut<O: OutLanes>(&mut self, place: usize, k: Id, life: Life, now: u64, outs: &mut O)
-        requires place { slice_get self.old.core.neighbours place ≡ Some k }
-        requires lanes { length self.old.core.neighbours ≤ O.count outs.old }
-        ensures count { O.count outs.new ≡ O.count outs.old }
-        ensures rest { self.new ≡ record self.old { rows = self.new.rows } }
-        ensures goes { SeatGoes O.did_offer (λ answers ks v. after_cut_asked answers v k life)
-            now self.old outs.old self.new outs.new }
-    {
-        let _me = self.core().me();
-        let is_put = outs.offer(place, Cargo::Cut(life));
-        self.set_pending(place, k, left_pending(is_put, life));
-    }
-
-    /// Cuts the current life of the neighbour at a place, if there is one.
-    fn on_cut_at<O: OutLanes>(
-        &mut self,
-        place: usize,
-        k: Id,
-        now: u64,
-        sends: &mut Sends,
-        outs: &mut O,
-    )
-        requires place { slice_get self.old.core.neighbours place ≡ Some k }
-        requires lanes { length self.old.core.neighbours ≤ O.count outs.old }
-        requires room { length self.old.inputs ≤ 0 }
-        ensures count { O.count outs.new ≡ O.count outs.old }
-        ensures goes { SeatGoes O.did_offer
-            (λ answers ks v. after_life_cut answers ks k now v (v.seat.current k))
-            now self.old outs.old self.new outs.new }
-    {
-        if let Some(life) = self.current(place) {
-            self.ask_cut(place, k, life, now, outs);
-            self.on_end(place, k, now, sends, outs);
-        }
-    }
-
-    /// Cuts the current life of a neighbour, if it is one and has one.
-    fn on_cut<O: OutLanes>(&mut self, k: Id, now: u64, sends: &mut Sends, outs: &mut O)
-        requires lanes { length self.old.core.neighbours ≤ O.count outs.old }
-        requires room { length self.old.inputs ≤ 0 }
-        ensures count { O.count outs.new ≡ O.count outs.old }
-        ensures goes { SeatGoes O.did_offer
-            (λ answers ks v. if has_number k ks then after_life_cut answers ks k now v (v.seat.current k) else v)
-            now self.old outs.old self.new outs.new }
-    {
-        if let Some(place) = self.place(k) {
-            self.on_cut_at(place, k, now, sends, outs);
-        }
-    }
-
-    /// Takes in an item of the link to the neighbour at a place.
-    fn on_link_item<O: OutLanes>(
-        &mut self,
-        place: usize,
-        k: Id,
-        what: &What,
-        now: u64,
-        sends: &mut Sends,
-        outs: &mut O,
-    )
-        requires place { slice_get self.old.core.neighbours place ≡ Some k }
-        requires lanes { length self.old.core.neighbours ≤ O.count outs.old }
-        requires room { length self.old.inputs ≤ 0 }
-        requires first { self.old.stepped ≡ None }
-        ensures count { O.count outs.new ≡ O.count outs.old }
-        ensures goes { SeatGoes O.did_offer
-            (λ answers ks. after_link_item answers ks k now what.now) now self.old outs.old self.new outs.new }
-    {
-        match what {
-            What::Up(life) => self.on_up(place, k, *life, now, sends, outs),
-            What::Packet(life, packet) => self.on_packet(place, k, life, packet, now, sends, outs),
-            What::Down(life, _) => self.on_down(place, k, life, now, sends, outs),
-            What::Need(d) => self.take_in_calm(&Input::Need(*d), now, sends, outs),
-            What::Cut(_) => {}
-            What::Beat => {}
-            What::Show => self.answer = Answer::Show,
-            What::Status(_) => self.answer = Answer::Show,
-            What::Quit => self.answer = Answer::Quit,
-        }
-    }
-
-    /// Takes in an item of a seat that is no link.
-    fn on_other_item<O: OutLanes>(&mut self, what: &What, now: u64, sends: &mut Sends, outs: &mut O)
-        requires lanes { length self.old.core.neighbours ≤ O.count outs.old }
-        requires room { length self.old.inputs ≤ 0 }
-        ensures count { O.count outs.new ≡ O.count outs.old }
-        ensures goes { SeatGoes O.did_offer
-            (λ answers ks. after_other_item answers ks now what.now) now self.old outs.old self.new outs.new }
-    {
-        match what {
-            What::Need(d) => self.take_in_calm(&Input::Need(*d), now, sends, outs),
-            What::Cut(k) => self.on_cut(*k, now, sends, outs),
-            What::Show => self.answer = Answer::Show,
-            What::Status(_) => self.answer = Answer::Show,
-            What::Quit => self.answer = Answer::Quit,
-            What::Up(_) => {}
-            What::Packet(_, _) => {}
-            What::Down(_, _) => {}
-            What::Beat => {}
-        }
-    }
-
-    /// Tries each pending cut once. Where it is known that there is none, no row is looked at.
-    fn try_cuts<O: OutLanes>(&mut self, now: u64, outs: &mut O)
-        requires lanes { length self.old.core.neighbours ≤ O.count outs.old }
-        ensures count { O.count outs.new ≡ O.count outs.old }
-        ensures rest { self.new ≡ record self.old { rows = self.new.rows } }
-        ensures goes { SeatGoes O.did_offer after_cuts_tried now self.old outs.old self.new outs.new }
-    {
-        if self.has_pending {
-            self.has_cut = true;
-            self.has_pending = try_cuts(&mut self.rows, outs);
-        }
-    }
-
-    /// Takes in an item.
-    fn on_item<O: OutLanes>(&mut self, item: &Item, sends: &mut Sends, outs: &mut O)
-        requires lanes { length self.old.core.neighbours ≤ O.count outs.old }
-        requires room { length self.old.inputs ≤ 0 }
-        requires first { self.old.stepped ≡ None }
-        ensures count { O.count outs.new ≡ O.count outs.old }
-        ensures goes { SeatGoes O.did_offer
-            (λ answers ks. after_item_of answers ks (slice_get ks item.entry.now.seat)
-            item.entry.now.now item.entry.now.what) item.entry.now.now self.old outs.old self.new outs.new }
-    {
-        match self.neighbour(item.seat) {
-            Some(k) => self.on_link_item(item.seat, k, &item.what, item.now, sends, outs),
-            None => self.on_other_item(&item.what, item.now, sends, outs),
-        }
     }
 
     /// The seat of a core, with no current life and nothing pending.
