@@ -152,8 +152,8 @@ impl Simulator for Sim {
         }
     }
 
-    fn turn(&mut self, _place: usize, n: Id, most: u64) -> Result<bool, AllocError> {
-        self.turn_all(n, most)
+    fn turn(&mut self, place: usize, n: Id, most: u64) -> Result<bool, AllocError> {
+        self.turn_all(place, n, most)
     }
 
     #[inline(always)]

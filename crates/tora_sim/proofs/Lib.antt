@@ -16,9 +16,7 @@ pub mod Runs
 pub mod Arms
 pub mod Named
 pub mod Repeats
-pub mod FewNames
 pub mod Apart
-pub mod LinkRows
 pub mod SameNodes
 pub mod Sound
 pub mod Lookups
@@ -33,7 +31,6 @@ pub mod Turning
 pub mod KeyLists
 pub mod FirstStore
 pub mod FreshEnds
-pub mod Guesses
 pub mod Restarting
 pub mod Possibles
 pub mod NodeEnds

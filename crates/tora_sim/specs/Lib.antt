@@ -3,10 +3,7 @@ pub mod Files
 pub mod Cuts
 pub mod Links
 pub mod Nodes
-pub mod Hints
-pub mod NameCounts
 pub mod LinkKeys
-pub mod LinksByBits
 pub mod Topologies
 pub mod Store
 pub mod Steps

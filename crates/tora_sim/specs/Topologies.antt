@@ -44,17 +44,6 @@ with_end n link ends =
     else if link.b == n then with_node link.a ends
     else ends
 
--- the other end of a link, where one end is the node, is among these
-abbrev pub has_other : ℕ → Link → List ℕ → Bool
-has_other n link ends =
-    if link.a == n then has_number link.b ends
-    else if link.b == n then has_number link.a ends
-    else false
-
--- another end of a node's links stands twice
-abbrev pub has_repeated_end : List Link → ℕ → Bool
-has_repeated_end links n = has_repeat (other_ends n links)
-
 -- no number is 0
 pub record AreNumbers (t : Topology) : Type 0 where
   pub links : All (λ (link : Link). (0 < link.a) × (0 < link.b)) t.links

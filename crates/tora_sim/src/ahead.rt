@@ -7,14 +7,12 @@ ghost use Rattle.std.specs.Prelude.{◌≡◌, IfErr};
 
 use crate::SimError;
 use crate::due::next_due;
-use crate::hints::Hints;
 use crate::link_slot::LinkSlot;
-use crate::links::far_end_at;
 use crate::nodes::NodeSlot;
+use crate::places::{Places, home_at};
 use crate::stills::Stills;
 use std::alloc::Global;
 use tora_frame::{BorrowedBody, BorrowedFrame};
-use tora_height::Id;
 
 /// Of so many frames that were sent in a pass at most it is known where they go.
 const MOST_KNOWN: usize = 4096;
@@ -83,33 +81,30 @@ impl Ahead {
     /// A frame comes: where those before it are all that were read of, reads what the next ones, this one among them, and what follows of them will look
     /// at: the link end that takes a frame in and answers it, and its node, to which the end gives an event.
     #[inline(always)]
-    pub fn on_frame(
-        &mut self,
-        links: &[LinkSlot],
-        keys: &[(Id, Id)],
-        nodes: &[NodeSlot],
-        hints: &Hints,
-    ) {
+    pub fn on_frame(&mut self, links: &[LinkSlot], nodes: &[NodeSlot], places: &Vec<Places>) {
         if self.came >= self.read && self.read < self.far_ends.len() {
-            self.read_receivers(links, keys, nodes, hints);
+            self.read_receivers(links, nodes, places);
         }
         self.came = self.came.saturating_add(1);
     }
 
+    /// To which link end a frame goes, by its place among those that were sent.
+    #[inline(always)]
+    fn far_end(&self, place: usize) -> usize {
+        match self.far_ends.get(place) {
+            Some(far_end) => *far_end as usize,
+            None => 0,
+        }
+    }
+
     /// Reads ahead of the next frames that come.
     #[inline(never)]
-    fn read_receivers(
-        &mut self,
-        links: &[LinkSlot],
-        keys: &[(Id, Id)],
-        nodes: &[NodeSlot],
-        hints: &Hints,
-    ) {
+    fn read_receivers(&mut self, links: &[LinkSlot], nodes: &[NodeSlot], places: &Vec<Places>) {
         let behind = self.far_ends.len().min(self.read.saturating_add(AT_ONCE));
         let mut word = self.word;
         for place in self.read..behind {
-            let at = far_end_at(&self.far_ends, place) as usize;
-            word ^= read_end(links, at) ^ read_home(keys, nodes, hints, at);
+            let at = self.far_end(place);
+            word ^= read_end(links, at) ^ read_home(nodes, places, at);
         }
         self.read = behind;
         self.word = word;
@@ -184,13 +179,10 @@ fn read_end(links: &[LinkSlot], at: usize) -> u64 {
     }
 }
 
-/// Reads the node of the link end at a place, where it stands where it is guessed.
+/// Reads the node of the link end at a place.
 #[inline(always)]
-fn read_home(keys: &[(Id, Id)], nodes: &[NodeSlot], hints: &Hints, at: usize) -> u64 {
-    let Some(key) = keys.get(at) else {
-        return 0;
-    };
-    match nodes.get(hints.node(key.0)) {
+fn read_home(nodes: &[NodeSlot], places: &Vec<Places>, at: usize) -> u64 {
+    match nodes.get(home_at(places, at)) {
         Some(node) => node.prefetch_put(at.wrapping_sub(node.first())),
         None => 0,
     }

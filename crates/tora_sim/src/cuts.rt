@@ -28,7 +28,7 @@ impl Sim {
     pub fn cut_bound(&mut self, n: Id, k: Id)
         ensures { world_of self.new ≡ after_cut_at (world_of self.old) n k }
     {
-        if let Some(at) = place(&self.links, &self.keys, &self.hints, n, k) {
+        if let Some(at) = place(&self.links, &self.keys, n, k) {
             self.quiet = 0;
             forget(&mut self.stills, at, 1);
             forget(&mut self.plains, at, 1);

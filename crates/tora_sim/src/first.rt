@@ -8,16 +8,14 @@ ghost use Rattle.tora_world.specs.World.{first_world};
 ghost use Rattle.tora_sim.specs.Store.{world_of};
 ghost use Rattle.tora_sim.specs.Topologies.{IsTopology};
 ghost use Rattle.tora_sim.specs.Firsts.{IsFirstEnd, AreAdded, IsMade};
-ghost use Rattle.tora_sim.specs.LinksByBits.{rows_in, AreRowsOf};
 
 use crate::SimError;
 use crate::ahead::Ahead;
 use crate::files::{apart, open};
-use crate::hints::Hints;
 use crate::link_slot::LinkSlot;
-use crate::links::{LinkParts, end_of, far_ends_of, keys_of};
-use crate::links_by_bits::{LinkLists, links_by_bits};
+use crate::links::{LinkParts, end_of, keys_of};
 use crate::nodes::{NodeSlot, Sending, no_counts};
+use crate::places::places_of;
 use crate::queue::Queue;
 use crate::ready::none_ready;
 use crate::sim::Sim;
@@ -67,11 +65,10 @@ impl Sim {
             return Err(SimError::Memory);
         };
         let named = own.nodes();
-        let lists = links_by_bits(alloc, own.links())?;
         let mut nodes = Vec::new(alloc);
         let mut links = Vec::new(alloc);
         for n in named.as_slice() {
-            add_node(alloc, &own, &lists, times, *n, &mut nodes, &mut links)?;
+            add_node(alloc, &own, times, *n, &mut nodes, &mut links)?;
         }
         let count = links.len();
         let stills = no_stills(alloc, count)?;
@@ -79,8 +76,7 @@ impl Sim {
         let ready = none_ready(alloc, count)?;
         let unready = all_unready(alloc, nodes.len(), count)?;
         let keys = keys_of(alloc, &links)?;
-        let hints = Hints::new(&nodes);
-        let far_ends = far_ends_of(alloc, &keys, &hints)?;
+        let places = places_of(alloc, &keys, &nodes)?;
         let ahead = Ahead::of_ends(alloc, count)?;
         Ok(Sim {
             topology: own,
@@ -89,9 +85,8 @@ impl Sim {
             nodes,
             links,
             keys,
-            far_ends,
+            places,
             datagrams: Datagrams::new(alloc),
-            hints,
             quiet: 0,
             stills,
             plains,
@@ -110,19 +105,17 @@ impl Sim {
 fn add_node(
     alloc: Global,
     topology: &Topology,
-    lists: &LinkLists,
     times: Times,
     n: Id,
     nodes: &mut Vec<NodeSlot>,
     links: &mut Vec<LinkSlot>,
 ) -> Result<(), SimError>
-    requires lists { AreRowsOf topology.now (rows_in lists.now.items) }
     requires times { IsTimes times }
     requires me { 0 < n }
     ensures { MatchResult result (λ _. IsMade topology.now times n nodes.old.items links.old.items nodes.new.items links.new.items) (λ e. e ≡ SimError.Memory) }
 {
     let first = links.len();
-    let neighbours = topology.neighbours(lists, n);
+    let neighbours = topology.neighbours(n);
     let count = neighbours.len();
     let seat = new_seat(alloc, topology, n, neighbours.as_slice())?;
     let Ok(seat) = Box::new(alloc, seat) else {

@@ -17,7 +17,6 @@ ghost use Rattle.tora_sim.specs.Lanes.{after_offer_at, has_place, bare, HasRoom,
 
 use crate::SimError;
 use crate::files::FileSlot;
-use crate::hints::Hints;
 use crate::link_slot::LinkSlot;
 use std::alloc::Global;
 use std::marker::Model;
@@ -29,12 +28,6 @@ use tora_height::Id;
 use tora_life::{DiskCall, MemDisk, Owner};
 use tora_packet::Packet;
 use tora_seat::Cargo;
-
-/// How many ends of a node are looked at one by one, before all are searched by halves.
-const MOST_TRIED: usize = 32;
-
-/// Of so few ends of a node each is looked at; more are halved.
-const FEW: usize = 8;
 
 /// All that stands at the end of a link at one node: the link end, its life file, and the lane from the node's core to it.
 #[derive(Drop)]
@@ -411,33 +404,22 @@ pub fn is_key(key: (Id, Id), n: Id, k: Id) -> bool
     key.0 == n && key.1 == k
 }
 
-/// The place of the end of node `n` towards `k`, by the keys of the ends: the ends themselves are not looked at.
-#[inline(always)]
-pub fn place(
-    _links: &Vec<LinkSlot>,
-    keys: &Vec<(Id, Id)>,
-    hints: &Hints,
-    n: Id,
-    k: Id,
-) -> Option<usize>
+/// The place of the end of node `n` towards `k`, by the keys of the ends.
+pub fn place(_links: &Vec<LinkSlot>, keys: &Vec<(Id, Id)>, n: Id, k: Id) -> Option<usize>
     requires rising { AreRising _links.now.items }
     requires keys { keys.now.items ≡ map key_of _links.now.items }
     ensures first { IfSome result (λ i. IsFirst (is_at n k) _links.now.items i) }
     ensures none { IfNone result (find (is_at n k) _links.now.items ≡ None) }
 {
     let ends = keys.as_slice();
-    match near(ends, hints.first_end(n), n, k) {
-        Some(at) => Some(at),
-        None => search(ends, n, k),
-    }
+    search(ends, n, k)
 }
 
-/// The place of the end of node `n` towards `k`, which is looked for at this place first.
+/// The place of the end of node `n` towards `k`. It is `at`, if that end is there; otherwise the ends are searched.
 #[inline(always)]
 pub fn place_near(
     links: &Vec<LinkSlot>,
     keys: &Vec<(Id, Id)>,
-    hints: &Hints,
     at: usize,
     n: Id,
     k: Id,
@@ -450,52 +432,7 @@ pub fn place_near(
     let ends = keys.as_slice();
     match stands_at(ends, at, n, k) {
         Some(at) => Some(at),
-        None => place(links, keys, hints, n, k),
-    }
-}
-
-/// The place of the end of node `n` towards `k`, which is looked for among the `count` ends from the place `first` on first.
-#[inline(always)]
-pub fn place_among(
-    _links: &Vec<LinkSlot>,
-    keys: &Vec<(Id, Id)>,
-    first: usize,
-    count: usize,
-    n: Id,
-    k: Id,
-) -> Option<usize>
-    requires rising { AreRising _links.now.items }
-    requires keys { keys.now.items ≡ map key_of _links.now.items }
-    ensures first { IfSome result (λ i. IsFirst (is_at n k) _links.now.items i) }
-    ensures none { IfNone result (find (is_at n k) _links.now.items ≡ None) }
-{
-    let ends = keys.as_slice();
-    match among(ends, first, count, n, k) {
-        Some(at) => Some(at),
-        None => search(ends, n, k),
-    }
-}
-
-/// The place of the end of node `n` towards `k`, which is looked for at the place `at` first, and then as `place_among` does.
-#[inline(always)]
-pub fn place_at_or_among(
-    links: &Vec<LinkSlot>,
-    keys: &Vec<(Id, Id)>,
-    at: usize,
-    first: usize,
-    count: usize,
-    n: Id,
-    k: Id,
-) -> Option<usize>
-    requires rising { AreRising links.now.items }
-    requires keys { keys.now.items ≡ map key_of links.now.items }
-    ensures first { IfSome result (λ i. IsFirst (is_at n k) links.now.items i) }
-    ensures none { IfNone result (find (is_at n k) links.now.items ≡ None) }
-{
-    let ends = keys.as_slice();
-    match stands_at(ends, at, n, k) {
-        Some(at) => Some(at),
-        None => place_among(links, keys, first, count, n, k),
+        None => place(links, keys, n, k),
     }
 }
 
@@ -510,115 +447,12 @@ fn stands_at(keys: &[(Id, Id)], at: usize, n: Id, k: Id) -> Option<usize>
     }
 }
 
-/// The place of the end, where it is found among the `count` ends from the place `first` on: few are looked at one by one, and many are halved.
-#[inline(always)]
-fn among(keys: &[(Id, Id)], first: usize, count: usize, n: Id, k: Id) -> Option<usize>
-    ensures { IfSome result (λ i. slice_get keys.now i ≡ Some (n, k)) }
-{
-    if count > FEW {
-        halved(keys, first, count, n, k)
-    } else {
-        tried(keys, first, count, n, k)
-    }
-}
-
-/// The place, where the end stands behind the place `first` and among so many; each is looked at.
-#[inline(always)]
-fn tried(keys: &[(Id, Id)], first: usize, count: usize, n: Id, k: Id) -> Option<usize>
-    ensures { IfSome result (λ i. slice_get keys.now i ≡ Some (n, k)) }
-{
-    let behind = keys.len().min(first.saturating_add(count));
-    for at in first..behind {
-        if is_key(keys[at], n, k) {
-            return Some(at);
-        }
-    }
-    None
-}
-
-/// The place, where the end is found among the ends of node `n`, which rise by their peers and stand from the place `first` on: in each
-/// turn the half of them is left in which it may stand. What stands at the last place is looked at.
-#[inline(never)]
-fn halved(keys: &[(Id, Id)], first: usize, count: usize, n: Id, k: Id) -> Option<usize>
-    ensures { IfSome result (λ i. slice_get keys.now i ≡ Some (n, k)) }
-{
-    let mut at = first;
-    let mut left = count;
-    while left > 1 {
-        let half = left / 2;
-        let middle = at.saturating_add(half);
-        if is_within(keys, middle, k) {
-            at = middle;
-            left -= half;
-        } else {
-            left = half;
-        }
-    }
-    stands_at(keys, at, n, k)
-}
-
-/// Whether the peer of the end at a place is at most this one.
-#[inline(always)]
-fn is_within(keys: &[(Id, Id)], at: usize, k: Id) -> bool {
-    match keys.get(at) {
-        Some(key) => key.1 <= k,
-        None => false,
-    }
-}
-
-/// The place of the end, where it is among the first ends of its node, which stand from the place `first` on.
-#[inline(always)]
-fn near(keys: &[(Id, Id)], first: usize, n: Id, k: Id) -> Option<usize>
-    ensures { IfSome result (λ i. slice_get keys.now i ≡ Some (n, k)) }
-{
-    tried(keys, first, MOST_TRIED, n, k)
-}
-
 fn search(keys: &[(Id, Id)], n: Id, k: Id) -> Option<usize>
     requires { AreRisingKeys keys.now }
     ensures first { IfSome result (λ i. slice_get keys.now i ≡ Some (n, k)) }
     ensures none { IfNone result (find (is_key n k) keys.now ≡ None) }
 {
     keys.binary_search(&(n, k)).ok()
-}
-
-/// Of each link end the place at which the other end of its link stands, by the keys of the ends. Who takes one looks which end stands there,
-/// so it may be wrong.
-///
-/// # Errors
-/// `Memory`.
-pub fn far_ends_of(alloc: Global, keys: &Vec<(Id, Id)>, hints: &Hints) -> Result<Vec<u32>, SimError>
-    ensures { IfErr result (λ e. e ≡ SimError.Memory) }
-{
-    let ends = keys.as_slice();
-    let mut far_ends = Vec::new(alloc);
-    if far_ends.reserve(ends.len()).is_err() {
-        return Err(SimError::Memory);
-    }
-    for (n, k) in ends {
-        if far_ends.push(far_end_of(ends, hints, *n, *k)).is_err() {
-            return Err(SimError::Memory);
-        }
-    }
-    Ok(far_ends)
-}
-
-/// The place at which the end of node `k` towards `n` stands; 0 where there is none.
-fn far_end_of(keys: &[(Id, Id)], hints: &Hints, n: Id, k: Id) -> u32 {
-    let found = match near(keys, hints.first_end(k), k, n) {
-        Some(at) => at,
-        None => keys.binary_search(&(k, n)).unwrap_or(0),
-    };
-    u32::try_from(found).unwrap_or(0)
-}
-
-/// Where the other end of the link may stand whose one end stands at the place `at`: a guess.
-#[inline(always)]
-pub fn far_end_at(far_ends: &Vec<u32>, at: usize) -> u32 {
-    match far_ends.get(at) {
-        Some(far_end) => *far_end,
-        None => 0,
-    }
 }
 
 /// The next such call of each life file fails, at the `count` ends from the place `first` on.

@@ -10,7 +10,6 @@ ghost use Rattle.tora_sim.specs.Keyed.{IsFirst};
 ghost use Rattle.tora_sim.specs.Nodes.{NodeView, is_of, AreRising, after_item};
 
 use crate::SimError;
-use crate::hints::Hints;
 use crate::lanes::NodeLanes;
 use crate::queue::Queue;
 use std::alloc::{AllocError, Global};
@@ -300,13 +299,22 @@ fn note_inputs(inputs: &mut Vec<(Input, u64)>, accepted: &[Input], now: u64)
 }
 
 /// The place of a node.
-#[inline(always)]
-pub fn place(nodes: &Vec<NodeSlot>, hints: &Hints, n: Id) -> Option<usize>
+pub fn place(nodes: &Vec<NodeSlot>, n: Id) -> Option<usize>
     requires { AreRising nodes.now.items }
     ensures first { IfSome result (λ i. IsFirst (is_of n) nodes.now.items i) }
     ensures none { IfNone result (find (is_of n) nodes.now.items ≡ None) }
 {
-    match near(nodes, hints.node(n), n) {
+    search(nodes, n)
+}
+
+/// The place of a node. It is `at`, if the node is there; otherwise the nodes are searched.
+#[inline(always)]
+pub fn place_near(nodes: &Vec<NodeSlot>, at: usize, n: Id) -> Option<usize>
+    requires { AreRising nodes.now.items }
+    ensures first { IfSome result (λ i. IsFirst (is_of n) nodes.now.items i) }
+    ensures none { IfNone result (find (is_of n) nodes.now.items ≡ None) }
+{
+    match near(nodes, at, n) {
         Some(at) => Some(at),
         None => search(nodes, n),
     }

@@ -8,8 +8,8 @@ ghost use Rattle.tora_sim.specs.Sending.{IsOver};
 ghost use Rattle.tora_sim.specs.Steps.{AllAreDone};
 ghost use Rattle.tora_sim.specs.Store.{world_of};
 
-use crate::links::far_end_at;
 use crate::nodes::Sending;
+use crate::places::far_end_at;
 use crate::sim::Sim;
 use crate::stills::{keep_still, short};
 use tora_arq::data_frames_are_what_was_submitted;
@@ -49,7 +49,7 @@ impl Sim {
             Sending::IsGone => return None,
         }
         data_frames_are_what_was_submitted();
-        let far_end = far_end_at(&self.far_ends, at);
+        let far_end = far_end_at(&self.places, at);
         let Some(until) = self.links[at].send_pair(self.clock, &mut self.datagrams, at, far_end)
         else {
             return None;

@@ -66,7 +66,7 @@ impl Sim {
     fn put_ends_of(&self, ends: &mut Vec<(Id, Id)>, n: Id) -> Result<(), AllocError>
         ensures { IfOk result (λ _. ends.new.items ≡ ends.old.items ++ ends_at self.now.topology n) }
     {
-        match node_place(&self.nodes, &self.hints, n) {
+        match node_place(&self.nodes, n) {
             Some(at) => put_ends(ends, n, self.nodes[at].neighbours()),
             None => Ok(()),
         }
@@ -76,7 +76,7 @@ impl Sim {
     pub(crate) fn has_node(&self, n: Id) -> bool
         ensures { result ≡ is_node self.now.topology n }
     {
-        match node_place(&self.nodes, &self.hints, n) {
+        match node_place(&self.nodes, n) {
             Some(_place) => true,
             None => false,
         }
@@ -94,7 +94,7 @@ impl Sim {
     pub(crate) fn neighbours(&self, n: Id) -> &[Id]
         ensures { result.now ≡ neighbours_of self.now.topology n }
     {
-        match node_place(&self.nodes, &self.hints, n) {
+        match node_place(&self.nodes, n) {
             Some(at) => self.nodes[at].neighbours(),
             None => &[],
         }
@@ -118,7 +118,7 @@ impl Sim {
     pub fn height(&self, n: Id, d: Id) -> Option<Entry>
         ensures { result ≡ height_at (world_of self.now) n d }
     {
-        match node_place(&self.nodes, &self.hints, n) {
+        match node_place(&self.nodes, n) {
             Some(at) => self.nodes[at].height(d),
             None => None,
         }
@@ -128,7 +128,7 @@ impl Sim {
     pub fn next_hop(&self, n: Id, d: Id) -> Option<Id>
         ensures { result ≡ hop_at (world_of self.now) n d }
     {
-        match node_place(&self.nodes, &self.hints, n) {
+        match node_place(&self.nodes, n) {
             Some(at) => self.nodes[at].next_hop(d),
             None => None,
         }
@@ -139,7 +139,7 @@ impl Sim {
     pub fn sent_count(&self, a: Id, b: Id, life: Life) -> usize
         ensures { result ≡ length (sent_packets (world_of self.now) a b life) }
     {
-        match place(&self.links, &self.keys, &self.hints, a, b) {
+        match place(&self.links, &self.keys, a, b) {
             Some(at) => self.links[at].sent_count(life),
             None => 0,
         }
@@ -155,7 +155,7 @@ impl Sim {
     pub fn sent(&self, alloc: Global, a: Id, b: Id, life: Life) -> Result<Vec<Packet>, AllocError>
         ensures { IfOk result (λ v. v.items ≡ sent_packets (world_of self.now) a b life) }
     {
-        match place(&self.links, &self.keys, &self.hints, a, b) {
+        match place(&self.links, &self.keys, a, b) {
             Some(at) => self.links[at].sent(alloc, life),
             None => Ok(Vec::new(alloc)),
         }
@@ -166,7 +166,7 @@ impl Sim {
     pub fn taken_count(&self, b: Id, a: Id, life: Life) -> usize
         ensures { result ≡ length (taken_packets (world_of self.now) b a life) }
     {
-        match place(&self.links, &self.keys, &self.hints, b, a) {
+        match place(&self.links, &self.keys, b, a) {
             Some(at) => self.links[at].taken_count(life),
             None => 0,
         }
@@ -182,7 +182,7 @@ impl Sim {
     pub fn taken(&self, alloc: Global, b: Id, a: Id, life: Life) -> Result<Vec<Packet>, AllocError>
         ensures { IfOk result (λ v. v.items ≡ taken_packets (world_of self.now) b a life) }
     {
-        match place(&self.links, &self.keys, &self.hints, b, a) {
+        match place(&self.links, &self.keys, b, a) {
             Some(at) => self.links[at].taken(alloc, life),
             None => Ok(Vec::new(alloc)),
         }

@@ -86,7 +86,7 @@ impl Sim {
     fn is_idle_end(&self, n: Id, k: Id) -> bool
         ensures { result ≡ is_idle_end (world_of self.now) n k }
     {
-        match place(&self.links, &self.keys, &self.hints, n, k) {
+        match place(&self.links, &self.keys, n, k) {
             Some(at) => self.links[at].is_idle(),
             None => true,
         }
@@ -96,7 +96,7 @@ impl Sim {
     pub fn bound_life(&self, n: Id, k: Id) -> Option<Life>
         ensures { result ≡ bound_life ((world_of self.now).ends n k) }
     {
-        match place(&self.links, &self.keys, &self.hints, n, k) {
+        match place(&self.links, &self.keys, n, k) {
             Some(at) => self.links[at].life(),
             None => None,
         }
@@ -106,10 +106,10 @@ impl Sim {
     fn life_at(&self, n: Id, k: Id) -> Option<Life>
         ensures { result ≡ life_at (world_of self.now) n k }
     {
-        match place(&self.links, &self.keys, &self.hints, n, k) {
+        match place(&self.links, &self.keys, n, k) {
             Some(end) => {
                 let seat = self.links[end].seat();
-                match node_place(&self.nodes, &self.hints, n) {
+                match node_place(&self.nodes, n) {
                     Some(at) => self.nodes[at].current(seat),
                     None => None,
                 }

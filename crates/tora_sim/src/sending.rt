@@ -9,8 +9,9 @@ ghost use Rattle.tora_sim.specs.Steps.{Does, IsDone, IsRefused, Repeats};
 ghost use Rattle.tora_world.specs.declared.event.Event.TheVariants.{Transmit};
 
 use crate::SimError;
-use crate::links::{far_end_at, place_near};
-use crate::nodes::place as node_place;
+use crate::links::place_near;
+use crate::nodes::place_near as node_near;
+use crate::places::{far_end_at, home_at};
 use crate::sim::{Sim, note_hello};
 use crate::stills::{keep_still, short};
 use std::alloc::AllocError;
@@ -35,10 +36,10 @@ impl Sim {
     ) -> Result<bool, AllocError>
         ensures { Repeats self.old most (Transmit n k) result self.new }
     {
-        let Some(at) = place_near(&self.links, &self.keys, &self.hints, place, n, k) else {
+        let Some(at) = place_near(&self.links, &self.keys, place, n, k) else {
             return Ok(false);
         };
-        let Some(home) = node_place(&self.nodes, &self.hints, n) else {
+        let Some(home) = node_near(&self.nodes, home_at(&self.places, at), n) else {
             return Ok(false);
         };
         self.transmit_from(n, k, at, home, most)
@@ -82,7 +83,7 @@ impl Sim {
             return false;
         };
         self.quiet = 0;
-        let far_end = far_end_at(&self.far_ends, at);
+        let far_end = far_end_at(&self.places, at);
         note_hello(
             &mut self.nodes[home],
             &mut self.datagrams,

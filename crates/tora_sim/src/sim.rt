@@ -12,11 +12,11 @@ ghost use Rattle.tora_datagrams.specs.Datagrams.{HasRoom};
 ghost use Rattle.tora_sim.specs.Steps.{Does, IsDone, Runs};
 
 use crate::ahead::Ahead;
-use crate::hints::Hints;
 use crate::lanes::{make_room_at, shorten};
 use crate::link_slot::LinkSlot;
-use crate::links::{arm, far_end_at, place, place_at_or_among, place_near};
-use crate::nodes::{NodeSlot, Sending, place as node_place};
+use crate::links::{arm, place, place_near};
+use crate::nodes::{NodeSlot, Sending, place as node_place, place_near as node_near};
+use crate::places::{Places, far_end_at, home_at};
 use crate::plains::keep_looked;
 use crate::restarts::{new_ends, restart_ends};
 use crate::stills::{Stills, forget};
@@ -45,11 +45,9 @@ pub struct Sim {
     /// Of each link end its node and its peer, by which the ends are in order. They stand here, too, since each end lies in other lines
     /// of the cache, and to find one others would be looked at.
     pub(crate) keys: Vec<(Id, Id)>,
-    /// Of each link end where the other end of its link may stand.
-    pub(crate) far_ends: Vec<u32>,
+    /// Of each link end where the other end of its link, and its node, are stored.
+    pub(crate) places: Vec<Places>,
     pub(crate) datagrams: Datagrams,
-    /// Where the nodes and the link ends may stand.
-    pub(crate) hints: Hints,
     /// Before this tick nothing is to be done at any node or link end, and no tick changes one; 0 where that isn't known.
     pub(crate) quiet: u64,
     /// Of each link end the tick before which nothing is to be done at it, where that tick is still to come; else it says nothing. They
@@ -114,7 +112,7 @@ impl Sim {
     pub(crate) fn open(&mut self, n: Id, k: Id) -> Result<(), SimError>
         ensures { Does self.old (Open n k) result self.new }
     {
-        let Some(at) = place(&self.links, &self.keys, &self.hints, n, k) else {
+        let Some(at) = place(&self.links, &self.keys, n, k) else {
             return Err(SimError::NoNode);
         };
         if !self.links[at].is_closed() {
@@ -129,7 +127,7 @@ impl Sim {
     pub(crate) fn pull(&mut self, guess: usize, n: Id, k: Id) -> Result<(), SimError>
         ensures { Does self.old (Pull n k) result self.new }
     {
-        let Some(at) = place_near(&self.links, &self.keys, &self.hints, guess, n, k) else {
+        let Some(at) = place_near(&self.links, &self.keys, guess, n, k) else {
             return Err(SimError::NoNode);
         };
         if !self.links[at].has_cargo() {
@@ -203,7 +201,7 @@ impl Sim {
     pub(crate) fn need(&mut self, n: Id, d: Id) -> Result<(), SimError>
         ensures { Does self.old (Need n d) result self.new }
     {
-        let Some(home) = node_place(&self.nodes, &self.hints, n) else {
+        let Some(home) = node_place(&self.nodes, n) else {
             return Err(SimError::NoNode);
         };
         if self.nodes[home].waiting() >= MOST_ITEMS {
@@ -219,10 +217,10 @@ impl Sim {
     pub(crate) fn transmit(&mut self, n: Id, k: Id) -> Result<(), SimError>
         ensures { Does self.old (Transmit n k) result self.new }
     {
-        let Some(at) = place(&self.links, &self.keys, &self.hints, n, k) else {
+        let Some(at) = place(&self.links, &self.keys, n, k) else {
             return Err(SimError::NoNode);
         };
-        let Some(home) = node_place(&self.nodes, &self.hints, n) else {
+        let Some(home) = node_near(&self.nodes, home_at(&self.places, at), n) else {
             return Err(SimError::NoNode);
         };
         self.transmit_at(n, k, at, home)
@@ -256,7 +254,7 @@ impl Sim {
             return Err(SimError::NotPossible);
         };
         self.quiet = 0;
-        let far_end = far_end_at(&self.far_ends, at);
+        let far_end = far_end_at(&self.places, at);
         self.ahead.note_frame(&frame, far_end);
         note_sent(
             &mut self.nodes[home],
@@ -272,13 +270,13 @@ impl Sim {
     pub(crate) fn pump(&mut self, guess: usize, n: Id, k: Id) -> Result<(), SimError>
         ensures { Does self.old (Pump n k) result self.new }
     {
-        let Some(at) = place_near(&self.links, &self.keys, &self.hints, guess, n, k) else {
+        let Some(at) = place_near(&self.links, &self.keys, guess, n, k) else {
             return Err(SimError::NoNode);
         };
         let Some(event) = self.links[at].next_event() else {
             return Err(SimError::NotPossible);
         };
-        let Some(home) = node_place(&self.nodes, &self.hints, n) else {
+        let Some(home) = node_near(&self.nodes, home_at(&self.places, at), n) else {
             return Err(SimError::NoNode);
         };
         if self.nodes[home].waiting() >= MOST_ITEMS {
@@ -314,8 +312,7 @@ impl Sim {
     fn read_receivers(&mut self)
         ensures { self.new ≡ self.old }
     {
-        self.ahead
-            .on_frame(&self.links, &self.keys, &self.nodes, &self.hints);
+        self.ahead.on_frame(&self.links, &self.nodes, &self.places);
     }
 
     /// A datagram is handed to its receiver as `deliver` has it, where it is a HELLO and the receive isn't armed, and says whether it
@@ -328,20 +325,17 @@ impl Sim {
         let Some((header, guess)) = numbered_hello(&self.datagrams, i) else {
             return false;
         };
-        let Some(home) = node_place(&self.nodes, &self.hints, header.receiver) else {
+        let Some(home) = node_near(&self.nodes, home_at(&self.places, guess), header.receiver)
+        else {
             return false;
         };
         if self.nodes[home].receive() {
             return false;
         }
-        let first = self.nodes[home].first();
-        let count = self.nodes[home].count();
-        let Some(at) = place_at_or_among(
+        let Some(at) = place_near(
             &self.links,
             &self.keys,
             guess,
-            first,
-            count,
             header.receiver,
             header.sender,
         ) else {
@@ -365,7 +359,8 @@ impl Sim {
             return Err(SimError::NoDatagram);
         };
         let header = frame.header();
-        let Some(home) = node_place(&self.nodes, &self.hints, header.receiver) else {
+        let Some(home) = node_near(&self.nodes, home_at(&self.places, far_end), header.receiver)
+        else {
             return Err(SimError::NoDatagram);
         };
         if self.nodes[home].receive() {
@@ -373,14 +368,10 @@ impl Sim {
             self.nodes[home].arm_receive(false);
             return Ok(());
         }
-        let first = self.nodes[home].first();
-        let count = self.nodes[home].count();
-        let Some(at) = place_at_or_among(
+        let Some(at) = place_near(
             &self.links,
             &self.keys,
             far_end,
-            first,
-            count,
             header.receiver,
             header.sender,
         ) else {
@@ -399,7 +390,7 @@ impl Sim {
     pub(crate) fn core_turn(&mut self, n: Id) -> Result<(), SimError>
         ensures { Does self.old (CoreTurn n) result self.new }
     {
-        let Some(home) = node_place(&self.nodes, &self.hints, n) else {
+        let Some(home) = node_place(&self.nodes, n) else {
             return Err(SimError::NoNode);
         };
         if self.nodes[home].waiting() == 0 {
@@ -416,7 +407,7 @@ impl Sim {
     pub(crate) fn restart(&mut self, n: Id, torn: Option<[u8; 16]>) -> Result<(), SimError>
         ensures { Does self.old (Restart n torn) result self.new }
     {
-        let Some(home) = node_place(&self.nodes, &self.hints, n) else {
+        let Some(home) = node_place(&self.nodes, n) else {
             return Err(SimError::NoNode);
         };
         let alloc = *self.nodes.allocator();
@@ -442,7 +433,7 @@ impl Sim {
     pub(crate) fn arm(&mut self, n: Id, call: Call) -> Result<(), SimError>
         ensures { Does self.old (Arm n call) result self.new }
     {
-        let Some(home) = node_place(&self.nodes, &self.hints, n) else {
+        let Some(home) = node_place(&self.nodes, n) else {
             return Err(SimError::NoNode);
         };
         match call {

@@ -6,7 +6,7 @@ ghost use Rattle.tora_sim.specs.Steps.{Repeats};
 ghost use Rattle.tora_world.specs.declared.event.Event.TheVariants.{CoreTurn};
 
 use crate::lanes::make_room;
-use crate::nodes::place as node_place;
+use crate::nodes::place_near as node_near;
 use crate::sim::Sim;
 use crate::turns::{forget_waiting, take_items};
 use crate::unready::{set_unready, still_unready, unready_at};
@@ -14,15 +14,17 @@ use std::alloc::AllocError;
 use tora_height::Id;
 
 impl Sim {
-    /// Lets `CoreTurn` happen at node `n` until it is refused, and so many times at most, and answers whether it ever did: its core takes all items that
-    /// wait. The node is found once, and what is known of its link ends is noted once.
+    /// Repeats `CoreTurn` at node `n` until it is refused, at most `most` times, and answers whether it happened at all: its core takes all
+    /// items that wait. The node is found once, and what is known of its link ends is noted once.
+    ///
+    /// `place` is that of the node among `nodes`, from 0 on; if another node is there, the node is searched.
     ///
     /// # Errors
     /// Where there is no memory for what an item may put. The world is then as after the items before it.
-    pub fn turn_all(&mut self, n: Id, most: u64) -> Result<bool, AllocError>
+    pub fn turn_all(&mut self, place: usize, n: Id, most: u64) -> Result<bool, AllocError>
         ensures { Repeats self.old most (CoreTurn n) result self.new }
     {
-        let Some(home) = node_place(&self.nodes, &self.hints, n) else {
+        let Some(home) = node_near(&self.nodes, place, n) else {
             return Ok(false);
         };
         self.turn_from(n, home, most)

@@ -3,14 +3,11 @@ ghost use Rattle.std.specs.Prelude.{◌≡◌, ◌⊎◌, ◌<◌, ◌≤◌, �
 ghost use Rattle.std.specs.List.{list_any};
 ghost use Rattle.tora_core.specs.Numbers.{ascending, has_number, has_repeat, with_number};
 ghost use Rattle.tora_world.specs.Topology.{Link, chosen_by, erasure_at, is_node, version_at, topology_fault, topology_fault_within, most_neighbours, nodes_in, neighbours_of, with_node, different, different_neighbours, other_ends, has_too_many_within, has_own_link};
-ghost use Rattle.tora_sim.specs.LinksByBits.{rows_in, AreRowsOf};
 ghost use Rattle.tora_sim.specs.Topologies.{topology_of, with_olds, with_old, link_in, links_in, is_named, with_end, AreNumbers, IsTopology};
 ghost use Rattle.arrayvec.specs.ArrayVec.{array_vec_len};
 
 use crate::SimError;
 use crate::duplicates::has_repeated_link;
-use crate::links_by_bits::{LinkLists, links_of_bits};
-use crate::name_counts::are_known_few;
 use arrayvec::ArrayVec;
 use std::alloc::{AllocError, Global};
 use std::marker::Model;
@@ -208,15 +205,12 @@ impl Topology {
         }
     }
 
-    /// The neighbours of a node, in ascending order, where these are the links by the last bits of the numbers that they name.
-    pub(crate) fn neighbours(&self, lists: &LinkLists, n: Id) -> ArrayVec<Id, GREATEST_NEIGHBOURS>
-        requires { AreRowsOf self.now (rows_in lists.now.items) }
+    /// The neighbours of a node, in ascending order.
+    pub(crate) fn neighbours(&self, n: Id) -> ArrayVec<Id, GREATEST_NEIGHBOURS>
         ensures items { result.items ≡ neighbours_of self.now n }
         ensures kept { IsTopology self.now }
     {
-        // What the type keeps of its links is known where one of its fields is read.
-        let _ = &self.links;
-        neighbours_of(links_of_bits(lists, n), n)
+        neighbours_of(&self.links, n)
     }
 
     /// The newest version of frames that the link ends of a node speak.
@@ -329,21 +323,12 @@ fn has_too_many(limits: Limits, links: &[(Id, Id)], destinations: &[Id]) -> bool
     let most = limits.most_nodes();
     match nodes_of(links) {
         None => true,
-        Some(nodes) => nodes.len() > most || is_node_of_many(limits, nodes.as_slice(), links),
+        Some(nodes) => nodes.len() > most
+            || some_has_many_neighbours(limits, nodes.as_slice(), links),
     }
 }
 
-/// Whether one of the nodes has more neighbours than the limits allow: each is asked where links may name one so often.
-fn is_node_of_many(limits: Limits, nodes: &[Id], links: &[(Id, Id)]) -> bool
-    ensures { result ≡ list_any (λ n. nat_lt (most_neighbours limits) (length (different_neighbours n (links_in links.now)))) nodes.now }
-{
-    let most = limits.most_neighbours();
-    if are_known_few(most, links) {
-        return false;
-    }
-    some_has_many_neighbours(limits, nodes, links)
-}
-
+/// Whether one of the nodes has more neighbours than the limits allow.
 fn some_has_many_neighbours(limits: Limits, nodes: &[Id], links: &[(Id, Id)]) -> bool
     ensures { result ≡ list_any (λ n. nat_lt (most_neighbours limits) (length (different_neighbours n (links_in links.now)))) nodes.now }
 {

@@ -114,7 +114,7 @@ impl Sim {
     fn entry(&self, n: Id, k: Id, d: Id) -> Option<Entry>
         ensures { result ≡ entry_at (world_of self.now) n k d }
     {
-        match node_place(&self.nodes, &self.hints, n) {
+        match node_place(&self.nodes, n) {
             Some(at) => self.nodes[at].entry(k, d),
             None => None,
         }

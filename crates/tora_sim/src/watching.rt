@@ -17,7 +17,7 @@ impl Sim {
     pub fn first_item(&self, n: Id) -> Option<Item>
         ensures { result ≡ slice_get ((world_of self.now).items n) 0 }
     {
-        match node_place(&self.nodes, &self.hints, n) {
+        match node_place(&self.nodes, n) {
             Some(at) => self.nodes[at].first_item(),
             None => None,
         }
@@ -28,7 +28,7 @@ impl Sim {
     pub fn inputs(&self, n: Id) -> &[(Input, u64)]
         ensures { result.now ≡ (world_of self.now).inputs n }
     {
-        match node_place(&self.nodes, &self.hints, n) {
+        match node_place(&self.nodes, n) {
             Some(at) => self.nodes[at].inputs(),
             None => &[],
         }
@@ -38,7 +38,7 @@ impl Sim {
     pub fn flag(&self, n: Id, d: Id) -> bool
         ensures { result ≡ flag_at (world_of self.now) n d }
     {
-        match node_place(&self.nodes, &self.hints, n) {
+        match node_place(&self.nodes, n) {
             Some(at) => self.nodes[at].flag(d),
             None => false,
         }

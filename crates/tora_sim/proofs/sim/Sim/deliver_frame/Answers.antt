@@ -21,78 +21,78 @@ use Rattle.tora_sim.proofs.Quiets.{idle_kept, set_same}
 use Rattle.tora_sim.proofs.Unchanged.{links_stay, nothing_known}
 use Rattle.tora_sim.proofs.sim.Sim.deliver_frame.Goals as goal
 
-pub place_at_or_among-requires-clause-keys : goal.place_at_or_among-requires-clause-keys
-place_at_or_among-requires-clause-keys c = c.self.invariant.3 ∙ sym c.self.invariant.0.keys
+pub place_near-requires-clause-keys : goal.place_near-requires-clause-keys
+place_near-requires-clause-keys c = c.self.invariant.3 ∙ sym c.self.invariant.0.keys
 
-pub returns-in_default-node_place : goal.returns-in_default-node_place
-returns-in_default-node_place c =
+pub returns-in_default-node_near : goal.returns-in_default-node_near
+returns-in_default-node_near c =
     let s = c.self.inside in
     absurd (home_is_there s.topology s.times s.clock s.nodes.items s.links.items s.datagrams.items c.self.invariant.0 c.args.i c.in-Some.frame (sym c.in-Some.ensures)
-    (subst (λ (hd : Header). find (is_of hd.receiver) s.nodes.items ≡ None) c.header-header.ensures.value c.in_default-node_place.ensures.none))
+    (subst (λ (hd : Header). find (is_of hd.receiver) s.nodes.items ≡ None) c.header-header.ensures.value c.in_default-node_near.ensures.none))
 
 module _ (c : goal.After-self-then-receive-1) where
-  first : IsFirst (is_of c.in-Some.frame.header.receiver) c.self.inside.nodes.items c.in-Some-node_place.home
-  first = subst (λ (hd : Header). IsFirst (is_of hd.receiver) c.self.inside.nodes.items c.in-Some-node_place.home) c.header-header.ensures.value c.in-Some-node_place.ensures.first
+  first : IsFirst (is_of c.in-Some.frame.header.receiver) c.self.inside.nodes.items c.in-Some-node_near.home
+  first = subst (λ (hd : Header). IsFirst (is_of hd.receiver) c.self.inside.nodes.items c.in-Some-node_near.home) c.header-header.ensures.value c.in-Some-node_near.ensures.first
 
   armed : c.index_mut.result.now.receive ≡ true
   armed =
-      ap (λ (y : NodeView). y.receive) (same_read c.self.inside.nodes.items c.in-Some-node_place.home c.index_mut.result.now c.index.result.now first.within c.index_mut.ensures.value c.index.ensures)
+      ap (λ (y : NodeView). y.receive) (same_read c.self.inside.nodes.items c.in-Some-node_near.home c.index_mut.result.now c.index.result.now first.within c.index_mut.ensures.value c.index.ensures)
       ∙ sym c.receive.ensures ∙ c.if-receive.true
 
 pub invariant_of-self : goal.invariant_of-self
 invariant_of-self c =
     let s = c.self.inside in (
       failed_store s.topology s.times s.clock s.nodes.items s.links.items s.datagrams.items c.self.invariant.0 c.args.i c.in-Some.frame (sym c.in-Some.ensures)
-          c.in-Some-node_place.home c.index_mut.result.now (first c) c.index_mut.ensures.value c.arm_receive.new.self c.arm_receive.ensures,
+          c.in-Some-node_near.home c.index_mut.result.now (first c) c.index_mut.ensures.value c.arm_receive.new.self c.arm_receive.ensures,
       λ none. absurd (omega (arith, none)),
       c.self.invariant.2,
       c.self.invariant.3,
       c.self.invariant.4,
       c.self.invariant.5,
-      node_kept s.unready.items s.nodes.items s.ready.items c.in-Some-node_place.home c.index_mut.result.now c.arm_receive.new.self (first c).within c.index_mut.ensures.value (same_place c.index_mut.result.now c.arm_receive.new.self _ c.arm_receive.ensures (refl, refl)) c.self.invariant.6,
-      idle_kept s.idle s.nodes.items c.in-Some-node_place.home c.index_mut.result.now c.arm_receive.new.self (first c).within c.index_mut.ensures.value (ap is_idle c.arm_receive.ensures) c.self.invariant.7,
+      node_kept s.unready.items s.nodes.items s.ready.items c.in-Some-node_near.home c.index_mut.result.now c.arm_receive.new.self (first c).within c.index_mut.ensures.value (same_place c.index_mut.result.now c.arm_receive.new.self _ c.arm_receive.ensures (refl, refl)) c.self.invariant.6,
+      idle_kept s.idle s.nodes.items c.in-Some-node_near.home c.index_mut.result.now c.arm_receive.new.self (first c).within c.index_mut.ensures.value (ap is_idle c.arm_receive.ensures) c.self.invariant.7,
     )
 
 pub returns-then-receive : goal.returns-then-receive
 returns-then-receive c =
     let s = c.self.inside in
-    subst (λ (before : SimState). IsDone (world_of before) (Deliver c.args.i) (world_of (state_of s.topology s.times s.clock (slice_set s.nodes.items c.in-Some-node_place.home c.arm_receive.new.self) s.links.items s.datagrams.items))) c.self.view_is
+    subst (λ (before : SimState). IsDone (world_of before) (Deliver c.args.i) (world_of (state_of s.topology s.times s.clock (slice_set s.nodes.items c.in-Some-node_near.home c.arm_receive.new.self) s.links.items s.datagrams.items))) c.self.view_is
     (failed_done s.topology s.times s.clock s.nodes.items s.links.items s.datagrams.items c.self.invariant.0 c.args.i c.in-Some.frame (sym c.in-Some.ensures)
-    c.in-Some-node_place.home c.index_mut.result.now (first c) c.index_mut.ensures.value c.arm_receive.new.self (armed c) c.arm_receive.ensures)
+    c.in-Some-node_near.home c.index_mut.result.now (first c) c.index_mut.ensures.value c.arm_receive.new.self (armed c) c.arm_receive.ensures)
 
 pub keep_looked-requires-clause-stills : goal.keep_looked-requires-clause-stills
-keep_looked-requires-clause-stills c = omega (arith, c.in-Some-place_at_or_among.ensures.first.within, c.self.invariant.2.as_many)
+keep_looked-requires-clause-stills c = omega (arith, c.in-Some-place_near.ensures.first.within, c.self.invariant.2.as_many)
 
 pub keep_looked-requires-clause-plains : goal.keep_looked-requires-clause-plains
-keep_looked-requires-clause-plains c = omega (arith, c.in-Some-place_at_or_among.ensures.first.within, c.self.invariant.4.as_many)
+keep_looked-requires-clause-plains c = omega (arith, c.in-Some-place_near.ensures.first.within, c.self.invariant.4.as_many)
 
 -- ---- there is no memory
 
 module _ (c : goal.In_default-receive_and_look) where
-  home_first : IsFirst (is_of c.in-Some.frame.header.receiver) c.self.inside.nodes.items c.in-Some-node_place.home
-  home_first = subst (λ (hd : Header). IsFirst (is_of hd.receiver) c.self.inside.nodes.items c.in-Some-node_place.home) c.header-header.ensures.value c.in-Some-node_place.ensures.first
+  home_first : IsFirst (is_of c.in-Some.frame.header.receiver) c.self.inside.nodes.items c.in-Some-node_near.home
+  home_first = subst (λ (hd : Header). IsFirst (is_of hd.receiver) c.self.inside.nodes.items c.in-Some-node_near.home) c.header-header.ensures.value c.in-Some-node_near.ensures.first
 
-  end_first : IsFirst (is_at c.in-Some.frame.header.receiver c.in-Some.frame.header.sender) c.self.inside.links.items c.in-Some-place_at_or_among.at
-  end_first = subst (λ (hd : Header). IsFirst (is_at hd.receiver hd.sender) c.self.inside.links.items c.in-Some-place_at_or_among.at) c.header-header.ensures.value c.in-Some-place_at_or_among.ensures.first
+  end_first : IsFirst (is_at c.in-Some.frame.header.receiver c.in-Some.frame.header.sender) c.self.inside.links.items c.in-Some-place_near.at
+  end_first = subst (λ (hd : Header). IsFirst (is_at hd.receiver hd.sender) c.self.inside.links.items c.in-Some-place_near.at) c.header-header.ensures.value c.in-Some-place_near.ensures.first
 
-  stays : slice_set c.self.inside.links.items c.in-Some-place_at_or_among.at c.receive_and_look.new.self ≡ c.self.inside.links.items
-  stays = set_same c.self.inside.links.items c.in-Some-place_at_or_among.at c.index_mut-2.result.now c.receive_and_look.new.self c.in-Some-place_at_or_among.ensures.first.within c.index_mut-2.ensures.value c.in_default-receive_and_look.ensures.none
+  stays : slice_set c.self.inside.links.items c.in-Some-place_near.at c.receive_and_look.new.self ≡ c.self.inside.links.items
+  stays = set_same c.self.inside.links.items c.in-Some-place_near.at c.index_mut-2.result.now c.receive_and_look.new.self c.in-Some-place_near.ensures.first.within c.index_mut-2.ensures.value c.in_default-receive_and_look.ensures.none
 
 pub invariant_of-self-in_default-receive_and_look : goal.invariant_of-self-in_default-receive_and_look
 invariant_of-self-in_default-receive_and_look c =
     let s = c.self.inside in
     links_stay s.topology s.times s.clock s.nodes.items s.links.items s.datagrams.items 0 s.keys.items s.stills s.plains s.ready.items s.unready.items s.idle
-    (nothing_known s.topology s.times s.clock s.nodes.items s.links.items s.datagrams.items s.quiet s.keys.items s.stills s.plains s.ready.items s.unready.items s.idle c.self.invariant) (slice_set s.links.items c.in-Some-place_at_or_among.at c.receive_and_look.new.self) (stays c)
+    (nothing_known s.topology s.times s.clock s.nodes.items s.links.items s.datagrams.items s.quiet s.keys.items s.stills s.plains s.ready.items s.unready.items s.idle c.self.invariant) (slice_set s.links.items c.in-Some-place_near.at c.receive_and_look.new.self) (stays c)
 
 pub returns-in_default-receive_and_look : goal.returns-in_default-receive_and_look
 returns-in_default-receive_and_look c =
     let s = c.self.inside in
     let x = c.index_mut-2.result.now in
-    subst (λ (w : SimState). IsRefused (world_of w) (Deliver c.args.i) Refused.Memory (world_of (state_of s.topology s.times s.clock s.nodes.items (slice_set s.links.items c.in-Some-place_at_or_among.at c.receive_and_look.new.self) s.datagrams.items))) c.self.view_is (record {
+    subst (λ (w : SimState). IsRefused (world_of w) (Deliver c.args.i) Refused.Memory (world_of (state_of s.topology s.times s.clock s.nodes.items (slice_set s.links.items c.in-Some-place_near.at c.receive_and_look.new.self) s.datagrams.items))) c.self.view_is (record {
       cause = inl (
         refl,
         (received_done s.topology s.times s.clock s.nodes.items s.links.items s.datagrams.items c.self.invariant.0 c.args.i c.in-Some.frame (sym c.in-Some.ensures)
-            c.in-Some-node_place.home c.index.result.now (home_first c) c.index.ensures c.in-Some-place_at_or_among.at x (end_first c) c.index_mut-2.ensures.value
+            c.in-Some-node_near.home c.index.result.now (home_first c) c.index.ensures c.in-Some-place_near.at x (end_first c) c.index_mut-2.ensures.value
             (with_state x (after_frame x.settings x.state c.in-Some.frame s.clock)) (sym c.receive.ensures ∙ c.if-receive.false) refl).accepted,
       );
       world = ap (λ (xs : List LinkView). world_of (state_of s.topology s.times s.clock s.nodes.items xs s.datagrams.items)) (stays c);
@@ -103,17 +103,17 @@ returns-in_default-receive_and_look c =
 pub invariant_of-self-2 : goal.invariant_of-self-2
 invariant_of-self-2 c =
     let s = c.self.inside in
-    let home_first : IsFirst (is_of c.in-Some.frame.header.receiver) s.nodes.items c.in-Some-node_place.home = subst (λ (hd : Header). IsFirst (is_of hd.receiver) s.nodes.items c.in-Some-node_place.home) c.header-header.ensures.value c.in-Some-node_place.ensures.first in
-    let end_first : IsFirst (is_at c.in-Some.frame.header.receiver c.in-Some.frame.header.sender) s.links.items c.in-Some-place_at_or_among.at = subst (λ (hd : Header). IsFirst (is_at hd.receiver hd.sender) s.links.items c.in-Some-place_at_or_among.at) c.header-header.ensures.value c.in-Some-place_at_or_among.ensures.first in (
+    let home_first : IsFirst (is_of c.in-Some.frame.header.receiver) s.nodes.items c.in-Some-node_near.home = subst (λ (hd : Header). IsFirst (is_of hd.receiver) s.nodes.items c.in-Some-node_near.home) c.header-header.ensures.value c.in-Some-node_near.ensures.first in
+    let end_first : IsFirst (is_at c.in-Some.frame.header.receiver c.in-Some.frame.header.sender) s.links.items c.in-Some-place_near.at = subst (λ (hd : Header). IsFirst (is_at hd.receiver hd.sender) s.links.items c.in-Some-place_near.at) c.header-header.ensures.value c.in-Some-place_near.ensures.first in (
       received_store s.topology s.times s.clock s.nodes.items s.links.items s.datagrams.items c.self.invariant.0 c.args.i c.in-Some.frame (sym c.in-Some.ensures)
-          c.in-Some-node_place.home c.index.result.now home_first c.index.ensures c.in-Some-place_at_or_among.at c.index_mut-2.result.now end_first c.index_mut-2.ensures.value c.receive_and_look.new.self c.in-Some-receive_and_look.ensures.state,
+          c.in-Some-node_near.home c.index.result.now home_first c.index.ensures c.in-Some-place_near.at c.index_mut-2.result.now end_first c.index_mut-2.ensures.value c.receive_and_look.new.self c.in-Some-receive_and_look.ensures.state,
       λ none. absurd (omega (arith, none)),
-      found_still s.clock s.stills c.keep_looked.new.stills s.links.items c.in-Some-place_at_or_among.at (short c.in-Some-receive_and_look.until) c.receive_and_look.new.self c.in-Some-place_at_or_among.ensures.first.within c.keep_looked.ensures.stills
+      found_still s.clock s.stills c.keep_looked.new.stills s.links.items c.in-Some-place_near.at (short c.in-Some-receive_and_look.until) c.receive_and_look.new.self c.in-Some-place_near.ensures.first.within c.keep_looked.ensures.stills
           (short_still c.in-Some-receive_and_look.until c.receive_and_look.new.self c.in-Some-receive_and_look.ensures.still) c.self.invariant.2,
       c.self.invariant.3,
-      looked_plain s.clock s.plains c.keep_looked.new.plains s.links.items c.in-Some-place_at_or_among.at c.index_mut-2.result.now c.receive_and_look.new.self c.in-Some-receive_and_look.busy c.in-Some-place_at_or_among.ensures.first.within c.index_mut-2.ensures.value
+      looked_plain s.clock s.plains c.keep_looked.new.plains s.links.items c.in-Some-place_near.at c.index_mut-2.result.now c.receive_and_look.new.self c.in-Some-receive_and_look.busy c.in-Some-place_near.ensures.first.within c.index_mut-2.ensures.value
           (λ e _. c.in-Some-receive_and_look.ensures.plain e) c.keep_looked.ensures.same c.keep_looked.ensures.forgotten c.self.invariant.4,
-      kept_as s.ready.items s.links.items c.in-Some-place_at_or_among.at c.index_mut-2.result.now c.receive_and_look.new.self _ c.in-Some-place_at_or_among.ensures.first.within c.index_mut-2.ensures.value c.in-Some-receive_and_look.ensures.state (λ h. h) c.self.invariant.5,
+      kept_as s.ready.items s.links.items c.in-Some-place_near.at c.index_mut-2.result.now c.receive_and_look.new.self _ c.in-Some-place_near.ensures.first.within c.index_mut-2.ensures.value c.in-Some-receive_and_look.ensures.state (λ h. h) c.self.invariant.5,
       c.self.invariant.6,
       c.self.invariant.7,
     )
@@ -121,9 +121,9 @@ invariant_of-self-2 c =
 pub returns : goal.returns
 returns c =
     let s = c.self.inside in
-    let home_first : IsFirst (is_of c.in-Some.frame.header.receiver) s.nodes.items c.in-Some-node_place.home = subst (λ (hd : Header). IsFirst (is_of hd.receiver) s.nodes.items c.in-Some-node_place.home) c.header-header.ensures.value c.in-Some-node_place.ensures.first in
-    let end_first : IsFirst (is_at c.in-Some.frame.header.receiver c.in-Some.frame.header.sender) s.links.items c.in-Some-place_at_or_among.at = subst (λ (hd : Header). IsFirst (is_at hd.receiver hd.sender) s.links.items c.in-Some-place_at_or_among.at) c.header-header.ensures.value c.in-Some-place_at_or_among.ensures.first in
-    subst (λ (before : SimState). IsDone (world_of before) (Deliver c.args.i) (world_of (state_of s.topology s.times s.clock s.nodes.items (slice_set s.links.items c.in-Some-place_at_or_among.at c.receive_and_look.new.self) s.datagrams.items))) c.self.view_is
+    let home_first : IsFirst (is_of c.in-Some.frame.header.receiver) s.nodes.items c.in-Some-node_near.home = subst (λ (hd : Header). IsFirst (is_of hd.receiver) s.nodes.items c.in-Some-node_near.home) c.header-header.ensures.value c.in-Some-node_near.ensures.first in
+    let end_first : IsFirst (is_at c.in-Some.frame.header.receiver c.in-Some.frame.header.sender) s.links.items c.in-Some-place_near.at = subst (λ (hd : Header). IsFirst (is_at hd.receiver hd.sender) s.links.items c.in-Some-place_near.at) c.header-header.ensures.value c.in-Some-place_near.ensures.first in
+    subst (λ (before : SimState). IsDone (world_of before) (Deliver c.args.i) (world_of (state_of s.topology s.times s.clock s.nodes.items (slice_set s.links.items c.in-Some-place_near.at c.receive_and_look.new.self) s.datagrams.items))) c.self.view_is
     (received_done s.topology s.times s.clock s.nodes.items s.links.items s.datagrams.items c.self.invariant.0 c.args.i c.in-Some.frame (sym c.in-Some.ensures)
-    c.in-Some-node_place.home c.index.result.now home_first c.index.ensures c.in-Some-place_at_or_among.at c.index_mut-2.result.now end_first c.index_mut-2.ensures.value c.receive_and_look.new.self
+    c.in-Some-node_near.home c.index.result.now home_first c.index.ensures c.in-Some-place_near.at c.index_mut-2.result.now end_first c.index_mut-2.ensures.value c.receive_and_look.new.self
     (sym c.receive.ensures ∙ c.if-receive.false) c.in-Some-receive_and_look.ensures.state)

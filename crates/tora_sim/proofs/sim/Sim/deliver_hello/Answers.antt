@@ -17,26 +17,26 @@ use Rattle.tora_sim.proofs.ReadyEnds.{kept_as}
 use Rattle.tora_sim.proofs.Unchanged.{links_stay, nothing_known}
 use Rattle.tora_sim.proofs.sim.Sim.deliver_hello.Goals as goal
 
-pub place_at_or_among-requires-clause-keys : goal.place_at_or_among-requires-clause-keys
-place_at_or_among-requires-clause-keys c = c.self.invariant.3 ∙ sym c.self.invariant.0.keys
+pub place_near-requires-clause-keys : goal.place_near-requires-clause-keys
+place_near-requires-clause-keys c = c.self.invariant.3 ∙ sym c.self.invariant.0.keys
 
 pub keep_looked-requires-clause-stills : goal.keep_looked-requires-clause-stills
-keep_looked-requires-clause-stills c = omega (arith, c.in-Some-place_at_or_among.ensures.first.within, c.self.invariant.2.as_many)
+keep_looked-requires-clause-stills c = omega (arith, c.in-Some-place_near.ensures.first.within, c.self.invariant.2.as_many)
 
 pub keep_looked-requires-clause-plains : goal.keep_looked-requires-clause-plains
-keep_looked-requires-clause-plains c = omega (arith, c.in-Some-place_at_or_among.ensures.first.within, c.self.invariant.4.as_many)
+keep_looked-requires-clause-plains c = omega (arith, c.in-Some-place_near.ensures.first.within, c.self.invariant.4.as_many)
 
 -- ---- there is no memory
 
 module _ (c : goal.In_default-receive_hello_and_look) where
-  stays : slice_set c.self.inside.links.items c.in-Some-place_at_or_among.at c.receive_hello_and_look.new.self ≡ c.self.inside.links.items
-  stays = set_same c.self.inside.links.items c.in-Some-place_at_or_among.at c.index_mut.result.now c.receive_hello_and_look.new.self c.in-Some-place_at_or_among.ensures.first.within c.index_mut.ensures.value c.in_default-receive_hello_and_look.ensures.none
+  stays : slice_set c.self.inside.links.items c.in-Some-place_near.at c.receive_hello_and_look.new.self ≡ c.self.inside.links.items
+  stays = set_same c.self.inside.links.items c.in-Some-place_near.at c.index_mut.result.now c.receive_hello_and_look.new.self c.in-Some-place_near.ensures.first.within c.index_mut.ensures.value c.in_default-receive_hello_and_look.ensures.none
 
 pub invariant_of-self : goal.invariant_of-self
 invariant_of-self c =
     let s = c.self.inside in
     links_stay s.topology s.times s.clock s.nodes.items s.links.items s.datagrams.items 0 s.keys.items s.stills s.plains s.ready.items s.unready.items s.idle
-    (nothing_known s.topology s.times s.clock s.nodes.items s.links.items s.datagrams.items s.quiet s.keys.items s.stills s.plains s.ready.items s.unready.items s.idle c.self.invariant) (slice_set s.links.items c.in-Some-place_at_or_among.at c.receive_hello_and_look.new.self) (stays c)
+    (nothing_known s.topology s.times s.clock s.nodes.items s.links.items s.datagrams.items s.quiet s.keys.items s.stills s.plains s.ready.items s.unready.items s.idle c.self.invariant) (slice_set s.links.items c.in-Some-place_near.at c.receive_hello_and_look.new.self) (stays c)
 
 pub returns-in_default-receive_hello_and_look-clause-same : goal.returns-in_default-receive_hello_and_look-clause-same
 returns-in_default-receive_hello_and_look-clause-same c _ =
@@ -48,17 +48,17 @@ returns-in_default-receive_hello_and_look-clause-same c _ =
 pub invariant_of-self-2 : goal.invariant_of-self-2
 invariant_of-self-2 c =
     let s = c.self.inside in
-    let home_first : IsFirst (is_of c.in-Some.header.receiver) s.nodes.items c.in-Some-node_place.home = c.in-Some-node_place.ensures.first in
-    let end_first : IsFirst (is_at c.in-Some.header.receiver c.in-Some.header.sender) s.links.items c.in-Some-place_at_or_among.at = c.in-Some-place_at_or_among.ensures.first in (
+    let home_first : IsFirst (is_of c.in-Some.header.receiver) s.nodes.items c.in-Some-node_near.home = c.in-Some-node_near.ensures.first in
+    let end_first : IsFirst (is_at c.in-Some.header.receiver c.in-Some.header.sender) s.links.items c.in-Some-place_near.at = c.in-Some-place_near.ensures.first in (
       received_store s.topology s.times s.clock s.nodes.items s.links.items s.datagrams.items c.self.invariant.0 c.args.i (frame_of c.in-Some.header Hello) c.in-Some.ensures.hello
-          c.in-Some-node_place.home c.index.result.now home_first c.index.ensures c.in-Some-place_at_or_among.at c.index_mut.result.now end_first c.index_mut.ensures.value c.receive_hello_and_look.new.self c.in-Some-receive_hello_and_look.ensures.state,
+          c.in-Some-node_near.home c.index.result.now home_first c.index.ensures c.in-Some-place_near.at c.index_mut.result.now end_first c.index_mut.ensures.value c.receive_hello_and_look.new.self c.in-Some-receive_hello_and_look.ensures.state,
       λ none. absurd (omega (arith, none)),
-      found_still s.clock s.stills c.keep_looked.new.stills s.links.items c.in-Some-place_at_or_among.at (short c.in-Some-receive_hello_and_look.until) c.receive_hello_and_look.new.self c.in-Some-place_at_or_among.ensures.first.within c.keep_looked.ensures.stills
+      found_still s.clock s.stills c.keep_looked.new.stills s.links.items c.in-Some-place_near.at (short c.in-Some-receive_hello_and_look.until) c.receive_hello_and_look.new.self c.in-Some-place_near.ensures.first.within c.keep_looked.ensures.stills
           (short_still c.in-Some-receive_hello_and_look.until c.receive_hello_and_look.new.self c.in-Some-receive_hello_and_look.ensures.still) c.self.invariant.2,
       c.self.invariant.3,
-      looked_plain s.clock s.plains c.keep_looked.new.plains s.links.items c.in-Some-place_at_or_among.at c.index_mut.result.now c.receive_hello_and_look.new.self c.in-Some-receive_hello_and_look.busy c.in-Some-place_at_or_among.ensures.first.within c.index_mut.ensures.value
+      looked_plain s.clock s.plains c.keep_looked.new.plains s.links.items c.in-Some-place_near.at c.index_mut.result.now c.receive_hello_and_look.new.self c.in-Some-receive_hello_and_look.busy c.in-Some-place_near.ensures.first.within c.index_mut.ensures.value
           (λ e _. c.in-Some-receive_hello_and_look.ensures.plain e) c.keep_looked.ensures.same c.keep_looked.ensures.forgotten c.self.invariant.4,
-      kept_as s.ready.items s.links.items c.in-Some-place_at_or_among.at c.index_mut.result.now c.receive_hello_and_look.new.self _ c.in-Some-place_at_or_among.ensures.first.within c.index_mut.ensures.value c.in-Some-receive_hello_and_look.ensures.state (λ h. h) c.self.invariant.5,
+      kept_as s.ready.items s.links.items c.in-Some-place_near.at c.index_mut.result.now c.receive_hello_and_look.new.self _ c.in-Some-place_near.ensures.first.within c.index_mut.ensures.value c.in-Some-receive_hello_and_look.ensures.state (λ h. h) c.self.invariant.5,
       c.self.invariant.6,
       c.self.invariant.7,
     )
@@ -66,9 +66,9 @@ invariant_of-self-2 c =
 pub returns-clause-done : goal.returns-clause-done
 returns-clause-done c = λ _.
     let s = c.self.inside in
-    let home_first : IsFirst (is_of c.in-Some.header.receiver) s.nodes.items c.in-Some-node_place.home = c.in-Some-node_place.ensures.first in
-    let end_first : IsFirst (is_at c.in-Some.header.receiver c.in-Some.header.sender) s.links.items c.in-Some-place_at_or_among.at = c.in-Some-place_at_or_among.ensures.first in
-    subst (λ (before : SimState). IsDone (world_of before) (Deliver c.args.i) (world_of (state_of s.topology s.times s.clock s.nodes.items (slice_set s.links.items c.in-Some-place_at_or_among.at c.receive_hello_and_look.new.self) s.datagrams.items))) c.self.view_is
+    let home_first : IsFirst (is_of c.in-Some.header.receiver) s.nodes.items c.in-Some-node_near.home = c.in-Some-node_near.ensures.first in
+    let end_first : IsFirst (is_at c.in-Some.header.receiver c.in-Some.header.sender) s.links.items c.in-Some-place_near.at = c.in-Some-place_near.ensures.first in
+    subst (λ (before : SimState). IsDone (world_of before) (Deliver c.args.i) (world_of (state_of s.topology s.times s.clock s.nodes.items (slice_set s.links.items c.in-Some-place_near.at c.receive_hello_and_look.new.self) s.datagrams.items))) c.self.view_is
     (received_done s.topology s.times s.clock s.nodes.items s.links.items s.datagrams.items c.self.invariant.0 c.args.i (frame_of c.in-Some.header Hello) c.in-Some.ensures.hello
-    c.in-Some-node_place.home c.index.result.now home_first c.index.ensures c.in-Some-place_at_or_among.at c.index_mut.result.now end_first c.index_mut.ensures.value c.receive_hello_and_look.new.self
+    c.in-Some-node_near.home c.index.result.now home_first c.index.ensures c.in-Some-place_near.at c.index_mut.result.now end_first c.index_mut.ensures.value c.receive_hello_and_look.new.self
     (sym c.receive.ensures ∙ c.if-receive.false) c.in-Some-receive_hello_and_look.ensures.state)

@@ -31,10 +31,10 @@ returns-in_default-next_event c =
     subst (λ (w : SimState). IsRefused (world_of w) (Pump c.args.n c.args.k) Refused.NotPossible (world_of w)) c.self.view_is
     (pump_without s.topology s.times s.clock s.nodes.items s.links.items s.datagrams.items c.self.invariant.0 c.args.n c.args.k c.in-Some.at c.index.result.now c.in-Some.ensures.first c.index.ensures (sym c.next_event.ensures ∙ c.in_default-next_event.is))
 
-pub returns-in_default-node_place : goal.returns-in_default-node_place
-returns-in_default-node_place c =
+pub returns-in_default-node_near : goal.returns-in_default-node_near
+returns-in_default-node_near c =
     let s = c.self.inside in
-    absurd (at_home s.topology s.times s.clock s.nodes.items s.links.items s.datagrams.items c.self.invariant.0 c.args.n c.args.k c.in-Some.at c.index.result.now c.in-Some.ensures.first c.index.ensures c.in_default-node_place.ensures.none)
+    absurd (at_home s.topology s.times s.clock s.nodes.items s.links.items s.datagrams.items c.self.invariant.0 c.args.n c.args.k c.in-Some.at c.index.result.now c.in-Some.ensures.first c.index.ensures c.in_default-node_near.ensures.none)
 
 pub returns-then-waiting-ge-MOST_ITEMS : goal.returns-then-waiting-ge-MOST_ITEMS
 returns-then-waiting-ge-MOST_ITEMS c =
@@ -42,7 +42,7 @@ returns-then-waiting-ge-MOST_ITEMS c =
     let full : 1024 ≤ length c.index-2.result.now.items = omega (arith, c.waiting.ensures, c.if-waiting-ge-MOST_ITEMS.true) in
     subst (λ (w : SimState). IsRefused (world_of w) (Pump c.args.n c.args.k) Refused.NotPossible (world_of w)) c.self.view_is
     (pump_full s.topology s.times s.clock s.nodes.items s.links.items s.datagrams.items c.self.invariant.0 c.args.n c.args.k c.in-Some.at c.index.result.now c.in-Some.ensures.first c.index.ensures c.in-Some-next_event.event (sym c.next_event.ensures ∙ c.in-Some-next_event.is)
-    c.in-Some-node_place.home c.index-2.result.now c.in-Some-node_place.ensures.first c.index-2.ensures (le-ltb (length c.index-2.result.now.items) 1024 full))
+    c.in-Some-node_near.home c.index-2.result.now c.in-Some-node_near.ensures.first c.index-2.ensures (le-ltb (length c.index-2.result.now.items) 1024 full))
 
 module _ (c : goal.After-what_of) where
   seat_is : c.seat-seat.result ≡ c.index.result.now.seat
@@ -53,15 +53,15 @@ put_item-requires c =
     let s = c.self.inside in
     subst (λ m. m < length c.index_mut.result.now.counts) (sym (seat_is c))
     (seat_room s.topology s.times s.clock s.nodes.items s.links.items s.datagrams.items c.self.invariant.0 c.args.n c.args.k c.in-Some.at c.index.result.now c.in-Some.ensures.first c.index.ensures c.in-Some-next_event.event (sym c.next_event.ensures ∙ c.in-Some-next_event.is)
-    c.in-Some-node_place.home c.index_mut.result.now c.in-Some-node_place.ensures.first c.index_mut.ensures.value)
+    c.in-Some-node_near.home c.index_mut.result.now c.in-Some-node_near.ensures.first c.index_mut.ensures.value)
 
 pub returns-in-Err : goal.returns-in-Err
 returns-in-Err c =
     let s = c.self.inside in
-    subst (λ (w : SimState). IsRefused (world_of w) (Pump c.args.n c.args.k) c.in-Err.error (world_of (state_of s.topology s.times s.clock (slice_set s.nodes.items c.in-Some-node_place.home c.put_item.new.self) s.links.items s.datagrams.items))) c.self.view_is
-    (subst (λ (e : SimError). IsRefused (world_of (state_of s.topology s.times s.clock s.nodes.items s.links.items s.datagrams.items)) (Pump c.args.n c.args.k) e (world_of (state_of s.topology s.times s.clock (slice_set s.nodes.items c.in-Some-node_place.home c.put_item.new.self) s.links.items s.datagrams.items))) (sym c.in-Err.ensures.0)
+    subst (λ (w : SimState). IsRefused (world_of w) (Pump c.args.n c.args.k) c.in-Err.error (world_of (state_of s.topology s.times s.clock (slice_set s.nodes.items c.in-Some-node_near.home c.put_item.new.self) s.links.items s.datagrams.items))) c.self.view_is
+    (subst (λ (e : SimError). IsRefused (world_of (state_of s.topology s.times s.clock s.nodes.items s.links.items s.datagrams.items)) (Pump c.args.n c.args.k) e (world_of (state_of s.topology s.times s.clock (slice_set s.nodes.items c.in-Some-node_near.home c.put_item.new.self) s.links.items s.datagrams.items))) (sym c.in-Err.ensures.0)
     (pump_starved s.topology s.times s.clock s.nodes.items s.links.items s.datagrams.items c.self.invariant.0 c.args.n c.args.k c.in-Some.at c.index.result.now c.in-Some.ensures.first c.index.ensures c.in-Some-next_event.event (sym c.next_event.ensures ∙ c.in-Some-next_event.is)
-    c.in-Some-node_place.home c.index_mut.result.now c.in-Some-node_place.ensures.first c.index_mut.ensures.value c.put_item.new.self (waits s.nodes.items c.in-Some-node_place.home c.index-2.result.now c.index_mut.result.now c.waiting.result c.in-Some-node_place.ensures.first.within c.index-2.ensures c.index_mut.ensures.value c.waiting.ensures c.if-waiting-ge-MOST_ITEMS.false) c.in-Err.ensures.1))
+    c.in-Some-node_near.home c.index_mut.result.now c.in-Some-node_near.ensures.first c.index_mut.ensures.value c.put_item.new.self (waits s.nodes.items c.in-Some-node_near.home c.index-2.result.now c.index_mut.result.now c.waiting.result c.in-Some-node_near.ensures.first.within c.index-2.ensures c.index_mut.ensures.value c.waiting.ensures c.if-waiting-ge-MOST_ITEMS.false) c.in-Err.ensures.1))
 
 module _ (c : goal.After-self-in-Ok-1) where
   link_is : c.take_event.new.self ≡ with_state c.index.result.now (after_poll_event c.index.result.now.state)
@@ -80,7 +80,7 @@ pub invariant_of-self : goal.invariant_of-self
 invariant_of-self c =
     let s = c.self.inside in (
       pump_store s.topology s.times s.clock s.nodes.items s.links.items s.datagrams.items c.self.invariant.0 c.args.n c.args.k c.in-Some.at c.index.result.now c.in-Some.ensures.first c.index.ensures c.in-Some-next_event.event (sym c.next_event.ensures ∙ c.in-Some-next_event.is)
-          c.in-Some-node_place.home c.index_mut.result.now c.in-Some-node_place.ensures.first c.index_mut.ensures.value c.take_event.new.self c.put_item.new.self (link_is c) (node_is c),
+          c.in-Some-node_near.home c.index_mut.result.now c.in-Some-node_near.ensures.first c.index_mut.ensures.value c.take_event.new.self c.put_item.new.self (link_is c) (node_is c),
       λ none. absurd (omega (arith, none)),
       possible_still s.clock s.stills s.links.items c.in-Some.at c.index.result.now c.take_event.new.self c.in-Some.ensures.first.within c.index.ensures
           (λ until lt h. both_ways (is_some (first_event c.index.result.now.state)) h.events (ap is_some (sym c.next_event.ensures ∙ c.in-Some-next_event.is))) c.self.invariant.2,
@@ -88,13 +88,13 @@ invariant_of-self c =
       possible_plain s.clock s.plains s.links.items c.in-Some.at c.index.result.now c.take_event.new.self c.in-Some.ensures.first.within c.index.ensures
           (λ h. both_ways (is_some (first_event c.index.result.now.state)) h.events (ap is_some (sym c.next_event.ensures ∙ c.in-Some-next_event.is))) c.self.invariant.4,
       kept_as s.ready.items s.links.items c.in-Some.at c.index.result.now c.take_event.new.self _ c.in-Some.ensures.first.within c.index.ensures (link_is c) (λ h. h) c.self.invariant.5,
-      node_kept s.unready.items s.nodes.items s.ready.items c.in-Some-node_place.home c.index_mut.result.now c.put_item.new.self c.in-Some-node_place.ensures.first.within c.index_mut.ensures.value (same_place c.index_mut.result.now c.put_item.new.self _ (node_is c) (refl, refl)) c.self.invariant.6,
+      node_kept s.unready.items s.nodes.items s.ready.items c.in-Some-node_near.home c.index_mut.result.now c.put_item.new.self c.in-Some-node_near.ensures.first.within c.index_mut.ensures.value (same_place c.index_mut.result.now c.put_item.new.self _ (node_is c) (refl, refl)) c.self.invariant.6,
       λ known. absurd cc,
     )
 
 pub returns-in-Ok : goal.returns-in-Ok
 returns-in-Ok c =
     let s = c.self.inside in
-    subst (λ (before : SimState). IsDone (world_of before) (Pump c.args.n c.args.k) (world_of (state_of s.topology s.times s.clock (slice_set s.nodes.items c.in-Some-node_place.home c.put_item.new.self) (slice_set s.links.items c.in-Some.at c.take_event.new.self) s.datagrams.items))) c.self.view_is
+    subst (λ (before : SimState). IsDone (world_of before) (Pump c.args.n c.args.k) (world_of (state_of s.topology s.times s.clock (slice_set s.nodes.items c.in-Some-node_near.home c.put_item.new.self) (slice_set s.links.items c.in-Some.at c.take_event.new.self) s.datagrams.items))) c.self.view_is
     (pump_done s.topology s.times s.clock s.nodes.items s.links.items s.datagrams.items c.self.invariant.0 c.args.n c.args.k c.in-Some.at c.index.result.now c.in-Some.ensures.first c.index.ensures c.in-Some-next_event.event (sym c.next_event.ensures ∙ c.in-Some-next_event.is)
-    c.in-Some-node_place.home c.index_mut.result.now c.in-Some-node_place.ensures.first c.index_mut.ensures.value c.take_event.new.self c.put_item.new.self (waits s.nodes.items c.in-Some-node_place.home c.index-2.result.now c.index_mut.result.now c.waiting.result c.in-Some-node_place.ensures.first.within c.index-2.ensures c.index_mut.ensures.value c.waiting.ensures c.if-waiting-ge-MOST_ITEMS.false) (link_is c) (node_is c))
+    c.in-Some-node_near.home c.index_mut.result.now c.in-Some-node_near.ensures.first c.index_mut.ensures.value c.take_event.new.self c.put_item.new.self (waits s.nodes.items c.in-Some-node_near.home c.index-2.result.now c.index_mut.result.now c.waiting.result c.in-Some-node_near.ensures.first.within c.index-2.ensures c.index_mut.ensures.value c.waiting.ensures c.if-waiting-ge-MOST_ITEMS.false) (link_is c) (node_is c))

@@ -13,9 +13,9 @@ returns-in_default c =
     (subst (λ (v : SimState). is_some (refusal_of (world_of v) (Transmit c.args.n c.args.k)) ≡ true) c.self.view_is
     (no_end s.topology s.times s.clock s.nodes.items s.links.items s.datagrams.items c.self.invariant.0 c.args.n c.args.k c.in_default.ensures.none))
 
-pub returns-in_default-node_place : goal.returns-in_default-node_place
-returns-in_default-node_place c =
+pub returns-in_default-node_near : goal.returns-in_default-node_near
+returns-in_default-node_near c =
     let s = c.self.inside in
     let there = read_there s.links.items c.in-Some.at c.in-Some.ensures.first.within in
     absurd (at_home s.topology s.times s.clock s.nodes.items s.links.items s.datagrams.items c.self.invariant.0 c.args.n c.args.k c.in-Some.at there.0 c.in-Some.ensures.first there.1
-    c.in_default-node_place.ensures.none)
+    c.in_default-node_near.ensures.none)
