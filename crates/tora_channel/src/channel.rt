@@ -11,7 +11,7 @@ use tora_height::Id;
 /// How many parts a share is told in.
 const PARTS: u32 = 1_000_000;
 
-/// What becomes of datagrams: each is lost or not, comes after a number of rounds, and may come twice. Own profile.
+/// What becomes of datagrams: each is lost or not, comes after a number of rounds, and may come twice.
 #[derive(Clone, Copy, Debug, PartialEq, Eq)]
 pub struct Channel {
     /// What the random numbers begin with.

@@ -5,7 +5,7 @@ ghost use Rattle.tora_channel.specs.TableOrder.{key_at, key_of};
 use crate::parts::Parts;
 use tora_height::Id;
 
-/// A line of a channel file: what the link of two nodes has from a round on, both ways. Own profile.
+/// A line of a channel file: what the link of two nodes has from a round on, both ways.
 #[derive(Clone, Copy, Debug, PartialEq, Eq)]
 pub struct ChannelLine {
     /// The first round, from 0, that has these parts.

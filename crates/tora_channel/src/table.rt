@@ -4,7 +4,7 @@ ghost use Rattle.tora_channel.specs.TableOrder.{key_of, items_of};
 
 use crate::line::ChannelLine;
 
-/// The table of a channel file: its lines, in the order of their links and then of their rounds. Own profile.
+/// The table of a channel file: its lines, in the order of their links and then of their rounds.
 #[derive(Drop)]
 pub struct ChannelTable {
     pub(crate) lines: Option<Vec<ChannelLine>>,

@@ -15,7 +15,7 @@
 //! "plain" or "remembered", and plain where it is not there. `node`, `peer` and each of
 //! `dests` are whole numbers from 1 to 2^32 - 1; ports are from 1 to 65535. No two links have one peer or one local port, and no
 //! peer is the node itself. What a core refuses is a fault: too many links or destinations, and a destination that stands
-//! twice. Own profile.
+//! twice.
 //!
 //! `local` and `remote` may also be texts of addresses, as `"10.0.0.1:7001"` and `"[::1]:7001"`; a number is a port of 127.0.0.1. A
 //! link may have a `key_file`, the path of a file with a key, and one that leaves the loopback must have one. `read_config` reads all

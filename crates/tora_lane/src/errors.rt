@@ -4,7 +4,7 @@ ghost use Rattle.tora_lane.specs.Errors.{lane_error_number};
 
 use thiserror::Error;
 
-/// Why there are no lanes. Own profile.
+/// Why there are no lanes.
 #[derive(Clone, Copy, Debug, PartialEq, Eq, Hash, Error)]
 pub enum LaneError {
     /// There is not enough memory.

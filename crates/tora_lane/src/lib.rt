@@ -3,7 +3,7 @@
 //! The lane into the core is a channel under a rule: of each seat, what the core has taken and then what the lane holds
 //! is what the seat has put, numbered from 1 without gaps. The lane to a neighbour is a ring with one producer and one
 //! consumer: what was received and then what is waiting is what was sent. Putting into the lane into the core and taking
-//! from it may wait. Sending to a neighbour and taking there wait for nobody, and take no memory. Own profile.
+//! from it may wait. Sending to a neighbour and taking there wait for nobody, and take no memory.
 //!
 //! ```rust
 //! let Lanes { mut core, mut links, mut outs, .. } = lanes(rt, alloc, 1)?;

@@ -10,7 +10,7 @@ use std::alloc::{AllocError, Global};
 use std::marker::Model;
 use tora_seat::Cargo;
 
-/// The core's end of the lane to a neighbour. Contracts see all that it has sent, oldest first. Own profile.
+/// The core's end of the lane to a neighbour. Contracts see all that it has sent, oldest first.
 #[derive(Drop)]
 pub struct OutPut {
     producer: Producer<Cargo>,
@@ -31,7 +31,7 @@ impl Model for OutPut {
 }
 
 /// The neighbour's end of the lane from the core. Contracts see all that it has received, oldest first, and which of the
-/// cargoes behind them it has found in the lane. Own profile.
+/// cargoes behind them it has found in the lane.
 #[derive(Drop)]
 pub struct OutTake {
     consumer: Consumer<Cargo>,
@@ -45,7 +45,7 @@ impl Model for OutTake {
     ghost view = { λ o. receive_end o.consumer };
 }
 
-/// How many cargoes went through a lane to a neighbour, and how many are left in it. Own profile.
+/// How many cargoes went through a lane to a neighbour, and how many are left in it.
 #[derive(Clone, Copy, Debug, PartialEq, Eq, Hash)]
 pub struct OutEnd {
     /// How many cargoes were sent.
@@ -111,7 +111,7 @@ impl OutTake {
 }
 
 /// Brings both ends of a lane together, once each has ended its work, and tells what became of the cargoes: what was
-/// received and then what is left in the lane is what was sent, and what was found and not received is left first. Own profile.
+/// received and then what is left in the lane is what was sent, and what was found and not received is left first.
 pub fn settle_out(put: OutPut, take: OutTake) -> OutEnd
     requires { AreEndsOf put take }
     ensures { (waiting : List Cargo) × (take.received ++ waiting ≡ put.sent) × IsPrefix take.found waiting × (result.sent ≡ length put.sent) × (result.received ≡ length take.received) × (result.waiting ≡ length waiting) }

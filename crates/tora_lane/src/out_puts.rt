@@ -4,7 +4,7 @@ ghost use Rattle.std.specs.Prelude.{◌≡◌, length};
 use crate::out::OutPut;
 use tora_seat::{Cargo, OutLanes};
 
-/// The core's ends of the lanes to its neighbours, one for each, in ascending order of the neighbours. Own profile.
+/// The core's ends of the lanes to its neighbours, one for each, in ascending order of the neighbours.
 #[derive(Drop)]
 pub struct OutPuts {
     /// The ends.

@@ -14,7 +14,7 @@ use std::sync::Wait;
 use thiserror::Error;
 use tora_seat::{Item, What};
 
-/// The other side of the lane has ended, or the seat was used up. A port that answers it answers it for good. Own profile.
+/// The other side of the lane has ended, or the seat was used up. A port that answers it answers it for good.
 #[derive(Clone, Copy, Debug, PartialEq, Eq, Hash, Error)]
 #[error("the lane has ended")]
 pub struct Gone;
@@ -26,7 +26,7 @@ type Receiver = RuledReceiver<Item, LaneView, LaneRule>;
 type LanePass = Pass<Item, LaneView>;
 
 /// The port of one seat of the lane into the core. Contracts see its lane, its seat, all that it has put, and whether it
-/// has answered `Gone`. Own profile.
+/// has answered `Gone`.
 #[derive(Drop)]
 pub struct InPort {
     sender: Sender,
@@ -51,7 +51,7 @@ impl Model for InPort {
 }
 
 /// The core's port of the lane into the core. Contracts see its lane, how many seats there are, all that it has taken, and
-/// whether it has answered `Gone`. Own profile.
+/// whether it has answered `Gone`.
 #[derive(Drop)]
 pub struct CorePort {
     receiver: Receiver,
@@ -96,7 +96,7 @@ impl Model for Settling {
     ghost invariant = { λ p. (p.pass.me.1 ≡ []) × (lane_view p.pass ≡ Core (length p.counts.items) (took_of (lane_view p.pass)) (known_of (lane_view p.pass))) × ((s : ℕ) → s < length p.counts.items → slice_index p.counts.items s ≡ length (items_of s (took_of (lane_view p.pass)))) };
 }
 
-/// What a seat has put, and what became of it. Own profile.
+/// What a seat has put, and what became of it.
 #[derive(Clone, Copy, Debug, PartialEq, Eq, Hash)]
 pub struct Settled {
     /// The seat.

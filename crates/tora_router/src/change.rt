@@ -2,7 +2,7 @@
 use tora_arq::Reason;
 use tora_height::Id;
 
-/// What has changed at a router. Own profile.
+/// What has changed at a router.
 #[derive(Clone, Copy, Debug, PartialEq, Eq)]
 pub enum Change {
     /// The link to this neighbour is up.

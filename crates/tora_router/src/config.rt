@@ -3,7 +3,7 @@ use tora_arq::Times;
 use tora_core::{CoreLimits, Erasure};
 use tora_height::Id;
 
-/// What a router is to be, beside its neighbours and destinations. Own profile.
+/// What a router is to be, beside its neighbours and destinations.
 #[derive(Clone, Copy, Debug, PartialEq, Eq)]
 pub struct Config {
     /// The number of its node, not 0.

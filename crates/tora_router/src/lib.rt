@@ -1,7 +1,7 @@
 //! A node without threads, sockets and clocks, for programs that bring their own.
 //!
 //! [`Router`] is the core of a node with its link ends. Its host hands in the datagrams that came and the tick, and asks for the datagrams to be
-//! sent. Own profile.
+//! sent.
 #![tactic(auto)]
 
 mod change;
@@ -22,5 +22,5 @@ pub use router::Router;
 pub use router_error::RouterError;
 pub use tally::Tally;
 
-/// The greatest life number. Own profile.
+/// The greatest life number.
 pub const GREATEST_LIFE: u64 = 1 << 62;

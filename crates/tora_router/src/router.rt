@@ -22,7 +22,7 @@ use tora_frame::LONGEST_FRAME;
 use tora_height::{Entry, Id};
 use tora_seat::{Answer, CoreSeat, Item, What, what_of};
 
-/// A node without threads, sockets and clocks. Own profile.
+/// A node without threads, sockets and clocks.
 ///
 /// Its host hands in what happens, and asks what is to be done. With the tick `now` of 100 ms a host does this, in this order:
 /// 1. `on_datagram` with each datagram that came, and the neighbour that it came from;

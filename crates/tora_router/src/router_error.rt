@@ -6,7 +6,7 @@ use std::fmt;
 use thiserror::Error;
 use tora_core::CoreError;
 
-/// Why a router is not made, in the order in which the causes are tested. Own profile.
+/// Why a router is not made, in the order in which the causes are tested.
 #[derive(Clone, Copy, Debug, PartialEq, Eq, Error)]
 pub enum RouterError {
     /// The number of the node, of a neighbour or of a destination is 0.

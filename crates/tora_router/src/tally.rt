@@ -5,7 +5,7 @@ ghost use Rattle.tora_router.specs.Links.{first_tally, counted};
 use crate::intake::Intake;
 use tora_arq::Verdict;
 
-/// How many datagrams of a neighbour came to each verdict, and how many spelt no frame. Own profile.
+/// How many datagrams of a neighbour came to each verdict, and how many spelt no frame.
 ///
 /// Each datagram of a neighbour adds 1 to exactly one of the counts, which stays at 2^64 - 1 once there.
 #[derive(Clone, Copy, Debug, PartialEq, Eq)]

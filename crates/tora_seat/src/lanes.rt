@@ -6,7 +6,6 @@ use crate::Cargo;
 
 /// The lanes from a core to its neighbours, one for each, in ascending order of the neighbours.
 ///
-/// Own profile.
 pub trait OutLanes {
     /// How many lanes there are.
     ghost count: { Self → ℕ };

@@ -1,7 +1,7 @@
 //! What goes between the neighbour links of a node and its core.
 //!
 //! A link gives its core items: a life that came up, its packets, and that it went down. The core gives a link cargoes:
-//! packets of the current life, and that a life is cut. Own profile.
+//! packets of the current life, and that a life is cut.
 //!
 //! The seat of a core serves one item after another over any lanes, and says what each came to:
 //!
@@ -52,8 +52,8 @@ pub use stepped::Stepped;
 pub use what::What;
 pub use worked::worked_downs_hold;
 
-/// How many items the lane into a core holds. Own profile.
+/// How many items the lane into a core holds.
 pub const MOST_ITEMS: usize = 1024;
 
-/// How many cargoes the lane to a neighbour holds. Own profile.
+/// How many cargoes the lane to a neighbour holds.
 pub const MOST_CARGOES: usize = 256;

@@ -45,7 +45,7 @@ impl Model for BareSeat {
 
 impl BareSeat {
     /// Reads what serving an item reads, so that it is at hand by then: for callers who serve many seats in turn. The number says nothing; it is to
-    /// be kept, as that of `Core::prefetch`. Own profile.
+    /// be kept, as that of `Core::prefetch`.
     #[inline(always)]
     pub fn prefetch(&self, item: &Item) -> u64 {
         let row = match self.rows.get(item.seat) {

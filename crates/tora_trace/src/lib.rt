@@ -2,7 +2,6 @@
 //! packet that it broadcasts, for each route that changes, and for the datagrams of each round.
 //!
 //! A trace is told what happens and keeps the text of its records, which a caller hands on. It does no input and no output.
-//! Own profile.
 #![tactic(auto)]
 
 mod core_copy;

@@ -21,7 +21,7 @@ use tora_height::Id;
 /// the records that were not handed on yet.
 ///
 /// It is told what happened behind each event, in order. A method that answers `AllocError` may have put a part of its
-/// records; the trace is then of no more use but for its text. Own profile.
+/// records; the trace is then of no more use but for its text.
 #[derive(Drop)]
 pub struct Trace {
     /// The nodes, by whose places the copies stand.

@@ -4,15 +4,15 @@ ghost use Rattle.tora_world.specs.Topology.{at_most, most_neighbours, most_desti
 
 use tora_core::{GREATEST_NEIGHBOURS, MOST_DESTINATIONS, MOST_NEIGHBOURS};
 
-/// The most nodes of a world within the standard limits. Own profile.
+/// The most nodes of a world within the standard limits.
 pub const MOST_NODES: usize = 64;
 
-/// The most nodes of a world within any limits. Own profile.
+/// The most nodes of a world within any limits.
 pub const GREATEST_NODES: usize = 1024;
 
 /// The most neighbours of a node, destinations of a table and nodes of a world.
 ///
-/// A limit above the greatest, which is 255 neighbours, 64 destinations or 1,024 nodes, stands for the greatest. Own profile.
+/// A limit above the greatest, which is 255 neighbours, 64 destinations or 1,024 nodes, stands for the greatest.
 #[derive(Clone, Copy, Debug, PartialEq, Eq)]
 pub struct Limits {
     pub neighbours: usize,
