@@ -20,7 +20,7 @@ use tora_height::Id;
 ///
 /// Whoever keeps many link ends can keep these close together, and the ends apart: `LinkEnd::steady` gives what is kept of an end,
 /// the calls here do what the same calls of the end would do, and `LinkEnd::resume` makes of the end what they made of it, before any
-/// other call. Own profile.
+/// other call.
 #[derive(Clone, Copy, Debug, PartialEq, Eq)]
 pub struct Steady {
     /// The tick of the last HELLO, those of version 1 that follow one of version 2 apart.
@@ -221,7 +221,7 @@ impl Steady {
     }
 }
 
-impl<const EVENTS: usize, const PACKETS: usize, const EARLY: usize> State<EVENTS, PACKETS, EARLY> {
+impl State {
     /// Whether nothing is owed but HELLOs in their time, no packet waits and no event does.
     fn is_at_ease(&self, settings: &Settings) -> bool
         ensures { result ≡ is_at_ease (settings_in settings.now) (state_in self.now) }
