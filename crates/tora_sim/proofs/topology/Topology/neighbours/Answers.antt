@@ -8,7 +8,12 @@ use Rattle.tora_sim.proofs.topology.Topology.neighbours.Goals as goal
 pub neighbours_of-requires : goal.neighbours_of-requires
 neighbours_of-requires c =
     let s = c.self.inside in
-    few-ends (topology_of s.links.items s.destinations.items) (sound (topology_of s.links.items s.destinations.items) (greatest_limits, c.self.invariant.sound)) c.args.n
+    let few : length (other_ends c.args.n (links_in s.links.items)) ≤ 255 =
+    few-ends (topology_of s.links.items s.destinations.items) (sound (topology_of s.links.items s.destinations.items) (greatest_limits, c.self.invariant.sound)) c.args.n in
+    subst (λ (links : List (ℕ × ℕ)). length (other_ends c.args.n (links_in links)) ≤ 255) (sym c.deref.ensures) few
 
 pub returns-clause-items : goal.returns-clause-items
-returns-clause-items c = c.neighbours_of.ensures
+returns-clause-items c =
+    c.neighbours_of.ensures
+    ∙ ap (λ (links : List (ℕ × ℕ)). ascending (other_ends c.args.n (links_in links))) c.deref.ensures
+    ∙ ap (λ (t : Topology). ascending (other_ends c.args.n t.links)) c.self.view_is
