@@ -14,7 +14,6 @@ pub mod FloodLemmas
 pub mod DueLemmas
 pub mod StillLemmas
 pub mod SteadyLemmas
-pub mod NearLemmas
 pub mod PlaceLemmas
 pub mod TableWords
 pub mod TableHears

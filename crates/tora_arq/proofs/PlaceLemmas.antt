@@ -1,5 +1,6 @@
 -- A bound end has a place for the event that its life ended, whatever is called.
-use Rattle.std.proofs.Common.{◌≡◌, ℕ, suc, ◌+◌, ◌-◌, ◌^◌, ◌<◌, ◌≤◌, ◌==◌, true, false, not, nat_lt, nat_le, List, [], ◌∷◌, length, Option, Some, None, Result, refl, sym, subst, arith, length-append, length-drop}
+use Rattle.std.proofs.Common.{◌≡◌, ℕ, suc, ◌+◌, ◌-◌, ◌^◌, ◌<◌, ◌≤◌, ◌==◌, ◌⊎◌, inl, inr, ap, IfNone, true, false, not, nat_lt, nat_le, List, [], ◌∷◌, length, Option, Some, None, Result, sym, subst, arith, length-append}
+use Rattle.std.specs.Prelude.{IfSome}
 use Rattle.std.proofs.lemmas.Bool.{cond_both}
 use Rattle.tora_packet.specs.declared.Packet.{Packet}
 use Rattle.tora_frame.specs.declared.parts.Version.{Version}
@@ -10,14 +11,17 @@ use Rattle.tora_arq.specs.declared.life.Life.{Life}
 use Rattle.tora_arq.specs.declared.verdict.Verdict.{Verdict}
 use Rattle.tora_arq.specs.declared.link_event.LinkEvent.TheVariants.{Up}
 use Rattle.tora_arq.specs.declared.submit_error.SubmitError.{SubmitError}
-use Rattle.tora_arq.specs.declared.TheConstants.{WINDOW, QUEUE_PLACES}
+use Rattle.tora_arq.specs.declared.TheConstants.{WINDOW, EVENT_PLACES, QUEUE_PLACES}
 use Rattle.tora_arq.specs.declared.phase.Phase.{Phase}
 use Rattle.tora_arq.specs.declared.phase.Phase.TheVariants.{Closed, Unbound, Bound}
 use Rattle.tora_arq.specs.Lives.{life_of, is_same_life}
 use Rattle.tora_arq.specs.Settings.{Settings}
 use Rattle.tora_arq.specs.SendQueue.{DueBatch}
-use Rattle.tora_arq.specs.LinkEnd.{EndState, passed, after_bind, count_of, on_life_told, after_acknowledgement, after_packet, after_packets, on_data, on_matched, on_frame_in, is_foreign, is_busy, on_frame, is_silent, after_tick_in, after_tick, on_submit_in, on_submit, after_cut_in, after_cut, after_poll_event, is_hello_due, is_old_hello_due, on_hello, due_of, on_transmit_due, on_transmit_in, on_transmit}
-use Rattle.tora_arq.specs.Rooms.{AreNext, HasNextRoom, HasFrameRoom, HasEventPlaceIn, HasEventPlace}
+use Rattle.tora_arq.specs.LinkEnd.{EndState, passed, after_bind, count_of, on_life_told, after_acknowledgement, after_packet, after_packets, on_data, on_matched, on_frame_in, is_foreign, is_busy, on_frame, is_silent, after_tick_in, after_tick, on_submit_in, on_submit, after_cut_in, after_cut, is_hello_due, is_old_hello_due, on_hello, due_of, on_transmit_due, on_transmit_in, on_transmit}
+use Rattle.tora_arq.specs.declared.state.State.{State}
+use Rattle.tora_arq.specs.EndRange.{IsEndState, IsPhase}
+use Rattle.tora_arq.specs.Rooms.{AreNext, HasLists, HasNextRoom, HasFrameRoom, HasEventPlaceIn, HasEventPlace}
+use Rattle.tora_arq.specs.StateView.{Rooms, rooms_in, state_in}
 use Rattle.tora_arq.proofs.RoomLemmas.{next_room}
 
 module _ (places : ℕ) where
@@ -28,15 +32,6 @@ module _ (places : ℕ) where
 
   pub below_place : (e : EndState) → length e.events < places → HasEventPlace places e
   below_place e h = below e h e.phase
-
-  same_in : (e after : EndState) → length after.events ≤ length e.events → (phase : Phase) → HasEventPlaceIn places e phase → HasEventPlaceIn places after phase
-  same_in e after le Closed h = tt
-  same_in e after le (Unbound own) h = tt
-  same_in e after le (Bound life) h = omega (arith, le, h)
-
-  -- no event more, in the same phase
-  pub same_place : (e after : EndState) → after.phase ≡ e.phase → length after.events ≤ length e.events → HasEventPlace places e → HasEventPlace places after
-  same_place e after q le h = subst (HasEventPlaceIn places after) (sym q) (same_in e after le e.phase h)
 
   -- ---- time, packets and events
 
@@ -69,9 +64,6 @@ module _ (places : ℕ) where
       go Closed = h
       go (Unbound own) = h
       go (Bound current) = cond_both (is_same_life life current) _ _ (HasEventPlace places) (λ _. tt) (λ _. h)
-
-  pub poll_place : (e : EndState) → HasEventPlace places e → HasEventPlace places (after_poll_event e)
-  poll_place e h = same_place e (after_poll_event e) refl (omega (arith, length-drop 1 e.events)) h
 
   -- ---- what is sent
 
@@ -168,13 +160,45 @@ module _ (places : ℕ) where
       cond_both (is_busy e) _ _ (λ (x : Verdict × EndState). HasEventPlace places x.1) (λ _. here) (λ _.
       in_phase s e f now e.phase w r.place r.body))
 
-  more_body : (body : Body) (e : EndState) (phase : Phase) → HasNextRoom fewer body e phase → HasNextRoom places body e phase
-  more_body Hello e phase r = tt
-  more_body (Ack count) e phase r = tt
-  more_body (Data number count packets) e Closed r = tt
-  more_body (Data number count packets) e (Unbound own) r = r
-  more_body (Data number count packets) e (Bound life) r = record { room = omega (arith, r.room); next = r.next; within = r.within; none = r.none; ahead = r.ahead }
+-- ---- the place is kept, whatever room there is beside it
 
-  -- and there is in all of them
-  pub more_room : (e : EndState) (f : FrameParts) → HasFrameRoom fewer f e → HasFrameRoom places f e
-  more_room e f r = record { place = omega (arith, r.place); body = more_body f.body e e.phase r.body }
+whole_in : (places last heard : ℕ) (e : EndState) (phase : Phase) → EVENT_PLACES ≤ places → IsPhase last heard e.events phase → HasEventPlaceIn places e phase
+whole_in places last heard e Closed le h = tt
+whole_in places last heard e (Unbound own) le h = tt
+whole_in places last heard e (Bound life) le h = let lt : length e.events < EVENT_PLACES = h.room in omega (arith, le, lt)
+
+-- with room for all events
+pub whole_place : (places : ℕ) (s : Settings) (e : EndState) → EVENT_PLACES ≤ places → IsEndState s e → HasEventPlace places e
+whole_place places s e le k = whole_in places e.last_life e.heard e e.phase le k.in_phase
+
+more_in : (places more : ℕ) (e : EndState) (phase : Phase) → places ≤ more → HasEventPlaceIn places e phase → HasEventPlaceIn more e phase
+more_in places more e Closed le h = tt
+more_in places more e (Unbound own) le h = tt
+more_in places more e (Bound life) le h = omega (arith, le, h)
+
+-- with more room
+pub more_place : (places more : ℕ) (e : EndState) → places ≤ more → HasEventPlace places e → HasEventPlace more e
+more_place places more e le h = more_in places more e e.phase le h
+
+-- after a frame for which there was room
+pub heard_place : (places early : ℕ) (s : Settings) (e : EndState) (f : FrameParts) (now : ℕ) → s.window ≡ WINDOW → IsEndState s (on_frame s e f now).1 → HasLists places early ⊎ HasFrameRoom (places - 1) f e → HasEventPlace places (on_frame s e f now).1
+heard_place places early s e f now w k (inl all) = whole_place places s (on_frame s e f now).1 all.events k
+heard_place places early s e f now w k (inr some) = frame_place places s e f now w some
+
+-- ---- what a shell keeps
+
+-- the state, and the place in the room that stays
+pub keeps : (s : Settings) (old new : State) (after : EndState) → state_in new ≡ after → rooms_in new ≡ rooms_in old → IsEndState s after → HasEventPlace old.events.capacity after → IsEndState s (state_in new) × HasEventPlace new.events.capacity (state_in new)
+keeps s old new after q r a b =
+    let room : old.events.capacity ≡ new.events.capacity = sym (ap (λ (x : Rooms). x.events) r) in
+    subst (λ (e : EndState). IsEndState s e × HasEventPlace new.events.capacity e) (sym q) (a, subst (λ n. HasEventPlace n after) room b)
+
+-- both, where room was made
+pub roomier : (s : Settings) (old new : State) → state_in new ≡ state_in old → old.events.capacity ≤ new.events.capacity → IsEndState s (state_in old) × HasEventPlace old.events.capacity (state_in old) →
+    IsEndState s (state_in new) × HasEventPlace new.events.capacity (state_in new)
+roomier s old new q le k = subst (λ (e : EndState). IsEndState s e × HasEventPlace new.events.capacity e) (sym q) (k.0, more_place old.events.capacity new.events.capacity (state_in old) le k.1)
+
+-- what holds of the state as it was and of that after a call holds of what the call leaves
+pub after_some : {A : Type 0} (P : EndState → Type 0) (o : Option A) (old new : State) (after : EndState) → IfSome o (λ _. state_in new ≡ after) → IfNone o (new ≡ old) → P (state_in old) → P after → P (state_in new)
+after_some P None old new after some none a b = subst (λ (x : State). P (state_in x)) (sym none) a
+after_some P (Some h) old new after some none a b = subst P (sym some) b

@@ -17,4 +17,3 @@ pub mod WorkedHellos
 pub mod NextDue
 pub mod Still
 pub mod Steady
-pub mod Growing

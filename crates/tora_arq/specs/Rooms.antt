@@ -1,4 +1,4 @@
--- The places that a link end has for events and for packets that came early: with lists, all that the window may need; else few.
+-- What room a link end needs for events and for packets that came early.
 use Rattle.std.specs.Prelude.{◌≡◌, ℕ, ◌+◌, ◌<◌, ◌≤◌, ◌⊎◌, [], length}
 use Rattle.tora_frame.specs.declared.parts.Body.{Body}
 use Rattle.tora_frame.specs.declared.parts.Body.TheVariants.{Hello, Data, Ack}
@@ -9,7 +9,7 @@ use Rattle.tora_arq.specs.declared.phase.Phase.TheVariants.{Closed, Unbound, Bou
 use Rattle.tora_arq.specs.LinkEnd.{EndState}
 use Rattle.tora_arq.specs.EndRange.{HasRoom}
 
--- there are lists for all that may come
+-- there is room for all that may come
 pub record HasLists (places early : ℕ) : Type 0 where
   pub events : EVENT_PLACES ≤ places
   pub held : WINDOW ≤ early
@@ -33,13 +33,13 @@ HasBodyRoom places early Hello e = Unit {0}
 HasBodyRoom places early (Data number count packets) e = HasRoomFor places early (e.accepted + WINDOW) number (length packets.items) e
 HasBodyRoom places early (Ack count) e = Unit {0}
 
--- and for what one has that may bind a life: with no lists, no packets
+-- and for what one has that may bind a life
 abbrev pub HasFirstRoom : (places early : ℕ) → Body → EndState → Type 0
 HasFirstRoom places early Hello e = Unit {0}
 HasFirstRoom places early (Data number count packets) e = (length e.events + 1 + WINDOW < places) × (WINDOW ≤ early)
 HasFirstRoom places early (Ack count) e = Unit {0}
 
--- a frame that an end with no lists can take
+-- the room for what a frame has, where none of its packets may have to be held
 abbrev pub HasNextRoom : (places : ℕ) → Body → EndState → Phase → Type 0
 HasNextRoom places Hello e phase = Unit {0}
 HasNextRoom places (Ack count) e phase = Unit {0}

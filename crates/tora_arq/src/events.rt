@@ -1,106 +1,99 @@
 //! The events of a link end that wait to be polled.
-ghost use Rattle.std.specs.Prelude.{◌≡◌, ◌<◌, ◌≤◌, ◌-◌, [], ◌∷◌, ◌++◌, length, drop, slice_get, is_some, nat_lt, IfOk};
+ghost use Rattle.std.specs.Prelude.{◌≡◌, ◌<◌, ◌≤◌, ◌-◌, ◌^◌, [], ◌∷◌, ◌++◌, length, drop, slice_get, is_some, nat_lt, IfOk, OnErr, OnOk};
+ghost use Rattle.circular_buffer.specs.Buffer.{buffer};
 
-use crate::near_queue::{FRONT, NearQueue};
-use crate::{EVENT_PLACES, Life, LinkEvent, PLACES_OF_A_FRAME};
+use crate::rings::{make_room, push};
+use crate::{EVENT_PLACES, LinkEvent, PLACES_OF_A_FRAME};
+use circular_buffer::HeapCircularBuffer;
 use std::alloc::{AllocError, Global};
 use std::marker::Model;
 use tora_packet::Packet;
 
-/// Events in the order in which they came, `PLACES` at most, which are `EVENT_PLACES` or less.
+/// Events in the order in which they came, and the room for them.
 #[derive(Debug, Drop)]
-pub struct EventQueue<const PLACES: usize> {
-    events: NearQueue<LinkEvent, PLACES>,
+pub struct EventQueue {
+    ring: HeapCircularBuffer<LinkEvent>,
 }
 
-impl<const PLACES: usize> Model for EventQueue<PLACES> {
-    ghost use Rattle.std.specs.Prelude.{◌≤◌, List, length};
+impl Model for EventQueue {
+    ghost use Rattle.circular_buffer.specs.Buffer.{Buffer};
     ghost use Rattle.tora_arq.specs.declared.link_event.LinkEvent.{LinkEvent};
 
-    ghost Value = { List LinkEvent };
+    ghost Value = { Buffer LinkEvent };
 
-    ghost view = { λ q. q.events };
-
-    ghost invariant = { λ q. length q.events ≤ PLACES };
+    ghost view = { λ q. q.ring };
 }
 
-impl<const PLACES: usize> EventQueue<PLACES> {
-    /// An empty queue, with room for all its events.
-    pub fn new(alloc: Global) -> Result<EventQueue<PLACES>, AllocError>
-        ensures { IfOk result (λ q. q ≡ []) }
+impl EventQueue {
+    /// An empty queue with room for this many events.
+    pub fn new(alloc: Global, places: usize) -> Result<EventQueue, AllocError>
+        ensures { IfOk result (λ q. q ≡ buffer [] places) }
     {
-        let any = LinkEvent::Up(Life { own: 0, peer: 0 });
-        let events = NearQueue::new(alloc, any)?;
-        Ok(EventQueue { events })
+        let ring = HeapCircularBuffer::with_capacity(alloc, places)?;
+        Ok(EventQueue { ring })
     }
 
     /// How many wait.
+    #[inline(always)]
     pub fn len(&self) -> usize
-        ensures length { result ≡ length self.now }
-        ensures most { result ≤ PLACES }
+        ensures length { result ≡ length self.now.items }
+        ensures within { result < 2 ^ 63 }
     {
-        self.events.len()
+        self.ring.len()
     }
 
     /// Whether one waits.
     #[inline(always)]
     pub fn has_first(&self) -> bool
-        ensures { result ≡ is_some (slice_get self.now 0) }
+        ensures { result ≡ is_some (slice_get self.now.items 0) }
     {
         self.len() > 0
     }
 
     /// Whether there is too little room for what a frame may give.
+    #[inline(always)]
     pub fn is_busy(&self) -> bool
-        ensures { result ≡ nat_lt (EVENT_PLACES - length self.now) PLACES_OF_A_FRAME }
+        ensures { result ≡ nat_lt (EVENT_PLACES - length self.now.items) PLACES_OF_A_FRAME }
     {
         EVENT_PLACES.saturating_sub(self.len()) < PLACES_OF_A_FRAME
     }
 
+    /// Makes room for this many events in all.
+    ///
+    /// # Errors
+    /// Want of memory, which changes nothing.
+    #[inline(always)]
+    pub fn make_room(&mut self, places: usize) -> Result<(), AllocError>
+        ensures items { self.new.items ≡ self.old.items }
+        ensures more { self.old.capacity ≤ self.new.capacity }
+        ensures room { OnOk result (places ≤ self.new.capacity) }
+        ensures same { OnErr result (self.new ≡ self.old) }
+    {
+        make_room(&mut self.ring, places)
+    }
+
     /// Appends an event.
     pub fn push(&mut self, event: LinkEvent)
-        requires { length self.old < PLACES }
-        ensures { self.new ≡ self.old ++ event ∷ [] }
+        requires { length self.old.items < self.old.capacity }
+        ensures { self.new ≡ buffer (self.old.items ++ event ∷ []) self.old.capacity }
     {
         // The check has to meet the type of packets where an event is passed on.
         let _none: Option<Packet> = None;
-        self.events.push(event);
+        push(&mut self.ring, event);
     }
 
     /// The first event.
     pub fn first(&self) -> Option<LinkEvent>
-        ensures { result ≡ slice_get self.now 0 }
+        ensures { result ≡ slice_get self.now.items 0 }
     {
-        if self.events.len() == 0 {
-            return None;
-        }
-        Some(self.events.at(0))
+        self.ring.front().copied()
     }
 
     /// Removes the first event.
     pub fn pop(&mut self) -> Option<LinkEvent>
-        ensures value { result ≡ slice_get self.old 0 }
-        ensures rest { self.new ≡ drop 1 self.old }
+        ensures value { result ≡ slice_get self.old.items 0 }
+        ensures rest { self.new ≡ buffer (drop 1 self.old.items) self.old.capacity }
     {
-        let Some(event) = self.first() else {
-            return None;
-        };
-        self.events.remove_first(1);
-        Some(event)
-    }
-}
-
-impl<const FROM: usize> EventQueue<FROM> {
-    /// The same events, with room for more.
-    pub fn widened<const PLACES: usize>(
-        &self,
-        alloc: Global,
-    ) -> Result<EventQueue<PLACES>, AllocError>
-        requires more { FROM ≤ PLACES }
-        requires list { FRONT < PLACES }
-        ensures { IfOk result (λ q. q ≡ self.now) }
-    {
-        let events = self.events.widened(alloc)?;
-        Ok(EventQueue { events })
+        self.ring.pop_front()
     }
 }

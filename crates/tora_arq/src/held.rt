@@ -1,56 +1,70 @@
 //! The packets of the peer that came early.
-ghost use Rattle.std.specs.Prelude.{◌≡◌, ◌<◌, ◌≤◌, ◌==◌, [], length, drop, IfOk, IfNone, OnSome};
+ghost use Rattle.std.specs.Prelude.{◌≡◌, ◌<◌, ◌≤◌, ◌==◌, [], length, drop, IfOk, IfNone, OnErr, OnOk, OnSome};
+ghost use Rattle.circular_buffer.specs.Buffer.{buffer};
 ghost use Rattle.tora_arq.specs.Held.{hold_at, padded, first_held};
 
-use crate::rings::{push, set};
+use crate::WINDOW;
+use crate::rings::{make_room, push, set};
 use circular_buffer::HeapCircularBuffer;
 use std::alloc::{AllocError, Global};
 use std::marker::Model;
 use tora_packet::Packet;
 
-/// The packets that came early, by place: the first place is that of the next packet. At most `PLACES`.
+/// The packets that came early, by place, and the room for them: the first place is that of the next packet.
 #[derive(Debug, Drop)]
-pub struct HeldPackets<const PLACES: usize> {
+pub struct HeldPackets {
     ring: HeapCircularBuffer<Option<Packet>>,
 }
 
-impl<const PLACES: usize> Model for HeldPackets<PLACES> {
-    ghost use Rattle.std.specs.Prelude.{◌≡◌, List, Option};
+impl Model for HeldPackets {
+    ghost use Rattle.std.specs.Prelude.{Option};
+    ghost use Rattle.circular_buffer.specs.Buffer.{Buffer};
     ghost use Rattle.tora_packet.specs.declared.Packet.{Packet};
 
-    ghost Value = { List (Option Packet) };
+    ghost Value = { Buffer (Option Packet) };
 
-    ghost view = { λ h. h.ring.items };
-
-    ghost invariant = { λ h. h.ring.capacity ≡ PLACES };
+    ghost view = { λ h. h.ring };
 }
 
-impl<const PLACES: usize> HeldPackets<PLACES> {
-    /// No packets, with room for all that may come early.
-    pub fn new(alloc: Global) -> Result<HeldPackets<PLACES>, AllocError>
-        ensures { IfOk result (λ h. h ≡ []) }
+impl HeldPackets {
+    /// No packets, with this many places.
+    pub fn new(alloc: Global, places: usize) -> Result<HeldPackets, AllocError>
+        ensures { IfOk result (λ h. h ≡ buffer [] places) }
     {
-        let ring = HeapCircularBuffer::with_capacity(alloc, PLACES)?;
+        let ring = HeapCircularBuffer::with_capacity(alloc, places)?;
         Ok(HeldPackets { ring })
     }
 
     pub fn is_empty(&self) -> bool
-        ensures { result ≡ (length self.now == 0) }
+        ensures { result ≡ (length self.now.items == 0) }
     {
         self.ring.is_empty()
     }
 
     pub fn clear(&mut self)
-        ensures { self.new ≡ [] }
+        ensures { self.new ≡ buffer [] self.old.capacity }
     {
         self.ring.clear();
+    }
+
+    /// Makes this many places in all.
+    ///
+    /// # Errors
+    /// Want of memory, which changes nothing.
+    pub fn make_room(&mut self, places: usize) -> Result<(), AllocError>
+        ensures items { self.new.items ≡ self.old.items }
+        ensures more { self.old.capacity ≤ self.new.capacity }
+        ensures room { OnOk result (places ≤ self.new.capacity) }
+        ensures same { OnErr result (self.new ≡ self.old) }
+    {
+        make_room(&mut self.ring, places)
     }
 
     /// Appends empty places up to this many.
     #[tactic(auto, using(crate::proofs::HeldLemmas::padded_more, crate::proofs::HeldLemmas::padded_all))]
     fn pad(&mut self, places: usize)
-        requires { places ≤ PLACES }
-        ensures { self.new ≡ padded places self.old }
+        requires { places ≤ self.old.capacity }
+        ensures { self.new ≡ buffer (padded places self.old.items) self.old.capacity }
     {
         for _ in self.ring.len()..places {
             push(&mut self.ring, None);
@@ -60,8 +74,9 @@ impl<const PLACES: usize> HeldPackets<PLACES> {
     /// Holds a packet at a place; one that is held there stays.
     #[tactic(auto, using(crate::proofs::HeldLemmas::hold_empty, crate::proofs::HeldLemmas::hold_taken, crate::proofs::HeldLemmas::padded_within))]
     pub fn hold(&mut self, place: usize, packet: Packet)
-        requires { place < PLACES }
-        ensures { self.new ≡ hold_at place packet self.old }
+        requires room { place < self.old.capacity }
+        requires near { place < WINDOW }
+        ensures { self.new ≡ buffer (hold_at place packet self.old.items) self.old.capacity }
     {
         self.pad(place + 1);
         let Some(slot) = self.ring.get(place) else {
@@ -74,27 +89,12 @@ impl<const PLACES: usize> HeldPackets<PLACES> {
 
     /// Takes the packet of the first place, if one is held there.
     pub fn take_first(&mut self) -> Option<Packet>
-        ensures packet { result ≡ first_held self.old }
-        ensures some { OnSome result (self.new ≡ drop 1 self.old) }
+        ensures packet { result ≡ first_held self.old.items }
+        ensures some { OnSome result (self.new ≡ buffer (drop 1 self.old.items) self.old.capacity) }
         ensures none { IfNone result (self.new ≡ self.old) }
     {
         let packet = (*self.ring.front()?)?;
         self.ring.pop_front();
         Some(packet)
-    }
-}
-
-impl HeldPackets<0> {
-    /// The same, which are none, with room for so many.
-    pub fn widened<const PLACES: usize>(
-        &self,
-        alloc: Global,
-    ) -> Result<HeldPackets<PLACES>, AllocError>
-        ensures { IfOk result (λ h. h ≡ self.now) }
-    {
-        let ring = HeapCircularBuffer::with_capacity(alloc, PLACES)?;
-        // that its places are none is what the prover sees of the ring by its length
-        let _none = self.ring.len();
-        Ok(HeldPackets { ring })
     }
 }

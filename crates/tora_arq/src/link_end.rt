@@ -40,19 +40,20 @@ use tora_packet::Packet;
 /// memory. A bound end always has a place for the event that its life ended.
 #[derive(Debug, Drop)]
 pub struct LinkEnd {
-    pub(crate) settings: Settings,
-    pub(crate) state: State<EVENT_PLACES, QUEUE_PLACES, HELD_PLACES>,
+    settings: Settings,
+    state: State,
 }
 
 impl Model for LinkEnd {
     ghost use Rattle.tora_arq.specs.EndRange.{LinkEndView, IsEndState, link_end_of};
-    ghost use Rattle.tora_arq.specs.StateView.{settings_in, state_in};
+    ghost use Rattle.std.specs.Prelude.{◌≡◌};
+    ghost use Rattle.tora_arq.specs.StateView.{rooms_in, settings_in, state_in, whole_rooms};
 
     ghost Value = { LinkEndView };
 
     ghost view = { λ e. link_end_of (settings_in e.settings) (state_in e.state) };
 
-    ghost invariant = { λ e. IsEndState (settings_in e.settings) (state_in e.state) };
+    ghost invariant = { λ e. IsEndState (settings_in e.settings) (state_in e.state) × (rooms_in e.state ≡ whole_rooms) };
 }
 
 impl LinkEnd {
@@ -102,7 +103,7 @@ impl LinkEnd {
         requires times { IsTimes times }
         ensures { IfOk result (λ end. end ≡ link_end_of (settings_of version me peer times) first_end) }
     {
-        let Ok(state) = State::new(alloc) else {
+        let Ok(state) = State::new(alloc, EVENT_PLACES, QUEUE_PLACES, HELD_PLACES) else {
             return Err(ArqError::Memory);
         };
         let settings = Settings {

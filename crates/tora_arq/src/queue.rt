@@ -1,105 +1,120 @@
 //! The send queue of a link end.
-ghost use Rattle.std.specs.Prelude.{◌≡◌, ◌<◌, ◌≤◌, ◌+◌, ◌^◌, ℕ, [], ◌∷◌, ◌++◌, ◌-◌, length, take, drop, min, slice_get, slice_set, Some, IfOk, IfNone, IfSome, IsTrue, MatchOption, is_some, option_map, ◌||◌};
+ghost use Rattle.std.specs.Prelude.{◌≡◌, ◌<◌, ◌≤◌, ◌+◌, ◌^◌, ℕ, [], ◌∷◌, ◌++◌, ◌-◌, length, take, drop, min, slice_get, slice_set, Some, IfOk, IfNone, IfSome, IsTrue, MatchOption, OnErr, OnOk, is_some, option_map, ◌||◌};
+ghost use Rattle.circular_buffer.specs.Buffer.{buffer};
 ghost use Rattle.tora_arq.specs.Settings.{ticks_passed};
 ghost use Rattle.tora_arq.specs.SendQueue.{untried, retried, is_retry_time, is_ready, is_given_up, has_given_up, ready_run, first_due, AreLate, IsFirstReady};
 ghost use Rattle.tora_arq.specs.EndRange.{AreUntried};
 ghost use Rattle.tora_arq.specs.NextDue.{has_begun, is_packet_due};
 
-use crate::near_queue::{FRONT, NearQueue};
 use crate::queued_packet::QueuedPacket;
 use crate::settings::{earlier, tick_behind, ticks_passed};
-use crate::{Times, WINDOW};
+use crate::{Times, WINDOW, rings};
+use circular_buffer::HeapCircularBuffer;
 use std::alloc::{AllocError, Global};
 use std::marker::Model;
 use tora_frame::{MOST_PACKETS, Packets};
 use tora_packet::Packet;
 
-/// The packets that were submitted and are not acknowledged, in order, `PLACES` at most.
+/// The packets that were submitted and are not acknowledged, in order, and the room for them.
 #[derive(Debug, Drop)]
-pub struct SendQueue<const PLACES: usize> {
-    packets: NearQueue<QueuedPacket, PLACES>,
+pub struct SendQueue {
+    ring: HeapCircularBuffer<QueuedPacket>,
 }
 
-impl<const PLACES: usize> Model for SendQueue<PLACES> {
-    ghost use Rattle.std.specs.Prelude.{◌≤◌, List, length};
+impl Model for SendQueue {
+    ghost use Rattle.circular_buffer.specs.Buffer.{Buffer};
     ghost use Rattle.tora_arq.specs.declared.queued_packet.QueuedPacket.{QueuedPacket};
 
-    ghost Value = { List QueuedPacket };
+    ghost Value = { Buffer QueuedPacket };
 
-    ghost view = { λ q. q.packets };
-
-    ghost invariant = { λ q. length q.packets ≤ PLACES };
+    ghost view = { λ q. q.ring };
 }
 
-impl<const PLACES: usize> SendQueue<PLACES> {
-    /// An empty queue, with room for all its packets.
-    pub fn new(alloc: Global) -> Result<SendQueue<PLACES>, AllocError>
-        ensures { IfOk result (λ q. q ≡ []) }
+impl SendQueue {
+    /// An empty queue with room for this many packets.
+    pub fn new(alloc: Global, places: usize) -> Result<SendQueue, AllocError>
+        ensures { IfOk result (λ q. q ≡ buffer [] places) }
     {
-        let any = QueuedPacket::untried(Packet::default());
-        let packets = NearQueue::new(alloc, any)?;
-        Ok(SendQueue { packets })
+        let ring = HeapCircularBuffer::with_capacity(alloc, places)?;
+        Ok(SendQueue { ring })
     }
 
+    #[inline(always)]
     pub fn len(&self) -> usize
-        ensures len { result ≡ length self.now }
-        ensures within { result ≤ PLACES }
+        ensures len { result ≡ length self.now.items }
+        ensures within { (result ≤ self.now.capacity) × (result < 2 ^ 63) }
     {
-        self.packets.len()
+        self.ring.len()
+    }
+
+    /// Makes room for this many packets in all.
+    ///
+    /// # Errors
+    /// Want of memory, which changes nothing.
+    #[inline(always)]
+    pub fn make_room(&mut self, places: usize) -> Result<(), AllocError>
+        ensures items { self.new.items ≡ self.old.items }
+        ensures more { self.old.capacity ≤ self.new.capacity }
+        ensures room { OnOk result (places ≤ self.new.capacity) }
+        ensures same { OnErr result (self.new ≡ self.old) }
+    {
+        rings::make_room(&mut self.ring, places)
     }
 
     /// Appends a packet that was never transmitted.
     pub fn push(&mut self, packet: Packet)
-        requires { length self.old < PLACES }
-        ensures { self.new ≡ self.old ++ untried packet ∷ [] }
+        requires { length self.old.items < self.old.capacity }
+        ensures { self.new ≡ buffer (self.old.items ++ untried packet ∷ []) self.old.capacity }
     {
-        self.packets.push(QueuedPacket::untried(packet));
+        rings::push(&mut self.ring, QueuedPacket::untried(packet));
     }
 
     /// Removes the first packets, as many as there are.
     pub fn remove_first(&mut self, count: u64)
-        ensures { self.new ≡ drop count self.old }
+        ensures { self.new ≡ buffer (drop count self.old.items) self.old.capacity }
     {
         let len = self.len();
         let count = usize::try_from(count).unwrap_or(len).min(len);
-        self.packets.remove_first(count);
+        rings::remove_first(&mut self.ring, count);
     }
 
     pub fn clear(&mut self)
-        ensures { self.new ≡ [] }
+        ensures { self.new ≡ buffer [] self.old.capacity }
     {
-        self.packets.clear();
+        self.ring.clear();
     }
 
     /// How many packets may be under way: those behind them were never transmitted.
     fn within_window(&self) -> usize
-        ensures { result ≡ min WINDOW (length self.now) }
+        ensures { result ≡ min WINDOW (length self.now.items) }
     {
         self.len().min(WINDOW as usize)
     }
 
     /// The packet that stands behind so many others.
     fn packet_at(&self, place: usize) -> QueuedPacket
-        requires { place < length self.now }
-        ensures { slice_get self.now place ≡ Some result }
+        requires { place < length self.now.items }
+        ensures { slice_get self.now.items place ≡ Some result }
     {
-        self.packets.at(place)
+        rings::at(&self.ring, place)
     }
 
     /// Puts a packet in the place of that which stands behind so many others.
     fn set(&mut self, place: usize, packet: QueuedPacket)
-        requires { place < length self.old }
-        ensures { self.new ≡ slice_set self.old place packet }
+        requires { place < length self.old.items }
+        ensures { self.new ≡ buffer (slice_set self.old.items place packet) self.old.capacity }
     {
-        self.packets.set(place, packet);
+        // The check has to meet the type of packets where a queued one is passed on.
+        let _none: Option<Packet> = None;
+        rings::set(&mut self.ring, place, packet);
     }
 
     /// Whether a packet was transmitted as often as it may be, and long enough ago. It looks at no more than the window.
     #[tactic(auto, using(crate::proofs::QueueLemmas::given_up_at, crate::proofs::QueueLemmas::none_given_up_here))]
     pub fn has_given_up(&self, times: &Times, now: u64) -> bool
         requires tries { 0 < times.now.tries }
-        requires untried { AreUntried (drop WINDOW self.now) }
-        ensures { result ≡ has_given_up times.now now self.now }
+        requires untried { AreUntried (drop WINDOW self.now.items) }
+        ensures { result ≡ has_given_up times.now now self.now.items }
     {
         for place in 0..self.within_window() {
             if self.packet_at(place).is_given_up(times, now) {
@@ -111,7 +126,7 @@ impl<const PLACES: usize> SendQueue<PLACES> {
 
     /// The first packet due within the window, and how many stand before it. It looks at no more than the window.
     fn first_ready(&self, times: &Times, now: u64) -> Option<(usize, QueuedPacket)>
-        ensures first { MatchOption result (AreLate times.now now WINDOW self.now) (λ r. IsFirstReady times.now now WINDOW self.now r.0 r.1) }
+        ensures first { MatchOption result (AreLate times.now now WINDOW self.now.items) (λ r. IsFirstReady times.now now WINDOW self.now.items r.0 r.1) }
         ensures room { IfSome result (λ r. r.1.tries + 1 < 2 ^ 64) }
     {
         for place in 0..self.within_window() {
@@ -125,7 +140,7 @@ impl<const PLACES: usize> SendQueue<PLACES> {
 
     /// Whether a packet within the window is due.
     pub fn is_due(&self, times: &Times, now: u64) -> bool
-        ensures { (most number : ℕ) → result ≡ is_some (first_due times.now now most number WINDOW self.now) }
+        ensures { (most number : ℕ) → result ≡ is_some (first_due times.now now most number WINDOW self.now.items) }
     {
         match self.first_ready(times, now) {
             Some(_) => true,
@@ -138,8 +153,8 @@ impl<const PLACES: usize> SendQueue<PLACES> {
     pub fn due_tick(&self, times: &Times) -> Option<u64>
         requires retry { 0 < times.now.retry }
         requires tries { 0 < times.now.tries }
-        requires untried { AreUntried (drop WINDOW self.now) }
-        ensures { (most number tick : ℕ) → tick < 2 ^ 64 → has_begun result tick ≡ is_some (first_due times.now tick most number WINDOW self.now) || has_given_up times.now tick self.now }
+        requires untried { AreUntried (drop WINDOW self.now.items) }
+        ensures { (most number tick : ℕ) → tick < 2 ^ 64 → has_begun result tick ≡ is_some (first_due times.now tick most number WINDOW self.now.items) || has_given_up times.now tick self.now.items }
     {
         let mut first = None;
         for place in 0..self.within_window() {
@@ -150,11 +165,12 @@ impl<const PLACES: usize> SendQueue<PLACES> {
 
     /// Appends the packets from a place up to another, as far as each is due; they count as transmitted now.
     fn take_run(&mut self, times: &Times, now: u64, place: usize, end: usize, packets: &mut Packets)
-        requires within { end ≤ length self.old }
+        requires within { end ≤ length self.old.items }
         requires most { end ≤ place + MOST_PACKETS }
         requires empty { packets.old.items ≡ [] }
-        ensures packets { packets.new.items ≡ (ready_run times.now now (end - place) (drop place self.old)).packets }
-        ensures queue { self.new ≡ take place self.old ++ (ready_run times.now now (end - place) (drop place self.old)).queue }
+        ensures packets { packets.new.items ≡ (ready_run times.now now (end - place) (drop place self.old.items)).packets }
+        ensures queue { self.new.items ≡ take place self.old.items ++ (ready_run times.now now (end - place) (drop place self.old.items)).queue }
+        ensures room { self.new.capacity ≡ self.old.capacity }
     {
         for at in place..end {
             let packet = self.packet_at(at);
@@ -176,9 +192,10 @@ impl<const PLACES: usize> SendQueue<PLACES> {
         packets: &mut Packets,
     ) -> Option<usize>
         requires { (0 < most) × (most ≤ MOST_PACKETS) }
-        ensures due { (number : ℕ) → first_due times.now now most number WINDOW self.old ≡ option_map (λ place. record { number = number + place; packets = packets.new.items; queue = self.new }) result }
+        ensures due { (number : ℕ) → first_due times.now now most number WINDOW self.old.items ≡ option_map (λ place. record { number = number + place; packets = packets.new.items; queue = self.new.items }) result }
+        ensures room { self.new.capacity ≡ self.old.capacity }
         ensures none { IfNone result (self.new ≡ self.old) }
-        ensures some { IfSome result (λ place. (0 < length packets.new.items) × (length packets.new.items ≤ most) × (place + length packets.new.items ≤ length self.old)) }
+        ensures some { IfSome result (λ place. (0 < length packets.new.items) × (length packets.new.items ≤ most) × (place + length packets.new.items ≤ length self.old.items)) }
     {
         let Some((place, _)) = self.first_ready(times, now) else {
             return None;
@@ -187,20 +204,5 @@ impl<const PLACES: usize> SendQueue<PLACES> {
         packets.clear();
         self.take_run(times, now, place, end, packets);
         Some(place)
-    }
-}
-
-impl<const FROM: usize> SendQueue<FROM> {
-    /// The same packets, with room for more.
-    pub fn widened<const PLACES: usize>(
-        &self,
-        alloc: Global,
-    ) -> Result<SendQueue<PLACES>, AllocError>
-        requires more { FROM ≤ PLACES }
-        requires list { FRONT < PLACES }
-        ensures { IfOk result (λ q. q ≡ self.now) }
-    {
-        let packets = self.packets.widened(alloc)?;
-        Ok(SendQueue { packets })
     }
 }

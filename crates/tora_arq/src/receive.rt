@@ -7,7 +7,7 @@ ghost use Rattle.tora_arq.specs.Held.{hold_at};
 ghost use Rattle.tora_arq.specs.LinkEnd.{count_of, passed, on_life_told, after_release, after_packet, after_packets, on_data, on_matched, on_frame_in, on_frame};
 ghost use Rattle.tora_arq.specs.EndRange.{IsNumbered};
 ghost use Rattle.tora_arq.specs.Rooms.{HasLists, HasRoomFor, HasBodyRoom, HasFirstRoom, HasFrameRoom};
-ghost use Rattle.tora_arq.specs.StateView.{settings_in, state_in};
+ghost use Rattle.tora_arq.specs.StateView.{rooms_in, settings_in, state_in};
 
 use crate::phase::Phase;
 use crate::settings::Settings;
@@ -28,10 +28,11 @@ fn count_of(body: BorrowedBody<'_>) -> u64
     }
 }
 
-impl<const EVENTS: usize, const PACKETS: usize, const EARLY: usize> State<EVENTS, PACKETS, EARLY> {
+impl State {
     /// A frame of a version has passed: one of version 2 sets the mark.
     fn pass(&mut self, version: Version)
-        ensures { state_in self.new ≡ passed (state_in self.old) version }
+        ensures state { state_in self.new ≡ passed (state_in self.old) version }
+        ensures rooms { rooms_in self.new ≡ rooms_in self.old }
     {
         self.speaks_two = is_two(version) || self.speaks_two;
     }
@@ -40,6 +41,7 @@ impl<const EVENTS: usize, const PACKETS: usize, const EARLY: usize> State<EVENTS
     fn on_life_told(&mut self, version: Version, life: u64, body: BorrowedBody<'_>) -> Verdict
         ensures verdict { result ≡ (on_life_told (state_in self.old) version life (body_of body.entry)).0 }
         ensures state { state_in self.new ≡ (on_life_told (state_in self.old) version life (body_of body.entry)).1 }
+        ensures rooms { rooms_in self.new ≡ rooms_in self.old }
     {
         match body {
             BorrowedBody::Hello => {
@@ -62,13 +64,14 @@ impl<const EVENTS: usize, const PACKETS: usize, const EARLY: usize> State<EVENTS
 
     /// Holds a packet at a place, and delivers what is held up to the first gap.
     fn hold(&mut self, life: Life, place: usize, packet: Packet)
-        requires place { place < EARLY }
+        requires place { place < self.old.held.capacity }
         requires near { place < WINDOW }
-        requires held { length self.old.held ≤ WINDOW }
-        requires room { length self.old.events + length self.old.held < EVENTS }
-        requires place_room { length self.old.events + place + 1 < EVENTS }
+        requires held { length self.old.held.items ≤ WINDOW }
+        requires room { length self.old.events.items + length self.old.held.items < self.old.events.capacity }
+        requires place_room { length self.old.events.items + place + 1 < self.old.events.capacity }
         requires accepted { self.old.accepted ≤ 2 ^ 63 }
-        ensures { state_in self.new ≡ after_release life (record (state_in self.old) { held = hold_at place packet self.old.held }) (hold_at place packet self.old.held) }
+        ensures state { state_in self.new ≡ after_release life (record (state_in self.old) { held = hold_at place packet self.old.held.items }) (hold_at place packet self.old.held.items) }
+        ensures rooms { rooms_in self.new ≡ rooms_in self.old }
     {
         self.held.hold(place, packet);
         self.release(life);
@@ -77,9 +80,10 @@ impl<const EVENTS: usize, const PACKETS: usize, const EARLY: usize> State<EVENTS
     /// A packet of the bound life, where `furthest` is the last number of the window.
     #[tactic(auto, using(crate::proofs::ReceiveLemmas::passed_over, crate::proofs::ReceiveLemmas::dropped))]
     fn on_packet(&mut self, life: Life, furthest: u64, number: u64, packet: Packet)
-        requires room { HasRoomFor EVENTS EARLY furthest number 1 (state_in self.old) }
+        requires room { HasRoomFor self.old.events.capacity self.old.held.capacity furthest number 1 (state_in self.old) }
         requires accepted { self.old.accepted ≤ 2 ^ 63 }
-        ensures { state_in self.new ≡ after_packet life furthest (state_in self.old) number packet }
+        ensures state { state_in self.new ≡ after_packet life furthest (state_in self.old) number packet }
+        ensures rooms { rooms_in self.new ≡ rooms_in self.old }
     {
         if number <= self.accepted || number > furthest {
             return;
@@ -94,10 +98,11 @@ impl<const EVENTS: usize, const PACKETS: usize, const EARLY: usize> State<EVENTS
 
     /// Packets of the bound life, numbered on from the first.
     fn on_packets(&mut self, life: Life, number: u64, packets: &[Packet])
-        requires room { HasRoomFor EVENTS EARLY (self.old.accepted + WINDOW) number (length packets.now) (state_in self.old) }
+        requires room { HasRoomFor self.old.events.capacity self.old.held.capacity (self.old.accepted + WINDOW) number (length packets.now) (state_in self.old) }
         requires accepted { self.old.accepted ≤ 2 ^ 62 }
         requires number { number + length packets.now ≤ 2 ^ 62 + 1 }
-        ensures { state_in self.new ≡ after_packets life (self.old.accepted + WINDOW) (state_in self.old) number packets.now }
+        ensures state { state_in self.new ≡ after_packets life (self.old.accepted + WINDOW) (state_in self.old) number packets.now }
+        ensures rooms { rooms_in self.new ≡ rooms_in self.old }
     {
         let furthest = self.accepted + WINDOW;
         let mut next = number;
@@ -110,12 +115,13 @@ impl<const EVENTS: usize, const PACKETS: usize, const EARLY: usize> State<EVENTS
     /// A DATA frame of the bound life.
     #[tactic(auto, unfolding(crate::specs::LinkEnd::on_data))]
     fn on_data(&mut self, life: Life, number: u64, packets: &[Packet]) -> Verdict
-        requires room { HasRoomFor EVENTS EARLY (self.old.accepted + WINDOW) number (length packets.now) (state_in self.old) }
+        requires room { HasRoomFor self.old.events.capacity self.old.held.capacity (self.old.accepted + WINDOW) number (length packets.now) (state_in self.old) }
         requires accepted { self.old.accepted ≤ 2 ^ 62 }
         requires some { 0 < length packets.now }
         requires number { number + length packets.now ≤ 2 ^ 62 + 1 }
         ensures verdict { result ≡ (on_data WINDOW (state_in self.old) life number packets.now).0 }
         ensures state { state_in self.new ≡ (on_data WINDOW (state_in self.old) life number packets.now).1 }
+        ensures rooms { rooms_in self.new ≡ rooms_in self.old }
     {
         let accepted = self.accepted;
         let last = number + packets.len() as u64 - 1;
@@ -133,10 +139,11 @@ impl<const EVENTS: usize, const PACKETS: usize, const EARLY: usize> State<EVENTS
     #[tactic(auto, unfolding(crate::specs::LinkEnd::on_matched))]
     fn on_matched(&mut self, life: Life, binds: bool, now: u64, body: BorrowedBody<'_>) -> Verdict
         requires numbered { IsNumbered (body_of body) }
-        requires room { HasBodyRoom EVENTS EARLY (body_of body) (state_in self.old) }
+        requires room { HasBodyRoom self.old.events.capacity self.old.held.capacity (body_of body) (state_in self.old) }
         requires accepted { self.old.accepted ≤ 2 ^ 62 }
         ensures verdict { result ≡ (on_matched WINDOW (state_in self.old) life binds now (body_of body.entry)).0 }
         ensures state { state_in self.new ≡ (on_matched WINDOW (state_in self.old) life binds now (body_of body.entry)).1 }
+        ensures rooms { rooms_in self.new ≡ rooms_in self.old }
     {
         match body {
             BorrowedBody::Hello => {
@@ -162,10 +169,11 @@ impl<const EVENTS: usize, const PACKETS: usize, const EARLY: usize> State<EVENTS
 
     #[tactic(auto, unfolding(crate::specs::LinkEnd::on_frame_in))]
     fn on_unbound_frame(&mut self, own: u64, frame: &BorrowedFrame<'_>, now: u64) -> Verdict
-        requires place { length self.old.events < EVENTS }
-        requires room { HasFirstRoom EVENTS EARLY frame.now.body (state_in self.old) }
+        requires place { length self.old.events.items < self.old.events.capacity }
+        requires room { HasFirstRoom self.old.events.capacity self.old.held.capacity frame.now.body (state_in self.old) }
         ensures verdict { result ≡ (on_frame_in WINDOW (state_in self.old) frame.now now (Phase.Unbound own)).0 }
         ensures state { state_in self.new ≡ (on_frame_in WINDOW (state_in self.old) frame.now now (Phase.Unbound own)).1 }
+        ensures rooms { rooms_in self.new ≡ rooms_in self.old }
     {
         let (header, body) = (frame.header(), frame.body());
         if header.heard != own {
@@ -188,11 +196,12 @@ impl<const EVENTS: usize, const PACKETS: usize, const EARLY: usize> State<EVENTS
 
     #[tactic(auto, unfolding(crate::specs::LinkEnd::on_frame_in))]
     fn on_bound_frame(&mut self, life: Life, frame: &BorrowedFrame<'_>, now: u64) -> Verdict
-        requires place { length self.old.events < EVENTS }
-        requires room { HasBodyRoom EVENTS EARLY frame.now.body (state_in self.old) }
+        requires place { length self.old.events.items < self.old.events.capacity }
+        requires room { HasBodyRoom self.old.events.capacity self.old.held.capacity frame.now.body (state_in self.old) }
         requires accepted { self.old.accepted ≤ 2 ^ 62 }
         ensures verdict { result ≡ (on_frame_in WINDOW (state_in self.old) frame.now now (Phase.Bound life)).0 }
         ensures state { state_in self.new ≡ (on_frame_in WINDOW (state_in self.old) frame.now now (Phase.Bound life)).1 }
+        ensures rooms { rooms_in self.new ≡ rooms_in self.old }
     {
         let (header, body) = (frame.header(), frame.body());
         if header.life > life.peer {
@@ -213,9 +222,10 @@ impl<const EVENTS: usize, const PACKETS: usize, const EARLY: usize> State<EVENTS
     #[inline(never)]
     #[tactic(auto, unfolding(crate::specs::LinkEnd::on_frame_in, crate::specs::LinkEnd::on_matched))]
     fn on_unbound_hello(&mut self, own: u64, header: &Header, now: u64) -> Verdict
-        requires place { length self.old.events < EVENTS }
+        requires place { length self.old.events.items < self.old.events.capacity }
         ensures verdict { result ≡ (on_frame_in WINDOW (state_in self.old) (frame_of header.now Body.Hello) now (Phase.Unbound own)).0 }
         ensures state { state_in self.new ≡ (on_frame_in WINDOW (state_in self.old) (frame_of header.now Body.Hello) now (Phase.Unbound own)).1 }
+        ensures rooms { rooms_in self.new ≡ rooms_in self.old }
     {
         if own != header.heard {
             return self.on_life_told(header.version, header.life, BorrowedBody::Hello);
@@ -237,9 +247,10 @@ impl<const EVENTS: usize, const PACKETS: usize, const EARLY: usize> State<EVENTS
     #[inline(always)]
     #[tactic(auto, unfolding(crate::specs::LinkEnd::on_frame_in, crate::specs::LinkEnd::on_matched))]
     fn on_bound_hello(&mut self, life: Life, header: &Header, now: u64) -> Verdict
-        requires place { length self.old.events < EVENTS }
+        requires place { length self.old.events.items < self.old.events.capacity }
         ensures verdict { result ≡ (on_frame_in WINDOW (state_in self.old) (frame_of header.now Body.Hello) now (Phase.Bound life)).0 }
         ensures state { state_in self.new ≡ (on_frame_in WINDOW (state_in self.old) (frame_of header.now Body.Hello) now (Phase.Bound life)).1 }
+        ensures rooms { rooms_in self.new ≡ rooms_in self.old }
     {
         if life.peer < header.life {
             self.end(life, Reason::NewPeer);
@@ -257,9 +268,10 @@ impl<const EVENTS: usize, const PACKETS: usize, const EARLY: usize> State<EVENTS
     #[inline(always)]
     #[tactic(auto, unfolding(crate::specs::LinkEnd::on_frame, crate::specs::LinkEnd::on_frame_in))]
     pub fn on_hello(&mut self, settings: &Settings, header: &Header, now: u64) -> Verdict
-        requires { HasLists EVENTS EARLY ⊎ length self.old.events < EVENTS }
+        requires { HasLists self.old.events.capacity self.old.held.capacity ⊎ length self.old.events.items < self.old.events.capacity }
         ensures verdict { result ≡ (on_frame (settings_in settings.now) (state_in self.old) (frame_of header.now Body.Hello) now).0 }
         ensures state { state_in self.new ≡ (on_frame (settings_in settings.now) (state_in self.old) (frame_of header.now Body.Hello) now).1 }
+        ensures rooms { rooms_in self.new ≡ rooms_in self.old }
     {
         if settings.is_foreign_hello(header) {
             return Verdict::Foreign;
@@ -278,10 +290,11 @@ impl<const EVENTS: usize, const PACKETS: usize, const EARLY: usize> State<EVENTS
     #[tactic(auto, unfolding(crate::specs::LinkEnd::on_frame, crate::specs::LinkEnd::on_frame_in))]
     pub fn on_frame(&mut self, settings: &Settings, frame: &BorrowedFrame<'_>, now: u64) -> Verdict
         requires accepted { self.old.accepted ≤ 2 ^ 62 }
-        requires held { length self.old.held ≤ WINDOW }
-        requires room { HasLists EVENTS EARLY ⊎ HasFrameRoom EVENTS frame.now (state_in self.old) }
+        requires held { length self.old.held.items ≤ WINDOW }
+        requires room { HasLists self.old.events.capacity self.old.held.capacity ⊎ HasFrameRoom self.old.events.capacity frame.now (state_in self.old) }
         ensures verdict { result ≡ (on_frame (settings_in settings.now) (state_in self.old) frame.now now).0 }
         ensures state { state_in self.new ≡ (on_frame (settings_in settings.now) (state_in self.old) frame.now now).1 }
+        ensures rooms { rooms_in self.new ≡ rooms_in self.old }
         ensures valid { IsFrame frame.now }
     {
         if settings.is_foreign(frame) {

@@ -1,10 +1,27 @@
-//! Writes to rings that have room.
-ghost use Rattle.std.specs.Prelude.{◌≡◌, ◌<◌, ◌∷◌, ◌++◌, [], length, slice_set};
+//! Rings of items whose room can be made larger.
+ghost use Rattle.std.specs.Prelude.{◌≡◌, ◌<◌, ◌≤◌, ◌∷◌, ◌++◌, [], length, drop, slice_get, slice_set, Some, OnErr, OnOk};
 ghost use Rattle.circular_buffer.specs.Buffer.{buffer};
 
 use circular_buffer::HeapCircularBuffer;
+use std::alloc::AllocError;
+
+/// How many places a ring has at least that has any: it grows from there by doubling.
+const FEWEST_PLACES: usize = 4;
+
+/// The item at a place.
+#[inline(always)]
+pub fn at<T: Copy + Drop>(ring: &HeapCircularBuffer<T>, place: usize) -> T
+    requires { place < length ring.now.items }
+    ensures { slice_get ring.now.items place ≡ Some result }
+{
+    let Some(item) = ring.get(place) else {
+        unreachable!()
+    };
+    *item
+}
 
 /// Appends an item.
+#[inline(always)]
 pub fn push<T: Drop>(ring: &mut HeapCircularBuffer<T>, item: T)
     requires { length ring.old.items < ring.old.capacity }
     ensures { ring.new ≡ buffer (ring.old.items ++ item ∷ []) ring.old.capacity }
@@ -23,4 +40,43 @@ pub fn set<T: Drop>(ring: &mut HeapCircularBuffer<T>, place: usize, item: T)
         unreachable!()
     };
     *slot = item;
+}
+
+/// Removes the first items.
+pub fn remove_first<T: Drop>(ring: &mut HeapCircularBuffer<T>, count: usize)
+    requires { count ≤ length ring.old.items }
+    ensures { ring.new ≡ buffer (drop count ring.old.items) ring.old.capacity }
+{
+    let left = ring.len() - count;
+    ring.truncate_front(left);
+}
+
+/// Makes room for this many items in all. A ring that has less room gets twice its places, or as many as are asked for.
+///
+/// # Errors
+/// Want of memory, which changes nothing.
+#[inline(always)]
+pub fn make_room<T: Drop>(ring: &mut HeapCircularBuffer<T>, places: usize) -> Result<(), AllocError>
+    ensures items { ring.new.items ≡ ring.old.items }
+    ensures more { ring.old.capacity ≤ ring.new.capacity }
+    ensures room { OnOk result (places ≤ ring.new.capacity) }
+    ensures same { OnErr result (ring.new ≡ ring.old) }
+{
+    if places <= ring.capacity() {
+        return Ok(());
+    }
+    grow(ring, places)
+}
+
+/// The same where the room has to grow. It is a call of its own, since it is seldom made.
+#[inline(never)]
+fn grow<T: Drop>(ring: &mut HeapCircularBuffer<T>, places: usize) -> Result<(), AllocError>
+    requires { ring.old.capacity < places }
+    ensures items { ring.new.items ≡ ring.old.items }
+    ensures more { ring.old.capacity ≤ ring.new.capacity }
+    ensures room { OnOk result (places ≤ ring.new.capacity) }
+    ensures same { OnErr result (ring.new ≡ ring.old) }
+{
+    let twice = 2 * ring.capacity();
+    ring.resize(places.max(twice).max(FEWEST_PLACES))
 }

@@ -1,14 +1,13 @@
 //! The state of a link end, and what each call makes of it.
-ghost use Rattle.std.specs.Prelude.{◌≡◌, ◌<◌, ◌≤◌, ◌+◌, ◌^◌, length, IfOk, IfSome, IsOk, MatchOption};
+ghost use Rattle.std.specs.Prelude.{◌≡◌, ◌<◌, ◌≤◌, ◌+◌, ◌^◌, length, IfOk, IsOk, MatchOption};
 ghost use Rattle.tora_arq.specs.LinkEnd.{after_open, after_end, after_bind, after_acknowledgement, after_delivery, after_release, bound_life, first_end, is_closed, is_silent, after_tick, on_submit, after_cut};
 ghost use Rattle.tora_arq.specs.Steady.{resumed};
 ghost use Rattle.tora_arq.specs.EndRange.{IsEndState};
 ghost use Rattle.tora_arq.specs.Rooms.{HasEventPlace};
-ghost use Rattle.tora_arq.specs.StateView.{settings_in, state_in};
+ghost use Rattle.tora_arq.specs.StateView.{rooms_in, rooms_of, settings_in, state_in};
 
 use crate::events::EventQueue;
 use crate::held::HeldPackets;
-use crate::near_queue::FRONT;
 use crate::phase::Phase;
 use crate::queue::SendQueue;
 use crate::settings::{Settings, ticks_passed};
@@ -17,10 +16,9 @@ use std::alloc::{AllocError, Global};
 use tora_frame::GREATEST_NUMBER;
 use tora_packet::Packet;
 
-/// The state of a link end with so many places for events, for packets that wait for their acknowledgement, and for packets that came early. What a
-/// HELLO and a tick look at stands in front.
+/// The state of a link end, with the room that its queues have. What a HELLO and a tick look at comes first.
 #[derive(Debug, Drop)]
-pub struct State<const EVENTS: usize, const PACKETS: usize, const EARLY: usize> {
+pub struct State {
     pub phase: Phase,
     /// The mark that the peer speaks version 2.
     pub speaks_two: bool,
@@ -43,21 +41,27 @@ pub struct State<const EVENTS: usize, const PACKETS: usize, const EARLY: usize> 
     /// The number of the last life, 0 before the first.
     pub last_life: u64,
     /// The packets submitted and not acknowledged.
-    pub queue: SendQueue<PACKETS>,
+    pub queue: SendQueue,
     /// The events that were not polled.
-    pub events: EventQueue<EVENTS>,
+    pub events: EventQueue,
     /// The packets of the peer that came early.
-    pub held: HeldPackets<EARLY>,
+    pub held: HeldPackets,
 }
 
-impl<const EVENTS: usize, const PACKETS: usize, const EARLY: usize> State<EVENTS, PACKETS, EARLY> {
-    /// A closed end that had no life.
-    pub fn new(alloc: Global) -> Result<State<EVENTS, PACKETS, EARLY>, AllocError>
-        ensures { IfOk result (λ s. state_in s ≡ first_end) }
+impl State {
+    /// A closed end that had no life, with room for this many events, packets that wait, and packets that came early.
+    pub fn new(
+        alloc: Global,
+        events: usize,
+        packets: usize,
+        early: usize,
+    ) -> Result<State, AllocError>
+        ensures state { IfOk result (λ s. state_in s ≡ first_end) }
+        ensures rooms { IfOk result (λ s. rooms_in s ≡ rooms_of events packets early) }
     {
-        let queue = SendQueue::new(alloc)?;
-        let held = HeldPackets::new(alloc)?;
-        let events = EventQueue::new(alloc)?;
+        let queue = SendQueue::new(alloc, packets)?;
+        let held = HeldPackets::new(alloc, early)?;
+        let events = EventQueue::new(alloc, events)?;
         Ok(State {
             phase: Phase::Closed,
             heard: 0,
@@ -75,6 +79,12 @@ impl<const EVENTS: usize, const PACKETS: usize, const EARLY: usize> State<EVENTS
             last_hello: None,
             last_hearing: 0,
         })
+    }
+
+    /// Reads what the other calls read first, as `GrowingEnd::prefetch` has it.
+    #[inline(always)]
+    pub fn prefetch(&self) -> u64 {
+        (self.queue.len() ^ self.events.len()) as u64 ^ self.last_hearing ^ self.last_life
     }
 
     /// Whether it has to be opened.
@@ -101,7 +111,8 @@ impl<const EVENTS: usize, const PACKETS: usize, const EARLY: usize> State<EVENTS
 
     /// Takes back what was said, heard and ticked at what was kept.
     pub fn resume(&mut self, steady: &Steady)
-        ensures { state_in self.new ≡ resumed steady.now (state_in self.old) }
+        ensures state { state_in self.new ≡ resumed steady.now (state_in self.old) }
+        ensures rooms { rooms_in self.new ≡ rooms_in self.old }
     {
         self.last_hello = Some(steady.said);
         self.last_hearing = steady.heard;
@@ -111,8 +122,9 @@ impl<const EVENTS: usize, const PACKETS: usize, const EARLY: usize> State<EVENTS
     /// Ends the bound life. It stands apart, since it is seldom done where it is asked for.
     #[inline(never)]
     pub fn end(&mut self, life: Life, reason: Reason)
-        requires { length self.old.events < EVENTS }
-        ensures { state_in self.new ≡ after_end (state_in self.old) life reason }
+        requires { length self.old.events.items < self.old.events.capacity }
+        ensures state { state_in self.new ≡ after_end (state_in self.old) life reason }
+        ensures rooms { rooms_in self.new ≡ rooms_in self.old }
     {
         self.phase = Phase::Closed;
         self.queue.clear();
@@ -125,8 +137,9 @@ impl<const EVENTS: usize, const PACKETS: usize, const EARLY: usize> State<EVENTS
 
     /// Binds a life.
     pub fn bind(&mut self, life: Life)
-        requires { length self.old.events < EVENTS }
-        ensures { state_in self.new ≡ after_bind (state_in self.old) life }
+        requires { length self.old.events.items < self.old.events.capacity }
+        ensures state { state_in self.new ≡ after_bind (state_in self.old) life }
+        ensures rooms { rooms_in self.new ≡ rooms_in self.old }
     {
         let is_changed = self.heard != life.peer;
         self.phase = Phase::Bound(life);
@@ -143,7 +156,8 @@ impl<const EVENTS: usize, const PACKETS: usize, const EARLY: usize> State<EVENTS
 
     /// The peer has accepted this many packets.
     pub fn acknowledge(&mut self, count: u64, now: u64)
-        ensures { state_in self.new ≡ after_acknowledgement (state_in self.old) count now }
+        ensures state { state_in self.new ≡ after_acknowledgement (state_in self.old) count now }
+        ensures rooms { rooms_in self.new ≡ rooms_in self.old }
     {
         self.queue
             .remove_first(count.saturating_sub(self.acknowledged));
@@ -153,9 +167,10 @@ impl<const EVENTS: usize, const PACKETS: usize, const EARLY: usize> State<EVENTS
 
     /// Delivers the next packet.
     pub fn deliver(&mut self, life: Life, packet: Packet)
-        requires room { length self.old.events < EVENTS }
+        requires room { length self.old.events.items < self.old.events.capacity }
         requires number { self.old.accepted + 1 < 2 ^ 64 }
-        ensures { state_in self.new ≡ after_delivery (state_in self.old) life packet self.old.held }
+        ensures state { state_in self.new ≡ after_delivery (state_in self.old) life packet self.old.held.items }
+        ensures rooms { rooms_in self.new ≡ rooms_in self.old }
     {
         self.accepted += 1;
         self.events.push(LinkEvent::Deliver(life, packet));
@@ -163,9 +178,10 @@ impl<const EVENTS: usize, const PACKETS: usize, const EARLY: usize> State<EVENTS
 
     /// Delivers the packets that are held, up to the first gap.
     pub fn release(&mut self, life: Life)
-        requires room { length self.old.events + length self.old.held < EVENTS }
-        requires number { self.old.accepted + length self.old.held < 2 ^ 64 }
-        ensures { state_in self.new ≡ after_release life (state_in self.old) self.old.held }
+        requires room { length self.old.events.items + length self.old.held.items < self.old.events.capacity }
+        requires number { self.old.accepted + length self.old.held.items < 2 ^ 64 }
+        ensures state { state_in self.new ≡ after_release life (state_in self.old) self.old.held.items }
+        ensures rooms { rooms_in self.new ≡ rooms_in self.old }
     {
         while let Some(packet) = self.held.take_first() {
             self.deliver(life, packet);
@@ -174,7 +190,8 @@ impl<const EVENTS: usize, const PACKETS: usize, const EARLY: usize> State<EVENTS
 
     /// Begins a life with an own number.
     pub fn open(&mut self, life: u64, now: u64)
-        ensures { state_in self.new ≡ after_open (state_in self.old) life now }
+        ensures state { state_in self.new ≡ after_open (state_in self.old) life now }
+        ensures rooms { rooms_in self.new ≡ rooms_in self.old }
     {
         self.phase = Phase::Unbound(life);
         self.heard = 0;
@@ -205,8 +222,9 @@ impl<const EVENTS: usize, const PACKETS: usize, const EARLY: usize> State<EVENTS
     #[tactic(auto, unfolding(crate::specs::LinkEnd::after_tick))]
     pub fn on_tick(&mut self, settings: &Settings, now: u64)
         requires end { IsEndState (settings_in settings.now) (state_in self.old) }
-        requires room { HasEventPlace EVENTS (state_in self.old) }
-        ensures { state_in self.new ≡ after_tick (settings_in settings.now) (state_in self.old) now }
+        requires room { HasEventPlace self.old.events.capacity (state_in self.old) }
+        ensures state { state_in self.new ≡ after_tick (settings_in settings.now) (state_in self.old) now }
+        ensures rooms { rooms_in self.new ≡ rooms_in self.old }
     {
         if let Phase::Bound(life) = self.phase {
             if self.is_silent(settings, now) {
@@ -218,11 +236,12 @@ impl<const EVENTS: usize, const PACKETS: usize, const EARLY: usize> State<EVENTS
     /// Takes a packet to the peer.
     #[tactic(auto, unfolding(crate::specs::LinkEnd::on_submit))]
     pub fn submit(&mut self, life: Life, packet: Packet) -> Result<(), SubmitError>
-        requires submitted { self.old.acknowledged + length self.old.queue ≤ 2 ^ 62 }
-        requires room { HasEventPlace EVENTS (state_in self.old) }
-        requires place { length self.old.queue < QUEUE_PLACES → length self.old.queue < PACKETS }
+        requires submitted { self.old.acknowledged + length self.old.queue.items ≤ 2 ^ 62 }
+        requires room { HasEventPlace self.old.events.capacity (state_in self.old) }
+        requires place { length self.old.queue.items < QUEUE_PLACES → length self.old.queue.items < self.old.queue.capacity }
         ensures answer { result ≡ (on_submit (state_in self.old) life packet).0 }
         ensures state { state_in self.new ≡ (on_submit (state_in self.old) life packet).1 }
+        ensures rooms { rooms_in self.new ≡ rooms_in self.old }
     {
         let Phase::Bound(current) = self.phase else {
             return Err(SubmitError::WrongLife(packet));
@@ -246,74 +265,14 @@ impl<const EVENTS: usize, const PACKETS: usize, const EARLY: usize> State<EVENTS
     /// Ends a life, where it is the bound one.
     #[tactic(auto, unfolding(crate::specs::LinkEnd::after_cut))]
     pub fn cut(&mut self, life: Life)
-        requires { HasEventPlace EVENTS (state_in self.old) }
-        ensures { state_in self.new ≡ after_cut (state_in self.old) life }
+        requires { HasEventPlace self.old.events.capacity (state_in self.old) }
+        ensures state { state_in self.new ≡ after_cut (state_in self.old) life }
+        ensures rooms { rooms_in self.new ≡ rooms_in self.old }
     {
         if let Phase::Bound(current) = self.phase {
             if current.is_same(life) {
                 self.end(current, Reason::Cut);
             }
         }
-    }
-}
-
-impl<const PLACES: usize> State<PLACES, PLACES, 0> {
-    /// The same state, with more places and the lists for them.
-    pub fn widened<const EVENTS: usize, const PACKETS: usize, const EARLY: usize>(
-        &self,
-        alloc: Global,
-    ) -> Result<State<EVENTS, PACKETS, EARLY>, AllocError>
-        requires events { (PLACES ≤ EVENTS) × (FRONT < EVENTS) }
-        requires packets { (PLACES ≤ PACKETS) × (FRONT < PACKETS) }
-        ensures { IfOk result (λ s. state_in s ≡ state_in self.now) }
-    {
-        let queue = self.queue.widened(alloc)?;
-        let held = self.held.widened(alloc)?;
-        let events = self.events.widened(alloc)?;
-        Ok(State {
-            phase: self.phase,
-            heard: self.heard,
-            last_life: self.last_life,
-            queue,
-            acknowledged: self.acknowledged,
-            transmitted: self.transmitted,
-            accepted: self.accepted,
-            held,
-            events,
-            speaks_two: self.speaks_two,
-            owes_hello: self.owes_hello,
-            owes_old_hello: self.owes_old_hello,
-            owes_ack: self.owes_ack,
-            last_hello: self.last_hello,
-            last_hearing: self.last_hearing,
-        })
-    }
-}
-
-impl<const EVENTS: usize, const PACKETS: usize, const EARLY: usize> State<EVENTS, PACKETS, EARLY> {
-    /// The same state without lists, where nothing stands in them.
-    pub fn narrowed(&self, alloc: Global) -> Option<State<FRONT, FRONT, 0>>
-        ensures same { IfSome result (λ s. state_in s ≡ state_in self.now) }
-        ensures events { IfSome result (λ _. length self.now.events ≡ 0) }
-    {
-        if self.queue.len() > 0 || self.events.len() > 0 || !self.held.is_empty() {
-            return None;
-        }
-        let Ok(mut near) = State::<FRONT, FRONT, 0>::new(alloc) else {
-            return None;
-        };
-        near.phase = self.phase;
-        near.heard = self.heard;
-        near.last_life = self.last_life;
-        near.acknowledged = self.acknowledged;
-        near.transmitted = self.transmitted;
-        near.accepted = self.accepted;
-        near.speaks_two = self.speaks_two;
-        near.owes_hello = self.owes_hello;
-        near.owes_old_hello = self.owes_old_hello;
-        near.owes_ack = self.owes_ack;
-        near.last_hello = self.last_hello;
-        near.last_hearing = self.last_hearing;
-        Some(near)
     }
 }

@@ -221,7 +221,7 @@ impl Steady {
     }
 }
 
-impl<const EVENTS: usize, const PACKETS: usize, const EARLY: usize> State<EVENTS, PACKETS, EARLY> {
+impl State {
     /// Whether nothing is owed but HELLOs in their time, no packet waits and no event does.
     fn is_at_ease(&self, settings: &Settings) -> bool
         ensures { result ≡ is_at_ease (settings_in settings.now) (state_in self.now) }

@@ -33,15 +33,15 @@ fn earliest(first: u64, other: Option<u64>) -> u64
     }
 }
 
-impl<const PLACES: usize> SendQueue<PLACES> {
+impl SendQueue {
     /// A tick, or that from which on a packet is due within the window, or given up, where that is earlier. It looks at no more than the
     /// window.
     #[inline(always)]
     fn still_until(&self, times: &Times, first: u64) -> u64
         requires retry { 0 < times.now.retry }
         requires tries { 0 < times.now.tries }
-        requires untried { AreUntried (drop WINDOW self.now) }
-        ensures { (most number tick : ℕ) → tick < last_tick → nat_le result tick ≡ nat_le first tick || (is_some (first_due times.now tick most number WINDOW self.now) || has_given_up times.now tick self.now) }
+        requires untried { AreUntried (drop WINDOW self.now.items) }
+        ensures { (most number tick : ℕ) → tick < last_tick → nat_le result tick ≡ nat_le first tick || (is_some (first_due times.now tick most number WINDOW self.now.items) || has_given_up times.now tick self.now.items) }
     {
         if self.len() == 0 {
             return first;
@@ -50,7 +50,7 @@ impl<const PLACES: usize> SendQueue<PLACES> {
     }
 }
 
-impl<const EVENTS: usize, const PACKETS: usize, const EARLY: usize> State<EVENTS, PACKETS, EARLY> {
+impl State {
     /// Whether a HELLO is due, whatever the tick.
     fn owes_any_hello(&self) -> bool
         ensures { result ≡ self.now.owes_hello || is_old_hello_due (state_in self.now) }
@@ -91,7 +91,7 @@ impl<const EVENTS: usize, const PACKETS: usize, const EARLY: usize> State<EVENTS
     /// From which tick on a frame is due, or a life ends.
     #[tactic(auto, unfolding(crate::specs::LinkEnd::on_transmit, crate::specs::LinkEnd::on_transmit_in, crate::specs::LinkEnd::after_tick))]
     #[inline(always)]
-    pub fn still_until(&self, settings: &Settings) -> u64
+    fn due_from(&self, settings: &Settings) -> u64
         requires { IsEndState (settings_in settings.now) (state_in self.now) }
         ensures { IsStillUntil (settings_in settings.now) (state_in self.now) result }
     {
@@ -100,5 +100,16 @@ impl<const EVENTS: usize, const PACKETS: usize, const EARLY: usize> State<EVENTS
             Phase::Unbound(_) => self.next_hello(settings),
             Phase::Bound(_) => self.still_in_life(settings),
         }
+    }
+
+    /// The tick before which no frame is due and no tick changes the end, and from which on a frame is due or a life ends.
+    #[inline(always)]
+    pub fn still_until(&self, settings: &Settings) -> u64
+        requires { IsEndState (settings_in settings.now) (state_in self.now) }
+        ensures exact { IsStillUntil (settings_in settings.now) (state_in self.now) result }
+        ensures frames { (tick : ℕ) → tick < result → is_some (frame_due (settings_in settings.now) (state_in self.now) tick) ≡ false }
+        ensures ticks { (tick : ℕ) → tick < result → after_tick (settings_in settings.now) (state_in self.now) tick ≡ state_in self.now }
+    {
+        self.due_from(settings)
     }
 }

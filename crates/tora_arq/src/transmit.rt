@@ -6,7 +6,7 @@ ghost use Rattle.tora_arq.specs.Settings.{IsLink};
 ghost use Rattle.tora_arq.specs.LinkEnd.{EndState, is_two, data_version, most_packets, is_hello, is_hello_due, is_old_hello_due, frame_sent, after_hello, after_old_hello, on_hello, due_of, on_transmit_due, on_transmit};
 ghost use Rattle.tora_arq.specs.EndRange.{IsEndState};
 ghost use Rattle.tora_arq.specs.NextDue.{is_any_due, is_due_in, IsNextDue, has_begun};
-ghost use Rattle.tora_arq.specs.StateView.{settings_in, state_in};
+ghost use Rattle.tora_arq.specs.StateView.{rooms_in, settings_in, state_in};
 
 use crate::Life;
 use crate::phase::Phase;
@@ -33,7 +33,7 @@ impl Settings {
     }
 }
 
-impl<const EVENTS: usize, const PACKETS: usize, const EARLY: usize> State<EVENTS, PACKETS, EARLY> {
+impl State {
     /// Whether a HELLO is owed, or it is long enough since the last one.
     fn is_hello_due(&self, settings: &Settings, now: u64) -> bool
         ensures { result ≡ is_hello_due (settings_in settings.now) (state_in self.now) now }
@@ -70,6 +70,7 @@ impl<const EVENTS: usize, const PACKETS: usize, const EARLY: usize> State<EVENTS
         ensures frame { frame_of result Body.Hello ≡ frame_sent (settings_in settings.now) settings.now.version life heard Body.Hello }
         ensures valid { IsHeader result }
         ensures state { state_in self.new ≡ after_hello (settings_in settings.now) (state_in self.old) now }
+        ensures rooms { rooms_in self.new ≡ rooms_in self.old }
     {
         self.owes_hello = false;
         self.owes_old_hello = is_two(settings.version);
@@ -85,6 +86,7 @@ impl<const EVENTS: usize, const PACKETS: usize, const EARLY: usize> State<EVENTS
         ensures frame { frame_of result Body.Hello ≡ frame_sent (settings_in settings.now) Version.One life heard Body.Hello }
         ensures valid { IsHeader result }
         ensures state { state_in self.new ≡ after_old_hello (state_in self.old) }
+        ensures rooms { rooms_in self.new ≡ rooms_in self.old }
     {
         self.owes_old_hello = false;
         settings.header(Version::One, life, heard)
@@ -102,9 +104,10 @@ impl<const EVENTS: usize, const PACKETS: usize, const EARLY: usize> State<EVENTS
         requires own { IsLifeNumber life.own }
         requires peer { IsLifeNumber life.peer }
         requires accepted { self.old.accepted ≤ 2 ^ 62 }
-        requires submitted { self.old.acknowledged + length self.old.queue ≤ 2 ^ 62 }
+        requires submitted { self.old.acknowledged + length self.old.queue.items ≤ 2 ^ 62 }
         ensures frame { result ≡ (on_transmit_due (settings_in settings.now) (state_in self.old) life (due_of (settings_in settings.now) (state_in self.old) now)).0 }
         ensures state { state_in self.new ≡ (on_transmit_due (settings_in settings.now) (state_in self.old) life (due_of (settings_in settings.now) (state_in self.old) now)).1 }
+        ensures rooms { rooms_in self.new ≡ rooms_in self.old }
     {
         let version = self.data_version();
         let header = settings.header(version, life.own, life.peer);
@@ -209,6 +212,7 @@ impl<const EVENTS: usize, const PACKETS: usize, const EARLY: usize> State<EVENTS
         requires heard { heard ≤ 2 ^ 62 }
         ensures frame { IfSome result (λ header. (other : Option FrameParts × EndState) → (on_hello (settings_in settings.now) (state_in self.old) life heard now other).0 ≡ Some (frame_of header Body.Hello)) }
         ensures state { IfSome result (λ _. (other : Option FrameParts × EndState) → state_in self.new ≡ (on_hello (settings_in settings.now) (state_in self.old) life heard now other).1) }
+        ensures rooms { rooms_in self.new ≡ rooms_in self.old }
         ensures valid { IfSome result (λ header. IsHeader header) }
         ensures none { IfNone result ((is_hello_due (settings_in settings.now) (state_in self.old) now ≡ false) × (is_old_hello_due (state_in self.old) ≡ false)) }
         ensures same { IfNone result (self.new ≡ self.old) }
@@ -228,6 +232,7 @@ impl<const EVENTS: usize, const PACKETS: usize, const EARLY: usize> State<EVENTS
         requires { IsEndState (settings_in settings.now) (state_in self.old) }
         ensures frame { IfSome result (λ header. (on_transmit (settings_in settings.now) (state_in self.old) now).0 ≡ Some (frame_of header Body.Hello)) }
         ensures state { IfSome result (λ _. state_in self.new ≡ (on_transmit (settings_in settings.now) (state_in self.old) now).1) }
+        ensures rooms { rooms_in self.new ≡ rooms_in self.old }
         ensures valid { IfSome result (λ header. IsHeader header) }
         ensures given { is_some result ≡ is_hello (on_transmit (settings_in settings.now) (state_in self.old) now).0 }
         ensures same { IfNone result (self.new ≡ self.old) }
@@ -250,6 +255,7 @@ impl<const EVENTS: usize, const PACKETS: usize, const EARLY: usize> State<EVENTS
         requires { IsEndState (settings_in settings.now) (state_in self.old) }
         ensures frame { result ≡ (on_transmit (settings_in settings.now) (state_in self.old) now).0 }
         ensures state { state_in self.new ≡ (on_transmit (settings_in settings.now) (state_in self.old) now).1 }
+        ensures rooms { rooms_in self.new ≡ rooms_in self.old }
     {
         match self.phase {
             Phase::Closed => None,

@@ -63,7 +63,7 @@ fn wake(steady: &mut Steady, parts: &mut LinkParts)
     steady.own = 0;
 }
 
-/// Keeps what HELLOs look at, where the end is steady, which then has no lists.
+/// Keeps what HELLOs look at, where the end is steady.
 #[inline(always)]
 fn keep(steady: &mut Steady, parts: &mut LinkParts)
     requires { is_none steady.old ≡ true }
@@ -73,7 +73,6 @@ fn keep(steady: &mut Steady, parts: &mut LinkParts)
 {
     if let Some(kept) = parts.steady() {
         *steady = kept;
-        parts.narrow();
     }
 }
 

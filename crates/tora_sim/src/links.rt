@@ -180,13 +180,6 @@ impl LinkParts {
         self.end.steady()
     }
 
-    /// Gives back what memory the end has for what waits at it, where nothing does.
-    pub fn narrow(&mut self)
-        ensures { self.new ≡ self.old }
-    {
-        self.end.narrow();
-    }
-
     /// Makes of the end what was said, heard and ticked at what was kept of it.
     pub fn resume(&mut self, steady: &Steady)
         requires { IsSteadyLink steady.now self.old }

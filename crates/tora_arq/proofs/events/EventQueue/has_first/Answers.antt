@@ -8,4 +8,4 @@ some_first [] = refl
 some_first (event ∷ events) = lt-ltb 0 (length (event ∷ events)) (omega arith)
 
 pub returns : goal.returns
-returns g c = ap (nat_lt 0) c.len.ensures.length ∙ some_first c.args.self.now
+returns c = ap (nat_lt 0) c.len.ensures.length ∙ some_first c.args.self.now.items

@@ -6,7 +6,7 @@ use Rattle.tora_arq.proofs.HeldLemmas.{padded_more}
 use Rattle.tora_arq.proofs.held.HeldPackets.pad.Goals as goal
 
 pub loop-preserved : goal.loop-preserved
-loop-preserved g c =
+loop-preserved c =
     let items : c.push.new.ring.items ≡ c.loop.self-inside.ring.items ++ None ∷ [] = ap (λ (b : Buffer (Option Packet)). b.items) c.push.ensures in
     let short : length c.loop.self-inside.ring.items ≡ c.loop.counter = c.loop.invariant.len in record {
       padded_is = ap (padded c.args.places) items ∙ padded_more c.args.places c.loop.self-inside.ring.items (omega (arith, short, c.loop-test.true)) ∙ c.loop.invariant.padded_is;

@@ -1,20 +1,10 @@
-use Rattle.std.proofs.Common.{◌≡◌, Option, Some, None, IfNone, sym, subst}
-use Rattle.std.specs.Prelude.{IfSome}
-use Rattle.tora_frame.specs.declared.parts.Header.{Header}
-use Rattle.tora_arq.specs.Settings.{Settings}
-use Rattle.tora_arq.specs.LinkEnd.{EndState}
+use Rattle.std.proofs.Common.{◌∙◌}
 use Rattle.tora_arq.specs.EndRange.{IsEndState}
-use Rattle.tora_arq.specs.declared.TheConstants.{EVENT_PLACES, QUEUE_PLACES, HELD_PLACES}
-use Rattle.tora_arq.specs.declared.state.State.{State}
 use Rattle.tora_arq.specs.StateView.{settings_in, state_in}
 use Rattle.tora_arq.proofs.RangeLemmas.{transmit_kept}
+use Rattle.tora_arq.proofs.PlaceLemmas.{after_some}
 use Rattle.tora_arq.proofs.link_end.LinkEnd.poll_hello.Goals as goal
-
-kept : (o : Option Header) (s : Settings) (old new : State EVENT_PLACES QUEUE_PLACES HELD_PLACES) (after : EndState) → IfSome o (λ _. state_in new ≡ after) → IfNone o (new ≡ old) → IsEndState s (state_in old) → IsEndState s after → IsEndState s (state_in new)
-kept None s old new after some none a b = subst (λ (x : State EVENT_PLACES QUEUE_PLACES HELD_PLACES). IsEndState s (state_in x)) (sym none) a
-kept (Some h) s old new after some none a b = subst (IsEndState s) (sym some) b
 
 pub invariant_of-self : goal.invariant_of-self
 invariant_of-self c =
-    kept c.poll_first_hello.result (settings_in c.self.inside.settings) c.self.inside.state c.poll_first_hello.new.self _ c.poll_first_hello.ensures.state c.poll_first_hello.ensures.same c.self.invariant
-    (transmit_kept (settings_in c.self.inside.settings) (state_in c.self.inside.state) c.args.now c.self.invariant)
+    (after_some (IsEndState (settings_in c.self.inside.settings)) c.poll_first_hello.result c.self.inside.state c.poll_first_hello.new.self _ c.poll_first_hello.ensures.state c.poll_first_hello.ensures.same c.self.invariant.0 (transmit_kept (settings_in c.self.inside.settings) (state_in c.self.inside.state) c.args.now c.self.invariant.0), c.poll_first_hello.ensures.rooms ∙ c.self.invariant.1)

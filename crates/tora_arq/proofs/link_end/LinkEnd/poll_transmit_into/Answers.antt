@@ -7,7 +7,7 @@ use Rattle.tora_arq.proofs.link_end.LinkEnd.poll_transmit_into.Goals as goal
 
 pub invariant_of-self : goal.invariant_of-self
 invariant_of-self c =
-    subst (IsEndState (settings_in c.self.inside.settings)) (sym c.poll_transmit.ensures.state) (transmit_kept (settings_in c.self.inside.settings) (state_in c.self.inside.state) c.args.now c.self.invariant)
+    (subst (IsEndState (settings_in c.self.inside.settings)) (sym c.poll_transmit.ensures.state) (transmit_kept (settings_in c.self.inside.settings) (state_in c.self.inside.state) c.args.now c.self.invariant.0), c.poll_transmit.ensures.rooms ∙ c.self.invariant.1)
 
 pub returns-clause-none : goal.returns-clause-none
 returns-clause-none c =

@@ -1,4 +1,4 @@
-use Rattle.std.proofs.Common.{sym, subst}
+use Rattle.std.proofs.Common.{sym, subst, ◌∙◌}
 use Rattle.tora_arq.specs.EndRange.{IsEndState}
 use Rattle.tora_arq.specs.StateView.{settings_in, state_in}
 use Rattle.tora_arq.proofs.RangeLemmas.{submit_kept}
@@ -6,4 +6,4 @@ use Rattle.tora_arq.proofs.link_end.LinkEnd.submit.Goals as goal
 
 pub invariant_of-self : goal.invariant_of-self
 invariant_of-self c =
-    subst (IsEndState (settings_in c.self.inside.settings)) (sym c.submit.ensures.state) (submit_kept (settings_in c.self.inside.settings) (state_in c.self.inside.state) c.args.life c.args.packet c.self.invariant)
+    (subst (IsEndState (settings_in c.self.inside.settings)) (sym c.submit.ensures.state) (submit_kept (settings_in c.self.inside.settings) (state_in c.self.inside.state) c.args.life c.args.packet c.self.invariant.0), c.submit.ensures.rooms ∙ c.self.invariant.1)

@@ -5,9 +5,9 @@ use Rattle.tora_arq.proofs.DueLemmas.{is_queue_due, one_more, no_more, queue_due
 use Rattle.tora_arq.proofs.queue.SendQueue.due_tick.Goals as goal
 
 pub loop-place-preserved : goal.loop-place-preserved
-loop-place-preserved g c = λ tick lt.
+loop-place-preserved c = λ tick lt.
     let times = c.args.times.now in
-    let queue = c.args.self.now in
+    let queue = c.args.self.now.items in
     let place = c.loop-place.place in
     let one : suc place ≡ place + 1 = omega arith in
     c.earlier-first.ensures tick
@@ -17,9 +17,9 @@ loop-place-preserved g c = λ tick lt.
     ∙ ap (λ (n : ℕ). is_queue_due times tick n queue) one
 
 pub returns : goal.returns
-returns g c = λ most number tick lt.
+returns c = λ most number tick lt.
     let times = c.args.times.now in
-    let queue = c.args.self.now in
+    let queue = c.args.self.now.items in
     let all : c.loop-place.place ≡ min WINDOW (length queue) = omega (arith, c.within_window-place-end.ensures, c.loop-place-test.false, c.loop-place.auto.place-end) in
     c.loop-place.invariant tick lt
     ∙ ap (λ (n : ℕ). is_queue_due times tick n queue) all

@@ -5,4 +5,4 @@ use Rattle.tora_arq.proofs.queue.SendQueue.due_tick.Given as goal
 
 -- of the packets so far
 abbrev pub invariant-loop-place : goal.invariant-loop-place
-invariant-loop-place g l = (tick : ℕ) → tick < 2 ^ 64 → has_begun l.first tick ≡ is_queue_due l.times tick l.place l.self
+invariant-loop-place l = (tick : ℕ) → tick < 2 ^ 64 → has_begun l.first tick ≡ is_queue_due l.times tick l.place l.self.items

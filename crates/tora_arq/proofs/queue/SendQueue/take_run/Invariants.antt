@@ -5,9 +5,10 @@ use Rattle.tora_arq.proofs.queue.SendQueue.take_run.Given as goal
 
 -- what is taken, and what is left to take, are those of the queue as it was
 abbrev pub invariant-loop-at : goal.invariant-loop-at
-invariant-loop-at g l = record {
-  taking : Taking l.times l.now (l.end - l.at) l.at l.packets.items l.self (ready_run l.times l.now (l.end - l.place) (drop l.place l.fn.self)).packets
-      (take l.place l.fn.self ++ (ready_run l.times l.now (l.end - l.place) (drop l.place l.fn.self)).queue);
+invariant-loop-at l = record {
+  taking : Taking l.times l.now (l.end - l.at) l.at l.packets.items l.self.items (ready_run l.times l.now (l.end - l.place) (drop l.place l.fn.self.items)).packets
+      (take l.place l.fn.self.items ++ (ready_run l.times l.now (l.end - l.place) (drop l.place l.fn.self.items)).queue);
   taken : length l.packets.items + l.place ≡ l.at;
-  len : length l.self ≡ length l.fn.self;
+  len : length l.self.items ≡ length l.fn.self.items;
+  room : l.self.capacity ≡ l.fn.self.capacity;
 }

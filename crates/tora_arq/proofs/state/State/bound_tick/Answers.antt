@@ -8,7 +8,7 @@ use Rattle.tora_arq.proofs.DueLemmas.{all_due, sent_due}
 use Rattle.tora_arq.proofs.state.State.bound_tick.Goals as goal
 
 pub returns : goal.returns
-returns g c = λ life tick lt.
+returns c = λ life tick lt.
     let s = settings_in c.args.settings.now in
     let e = state_in c.args.self.now in
     let hello = is_hello_due s e tick || is_old_hello_due e in

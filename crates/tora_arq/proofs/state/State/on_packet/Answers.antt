@@ -10,30 +10,37 @@ use Rattle.tora_arq.specs.EndRange.{HasRoom}
 use Rattle.tora_arq.proofs.state.State.on_packet.Goals as goal
 use Rattle.tora_arq.proofs.state.State.on_packet.Goals.{else-place-eq0-via-then-place-eq0+else-is_empty, else-place-eq0-via-else-place-eq0}
 
-pub returns-then-is_empty : goal.returns-then-is_empty
-returns-then-is_empty g c =
-    let empty : c.args.self.now.held ≡ [] = nil_from_length c.args.self.now.held (eqb-true (length c.args.self.now.held) 0 (sym c.is_empty.ensures ∙ c.if-is_empty.true)) in
-    c.deliver.ensures ∙ ap (after_delivery (state_in c.args.self.now) c.args.life c.args.packet) empty
+pub returns-then-is_empty-clause-state : goal.returns-then-is_empty-clause-state
+returns-then-is_empty-clause-state c =
+    let empty : c.args.self.now.held.items ≡ [] = nil_from_length c.args.self.now.held.items (eqb-true (length c.args.self.now.held.items) 0 (sym c.is_empty.ensures ∙ c.if-is_empty.true)) in
+    c.deliver.ensures.state ∙ ap (after_delivery (state_in c.args.self.now) c.args.life c.args.packet) empty
     ∙ sym (next_packet c.args.life c.args.furthest (state_in c.args.self.now) c.args.number c.args.packet empty (omega (arith, c.if-number-self.false, c.if-place-eq0.true)) (omega (arith, c.if-number-furthest.false)))
 
-pub returns-else-place-eq0 : goal.returns-else-place-eq0
-returns-else-place-eq0 g c =
-    c.hold.ensures
+pub returns-else-place-eq0-clause-state : goal.returns-else-place-eq0-clause-state
+returns-else-place-eq0-clause-state c =
+    c.hold.ensures.state
     ∙ sym (held_packet c.args.life c.args.furthest (state_in c.args.self.now) c.args.number (c.args.number - c.args.self.now.accepted - 1) c.args.packet (omega (arith, c.if-number-self.false)) (omega (arith, c.if-number-furthest.false)))
 
 pub deliver-requires : goal.deliver-requires
-deliver-requires g c =
-    (omega arith, (deliver_room g.row.EVENTS g.row.EARLY c.args.furthest (state_in c.args.self.now) c.args.number c.if-number-self.false c.if-number-furthest.false c.requires.room, omega (arith, c.requires.accepted)))
+deliver-requires c =
+    record { room = deliver_room c.args.self.now.events.capacity c.args.self.now.held.capacity c.args.furthest (state_in c.args.self.now) c.args.number c.if-number-self.false c.if-number-furthest.false c.requires.room; number = omega (arith, c.requires.accepted) }
 
 not_both : true ≡ false → ⊥
 not_both h = absurd cc
 
 pub hold-requires : goal.hold-requires
-hold-requires g c =
+hold-requires c =
     let e = state_in c.args.self.now in
     let apart : e.held ≡ [] → c.args.number ≤ e.accepted + 1 → ⊥ = λ none near. elim c.else-place-eq0.branch [
       | else-place-eq0-via-then-place-eq0+else-is_empty w ↦ not_both (sym (ap (λ (xs : List (Option Packet)). length xs == 0) none) ∙ sym w.is_empty.ensures ∙ w.if-is_empty.false)
       | else-place-eq0-via-else-place-eq0 w ↦ absurd (omega (arith, near, c.if-number-self.false, w.if-place-eq0.false))
     ] in
-    let r : (WINDOW ≤ g.row.EARLY) × HasRoom g.row.EVENTS WINDOW c.args.furthest e = held_room g.row.EVENTS g.row.EARLY c.args.furthest e c.args.number apart c.requires.room in
-    (omega arith, (omega (arith, r.0, r.1.near, c.if-number-furthest.false), (omega (arith, r.1.near, c.if-number-furthest.false, c.if-number-self.false), (omega (arith, r.1.near, r.1.held), (omega (arith, r.1.room, r.1.held), (omega (arith, r.1.room, c.if-number-furthest.false, c.if-number-self.false), c.requires.accepted))))))
+    let r : (WINDOW ≤ c.args.self.now.held.capacity) × HasRoom c.args.self.now.events.capacity WINDOW c.args.furthest e = held_room c.args.self.now.events.capacity c.args.self.now.held.capacity c.args.furthest e c.args.number apart c.requires.room in
+    record {
+      place = omega (arith, r.0, r.1.near, c.if-number-furthest.false);
+      near = omega (arith, r.1.near, c.if-number-furthest.false, c.if-number-self.false);
+      held = omega (arith, r.1.near, r.1.held);
+      room = omega (arith, r.1.room, r.1.held);
+      place_room = omega (arith, r.1.room, c.if-number-furthest.false, c.if-number-self.false);
+      accepted = c.requires.accepted;
+    }

@@ -1,7 +1,0 @@
-use Rattle.std.proofs.Common.{◌≡◌, ◌++◌, take}
-use Rattle.std.specs.Prelude.{vec_capacity}
-use Rattle.tora_arq.proofs.fifo.append_all.Given as goal
-
--- those so far stand behind the others, and there is room for the rest
-abbrev pub invariant-loop-at : goal.invariant-loop-at
-invariant-loop-at g l = (l.list.items ≡ l.initial.list.items ++ take l.at l.items) × (vec_capacity l.list ≡ vec_capacity l.initial.list)

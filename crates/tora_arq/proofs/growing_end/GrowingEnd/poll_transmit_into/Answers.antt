@@ -1,0 +1,18 @@
+use Rattle.std.proofs.Common.{sym, ap, ◌∙◌}
+use Rattle.tora_arq.specs.EndRange.{link_end_of}
+use Rattle.tora_arq.specs.StateView.{settings_in, state_in}
+use Rattle.tora_arq.proofs.FactCalls.{if_none, transmit-idle}
+use Rattle.tora_arq.proofs.RangeLemmas.{transmit_kept}
+use Rattle.tora_arq.proofs.PlaceLemmas.{transmit_place, keeps}
+use Rattle.tora_arq.proofs.growing_end.GrowingEnd.poll_transmit_into.Goals as goal
+
+pub invariant_of-self : goal.invariant_of-self
+invariant_of-self c =
+    keeps (settings_in c.self.inside.settings) c.self.inside.state c.poll_transmit.new.self _ c.poll_transmit.ensures.state c.poll_transmit.ensures.rooms (transmit_kept (settings_in c.self.inside.settings) (state_in c.self.inside.state) c.args.now c.self.invariant.0)
+    (transmit_place c.self.inside.state.events.capacity (settings_in c.self.inside.settings) (state_in c.self.inside.state) c.args.now c.self.invariant.1)
+
+pub returns-clause-none : goal.returns-clause-none
+returns-clause-none c =
+    if_none c.poll_transmit.result _ (λ q.
+    ap (link_end_of (settings_in c.self.inside.settings)) (c.poll_transmit.ensures.state ∙ transmit-idle (settings_in c.self.inside.settings) (state_in c.self.inside.state) c.args.now (sym c.poll_transmit.ensures.frame ∙ q))
+    ∙ c.self.view_is)
