@@ -6,7 +6,7 @@ use circular_buffer::HeapCircularBuffer;
 use std::alloc::AllocError;
 
 /// How many places a ring has at least that has any: it grows from there by doubling.
-pub const FEWEST_PLACES: usize = 4;
+const FEWEST_PLACES: usize = 4;
 
 /// The item at a place.
 #[inline(always)]
