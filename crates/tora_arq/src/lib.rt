@@ -2,6 +2,7 @@
 //!
 //! TORA presupposes links whose status is sensed and over which control packets come once and in order
 //! (draft-ietf-manet-tora-spec-04). This crate gives such links over datagrams that may be lost, repeated or reordered.
+//! Own profile.
 //!
 //! ```rust
 //! let mut one = LinkEnd::new(alloc, 1, 2, Times::STANDARD)?;
@@ -62,18 +63,18 @@ pub use submit_error::SubmitError;
 pub use times::Times;
 pub use verdict::Verdict;
 
-/// How many packets of a life may be under way, transmitted and not acknowledged.
+/// How many packets of a life may be under way, transmitted and not acknowledged. Own profile.
 pub const WINDOW: u64 = 32;
 
-/// How many events of a link end may wait to be polled: twice a window.
+/// How many events of a link end may wait to be polled: twice a window. Own profile.
 pub const EVENT_PLACES: usize = 2 * WINDOW as usize;
 
 /// How many places for events have to be free where a frame comes: for the event that a life is bound, for the packets of a
-/// window, and for the event that the life ended.
+/// window, and for the event that the life ended. Own profile.
 pub const PLACES_OF_A_FRAME: usize = WINDOW as usize + 2;
 
 /// How many packets that came early are held at most: a window.
 const HELD_PLACES: usize = WINDOW as usize;
 
-/// How many packets of a life may wait for their acknowledgement.
+/// How many packets of a life may wait for their acknowledgement. Own profile.
 pub const QUEUE_PLACES: usize = 256;

@@ -22,7 +22,7 @@ use tora_frame::{BorrowedFrame, Frame, Header, Packets, Version};
 use tora_height::Id;
 use tora_packet::Packet;
 
-/// The end of a link to one neighbour.
+/// The end of a link to one neighbour. Own profile.
 ///
 /// It is closed at first. A caller draws a number that it never drew before and opens the end with it; by HELLOs the
 /// two ends then bind a life, in which each sends packets that the other delivers once and in order. A life that ends

@@ -4,7 +4,7 @@ ghost use Rattle.tora_arq.specs.Lives.{reason_number};
 
 use std::fmt;
 
-/// Why a life ended.
+/// Why a life ended. Own profile.
 #[derive(Clone, Copy, Debug, PartialEq, Eq, Hash)]
 pub enum Reason {
     /// The peer was not heard, or did not acknowledge a packet.

@@ -20,7 +20,7 @@ use tora_height::Id;
 ///
 /// Whoever keeps many link ends can keep these close together, and the ends apart: `LinkEnd::steady` gives what is kept of an end,
 /// the calls here do what the same calls of the end would do, and `LinkEnd::resume` makes of the end what they made of it, before any
-/// other call.
+/// other call. Own profile.
 #[derive(Clone, Copy, Debug, PartialEq, Eq)]
 pub struct Steady {
     /// The tick of the last HELLO, those of version 1 that follow one of version 2 apart.
