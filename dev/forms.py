@@ -21,7 +21,7 @@ SENTENCES = {
     "Replay": ["node I links LIST dests LIST", "send HEX", "bad N", "refused N", "to D height H flag F hop K"],
     "Simulation files": ["dests LIST", "link A B", "old N", "erasure N WORD"],
     "Commands and log of a node": ["need D", "cut K", "show", "json", "watch", "quit", "help"],
-    "What a node tells programs": ["height D H", "hop D K"],
+    "What a node prints for programs": ["height D H", "hop D K"],
 }
 
 
