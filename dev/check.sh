@@ -266,7 +266,7 @@ check_keys() {
   refuses 1 'is missing, and the link leaves the loopback' "$program" node --check "$work/1.toml"
 }
 
-# What a node tells programs: `watch` tells its heights and next hops as they change, `json` its state, as docs/status.schema.json has
+# What a node prints for programs: `watch` tells its heights and next hops as they change, `json` its state, as docs/status.schema.json has
 # it where there is the module jsonschema (package python3-jsonschema).
 check_status() {
   local program=$here/../crates/tora/out/tora n

@@ -15,13 +15,13 @@ import sys
 TOP = os.path.dirname(os.path.dirname(os.path.realpath(__file__)))
 MANUAL, HELP = "docs/man", "crates/tora_commands/src/command_line.rt"
 # The sections of formats.md with tables of forms, and who repeats them.
-SECTIONS = {"Replay": [MANUAL, HELP], "Simulation files": [MANUAL, HELP], "Driving": [MANUAL, HELP], "Traces": [MANUAL]}
+SECTIONS = {"Replay": [MANUAL, HELP], "Simulation files": [MANUAL, HELP], "External control": [MANUAL, HELP], "Traces": [MANUAL]}
 # Forms that stand in sentences of formats.md.
 SENTENCES = {
     "Replay": ["node I links LIST dests LIST", "send HEX", "bad N", "refused N", "to D height H flag F hop K"],
     "Simulation files": ["dests LIST", "link A B", "old N", "erasure N WORD"],
     "Commands and log of a node": ["need D", "cut K", "show", "json", "watch", "quit", "help"],
-    "What a node tells programs": ["height D H", "hop D K"],
+    "What a node prints for programs": ["height D H", "hop D K"],
 }
 
 

@@ -2,6 +2,7 @@
 from __future__ import annotations
 
 import csv
+import dataclasses
 import json
 import os
 import subprocess
@@ -9,11 +10,19 @@ import sys
 import threading
 from pathlib import Path
 
+import numpy as np
 import pytest
 
 from conftest import REPOSITORY, STORED
 from study_stub import write_stub
+from test_routes import NODE, ROUTES
 from tora.cli import main
+from tora.errors import StudyError
+from tora.heights import places_of
+from tora.routes.configuration import read
+from tora.routes.lines import Hops
+from tora.routes.table import found_routes
+from tora.run import Run
 
 STUDIES = REPOSITORY / "docs" / "studies"
 
@@ -163,3 +172,23 @@ def test_a_folder_with_quotes(tmp_path: Path, capsys: pytest.CaptureFixture[str]
     )
     assert done.returncode == 0, done.stderr
     assert (folder / "study.csv").read_text().count("\n") == 3
+
+
+@pytest.mark.parametrize("corner", [-5_000.0, 9_000_000.0])
+def test_pictures_are_neither_mirrored_nor_collapsed(corner: float) -> None:
+    """Coordinates may be negative or large: right stays right, up stays up, and distances keep their ratio."""
+    scenario = Run.read(STORED / "6-1.json", STORED / "6-1.trace").scenario
+    points = np.array([[0.0, 0], [300, 0], [300, 200]])
+    found = places_of(dataclasses.replace(scenario, positions=np.array([points + corner]), rounds=10, sample=10), 1)
+    assert found - found[0] == pytest.approx(points / 30, abs=1e-6)
+
+
+def test_what_a_node_prints_reaches_no_shell_and_makes_no_address(tmp_path: Path) -> None:
+    """A next hop is two numbers and nothing behind them, and routes go to the prefixes of the configuration alone."""
+    with pytest.raises(StudyError, match="which is no line of `watch`"):
+        Hops().take("hop 4 2;reboot")
+    (tmp_path / "1.toml").write_text(NODE)
+    (tmp_path / "routes.toml").write_text(ROUTES.format(node=tmp_path / "1.toml"))
+    hops, held = Hops(), read(str(tmp_path / "routes.toml"))
+    assert hops.take("hop 4 2") and len(found_routes(held, hops.hops, {"eth0", "eth1"})) == 3
+    assert hops.take("hop 300 2") and len(found_routes(held, hops.hops, {"eth0", "eth1"})) == 3

@@ -1,4 +1,4 @@
-"""TORA's rules for one node in the own process, by the shared library `libtora`: no program is started.
+"""TORA's rules for one node inside this process, by the shared library `libtora`; no program is started.
 
 >>> import tora
 >>> with tora.Core(3, neighbours=[2, 4], destinations=[4]) as core:    # doctest: +SKIP
@@ -25,16 +25,16 @@ class Core(Handle):
     me : int
         The node, from 1 on.
     neighbours : iterable of int
-        The nodes to which there may ever be a link: at most 255.
+        All nodes with which this node may ever have a link, at most 255.
     destinations : iterable of int
         The destinations of the table: at most 64.
     erasure : Erasure, optional
-        What becomes of erased reference levels.
+        How the node treats erased reference levels.
 
     Raises
     ------
     LibraryError
-        Where there is no such core.
+        If these arguments make no core.
     """
 
     _KIND = "core"
@@ -46,7 +46,7 @@ class Core(Handle):
         self._make(me, neighbours, destinations, int(erasure))
 
     def clone(self) -> Core:
-        """A second core with the same state."""
+        """A copy of the core."""
         second = Core.__new__(Core)
         second._handle, second._library = _Handle(), self._library
         done(self._call("clone", second._handle))
@@ -57,23 +57,23 @@ class Core(Handle):
         return self.sent()
 
     def link_up(self, k: int, now: int) -> list[bytes]:
-        """The link to neighbour `k` came up at the tick `now`: the packets to every neighbour whose link is up."""
+        """Report that the link to neighbour `k` came up at the tick `now`. Returns the packets to broadcast."""
         return self._step("link_up", node("k", k), tick(now))
 
     def link_down(self, k: int, now: int) -> list[bytes]:
-        """The link to neighbour `k` went down at the tick `now`: the packets to every neighbour whose link is up."""
+        """Report that the link to neighbour `k` went down at the tick `now`. Returns the packets to broadcast."""
         return self._step("link_down", node("k", k), tick(now))
 
     def need(self, d: int, now: int) -> list[bytes]:
-        """A route to `d` is needed at the tick `now`: the packets to every neighbour whose link is up."""
+        """Ask for a route to `d` at the tick `now`. Returns the packets to broadcast."""
         return self._step("need", node("d", d), tick(now))
 
     def packet(self, k: int, packet: bytes, now: int) -> list[bytes]:
-        """A packet came from neighbour `k` at the tick `now`: the packets to every neighbour whose link is up."""
+        """Hand in a packet from neighbour `k` at the tick `now`. Returns the packets to broadcast."""
         return self._step("packet", node("k", k), spelt(packet), len(packet), tick(now))
 
     def sent(self) -> list[bytes]:
-        """The packets that the last input gave which was not refused."""
+        """The packets that the last accepted input gave, which go to every neighbour whose link is up."""
         count, length, room = c_size_t(), c_size_t(), (c_uint8 * LONGEST_PACKET)()
         done(self._call("sent_count", byref(count)))
         found = []

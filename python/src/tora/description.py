@@ -11,7 +11,6 @@ import json
 from collections.abc import Iterable, Iterator, Sequence
 from typing import TYPE_CHECKING, Any
 
-import jsonschema
 import numpy as np
 
 from tora import bounds
@@ -90,6 +89,8 @@ def schema() -> dict[str, Any]:
 @functools.cache
 def validator() -> Any:
     """A validator of the schema, to which 1.0 is no whole number."""
+    import jsonschema  # only what reads a description needs it
+
     base = jsonschema.Draft202012Validator
     checker = base.TYPE_CHECKER.redefine(
         "integer", lambda _, value: isinstance(value, int) and not isinstance(value, bool)

@@ -7,7 +7,7 @@ MOST_SHOWN = 40  # characters of a word that an error repeats
 
 
 class StudyError(Exception):
-    """Bad input, or something that can't be done with it.
+    """Bad input, or something that cannot be done with it.
 
     Parameters
     ----------
@@ -18,7 +18,7 @@ class StudyError(Exception):
     line : int, optional
         Its line, from 1.
     key : str, optional
-        The key at fault, as ``links[3]``, or the name of an option.
+        The key at fault, such as ``links[3]``, or the name of an option.
 
     Attributes
     ----------

@@ -315,7 +315,7 @@ class Handle:
         return self._height("height", node("d", d))
 
     def entry(self, d: int, k: int) -> Height | None:
-        """The height that neighbour `k` told for destination `d`; None where it is NULL."""
+        """The height that neighbour `k` sent last for destination `d`; None if it is NULL."""
         return self._height("entry", node("d", d), node("k", k))
 
     def next_hop(self, d: int) -> int | None:

@@ -171,8 +171,9 @@ def _version(program: Program, identity: Identity) -> str:
     return program.version()
 
 
+@functools.cache
 def library_version(name: str) -> str | None:
-    """The version of a library that is installed."""
+    """The version of a library that is installed; it is looked up once in a process."""
     try:
         return importlib.metadata.version(name)
     except importlib.metadata.PackageNotFoundError:

@@ -1,4 +1,4 @@
-"""A whole node of TORA in the own process, by the shared library `libtora`: no sockets, threads or clocks.
+"""A whole node of TORA inside this process, by the shared library `libtora`: no sockets, threads or clocks.
 
 >>> import tora
 >>> with tora.Router(1, neighbours=[2], destinations=[9], first_life=1) as router:    # doctest: +SKIP
@@ -7,7 +7,7 @@
 ...         send(peer, datagram)
 
 A tick is 100 ms. Datagrams may be lost, repeated, reordered and delayed; the host forges none. `tora.h` of the library
-says what a host does in which order, and what it owes.
+says what a host must do, and in which order.
 """
 from __future__ import annotations
 
@@ -22,18 +22,18 @@ LONGEST_DATAGRAM = 560  # bytes
 
 
 class Times(NamedTuple):
-    """The times of a router's links. A part that is 0 stands for the standard one.
+    """The times of a router's links. A part of 0 means the standard value.
 
     Attributes
     ----------
     hello : int
-        How many ticks after a HELLO the next one is due; standard: 10.
+        Ticks from one HELLO to the next; standard: 10.
     silent : int
-        After how many ticks without hearing the neighbour a link goes down; standard: 50.
+        Ticks without a frame from the neighbour after which a link goes down; standard: 50.
     retry : int
-        How many ticks after its last try a packet is due again, or is given up; standard: 5.
+        Ticks from one try of a packet to the next, or until it is given up; standard: 5.
     tries : int
-        How many times a packet is sent before it is given up; standard: 8.
+        Tries of a packet before it is given up; standard: 8.
     """
 
     hello: int = 0
@@ -43,7 +43,7 @@ class Times(NamedTuple):
 
 
 class Intake(enum.IntEnum):
-    """What a router made of a datagram. From 11 to 20 its bytes spell no frame."""
+    """The outcome of a datagram. From 11 to 20, its bytes are no frame."""
 
     ACCEPTED = 1
     REPEATED = 2
@@ -92,9 +92,9 @@ class Change(NamedTuple):
     node : int
         The neighbour, or the destination.
     hop : int or None
-        The next hop; None where there is none, and of a link.
+        The next hop; None if there is none, and for a link.
     reason : Reason or None
-        Why a link is down; else None.
+        Why a link is down; None otherwise.
     """
 
     kind: Kind
@@ -104,7 +104,7 @@ class Change(NamedTuple):
 
 
 class Tally(NamedTuple):
-    """How many datagrams of a neighbour came to what; those that are bad spell no frame."""
+    """Counts of a neighbour's datagrams by outcome; bad ones are no frame."""
 
     accepted: int
     repeated: int
@@ -123,20 +123,21 @@ class Router(Handle):
     me : int
         The node, from 1 on.
     neighbours : iterable of int
-        The nodes to which there may ever be a link: at most 255.
+        All nodes with which this node may ever have a link, at most 255.
     destinations : iterable of int
         The destinations of the table: at most 64.
     erasure : Erasure, optional
-        What becomes of erased reference levels.
+        How the node treats erased reference levels.
     times : Times, optional
         The times of its links.
     first_life : int
-        The first life number, from 1 to 2^62: none from it on was ever given to a link of this node.
+        The first number of a link session (life), from 1 to 2^62. No link of this node ever had this number or a
+        higher one.
 
     Raises
     ------
     LibraryError
-        Where there is no such router.
+        If these arguments make no router.
     """
 
     _KIND = "router"
@@ -158,25 +159,25 @@ class Router(Handle):
         self._make(me, neighbours, destinations, int(erasure), byref(parts), life)
 
     def datagram(self, peer: int, datagram: bytes, now: int) -> Intake:
-        """A datagram of any bytes came from node `peer` at the tick `now`: what was made of it."""
+        """Hand in the bytes of a datagram from node `peer` at the tick `now`. Returns the outcome."""
         intake = c_uint32()
         done(self._call("datagram", node("peer", peer), spelt(datagram), len(datagram), tick(now), byref(intake)))
         return Intake(intake.value)
 
     def tick(self, now: int) -> None:
-        """It is the tick `now`: closed links open, and silent ones go down."""
+        """Report the tick `now`: closed links open, and silent ones go down."""
         done(self._call("tick", tick(now)))
 
     def need(self, d: int, now: int) -> None:
-        """A route to destination `d` is needed at the tick `now`."""
+        """Ask for a route to destination `d` at the tick `now`."""
         done(self._call("need", node("d", d), tick(now)))
 
     def cut(self, peer: int, now: int) -> None:
-        """The link to neighbour `peer` was lost at the tick `now`; the next tick opens it anew."""
+        """Report that the link to neighbour `peer` was lost at the tick `now`. The next tick opens it again."""
         done(self._call("cut", node("peer", peer), tick(now)))
 
     def poll_datagram(self, now: int) -> tuple[int, bytes] | None:
-        """The next datagram to be sent at the tick `now`, and the neighbour that it is for; None where none is due."""
+        """The next datagram to send at the tick `now`, after the neighbour that it is for; None if none is due."""
         peer, length = c_uint32(), c_size_t()
         words = byref(peer), self._room, LONGEST_DATAGRAM, byref(length)
         code = self._call("poll_datagram", tick(now), *words)
@@ -186,12 +187,12 @@ class Router(Handle):
         return peer.value, bytes(self._room[: length.value])
 
     def datagrams(self, now: int) -> Iterator[tuple[int, bytes]]:
-        """Each datagram to be sent at the tick `now`, and the neighbour that it is for."""
+        """Yields each datagram to send at the tick `now`, after the neighbour that it is for."""
         while found := self.poll_datagram(now):
             yield found
 
     def poll_change(self) -> Change | None:
-        """What changed and was not told yet; None where all was told."""
+        """The next change that was not polled yet; None if there is none."""
         found = _Change()
         code = self._call("poll_change", byref(found))
         if code == ABSENT:
@@ -201,7 +202,7 @@ class Router(Handle):
         return Change(Kind(found.kind), found.node, found.hop or None, reason)
 
     def changes(self) -> Iterator[Change]:
-        """Each change that was not told yet: those of links first, and then those of next hops."""
+        """Yields each change that was not polled yet: first changes of links, then changes of next hops."""
         while found := self.poll_change():
             yield found
 
@@ -211,15 +212,15 @@ class Router(Handle):
         return number.value
 
     def next_due(self) -> int:
-        """The tick before which nothing is due, unless something else happens; 2^64 - 1 where nothing ever is."""
+        """The tick before which nothing is due unless something else happens; 2^64 - 1 if nothing ever is due."""
         return self._number("next_due")
 
     def next_life(self) -> int:
-        """The next life number: it and those above it were not given to any link."""
+        """The next number of a link session (life): no link had this number or a higher one."""
         return self._number("next_life")
 
     def tally(self, k: int) -> Tally:
-        """What was made of the datagrams of neighbour `k`."""
+        """The counts of the datagrams of neighbour `k`, by outcome."""
         found = _Tally()
         done(self._call("tally", node("k", k), byref(found)))
         parts: list[Any] = [getattr(found, name) for name in Tally._fields]

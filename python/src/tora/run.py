@@ -22,21 +22,21 @@ class Run:
     Attributes
     ----------
     scenario : Scenario
-        As far as the run goes.
+        Up to the last round of the run.
     trace : Trace
     version : str
-        What the program calls itself; empty where that is not known.
+        The version that the program reports; empty if it is not known.
     output : str
-        What the program has printed.
+        The text that the program printed.
     """
 
     def __init__(
         self, scenario: Scenario, trace: Trace, *, version: str = "", output: str = "",
         folder: str | None = None,
     ) -> None:
-        """A run of a trace that is one of the scenario; any other is refused, as by `Trace.check`.
+        """A run of a scenario and a trace of it; another trace is refused, as by `Trace.check`.
 
-        A `folder` that is told is deleted when the run is.
+        A `folder` is deleted together with the run.
         """
         self.scenario, self.trace, self.version, self.output = trace.check(scenario), trace, version, output
         if folder is not None:
@@ -49,7 +49,7 @@ class Run:
         Raises
         ------
         StudyError
-            Where one of the files is at fault, with the line or the key, and where the trace is of another scenario.
+            If one of the files is at fault, with the line or the key, or if the trace belongs to another scenario.
         """
         from tora.scenario import Scenario
 
@@ -81,7 +81,7 @@ class Run:
         traffic : float or str, optional
             Data packets that each flow sends a second.
         hop, ttl : int, optional
-            Of data packets: ticks of a hop (1), and most hops (32).
+            Of data packets: ticks of a hop (1), and the greatest number of hops (32).
         """
         return metrics.measure(self.scenario, self.trace, Load.asked(traffic, hop, ttl), self.version)
 

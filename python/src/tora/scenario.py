@@ -51,7 +51,7 @@ class Scenario:
     links : tuple of pairs
         The links that the simulation file declares, the lower node first, ascending.
     positions : array of float, shape (samples, nodes, 2)
-        Metres, rounded to centimetres; no samples where nothing moves.
+        Metres, rounded to centimetres; no samples if nothing moves.
     contact_kept : float
         Share of the contact time that the declared links have.
     links_met, most_met, most_at_once, breaks : int
@@ -64,9 +64,9 @@ class Scenario:
     digest : str, optional
         SHA-256 of the simulation file.
     lines : tuple of str, optional
-        The lines of the simulation file; None where the scenario was read from its description alone.
+        The lines of the simulation file; None if the scenario was read from its description alone.
     notes : tuple of str
-        What the scenario lacks of what was asked for, as links beyond the limit.
+        What was asked for and is missing in the scenario, such as links beyond the limit.
     """
 
     seed: int
@@ -97,12 +97,12 @@ class Scenario:
         cls, nodes: int = 20, speed: Speeds = (1.0, 3.0), *, pause: float = 10.0, settle: float = 1000.0,
         area: Area | None = None, degree: float | None = None, **settings: Any,
     ) -> Scenario:
-        """Random waypoint (Johnson and Maltz 1996): a node goes to a place drawn in the area, rests, and again.
+        """Random waypoint (Johnson and Maltz 1996): a node goes to a random place, rests, and repeats.
 
         Parameters
         ----------
         nodes : int
-            2 to 64, or to 1,024 where the scenario is large.
+            2 to 64, or to 1,024 in a large scenario.
         speed : pair of float
             The least and the greatest speed, in metres a second.
         pause : float
@@ -112,14 +112,14 @@ class Scenario:
         area : pair of float, optional
             Width and height in metres.
         degree : float, optional
-            Neighbours of a node in the mean, by which a square is chosen where there is no area; 6.
+            Mean number of neighbours of a node, which gives the side of a square if there is no area; 6.
         **settings
             Fields of `Settings`.
 
         Raises
         ------
         UsageError
-            Where a value is beyond its bounds, with its name.
+            If a value is out of its range, with its name.
         """
         return cls._of_model("waypoint", nodes, speed, area, degree, {"pause": pause, "settle": settle}, {}, settings)
 
@@ -149,9 +149,9 @@ class Scenario:
         alpha : float
             Memory of speed and direction: 1 keeps them, 0 forgets them.
         mean_speed : float, optional
-            Metres a second; the middle of `speed` where it is not told.
+            Metres a second; the middle of `speed` by default.
         speed_deviation, direction_deviation : float
-            Standard deviations of what is drawn, in metres a second and radians.
+            Standard deviations of the drawn values, in metres a second and radians.
         interval : float
             Seconds between two draws, 0.1 to 1,000.
         """
@@ -219,7 +219,7 @@ class Scenario:
 
     @classmethod
     def from_trace(cls, trace: Trace) -> Scenario:
-        """The scenario without motion that a trace tells: the links, destinations and needs that it names."""
+        """The scenario without motion of a trace: the links, destinations and needs that it names."""
         return cls(**static_of_trace(trace))
 
     @classmethod
@@ -229,7 +229,7 @@ class Scenario:
         Raises
         ------
         StudyError
-            Where the file is no scenario, with the line or the path in it, as ``links[3][1]``.
+            If the file is no scenario, with the line or the path in it, such as ``links[3][1]``.
         """
         return cls(**read_description(os.fspath(path)))
 
@@ -261,7 +261,7 @@ class Scenario:
         self, prefix: Path, *, channel_file: Path | None = None, edge_loss: float | None = None,
         overwrite: bool = False, inputs: Sequence[Path] = ()
     ) -> list[str]:
-        """Writes ``PREFIX.sim`` and ``PREFIX.json``, and a channel file where it is asked for.
+        """Writes ``PREFIX.sim`` and ``PREFIX.json``, and a channel file if one is named.
 
         The losses of the channel file rise with the distance.
 
@@ -270,7 +270,7 @@ class Scenario:
         prefix : path
         channel_file : path, optional
         edge_loss : float, optional
-            Of a channel file: the loss at the range, 0 to 1; 0.5 where it is not told.
+            Of a channel file: the loss at the range, 0 to 1; 0.5 by default.
         overwrite : bool
             Whether files that exist are replaced.
         inputs : sequence of paths
@@ -326,11 +326,11 @@ class Scenario:
         loss, repeat, delay, channel_seed, channel_file, notice, until, erasure
             As of `tora.simulation.Simulation`.
         edge_loss : float, optional
-            Losses rise with the distance, up to this share at the range; a channel file ``PREFIX.channel`` is written
-            for it.
+            Losses rise with the distance, up to this share at the range; they are written to a channel file
+            ``PREFIX.channel``.
         prefix : path, optional
-            The files are ``PREFIX.sim``, ``PREFIX.json``, ``PREFIX.trace``, and ``PREFIX.manifest.json``; where it is
-            not told they stand in a folder that goes with the `Run`.
+            The files are ``PREFIX.sim``, ``PREFIX.json``, ``PREFIX.trace`` and ``PREFIX.manifest.json``. Without a
+            prefix they are in a folder that is deleted with the `Run`.
         program : path, optional
             As of `tora.program.Program.find`.
         time_limit : float
@@ -341,9 +341,9 @@ class Scenario:
         Raises
         ------
         StudyError
-            Where the program fails or is not done in time.
+            If the program fails or takes too long.
         UsageError
-            Where two arguments don't go together, or one is beyond its bounds.
+            If two arguments cannot be combined, or one is out of its range.
         """
         asked = Simulation(loss, repeat, delay, channel_seed, notice, until, channel_file, erasure)
         return running.run_scenario(self, asked, edge_loss, prefix, program, time_limit, overwrite)

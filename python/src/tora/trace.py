@@ -1,6 +1,6 @@
 """A trace of `tora sim --trace` as DataFrames; one that is cut, foreign or wrong is refused with the line at fault.
 
-All times are ticks of 100 ms. In every DataFrame rows stand in the order of the trace, and `line` is the line of the
+All times are ticks of 100 ms. Every DataFrame has its rows in the order of the trace, and `line` is the line of the
 trace, from 1.
 """
 from __future__ import annotations
@@ -38,15 +38,15 @@ class Trace:
     ----------
     path : str
     header : Header or None
-        What the first record says; None for a trace of another simulator, which has none.
+        The first record; None for a trace of another simulator, which has no such record.
     digest : str or None
-        SHA-256 of the simulation file, by the last record; None where there is no header.
+        SHA-256 of the simulation file, from the last record; None if there is no header.
     clocks : array of int64, shape (records,)
         The tick of each record, in the order of the trace.
     kinds : array of uint8, shape (records,)
-        Its kind, as a place in `tora.records.KINDS`.
+        The kind of each record, as an index into `tora.records.KINDS`.
     columns : dict
-        By kind of record its fields, an array of int64, shape (fields, records of the kind). 0 stands for ``-`` in the
+        By kind of record its fields, an array of int64, shape (fields, records of the kind). 0 means ``-`` in the
         place of an id; a height is five fields, tau, oid, r, delta and id, which are all 0 for ``-``.
     """
 
@@ -65,50 +65,50 @@ class Trace:
         Raises
         ------
         StudyError
-            Where the trace is empty or cut, a line is no record, the clock goes back, or the trace goes on after its
-            last record; with the line.
+            If the trace is empty or incomplete, a line is no record, the clock goes back, or the trace continues after
+            its last record; with the line.
         """
         return cls(os.fspath(path), *read_parts(os.fspath(path)))
 
     def __len__(self) -> int:
-        """How many records there are, without the first and the last one of the trace."""
+        """The number of records, without the first and the last one of the trace."""
         return len(self.clocks)
 
     @property
     def first_line(self) -> int:
-        """The line of the first record, 2 where a header stands before it."""
+        """The line of the first record: 2 if there is a header, else 1."""
         return 1 if self.header is None else 2
 
     def places(self, *kinds: str) -> Numbers:
-        """Where in the order of the trace, from 0, the records of these kinds stand."""
+        """The indexes, from 0, of the records of these kinds."""
         found = [self._places[kind] for kind in kinds]
         return found[0] if len(found) == 1 else np.sort(np.concatenate(found))
 
     def rounds(self) -> Numbers:
-        """The round that each record is of, shape (records,).
+        """The round of each record, shape (records,).
 
-        Records that stand between rounds carry the clock of the round that has ended, and are of the next one; all
-        others are of the round that ends at their clock, or, after a record between rounds, of the next one, too.
+        A record between rounds has the clock of the round that has ended, and belongs to the next round. Any other
+        record belongs to the round that ends at its clock, or to the next one if it follows a record between rounds.
         """
         between = np.isin(self.kinds, [CODES[kind] for kind in BETWEEN])
         return np.maximum.accumulate(np.maximum(self.clocks + between, 1))
 
     @functools.cached_property
     def _places(self) -> dict[str, Numbers]:
-        """By kind where its records stand."""
+        """By kind the indexes of its records."""
         return {kind: np.flatnonzero(self.kinds == code) for kind, code in CODES.items()}
 
     def height(self, place: int) -> Height | None:
-        """The height that a `route` record tells, by its place among these, from 0; None for NULL, and for -1."""
+        """The height of a `route` record, by its index among these, from 0; None for NULL, and for the index -1."""
         if place < 0:
             return None
         tau, oid, r, delta, node = self.columns["route"][HEIGHT, place].tolist()
         return (tau, oid, r, delta, node) if node else None
 
     def route_changes(self) -> Iterator[tuple[int, int, int, int | None]]:
-        """Yields of each `route` record the node, the destination, a place, and the next hop.
+        """Yields for each `route` record the node, the destination, an index, and the next hop.
 
-        The place is that of the record among these, or -1 where the height is NULL.
+        The index is the record's among the `route` records, or -1 if the height is NULL.
         """
         node, destination, *_, own, hop = self.columns["route"]
         places = np.where(own == 0, -1, np.arange(len(own)))
@@ -116,7 +116,7 @@ class Trace:
             yield one, to, place, by or None
 
     def records(self) -> Iterator[Record]:
-        """Yields the records in their order, but for the first and the last one of the trace."""
+        """Yields the records in order, without the first and the last one of the trace."""
         rows = [self._rows(kind) for kind in KINDS]
         for line, (clock, code) in enumerate(zip(self.clocks.tolist(), self.kinds.tolist()), self.first_line):
             yield Record(line, clock, KINDS[code], next(rows[code]))
@@ -127,7 +127,7 @@ class Trace:
         Returns
         -------
         Scenario
-            The scenario as far as the run goes, which may have ended with a round before the scenario's last.
+            The scenario up to the last round of the run, which may be earlier than the scenario's last round.
 
         Raises
         ------
@@ -161,8 +161,8 @@ class Trace:
         -------
         DataFrame
             A row for each change. `tick`, `node`, `destination` (int64); `tau`, `oid`, `r`, `delta`, `id` (Int64, all
-            missing where the height is NULL from then on); `line` (int64). At first every height is NULL, but for (0,
-            0, 0, 0, D) of a destination D for itself.
+            missing if the height is NULL from then on); `line` (int64). At first every height is NULL, except (0, 0,
+            0, 0, D) of a destination D for itself.
         """
         node, destination, *parts, _ = self.columns["route"]
         first = np.zeros_like(parts)
@@ -177,7 +177,7 @@ class Trace:
         Returns
         -------
         DataFrame
-            A row for each change. `tick`, `node`, `destination` (int64); `hop` (Int64, missing where there is no next
+            A row for each change. `tick`, `node`, `destination` (int64); `hop` (Int64, missing if there is no next
             hop from then on); `line` (int64). At first there is no next hop.
         """
         node, destination, *_, hop = self.columns["route"]
@@ -186,7 +186,7 @@ class Trace:
         return table[["tick", "node", "destination", "hop", "line"]][changed].reset_index(drop=True)
 
     def links(self) -> pd.DataFrame:
-        """What happened to links.
+        """Changes of links.
 
         Returns
         -------

@@ -15,7 +15,7 @@ import networkx
 
 from tora.errors import StudyError
 from tora.live import hosts as system
-from tora.live.hosts import TCP_PORT, Hosts
+from tora.live.hosts import Hosts
 from tora.live.measures import Fared, fared, longest_stall
 from tora.live.protocols import PROTOCOLS
 from tora.live.topologies import Network, cable_to_break, host_to_kill, network

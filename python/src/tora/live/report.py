@@ -4,7 +4,6 @@ from __future__ import annotations
 import math
 import pathlib
 
-import numpy as np
 import pandas as pd
 from matplotlib.axes import Axes
 from matplotlib.figure import Figure
