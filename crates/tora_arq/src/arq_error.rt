@@ -2,7 +2,7 @@
 use std::fmt;
 use thiserror::Error;
 
-/// Why a link end is not made. Own profile.
+/// Why a link end is not made.
 #[derive(Clone, Copy, Debug, PartialEq, Eq, Hash, Error)]
 pub enum ArqError {
     /// There is no memory for its rings.

@@ -30,7 +30,7 @@ ghost use Rattle.tora_arq.specs.WorkedHellos.{worked_settings, given_hello, behi
 ghost use Rattle.tora_arq.specs.LinkTable.{Cuts, Gives, Hears, Opens, Submits, Tells, Ticks};
 
 /// Every call keeps of an end that what was transmitted was submitted, that no more is held than the window, and that
-/// nothing is left of a life that is over. Own profile.
+/// nothing is left of a life that is over.
 pub fn calls_keep_an_end()
     ensures first { (s : Settings) → IsEnd s first_end }
     ensures next { EveryCall (λ s e call after. IsEnd s e → IsEnd s after) }
@@ -42,7 +42,7 @@ pub fn calls_keep_an_end()
 {}
 
 /// A pair of life numbers is fixed once it is bound, until the life ends. An end binds at most once an `open`, and only
-/// on a frame of the peer that tells its own number back. Own profile.
+/// on a frame of the peer that tells its own number back.
 pub fn lives_are_bound_once()
     ensures fixed { EveryCall (λ s e call after. (life : Life) → e.phase ≡ Bound life → StaysOrCloses life after.phase) }
     ensures binds { EveryCall (λ s e call after. (life : Life) → after.phase ≡ Bound life → WasBoundOrBinds s life call e.phase) }
@@ -57,7 +57,7 @@ pub fn lives_are_bound_once()
 {}
 
 /// DATA frames come only from a bound end, with both numbers of the life, and carry the packets of their numbers of those
-/// submitted in it, each the same at each try. The count that a frame carries is that of the packets accepted. Own profile.
+/// submitted in it, each the same at each try. The count that a frame carries is that of the packets accepted.
 pub fn data_frames_are_what_was_submitted()
     ensures frame { (s : Settings) (e : EndState) (call : LinkCall) (f : FrameParts)
         → frame_sent_by s e call ≡ Some f → IsFrameSent s e f }
@@ -73,7 +73,7 @@ pub fn data_frames_are_what_was_submitted()
     ensures tries { EveryRun (λ s run. IsSameAtEachTry run.sent) }
 {}
 
-/// A packet is submitted for the bound life alone, and a call for another life changes nothing. Own profile.
+/// A packet is submitted for the bound life alone, and a call for another life changes nothing.
 pub fn packets_are_submitted_in_the_bound_life()
     ensures appends { (e : EndState) (life : Life) (packet : Packet) → submit_answer e life packet ≡ Ok tt
         → (e.phase ≡ Bound life) × (after_submit e life packet ≡ record e { queue = e.queue ++ untried packet ∷ [] }) }
@@ -86,8 +86,8 @@ pub fn packets_are_submitted_in_the_bound_life()
     ensures cut_other { (e : EndState) (life : Life) → e.phase ≢ Bound life → after_cut e life ≡ e }
 {}
 
-/// The packets delivered in a life are those of DATA frames of the life with the numbers 1, 2, .. in order, each once,
-/// and a packet that is held is that of its number. Own profile.
+/// The packets delivered in a life are those with the numbers 1, 2, .. of its DATA frames, in order and each once. A
+/// held packet is the one with the number of its place.
 pub fn deliveries_are_in_order()
     // Whatever packets the peer has numbered, where those held are of them, and that of a frame of the life, then so
     // are those delivered next, and those held then.
@@ -103,7 +103,7 @@ pub fn deliveries_are_in_order()
 {}
 
 /// The events of a life are `Up`, its packets, and `Down` last, after which the end is closed and no event of the life
-/// comes. Events leave in the order in which they were queued. Own profile.
+/// comes. Events leave in the order in which they were queued.
 pub fn events_of_a_life_are_in_order()
     ensures behind { EveryCall (λ s e call after. after.events ≡ events_left e call ++ events_queued s e call) }
     ensures given { (e : EndState) (call : LinkCall) → list_of (event_given_by e call) ++ events_left e call ≡ e.events }
@@ -114,7 +114,7 @@ pub fn events_of_a_life_are_in_order()
 {}
 
 /// The count of packets acknowledged begins with 0, and changes only to the count of a frame with both numbers of the
-/// life. It is never above the packets transmitted. Own profile.
+/// life. It is never above the packets transmitted.
 pub fn acknowledged_counts_come_from_the_peer()
     ensures first { EveryCall (λ s e call after. (own : ℕ) (life : Life) → e.phase ≡ Unbound own → after.phase ≡ Bound life
         → after.acknowledged ≡ 0) }
@@ -124,7 +124,7 @@ pub fn acknowledged_counts_come_from_the_peer()
         (run.state.acknowledged ≡ 0) ⊎ CountCame s run.frames life run.state.acknowledged) }
 {}
 
-/// No packet that is held, delivered or polled is an update of another node than the peer. Own profile.
+/// No packet that is held, delivered or polled is an update of another node than the peer.
 pub fn updates_are_of_the_peer()
     ensures first { (s : Settings) → IsOfPeer s first_end }
     ensures next { EveryCall (λ s e call after. IsOfPeer s e → IsOfPeer s after) }
@@ -136,7 +136,7 @@ pub fn updates_are_of_the_peer()
     ensures events { EveryRun (λ s run. AreEventsOfPeer s.peer run.events) }
 {}
 
-/// A frame that is foreign, stale, or not looked at changes nothing. Own profile.
+/// A frame that is foreign, stale, or not looked at changes nothing.
 pub fn refused_frames_change_nothing()
     ensures foreign { (s : Settings) (e : EndState) (frame : FrameParts) (now : ℕ)
         → verdict_of s e frame now ≡ Is.Foreign → after_frame s e frame now ≡ e }
@@ -147,7 +147,7 @@ pub fn refused_frames_change_nothing()
 {}
 
 /// At one tick an end gives at most four frames more than its window, and then none: a HELLO of version 1 that was due behind an
-/// earlier one of version 2, a HELLO of each version, at most a DATA frame for each packet within the window, and an ACK. Own profile.
+/// earlier one of version 2, a HELLO of each version, at most a DATA frame for each packet within the window, and an ACK.
 pub fn polls_of_a_tick_end()
     // However often it is polled.
     ensures most { (s : Settings) (e : EndState) (now polls : ℕ) → IsTimes s.times
@@ -159,7 +159,7 @@ pub fn polls_of_a_tick_end()
 {}
 
 /// Behind a HELLO of version 2 the next frame is the HELLO of version 1, while the peer is not known to speak version 2: also where
-/// another HELLO of version 2 is owed by then. Own profile.
+/// another HELLO of version 2 is owed by then.
 pub fn old_hello_comes_right_after()
     ensures unbound { (s : Settings) (e : EndState) (own now : ℕ) → e.phase ≡ Unbound own → e.owes_old_hello ≡ true → e.speaks_two ≡ false
         → frame_due s e now ≡ Some (frame_sent s One own e.heard Hello) }
@@ -174,7 +174,7 @@ pub fn old_hello_comes_right_after()
 
 /// Packets that are submitted at one tick, sixteen at most, go in one frame to a peer that is known to speak version 2, where
 /// none waited before and no HELLO is due, and no frame is due behind it at that tick. So a query for each of sixteen
-/// destinations is one datagram for each neighbour. Own profile.
+/// destinations is one datagram for each neighbour.
 pub fn flood_is_one_frame()
     ensures one { (s : Settings) (e : EndState) (life : Life) (packets : List Packet) (now : ℕ) → IsIdle s e life now
         → 0 < length packets → length packets ≤ 16 → length packets ≤ s.window → e.acknowledged + length packets ≤ 2 ^ 62
@@ -184,14 +184,14 @@ pub fn flood_is_one_frame()
         → frame_due s (after_transmit s (after_submits e life packets) now) now ≡ None }
 {}
 
-/// The times that the program uses: 10 ticks between HELLOs, 50 of silence, 5 between tries, and 8 tries. Own profile.
+/// The times that the program uses: 10 ticks between HELLOs, 50 of silence, 5 between tries, and 8 tries.
 pub fn standard_times()
     ensures are { STANDARD ≡ record { hello = 10; silent = 50; retry = 5; tries = 8 } }
     ensures valid { IsTimes STANDARD }
 {}
 
-/// What a link end hears, does and tells stands in a table, one row for each situation: whatever comes to an end in any
-/// state, a row has it, and what follows is what that row says. Own profile.
+/// The table of a link end is complete and exact: for each input in each state there is a row, and the answer and the
+/// new state are those of the row.
 pub fn link_ends_follow_the_table()
     ensures frame { (s : Settings) (e : EndState) (f : FrameParts) (now : ℕ) (verdict : Verdict) (after : EndState)
         → Hears s e f.header f.body now verdict after ↔ ((verdict ≡ verdict_of s e f now) × (after ≡ after_frame s e f now)) }

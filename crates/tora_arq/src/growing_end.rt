@@ -21,7 +21,7 @@ use tora_packet::Packet;
 /// room first. So very many ends can be kept of which most have little to do, as in a simulator.
 ///
 /// Its calls do what those of `LinkEnd` do; those that may take memory may fail, and change nothing then. A bound end
-/// always has a place for the event that its life ended, so that a tick and a cut cannot fail. Own profile.
+/// always has a place for the event that its life ended, so that a tick and a cut cannot fail.
 #[derive(Debug, Drop)]
 pub struct GrowingEnd {
     settings: Settings,
@@ -42,7 +42,7 @@ impl Model for GrowingEnd {
 
 impl GrowingEnd {
     /// Reads what the other calls read first, so that it is at hand by then: for callers who have many ends in turn.
-    /// The number says nothing. It is to be kept, since a read of which nothing is kept is left out. Own profile.
+    /// The number says nothing. It is to be kept, since a read of which nothing is kept is left out.
     #[inline(always)]
     pub fn prefetch(&self) -> u64 {
         self.state.prefetch() ^ u64::from(self.settings.peer)

@@ -1,8 +1,8 @@
-//! The end of a neighbour link: lives, retransmission and link sensing.
+//! The end of a neighbour link: link sessions (lives), retransmission and link sensing.
 //!
-//! TORA presupposes links whose status is sensed and over which control packets come once and in order
-//! (draft-ietf-manet-tora-spec-04). This crate gives such links over datagrams that may be lost, repeated or reordered.
-//! Own profile.
+//! TORA needs links whose status is known and that deliver control packets once and in order
+//! (draft-ietf-manet-tora-spec-04). This crate provides such links over datagrams that may be lost, repeated or
+//! reordered.
 //!
 //! ```rust
 //! let mut one = LinkEnd::new(alloc, 1, 2, Times::STANDARD)?;
@@ -63,18 +63,18 @@ pub use submit_error::SubmitError;
 pub use times::Times;
 pub use verdict::Verdict;
 
-/// How many packets of a life may be under way, transmitted and not acknowledged. Own profile.
+/// How many packets of a life may be under way, transmitted and not acknowledged.
 pub const WINDOW: u64 = 32;
 
-/// How many events of a link end may wait to be polled: twice a window. Own profile.
+/// How many events of a link end may wait to be polled: twice a window.
 pub const EVENT_PLACES: usize = 2 * WINDOW as usize;
 
 /// How many places for events have to be free where a frame comes: for the event that a life is bound, for the packets of a
-/// window, and for the event that the life ended. Own profile.
+/// window, and for the event that the life ended.
 pub const PLACES_OF_A_FRAME: usize = WINDOW as usize + 2;
 
 /// How many packets that came early are held at most: a window.
 const HELD_PLACES: usize = WINDOW as usize;
 
-/// How many packets of a life may wait for their acknowledgement. Own profile.
+/// How many packets of a life may wait for their acknowledgement.
 pub const QUEUE_PLACES: usize = 256;

@@ -22,7 +22,7 @@ use tora_frame::{BorrowedFrame, Frame, Header, Packets, Version};
 use tora_height::Id;
 use tora_packet::Packet;
 
-/// The end of a link to one neighbour. Own profile.
+/// The end of a link to one neighbour.
 ///
 /// It is closed at first. A caller draws a number that it never drew before and opens the end with it; by HELLOs the
 /// two ends then bind a life, in which each sends packets that the other delivers once and in order. A life that ends
@@ -296,8 +296,9 @@ impl LinkEnd {
         self.state.still_until(&self.settings)
     }
 
-    /// What HELLOs look at, where the end is steady: it is open, has said a HELLO, owes neither one at once nor an ACK, no packet of it waits for
-    /// its acknowledgement, and no event to be polled. Whoever keeps it calls it in place of the end, and `resume` before any other call.
+    /// The fields that HELLOs read, if the end is idle: it is open, has sent a HELLO, owes neither a HELLO at once nor
+    /// an ACK, and has no unacknowledged packet and no event. The caller uses them instead of the end, and calls
+    /// `resume` before any other call.
     pub fn steady(&self) -> Option<Steady>
         ensures given { result ≡ steady_of self.now.settings self.now.state }
         ensures steady { IfSome result (λ steady. IsSteady steady self.now.settings self.now.state) }
@@ -306,7 +307,7 @@ impl LinkEnd {
         self.state.steady(&self.settings)
     }
 
-    /// Makes of the end what was said, heard and ticked at what was kept of it.
+    /// Writes the idle fields back into the end.
     pub fn resume(&mut self, steady: &Steady)
         requires { IsSteady steady.now self.old.settings self.old.state }
         ensures { self.new ≡ record self.old { state = resumed steady.now self.old.state } }
@@ -346,8 +347,8 @@ impl LinkEnd {
         self.state.poll_transmit(&self.settings, now, packets)
     }
 
-    /// As `poll_transmit`, where the first frame due is a HELLO, which is told by its header. `None` where it is another, or none is due; then
-    /// nothing is changed.
+    /// Like `poll_transmit`, but only for a HELLO, of which it returns the header. `None` if another frame or none is
+    /// due; nothing changes then.
     pub fn poll_hello(&mut self, now: u64) -> Option<Header>
         ensures frame { IfSome result (λ header. frame_due self.old.settings self.old.state now ≡ Some (frame_of header Body.Hello)) }
         ensures state { IfSome result (λ _. self.new ≡ record self.old { state = after_transmit self.old.settings self.old.state now }) }
@@ -358,7 +359,7 @@ impl LinkEnd {
         self.state.poll_first_hello(&self.settings, now)
     }
 
-    /// Ends a life where it is the bound one, and otherwise changes nothing.
+    /// Ends a life if it is the bound one; otherwise nothing changes.
     pub fn cut(&mut self, life: Life)
         ensures { self.new ≡ record self.old { state = after_cut self.old.state life } }
     {

@@ -5,7 +5,7 @@ ghost use Rattle.tora_arq.specs.Lives.{event_life};
 use crate::{Life, Reason};
 use tora_packet::Packet;
 
-/// What a link end tells its node. Own profile.
+/// An event that a link end reports to its node.
 #[derive(Clone, Copy, Debug, PartialEq, Eq, Hash)]
 pub enum LinkEvent {
     /// A life was bound: the link is up.

@@ -1,7 +1,7 @@
 //! Whether a link end is open.
 use crate::Life;
 
-/// Whether a link end is open, and in which life. Own profile.
+/// Whether a link end is open, and in which life.
 #[derive(Clone, Copy, Debug, PartialEq, Eq, Hash)]
 pub enum Phase {
     /// Closed.

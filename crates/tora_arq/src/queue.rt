@@ -91,7 +91,7 @@ impl SendQueue {
         self.len().min(WINDOW as usize)
     }
 
-    /// The packet that stands behind so many others.
+    /// The packet at the index `place`, from 0 on.
     fn packet_at(&self, place: usize) -> QueuedPacket
         requires { place < length self.now.items }
         ensures { slice_get self.now.items place ≡ Some result }
@@ -99,7 +99,7 @@ impl SendQueue {
         rings::at(&self.ring, place)
     }
 
-    /// Puts a packet in the place of that which stands behind so many others.
+    /// Replaces the packet at the index `place`.
     fn set(&mut self, place: usize, packet: QueuedPacket)
         requires { place < length self.old.items }
         ensures { self.new ≡ buffer (slice_set self.old.items place packet) self.old.capacity }
@@ -182,8 +182,10 @@ impl SendQueue {
         }
     }
 
-    /// Puts the first packet due within the window, and those that follow it and are due too, at most so many in all, into
-    /// `packets` in place of what was there; they count as transmitted now. It answers how many packets stand before them.
+    /// Moves the first due packet of the window into `packets`, replacing what `packets` held, and then the due packets
+    /// that follow it directly, at most `most` in all. They count as transmitted at `now`.
+    ///
+    /// The result is the index of the first of them; `None` if no packet is due.
     pub fn take_due(
         &mut self,
         times: &Times,

@@ -4,7 +4,7 @@ ghost use Rattle.tora_arq.specs.Lives.{reason_number};
 
 use std::fmt;
 
-/// Why a life ended. Own profile.
+/// Why a life ended.
 #[derive(Clone, Copy, Debug, PartialEq, Eq, Hash)]
 pub enum Reason {
     /// The peer was not heard, or did not acknowledge a packet.

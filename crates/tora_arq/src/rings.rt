@@ -31,7 +31,7 @@ pub fn push<T: Drop>(ring: &mut HeapCircularBuffer<T>, item: T)
     };
 }
 
-/// Puts an item in the place of another one.
+/// Replaces the item at an index.
 pub fn set<T: Drop>(ring: &mut HeapCircularBuffer<T>, place: usize, item: T)
     requires { place < length ring.old.items }
     ensures { ring.new ≡ buffer (slice_set ring.old.items place item) ring.old.capacity }

@@ -15,12 +15,12 @@ use crate::transmit::is_two;
 use tora_frame::{Header, Version};
 use tora_height::Id;
 
-/// What HELLOs look at, of a link end that is steady: it is open, it owes neither a HELLO at once nor an ACK, no packet of it waits for its
-/// acknowledgement, and it has no event to give. It has 64 bytes.
+/// The fields of an idle link end that a HELLO reads. An end is idle if it is open, owes no HELLO at once and no ACK,
+/// has no unacknowledged packet, and has no event to give. It has 64 bytes.
 ///
-/// Whoever keeps many link ends can keep these close together, and the ends apart: `LinkEnd::steady` gives what is kept of an end,
-/// the calls here do what the same calls of the end would do, and `LinkEnd::resume` makes of the end what they made of it, before any
-/// other call. Own profile.
+/// A caller with many link ends can store these fields close together and the ends elsewhere. `LinkEnd::steady` returns
+/// the fields, the calls here do what the same calls of the end would do, and `LinkEnd::resume` writes the fields back
+/// before any other call.
 #[derive(Clone, Copy, Debug, PartialEq, Eq)]
 pub struct Steady {
     /// The tick of the last HELLO, those of version 1 that follow one of version 2 apart.

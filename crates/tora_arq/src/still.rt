@@ -15,7 +15,7 @@ use crate::settings::Settings;
 use crate::state::State;
 use crate::{Times, WINDOW};
 
-/// The tick that comes so many behind another; the last one at most.
+/// The tick `ticks` after another one, or the last tick if that is later.
 fn tick_behind(earlier: u64, ticks: u64) -> u64
     requires { 0 < ticks }
     ensures { (tick : ℕ) → tick < last_tick → nat_le result tick ≡ nat_le ticks (ticks_passed earlier tick) }

@@ -6,7 +6,7 @@ use std::fmt;
 use thiserror::Error;
 use tora_packet::Packet;
 
-/// Why a packet is not submitted. Own profile.
+/// Why a packet is not submitted.
 #[derive(Clone, Copy, Debug, PartialEq, Eq, Hash, Error)]
 pub enum SubmitError {
     /// The life is not the bound one. The packet is handed back.

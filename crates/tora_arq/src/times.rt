@@ -1,6 +1,6 @@
 //! The times of a link end.
 
-/// The times of a link end, each at least 1. Own profile.
+/// The times of a link end, each at least 1.
 #[derive(Clone, Copy, Debug, PartialEq, Eq, Hash)]
 pub struct Times {
     /// How many ticks of 100 ms after a HELLO the next one is due.

@@ -1,7 +1,7 @@
 //! What a link end makes of a frame.
 use std::fmt;
 
-/// What a link end makes of a frame. Own profile.
+/// The answer of a link end to a frame.
 #[derive(Clone, Copy, Debug, PartialEq, Eq, Hash)]
 pub enum Verdict {
     /// The frame told something new, or was a HELLO of the life.

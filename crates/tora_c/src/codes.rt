@@ -31,7 +31,7 @@ pub const ZERO: u32 = 6;
 /// There is no such choice.
 pub const CHOICE: u32 = 7;
 
-/// There is none: the height is NULL, there is no next hop, or no packet at this place.
+/// There is nothing to return: the height is NULL, there is no next hop, or no packet has this index.
 pub const ABSENT: u32 = 8;
 
 /// The buffer is too short.

@@ -11,7 +11,7 @@ use std::alloc::Global;
 use tora_core::Input;
 use tora_packet::decode;
 
-/// Makes the core of node `me` at `core`, in the place of what was there: no link is up.
+/// Replaces the core at `core` by a new one of node `me`, without links that are up.
 #[unsafe(no_mangle)]
 pub extern "C" fn tora_core_new(
     alloc: Global,
@@ -59,7 +59,7 @@ fn cloned(alloc: Global, node: &CoreNode) -> Result<Box<CoreNode, Global>, u32>
     }
 }
 
-/// Makes a second core at `out` with the state of `core`, in the place of what was there.
+/// Replaces the core at `out` by a copy of `core`.
 #[unsafe(no_mangle)]
 pub extern "C" fn tora_core_clone(alloc: Global, core: &mut CoreHandle, out: &mut CoreHandle) -> u32
     ensures same { core.new.held ≡ core.old.held }

@@ -57,7 +57,7 @@ impl CoreHandle {
         })
     }
 
-    /// What the handle holds. It is null from then on.
+    /// Takes the core out of the handle, which is null afterwards.
     pub fn take(&mut self, alloc: Global) -> Option<Box<CoreNode, Global>>
         ensures null { self.new.held ≡ None }
         ensures node { MatchOption result (self.old.held ≡ None) (λ node. self.old.held ≡ Some node.value) }
@@ -68,7 +68,7 @@ impl CoreHandle {
         }
     }
 
-    /// Puts a core in the place of what the handle holds, which is let go.
+    /// Replaces the core that the handle holds, and frees the old one.
     pub fn put(&mut self, alloc: Global, node: Box<CoreNode, Global>)
         ensures { self.new.held ≡ Some node.value }
     {

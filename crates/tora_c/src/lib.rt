@@ -1,8 +1,8 @@
-//! TORA for C: what a program that is no Rattle calls. `include/tora.h` is its header.
+//! TORA for C and other languages. `include/tora.h` is the header.
 //!
-//! C holds a core or a router by a handle, a struct with one pointer that begins as null. Each call tests what it is
-//! given, answers one of the codes, and changes nothing where it is not `OK`. No call requires anything of what C gives,
-//! but that each pointer leads to what its type says, and that no two calls use one handle at once.
+//! C holds a core or a router by a handle: a struct with one pointer, which is null at first. Each call checks its
+//! arguments, returns a code, and changes nothing unless the code is `OK`. C must ensure two things only: each pointer
+//! leads to what its type says, and no two calls use one handle at once.
 #![tactic(auto)]
 
 ghost use Rattle.std.specs.Prelude.{◌≡◌, length};

@@ -1,4 +1,4 @@
-//! The calls that make a router, let it go, and tell it what happens.
+//! The calls that make and free a router, and report events to it.
 ghost use Rattle.std.specs.Prelude.{◌≡◌, ◌⊎◌, ◌<◌, IfErr, IfOk, MatchOption, None, OnOk, Some, option_map};
 ghost use Rattle.tora_frame.specs.FrameGrammar.{frame_reading};
 ghost use Rattle.tora_router.specs.Router.{after_cut, after_datagram, after_need, after_tick, first_router, router_of};
@@ -46,7 +46,7 @@ fn made(
     }
 }
 
-/// Makes the router of node `me` at `router`, in the place of what was there: all links are closed.
+/// Replaces the router at `router` by a new one of node `me`, whose links are all closed.
 #[unsafe(no_mangle)]
 pub extern "C" fn tora_router_new(
     alloc: Global,
@@ -93,7 +93,7 @@ pub extern "C" fn tora_router_free(alloc: Global, router: &mut RouterHandle)
     }
 }
 
-/// These bytes came from node `peer` at the tick `now`. `intake` tells what was made of them.
+/// Hands in bytes that came from node `peer` at the tick `now`. `intake` receives the outcome.
 #[unsafe(no_mangle)]
 pub extern "C" fn tora_router_datagram(
     alloc: Global,

@@ -57,7 +57,7 @@ impl RouterHandle {
         })
     }
 
-    /// What the handle holds. It is null from then on.
+    /// Takes the router out of the handle, which is null afterwards.
     pub fn take(&mut self, alloc: Global) -> Option<Box<Router, Global>>
         ensures null { self.new.held ≡ None }
         ensures router { MatchOption result (self.old.held ≡ None) (λ router. self.old.held ≡ Some router.value) }
@@ -68,7 +68,7 @@ impl RouterHandle {
         }
     }
 
-    /// Puts a router in the place of what the handle holds, which is let go.
+    /// Replaces the router that the handle holds, and frees the old one.
     pub fn put(&mut self, alloc: Global, router: Box<Router, Global>)
         ensures { self.new.held ≡ Some router.value }
     {

@@ -23,7 +23,7 @@ pub struct ChangeParts {
     pub kind: u32,
     /// The neighbour, or the destination.
     pub node: u32,
-    /// The next hop, 0 where there is none.
+    /// The next hop; 0 if there is none.
     pub hop: u32,
     /// Why the link is down.
     pub reason: u32,
@@ -49,7 +49,7 @@ fn or_standard(part: u64, standard: u64) -> u64
     if part == 0 { standard } else { part }
 }
 
-/// The times that these parts stand for.
+/// The times that these parts give.
 pub fn times_of(parts: &TimesParts) -> Times
     ensures { result ≡ times_of parts.now }
 {

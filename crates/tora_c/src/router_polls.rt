@@ -56,7 +56,7 @@ pub extern "C" fn tora_router_poll_datagram(
     code
 }
 
-/// What has changed and was not told yet.
+/// Returns the next change that the host has not polled yet.
 #[unsafe(no_mangle)]
 pub extern "C" fn tora_router_poll_change(
     alloc: Global,

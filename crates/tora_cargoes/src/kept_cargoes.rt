@@ -21,16 +21,16 @@ const MOST_APART: usize = 0x1_0000_0000;
 /// The first time tag that has more than 24 bits.
 const FIRST_LONG: u64 = 0x100_0000;
 
-/// For so many origins there is room from the first on: most lists that have one come to have a few, as links have lives.
+/// The number of origins that a list has room for at first: most lists with an origin get a few, one for each life.
 const FIRST_ORIGINS: usize = 4;
 
-/// What stands for an origin where there is none.
+/// The value for a missing origin.
 const NO_ORIGIN: Origin = Origin {
     life: Life { own: 0, peer: 0 },
     id: 0,
 };
 
-/// The life of a cargo, and the node whose height an update tells.
+/// The life of a cargo, and for an update the node whose height it announces.
 #[derive(Clone, Copy)]
 pub struct Origin {
     life: Life,
@@ -143,7 +143,7 @@ impl KeptCargoes {
         self.cargoes.push(kept);
     }
 
-    /// The cargo that stands behind so many others.
+    /// The cargo at the index `place`, from 0 on.
     pub fn get(&self, place: usize) -> Option<Cargo>
         ensures { result ≡ slice_get self.now.items place }
     {
@@ -207,7 +207,7 @@ fn last_number(origins: &[Origin], last: &Origin, cargo: &Cargo) -> Option<usize
     if is_same { Some(number) } else { None }
 }
 
-/// The number of the origin of a cargo, which is kept now if it was not the last.
+/// The index of a cargo's origin. A new origin is appended, unless it is the last one used.
 fn number_of(origins: &mut Vec<Origin>, last: &mut Origin, cargo: &Cargo) -> usize
     requires places { vec_len origins.old < vec_capacity origins.old }
     requires last { IsLastOrigin last.old origins.old.items }

@@ -1,4 +1,4 @@
-//! Cargoes of few bytes, of which the last ones stand near.
+//! A list of compressed cargoes, the last few of which are stored inline.
 ghost use Rattle.std.specs.Prelude.{◌≡◌, ◌<◌, ◌≤◌, ◌+◌, ◌^◌, ◌++◌, ◌∷◌, [], length, take, slice_get, slice_set, vec_len, vec_capacity, OnOk};
 ghost use Rattle.tora_cargoes.specs.declared.kept_list.TheConstants.{NEAR_KEPT};
 
@@ -9,17 +9,17 @@ use std::marker::Model;
 /// How many cargoes stand near at most.
 pub const NEAR_KEPT: usize = 4;
 
-/// So many more the list takes memory for at least, while it is short.
+/// The least number of places by which a short list grows.
 const FIRST_LISTED: usize = 12;
 
 /// A list of so many is long: it grows as lists do.
 const LONG_LIST: usize = 64;
 
-/// Once so many stand in the list it takes no more.
+/// The greatest length of the list.
 const MOST_LISTED: usize = 0x4000_0000_0000_0000;
 
-/// Cargoes in the order in which they came. The last few stand where this stands itself, and go into a list together: so most that come are put
-/// where memory is at hand, and the list, which lies elsewhere for each link end, is looked at for every fourth.
+/// Compressed cargoes in order of arrival. The last few are inline and move into the list together, so only every
+/// fourth cargo touches the list's memory.
 #[derive(Drop)]
 pub struct KeptList {
     /// How many stand near.
@@ -28,7 +28,8 @@ pub struct KeptList {
     list: Vec<KeptCargo>,
 }
 
-/// For how many more a list of so many takes memory at least. A short one takes as much again as it has, so that it is moved less often.
+/// The number of places by which a list of `count` cargoes grows at least. A short list doubles, so that it moves less
+/// often.
 fn more_of(count: usize) -> usize
     ensures { NEAR_KEPT ≤ result }
 {
@@ -72,7 +73,7 @@ impl KeptList {
         self.list.len() + self.count
     }
 
-    /// Makes room for one more: where none is left near, those that stand there go into the list.
+    /// Makes room for one more cargo. If no inline place is free, the inline cargoes move into the list.
     ///
     /// # Errors
     /// Want of memory, or as many cargoes as can be kept.
@@ -87,7 +88,7 @@ impl KeptList {
         self.put_away()
     }
 
-    /// Those that stand near go into the list.
+    /// Moves the inline cargoes into the list.
     ///
     /// # Errors
     /// Want of memory, or as many cargoes as can be kept.
@@ -116,7 +117,7 @@ impl KeptList {
         self.count += 1;
     }
 
-    /// The cargo that stands behind so many others.
+    /// The cargo at the index `place`, from 0 on.
     pub fn get(&self, place: usize) -> Option<KeptCargo>
         ensures { result ≡ slice_get self.now.items place }
     {
@@ -137,7 +138,7 @@ fn set_near(near: &mut [KeptCargo; NEAR_KEPT], at: usize, kept: KeptCargo)
     near[at] = kept;
 }
 
-/// The cargo at a place near, of those of which so many are there.
+/// The inline cargo at an index, if it is below `count`.
 fn near_at(near: &[KeptCargo; NEAR_KEPT], count: usize, at: usize) -> Option<KeptCargo>
     requires { count ≤ NEAR_KEPT }
     ensures { result ≡ slice_get (take count near.now) at }
@@ -145,7 +146,7 @@ fn near_at(near: &[KeptCargo; NEAR_KEPT], count: usize, at: usize) -> Option<Kep
     near[..count].get(at).copied()
 }
 
-/// Appends all that stand near to a list.
+/// Appends all inline cargoes to a list.
 fn append_all(list: &mut Vec<KeptCargo>, near: &[KeptCargo; NEAR_KEPT])
     requires { vec_len list.old + NEAR_KEPT ≤ vec_capacity list.old }
     ensures { list.new.items ≡ list.old.items ++ near.now }

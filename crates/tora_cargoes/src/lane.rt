@@ -16,8 +16,8 @@ use tora_seat::{Cargo, MOST_CARGOES};
 
 /// The lane from a core to a link end, with all cargoes that were ever put into it.
 ///
-/// What left the lane is kept in less, but not at once: before the next turn of the node's core, when memory may be asked for. What waits stands near
-/// where few cargoes do, so that only lanes of which more waited at a time have a list.
+/// Cargoes that have left the lane are compressed before the next turn of the node's core, when memory may be
+/// requested. A few waiting cargoes are stored inline; only a lane with more has a list.
 #[derive(Drop)]
 pub struct Lane {
     /// How many of the cargoes left the lane.
@@ -99,7 +99,8 @@ impl Lane {
         self.taken = self.cargoes.len();
     }
 
-    /// Keeps the cargoes that left the lane in less, and takes the memory for as many as it holds, where it has a list.
+    /// Compresses the cargoes that have left the lane, and allocates room for as many cargoes as a lane holds, if it
+    /// has a list.
     ///
     /// # Errors
     /// Want of memory.
@@ -112,9 +113,9 @@ impl Lane {
         self.cargoes.reserve()
     }
 
-    /// Where the list has more than four times the memory that its cargoes need, puts them into one that is no longer than they need, and gives the
-    /// other one to the spare ones, in the place of that of the place `spare`. One without cargoes stays, and so does one where there is no memory
-    /// for another.
+    /// If the list has more than four times the memory that its cargoes need, moves them to a list of the right size,
+    /// and gives the old one to the spare lists at the index `spare`. Nothing changes if the list is empty or memory is
+    /// refused.
     #[inline(always)]
     pub fn shorten(&mut self, spares: &mut Spares, spare: usize)
         ensures put { self.new.put ≡ self.old.put }

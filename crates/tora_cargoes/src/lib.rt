@@ -1,9 +1,9 @@
-//! The cargoes of a simulated world: those that wait in the lane from a core to a link end, and those that ever did, in few bytes.
+//! The cargoes of a simulated world, those that wait in a lane and those that have left it, in few bytes.
 //!
-//! A world of the prefix law keeps all that was ever put into a lane, and all that a core ever stepped. `Lane` holds the cargoes that
-//! wait as they are, the first few of them where it stands itself, and what left it in `KeptCargoes`, where most take 12 bytes. So that
-//! no step of a core wants memory, room is made before it: each lane has a list of its own, or takes the one of its place from `Spares`. Own
-//! profile.
+//! The prefix law speaks about all cargoes that were ever put into a lane, so a `Lane` keeps them all. The waiting ones
+//! are stored as they are, the first few inline. Those that have left are compressed in `KeptCargoes`, most of them to
+//! 12 bytes. Memory is requested before a core's step, so the step itself needs none: a lane has its own list, or takes
+//! the spare list of its neighbour from `Spares`.
 //!
 //! ```rust
 //! let mut spares = Spares::new(alloc);

@@ -1,4 +1,4 @@
-//! Cargoes of which the first few stand where they are kept.
+//! A list of cargoes whose first few are stored inline.
 ghost use Rattle.std.specs.Prelude.{◌≡◌, ◌<◌, ◌≤◌, ◌+◌, ◌⊎◌, ◌^◌, ◌-◌, ◌++◌, ◌∷◌, [], length, drop, take, vec_len, vec_capacity, slice_get, slice_set, Some, IfOk, OnOk};
 ghost use Rattle.tora_seat.specs.declared.TheConstants.{MOST_CARGOES};
 ghost use Rattle.tora_cargoes.specs.declared.near_cargoes.TheConstants.{NEAR};
@@ -24,7 +24,7 @@ const LONG: usize = 4;
 pub struct NearCargoes {
     /// Whether they stand in the list.
     is_wide: bool,
-    /// How many stand near, where there is no list.
+    /// The number of inline cargoes, if there is no list.
     count: usize,
     list: Vec<Cargo>,
     cells: [Cargo; NEAR],
@@ -104,8 +104,8 @@ impl NearCargoes {
         self.count -= count;
     }
 
-    /// Takes the memory for cargoes up to as many as a lane holds, where they stand in a list. Where none does, the list goes, and the next few stand
-    /// near.
+    /// Allocates room for as many cargoes as a lane holds, if the cargoes are in a list. An empty list is freed, and
+    /// the next cargoes are stored inline again.
     ///
     /// # Errors
     /// Want of memory.
@@ -128,8 +128,9 @@ impl NearCargoes {
         self.list.reserve(needed)
     }
 
-    /// Where the list has more than four times the memory that its cargoes need, puts them into one of their own, and gives the other one to the spare
-    /// ones, in the place of that of a place. One without cargoes stays, and so does one where there is no memory for another.
+    /// If the list has more than four times the memory that its cargoes need, moves them to a list of the right size,
+    /// and gives the old one to the spare lists at the index `place`. Nothing changes if the list is empty or memory is
+    /// refused.
     #[inline(never)]
     pub fn shorten(&mut self, spares: &mut Spares, place: usize)
         ensures items { self.new.items ≡ self.old.items }
@@ -186,7 +187,7 @@ fn copied(alloc: Global, cargoes: &[Cargo]) -> Result<Vec<Cargo>, AllocError>
     Ok(list)
 }
 
-/// Puts a cargo in the place of what stands at a place.
+/// Replaces the cargo at an index.
 #[inline(always)]
 fn set_cell(cells: &mut [Cargo; NEAR], at: usize, cargo: &Cargo)
     requires { at < NEAR }
@@ -195,7 +196,7 @@ fn set_cell(cells: &mut [Cargo; NEAR], at: usize, cargo: &Cargo)
     cells[at] = *cargo;
 }
 
-/// Moves up those that stand behind the first ones.
+/// Moves the cargoes after the first ones to the front.
 fn drop_cells(cells: &mut [Cargo; NEAR], count: usize, first: usize)
     requires first { first ≤ count }
     requires count { count ≤ NEAR }

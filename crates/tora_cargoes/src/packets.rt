@@ -9,7 +9,7 @@ use tora_arq::Life;
 use tora_packet::Packet;
 use tora_seat::Cargo;
 
-/// The packet of a cargo, where it is of this life.
+/// The packet of a cargo, if the cargo belongs to this life.
 fn packet_put(cargo: &Cargo, life: Life) -> Option<Packet>
     ensures { option_to_list result ≡ packets_of life (parcels_in (cargo.now ∷ [])) }
 {
@@ -49,7 +49,7 @@ pub fn list_put(packets: &mut Vec<Packet>, put: &[Cargo], life: Life) -> Result<
     Ok(())
 }
 
-/// The packet of the cargo at a place, where it is of this life.
+/// The packet of the cargo at an index, if the cargo belongs to this life.
 fn packet_kept(kept: &KeptCargoes, place: usize, life: Life) -> Option<Packet>
     requires { place < length kept.now.items }
     ensures { (cargo : AnyCargo) → slice_get kept.now.items place ≡ Some cargo → option_to_list result ≡ packets_of life (parcels_in (cargo ∷ [])) }

@@ -44,7 +44,7 @@ impl Spare {
         self.list.reserve_exact(MOST_CARGOES + NEAR)
     }
 
-    /// The list. One without memory stands in its place then.
+    /// Takes the list, and leaves an empty one without memory.
     fn take(&mut self) -> Vec<Cargo>
         ensures items { result.items ≡ [] }
         ensures places { vec_capacity result ≡ self.old }
@@ -54,9 +54,10 @@ impl Spare {
     }
 }
 
-/// One such list for each place of a node's neighbours. A lane that takes the one of its place has it until it is made short, when the list comes
-/// back, or until no cargo waits there before a turn of the core, when its memory is given back. Before the next turn another one is made: so memory
-/// for all that an item can put is there before it is served, and only lanes of which much waited at a time have a list.
+/// A spare list for each neighbour of a node. A lane that needs a list takes the spare one of its neighbour. It gives
+/// the list back when it is shortened, or when it is empty before a turn of the core. Missing lists are allocated
+/// before the next turn, so an item never needs memory while it is served, and only lanes that once held many cargoes
+/// have a list.
 #[derive(Drop)]
 pub struct Spares {
     lists: Vec<Spare>,

@@ -1,4 +1,4 @@
-//! What a channel makes of the datagrams of a simulation: which are lost, after how many rounds they come, and which come twice.
+//! The channel of a simulation: which datagrams are lost, how many rounds each takes, and which arrive twice.
 //!
 //! ```rust
 //! let parts = channel_parts(b"loss=0.1,delay=1-3")?;

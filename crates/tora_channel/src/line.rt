@@ -17,7 +17,7 @@ pub struct ChannelLine {
     pub parts: Parts,
 }
 
-/// Where a line stands in a table: by link, and then by round.
+/// The sort key of a line: by link, then by round.
 pub fn key(low: Id, high: Id, round: u64) -> u128
     ensures { result ≡ key_at low high round }
 {
@@ -26,7 +26,7 @@ pub fn key(low: Id, high: Id, round: u64) -> u128
 }
 
 impl ChannelLine {
-    /// Where the line stands in a table.
+    /// The sort key of the line.
     pub fn key(&self) -> u128
         ensures { result ≡ key_of self.now }
     {

@@ -137,7 +137,7 @@ impl Parts {
         None
     }
 
-    /// The channel of these parts: what is not told is 0.
+    /// The channel of these parts; a missing part is 0.
     pub fn channel(self, seed: u64) -> Channel
         ensures { result ≡ channel_by self seed }
     {

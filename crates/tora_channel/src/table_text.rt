@@ -13,7 +13,7 @@ use std::fmt::{self, Display, Formatter, Write};
 use tora_height::Id;
 use tora_lines::words;
 
-/// Why a line of a channel file is none.
+/// Why a line of a channel file is refused.
 #[derive(Clone, Copy, Debug, PartialEq, Eq)]
 pub enum LineCause {
     /// It has fewer than four words.
@@ -49,7 +49,7 @@ impl Display for LineCause {
 pub enum TableError {
     /// Memory was refused.
     Memory,
-    /// The first line that is none, by its number from 1, and why.
+    /// The number of the first refused line, from 1, and the cause.
     Line(u64, LineCause),
 }
 
@@ -111,7 +111,7 @@ pub fn channel_line(text: &[u8]) -> Result<ChannelLine, LineCause>
     }
 }
 
-/// A line with this number, or why it is none.
+/// The line with this number, or why it is refused.
 fn numbered_line(number: u64, text: &[u8]) -> Result<ChannelLine, TableError>
     ensures { Numbers number (channel_line_of text.now) result }
 {

@@ -91,7 +91,7 @@ pub fn list_at<'a>(table: &'a Table, key: &str, place: Place) -> Result<&'a [Val
     }
 }
 
-/// What a word says that nodes make of erased levels.
+/// The choice of erasure that a word names.
 fn erasure_of(word: &str) -> Option<Erasure>
     ensures { result ≡ erasure_of word.now }
 {
@@ -102,7 +102,7 @@ fn erasure_of(word: &str) -> Option<Erasure>
     }
 }
 
-/// What a value says that nodes make of erased levels.
+/// The choice of erasure that a value gives, or its fault.
 fn erasure_in(value: &Value) -> Result<Erasure, ConfigError>
     ensures { Gives (λ e. e) result (at_place Place.Erasure (erasure_said (as_str (view value.now)))) }
 {

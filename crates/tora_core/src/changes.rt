@@ -25,7 +25,7 @@ pub fn rows_go()
     ensures told { (v : View) (j k : ℕ) → IsTold (record v { rows = without_row j v.rows }) k ↔ (IsTold v k × (k ≢ j)) }
 {}
 
-/// The height that a neighbour tells takes the place of what it told before, and of nothing else.
+/// The height of an update replaces the sender's entry and changes no other entry.
 pub fn entries_are_taken()
     ensures up { (v : View) (j k : ℕ) (g : Quintuple) → IsUp (record v { rows = with_entry j g v.rows }) k ↔ IsUp v k }
     ensures entry { (v : View) (j k : ℕ) (g h : Quintuple) → IsEntry (record v { rows = with_entry j g v.rows }) k h

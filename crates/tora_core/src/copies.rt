@@ -9,7 +9,7 @@ use std::alloc::{AllocError, Global};
 use tora_height::Id;
 
 impl Links {
-    /// The same rows, with what is kept of them.
+    /// A copy of the rows and of what is stored with them.
     ///
     /// # Errors
     /// Want of memory.
@@ -64,7 +64,7 @@ fn copied_views(alloc: Global, views: &[Destination]) -> Result<Vec<Destination>
     Ok(copies)
 }
 
-/// The numbers of a list, with room for so many.
+/// A copy of a list of numbers, with this much room.
 ///
 /// # Errors
 /// Want of memory.

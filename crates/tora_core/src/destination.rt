@@ -225,7 +225,7 @@ impl Destination {
     }
 }
 
-/// The packet of what is broadcast, where there is something.
+/// The packet of a broadcast, if there is one.
 fn packet_to_send(destination: Id, broadcast: Option<Broadcast>) -> Option<Packet>
     requires { IfSome broadcast (MakesPacket destination) }
     ensures { result ≡ option_map (packet_of destination) broadcast }

@@ -6,7 +6,7 @@ use crate::destination::Destination;
 use crate::rows::is_at;
 use tora_height::{Height, Id, Level};
 
-/// What a node makes of erased reference levels, for all its destinations. Own profile.
+/// How a node treats erased reference levels, for all its destinations.
 #[derive(Clone, Copy, Debug, Default, PartialEq, Eq, Hash)]
 pub enum Erasure {
     /// A clear erases heights of its level; an update is taken whatever its level.

@@ -5,7 +5,7 @@ ghost use Rattle.tora_core.specs.Errors.{core_error_number, step_error_number};
 use std::fmt;
 use thiserror::Error;
 
-/// Why there is no core, or no text of one. Own profile.
+/// Why there is no core, or no text of one.
 #[derive(Clone, Copy, Debug, PartialEq, Eq, Hash, Error)]
 pub enum CoreError {
     /// There is not enough memory.
@@ -52,7 +52,7 @@ impl CoreError {
     }
 }
 
-/// Why an input is refused, in the order in which the causes are tested. A refused input changes nothing. Own profile.
+/// Why an input is refused, in the order in which the causes are tested. A refused input changes nothing.
 #[derive(Clone, Copy, Debug, PartialEq, Eq, Hash, Error)]
 pub enum StepError {
     /// The neighbour is not one of the configured ones.

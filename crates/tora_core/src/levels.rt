@@ -28,7 +28,7 @@ impl Destination {
         Some(Broadcast::Query)
     }
 
-    /// Tells the height to every up neighbour, where there is one.
+    /// Broadcasts the height in an update, if there is one.
     pub(crate) fn broadcast_update(&mut self) -> Option<Broadcast>
         ensures view { self.new.view ≡ (update_broadcast self.old.view).view }
         ensures broadcast { result ≡ (update_broadcast self.old.view).broadcast }

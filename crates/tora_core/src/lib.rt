@@ -1,10 +1,12 @@
 //! TORA's rules for the destinations of one node.
 //!
-//! A core keeps a view of each destination of its table: the node's own height, whether a route is required, and the
-//! heights that its neighbours told. It takes inputs, each with the tick of 100 ms at which it came, and answers the
-//! packets that go to every neighbour whose link is up (Park and Corson 1997, section 3; where a query is answered and
-//! which entries a clear takes are this project's own profile). Only a new core and its text take memory.
-//! A core has at most 32 neighbours, or up to 255 for who asks for them (`Core::with_limits`), and 64 destinations.
+//! For each destination of its table, a core has a view: the node's own height, whether a route is required, and the
+//! heights that the neighbours sent. It takes inputs, each with its tick of 100 ms, and returns the packets to
+//! broadcast to every neighbour whose link is up (Park and Corson 1997, section 3). Neither text says where a query is
+//! answered and which entries a clear erases; these rules are this project's choice.
+//!
+//! Only a new core and its text take memory. A core has at most 32 neighbours, or up to 255 with `Core::with_limits`,
+//! and 64 destinations.
 //!
 //! ```rust
 //! let mut core = Core::new(alloc, 3, &[2, 4], &[4])?;
@@ -63,13 +65,13 @@ pub use storms::plain_nodes_may_never_rest;
 use tora_height::Id;
 use tora_packet::Packet;
 
-/// The most neighbours of a node within the standard limits. Own profile.
+/// The most neighbours of a node within the standard limits.
 pub const MOST_NEIGHBOURS: usize = 32;
 
-/// The most neighbours of a node within any limits. Own profile.
+/// The most neighbours of a node within any limits.
 pub const GREATEST_NEIGHBOURS: usize = 255;
 
-/// The most destinations of a table. Own profile.
+/// The most destinations of a table.
 pub const MOST_DESTINATIONS: usize = 64;
 
 /// What a core takes in.

@@ -6,7 +6,7 @@ use crate::{GREATEST_NEIGHBOURS, MOST_DESTINATIONS, MOST_NEIGHBOURS};
 
 /// The most neighbours and destinations of a core.
 ///
-/// A limit above the greatest, which is 255 neighbours or 64 destinations, stands for the greatest. Own profile.
+/// A limit above the greatest, which is 255 neighbours or 64 destinations, stands for the greatest.
 #[derive(Clone, Copy, Debug, PartialEq, Eq)]
 pub struct CoreLimits {
     pub neighbours: usize,

@@ -34,7 +34,7 @@ pub struct Core {
     pub(crate) up: Vec<Id>,
     pub(crate) destinations: ArrayVec<Id, MOST_DESTINATIONS>,
     pub(crate) views: Vec<Destination>,
-    /// Where the neighbours and the destinations may stand.
+    /// Guesses at the indexes of neighbours and destinations.
     pub(crate) hints: TableHints,
 }
 
@@ -154,11 +154,9 @@ impl Core {
         })
     }
 
-    /// Reads what a step reads for an input of the neighbour at a place that is about a destination, so that it is at hand by then: for callers
-    /// who step many cores in turn.
-    ///
-    /// The place is that among `neighbours`, from 0 on; where there is no such neighbour or destination, less or other is read. The number says
-    /// nothing. It is to be kept, since a read of which nothing is kept is left out. Own profile.
+    /// Prefetches what a step reads for an input about a destination from the neighbour at an index; for callers that
+    /// step many cores in turn. If there is no such neighbour or destination, it reads less or other data. The result
+    /// has no meaning, but the caller must use it, because the compiler drops a read whose result is not used.
     #[inline(always)]
     pub fn prefetch(&self, place: usize, d: Id) -> u64 {
         let at = self.hints.destinations.place(d);

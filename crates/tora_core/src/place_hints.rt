@@ -1,7 +1,7 @@
-//! Guesses of where numbers stand in a list.
+//! Guesses at the indexes of numbers in a list.
 //!
-//! A guess may be wrong, as where two numbers end in the same bits: who takes one looks which number stands there, and searches where it is
-//! another.
+//! A guess may be wrong, for instance if two numbers end in the same bits. Whoever uses one checks which number is
+//! there, and searches the list if it is another.
 ghost use Rattle.std.specs.Prelude.{◌<◌};
 
 use tora_height::Id;
@@ -22,7 +22,7 @@ fn bits(n: Id) -> usize
     n as usize % PLACES
 }
 
-/// The place as it is kept; one that does not fit is kept as the first.
+/// The index in one byte; 0 if it does not fit.
 fn kept(place: usize) -> u8 {
     u8::try_from(place).unwrap_or(0)
 }
@@ -37,7 +37,7 @@ impl PlaceHints {
         hints
     }
 
-    /// Where a number may stand.
+    /// A guess at the index of a number.
     pub fn place(&self, n: Id) -> usize {
         usize::from(self.places[bits(n)])
     }

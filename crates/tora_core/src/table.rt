@@ -40,7 +40,7 @@ pub fn first_views(
     Ok(views)
 }
 
-/// Where the neighbours and the destinations of a table may stand.
+/// Guesses at the indexes of a table's neighbours and destinations.
 #[derive(Clone, Copy, Debug, PartialEq, Eq)]
 pub struct TableHints {
     pub neighbours: PlaceHints,

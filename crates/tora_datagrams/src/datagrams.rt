@@ -12,7 +12,7 @@ use std::marker::Model;
 use tora_frame::{BorrowedBody, BorrowedFrame, Header};
 use tora_height::Id;
 
-/// So many frames are kept beside twice as many as there are datagrams, before those that no datagram has are let go.
+/// Unused frames are removed once there are more than this number and twice the number of datagrams.
 const MOST_UNUSED: usize = 1024;
 
 /// All datagrams that were ever sent, in order, but for the first ones that were let go.
@@ -24,7 +24,7 @@ pub struct Datagrams {
     frames: KeptFrames,
     /// Of each datagram the place of its frame.
     places: Vec<u32>,
-    /// Of each link end where its last HELLOs may stand among the frames.
+    /// For each link end guesses at the indexes of its last HELLOs among the frames.
     hellos: Vec<LastHellos>,
 }
 
@@ -92,7 +92,7 @@ impl Datagrams {
         }
     }
 
-    /// Appends a datagram whose frame is kept now, and tells where it stands among the frames.
+    /// Appends a datagram with a new frame, and returns the index of the frame.
     #[inline(always)]
     fn push_frame(&mut self, far_end: u32, frame: &BorrowedFrame<'_>) -> u32
         requires { HasRoom self.old }
@@ -152,7 +152,7 @@ impl Datagrams {
         true
     }
 
-    /// The datagram that stands behind so many others, with its packets where they stand.
+    /// The datagram at the index `place`, without copying its packets.
     #[inline(always)]
     pub fn get(&self, place: usize) -> Option<BorrowedFrame<'_>>
         ensures { result ≡ slice_get self.now.items place }
@@ -163,7 +163,7 @@ impl Datagrams {
         self.frames.get(at as usize)
     }
 
-    /// The datagram that stands behind so many others, if it is a HELLO.
+    /// The datagram at the index `place`, if it is a HELLO.
     #[inline(always)]
     pub fn hello(&self, place: usize) -> Option<&KeptFrame>
         ensures hello { IfSome result (λ kept. slice_get self.now.items place ≡ Some (frame_of kept.now.header Body.Hello)) }
@@ -175,7 +175,7 @@ impl Datagrams {
         self.frames.hello(at as usize)
     }
 
-    /// Where the link end may stand to which the datagram goes that stands behind so many others: a guess.
+    /// A guess at the index of the link end that receives the datagram at the index `place`.
     #[inline(always)]
     pub fn far_end(&self, place: usize) -> usize {
         match place_at(&self.places, place) {
@@ -184,7 +184,7 @@ impl Datagrams {
         }
     }
 
-    /// From which node to which the datagram goes that stands behind so many others.
+    /// The sender and the receiver of the datagram at the index `place`.
     #[inline(always)]
     pub fn way(&self, place: usize) -> Option<(Id, Id)>
         ensures { result ≡ option_map way_of (slice_get self.now.items place) }
@@ -240,7 +240,7 @@ impl Datagrams {
         Ok(renewed)
     }
 
-    /// Appends the datagram that stands behind so many others of these.
+    /// Appends the datagram of `datagrams` at the index `place`.
     ///
     /// # Errors
     /// Want of memory.
@@ -256,7 +256,7 @@ impl Datagrams {
     }
 }
 
-/// The place of the frame of the datagram that stands behind so many others.
+/// The index of the frame of the datagram at an index.
 #[inline(always)]
 fn place_at(places: &Vec<u32>, at: usize) -> Option<u32>
     ensures { result ≡ slice_get places.now.items at }

@@ -9,7 +9,7 @@ use std::marker::Model;
 /// How many datagrams go, from the first on.
 #[derive(Clone, Copy)]
 pub struct FirstDatagrams {
-    /// So many, or all.
+    /// The number of datagrams; all if there are fewer.
     pub many: usize,
 }
 
@@ -39,7 +39,7 @@ impl GoneDatagrams {
         GoneDatagrams {}
     }
 
-    /// The first of these, so many or all.
+    /// The first datagrams, at most this many.
     pub fn first(_datagrams: &Datagrams, _first: &FirstDatagrams) -> GoneDatagrams
         ensures { result.frames ≡ take _first.now.many _datagrams.now.items }
     {

@@ -29,7 +29,7 @@ pub enum KeptBody {
 #[derive(Drop)]
 pub struct KeptFrame {
     header: Header,
-    /// Where the link end may stand that it goes to: a guess, so that who takes it looks which end stands there.
+    /// A guess at the index of the receiving link end; whoever uses it checks which end is there.
     pub far_end: u32,
     body: KeptBody,
 }
@@ -108,8 +108,8 @@ impl KeptFrames {
         self.packets.reserve(MOST_PACKETS)
     }
 
-    /// Appends a frame that goes to the link end that may stand at the place `far_end`, and tells behind how many it stands. There must be room
-    /// for it.
+    /// Appends a frame, and returns its index. `far_end` is a guess at the index of the receiving link end. There must
+    /// be room for the frame.
     #[inline(never)]
     pub fn push(&mut self, far_end: u32, frame: &BorrowedFrame<'_>) -> u32
         requires { HasRoom self.old }
@@ -127,7 +127,7 @@ impl KeptFrames {
         place
     }
 
-    /// The frame that stands behind so many others, with its packets where they stand.
+    /// The frame at the index `place`, without copying its packets.
     #[inline(always)]
     pub fn get(&self, place: usize) -> Option<BorrowedFrame<'_>>
         ensures { result ≡ slice_get self.now.items place }
@@ -138,7 +138,7 @@ impl KeptFrames {
         Some(frame_of(&self.packets, kept))
     }
 
-    /// The frame that stands behind so many others, if it is a HELLO.
+    /// The frame at the index `place`, if it is a HELLO.
     #[inline(always)]
     pub fn hello(&self, place: usize) -> Option<&KeptFrame>
         ensures hello { IfSome result (λ kept. slice_get self.now.items place ≡ Some (frame_of kept.now.header Body.Hello)) }
@@ -150,7 +150,7 @@ impl KeptFrames {
         if kept.is_hello() { Some(kept) } else { None }
     }
 
-    /// From which node to which the frame goes that stands behind so many others.
+    /// The sender and the receiver of the frame at the index `place`.
     #[inline(always)]
     pub fn way(&self, place: usize) -> Option<(Id, Id)>
         ensures { result ≡ option_map way_of (slice_get self.now.items place) }
@@ -161,7 +161,7 @@ impl KeptFrames {
         Some((kept.header.sender, kept.header.receiver))
     }
 
-    /// Where the link end may stand that the frame goes to which stands behind so many others: a guess.
+    /// A guess at the index of the link end that receives the frame at the index `place`.
     #[inline(always)]
     pub fn far_end(&self, place: usize) -> u32 {
         match self.frames.get(place) {

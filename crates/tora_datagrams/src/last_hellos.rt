@@ -1,4 +1,4 @@
-//! Where the HELLOs stand that a link end sent last.
+//! The indexes of the HELLOs that a link end sent last.
 use tora_frame::Version;
 
 /// The places of the HELLOs that a link end sent last, one of either version, among the frames that are kept. They are guesses: who uses one
@@ -24,7 +24,7 @@ impl LastHellos {
         }
     }
 
-    /// The same with this place of the one of this version.
+    /// The same, with this index for the HELLO of this version.
     pub fn with_place(&self, version: Version, place: u32) -> LastHellos {
         let (one, two) = (self.one, self.two);
         match version {

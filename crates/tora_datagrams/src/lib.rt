@@ -1,8 +1,8 @@
 //! The datagrams that were sent in a simulated world.
 //!
-//! A world of the prefix law keeps every datagram, so that each can be delivered late, twice or never. `Datagrams` keeps them
-//! in the order in which they were sent: of each the place of its frame, where a HELLO that a link end says again is kept once.
-//! What is read is what was sent, frame by frame. Own profile.
+//! The prefix law lets each datagram be delivered late, twice or never, so `Datagrams` keeps them all, in the order in
+//! which they were sent. It stores the index of each datagram's frame; a HELLO that a link end repeats is stored once.
+//! Readers return the frames that were sent.
 //!
 //! ```rust
 //! let mut datagrams = Datagrams::new(alloc);

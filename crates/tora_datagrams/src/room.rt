@@ -1,4 +1,4 @@
-//! Room for items of which few come.
+//! Room in lists that get few items.
 ghost use Rattle.std.specs.Prelude.{◌≡◌, ◌<◌, vec_len, vec_capacity, OnOk};
 
 use std::alloc::AllocError;

@@ -1,4 +1,5 @@
-//! What hosts do with routers is a run of running nodes, so that the laws of the free world hold of every program that embeds routers.
+//! The laws of embedded routers: the calls of their hosts are a run of running nodes, so the laws of worlds hold for
+//! every program that embeds routers.
 #![tactic(auto)]
 
 mod laws;

@@ -9,7 +9,7 @@ use crate::{Body, Frame, Header, Packets};
 use std::marker::Model;
 use tora_packet::Packet;
 
-/// What a frame carries behind its header, as `Body`, with its packets in a list that stands elsewhere. Own profile.
+/// The body of a frame, like `Body`, with borrowed packets.
 #[derive(Clone, Copy, Debug)]
 pub enum BorrowedBody<'a> {
     /// Nothing: the frame only tells the lives.
@@ -117,7 +117,7 @@ impl<'a> BorrowedFrame<'a> {
 }
 
 impl Frame {
-    /// The same frame, with its packets where they stand.
+    /// The same frame, without a copy of its packets.
     pub fn borrowed(&self) -> BorrowedFrame<'_>
         ensures { result ≡ self.now }
     {

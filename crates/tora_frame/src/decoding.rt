@@ -209,7 +209,7 @@ fn read_frame<'a>(bytes: &[u8], packets: &'a mut Packets) -> Result<BorrowedFram
     read_body(bytes, header, packets)
 }
 
-/// The frame that the bytes spell, all of the bytes. Own profile.
+/// The frame that the bytes spell, all of the bytes.
 ///
 /// # Errors
 /// The first that stands, in this order: `Short` (under 28 bytes), `Version`, `Kind`, `Length`, `Short` (fewer bytes
@@ -231,7 +231,7 @@ pub fn decode(bytes: &[u8]) -> Result<Frame, FrameError>
 }
 
 /// The frame that the bytes spell, as `decode`. Its packets are put into `packets` in place of what was there, and the
-/// frame borrows them. After an error `packets` may have any packets. Own profile.
+/// frame borrows them. After an error `packets` may have any packets.
 ///
 /// # Errors
 /// Those of `decode`.

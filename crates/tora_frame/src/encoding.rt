@@ -117,7 +117,7 @@ fn put_ack(header: &Header, count: u64, out: &mut Bytes)
 }
 
 /// The bytes of a frame: 28 for a HELLO, 36 for an ACK, and for a DATA frame those of its packets and 44 in version 1, 48
-/// in version 2. Own profile.
+/// in version 2.
 pub fn encode(frame: &Frame) -> ArrayVec<u8, LONGEST_FRAME>
     ensures spells { SpellsFrame result.items frame.now }
     ensures exact { result.items ≡ frame_spelling frame.now }
@@ -127,7 +127,7 @@ pub fn encode(frame: &Frame) -> ArrayVec<u8, LONGEST_FRAME>
     out
 }
 
-/// Puts the bytes of a frame, as `encode`, into `out` in place of what was there. Own profile.
+/// Puts the bytes of a frame, as `encode`, into `out` in place of what was there.
 pub fn encode_into(frame: &BorrowedFrame<'_>, out: &mut ArrayVec<u8, LONGEST_FRAME>)
     ensures spells { SpellsFrame out.new.items frame.now }
     ensures exact { out.new.items ≡ frame_spelling frame.now }

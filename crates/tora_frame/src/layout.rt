@@ -1,4 +1,4 @@
-//! The layout of frames in bytes: kinds and lengths. Own profile.
+//! The layout of frames in bytes: kinds and lengths.
 
 use crate::MOST_PACKETS;
 use tora_packet::{LONGEST_PACKET, SHORTEST_PACKET};

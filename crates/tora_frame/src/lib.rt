@@ -1,9 +1,9 @@
 //! The frames of a neighbour link and their bytes.
 //!
-//! A frame carries the numbers of two lives of the link, its sender's and the one that the sender heard of its
-//! receiver. A HELLO carries no more, a DATA frame carries numbered packets, and DATA and ACK carry a count of packets
-//! accepted. There are two versions: in version 1 a DATA frame carries one packet, in version 2 one to sixteen. Numbers
-//! in bytes are in network byte order. No call of this crate takes memory.
+//! A frame carries two life numbers: the sender's, and the one that the sender heard from the receiver. A HELLO carries
+//! nothing else. DATA frames carry numbered packets, and DATA and ACK frames carry a count of accepted packets. In
+//! version 1 a DATA frame carries one packet, in version 2 one to sixteen. Numbers are in network byte order. No call
+//! of this crate takes memory.
 //!
 //! ```rust
 //! let header = Header { version: Version::Two, sender: 1, receiver: 2, life: 5, heard: 9 };
@@ -31,7 +31,7 @@ pub use parts::{Body, Frame, GREATEST_NUMBER, Header, MOST_PACKETS, Packets, Ver
 use thiserror::Error;
 use tora_packet::PacketError;
 
-/// Why bytes spell no frame. Own profile.
+/// Why bytes spell no frame.
 #[derive(Clone, Copy, Debug, PartialEq, Eq, Hash, Error)]
 pub enum FrameError {
     /// The bytes end before the frame does.
@@ -43,10 +43,10 @@ pub enum FrameError {
     /// The version is neither 1 nor 2.
     #[error("the version is not 1 or 2")]
     Version,
-    /// The kind is none of 1 (HELLO), 2 (DATA) and 3 (ACK).
+    /// The kind is not 1 (HELLO), 2 (DATA) or 3 (ACK).
     #[error("the kind is not 1, 2 or 3")]
     Kind,
-    /// The payload length is none that the kind has in the version.
+    /// The kind does not have this payload length in this version.
     #[error("the payload length is none that the kind has")]
     Length,
     /// The sender or the receiver is 0, or the two are equal.

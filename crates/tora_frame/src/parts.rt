@@ -11,16 +11,16 @@ use std::marker::Model;
 use tora_height::Id;
 use tora_packet::Packet;
 
-/// The greatest number of a life or of a packet, and the greatest count of packets, 2^62. Own profile.
+/// The greatest number of a life or of a packet, and the greatest count of packets, 2^62.
 pub const GREATEST_NUMBER: u64 = 0x4000_0000_0000_0000;
 
-/// The most packets that a frame carries. Own profile.
+/// The most packets that a frame carries.
 pub const MOST_PACKETS: usize = 16;
 
-/// The packets of a DATA frame, in the order of their numbers. Own profile.
+/// The packets of a DATA frame, in the order of their numbers.
 pub type Packets = ArrayVec<Packet, MOST_PACKETS>;
 
-/// The version of a frame. Own profile.
+/// The version of a frame.
 #[derive(Clone, Copy, Debug, PartialEq, Eq, Hash)]
 pub enum Version {
     /// Version 1, in which a DATA frame carries one packet.
@@ -41,7 +41,7 @@ impl Version {
     }
 }
 
-/// The header of a frame: between whom it goes, and in which lives of the link. Own profile.
+/// The header of a frame: between whom it goes, and in which lives of the link.
 #[derive(Clone, Copy, Debug, PartialEq, Eq, Hash)]
 pub struct Header {
     /// The version of the frame.
@@ -56,7 +56,7 @@ pub struct Header {
     pub heard: u64,
 }
 
-/// What a frame carries behind its header. Own profile.
+/// The body of a frame, after its header.
 #[derive(Debug, PartialEq, Eq, Hash, Drop)]
 pub enum Body {
     /// Nothing: the frame only tells the lives.
@@ -68,7 +68,7 @@ pub enum Body {
     Ack(u64),
 }
 
-/// A frame of a neighbour link: its header and its body, both in their ranges. Own profile.
+/// A frame of a neighbour link: its header and its body, both in their ranges.
 ///
 /// Sender and receiver are two different nodes, and a frame that carries a count has heard a life of the receiver.
 #[derive(Debug, PartialEq, Eq, Hash, Drop)]

@@ -1,7 +1,7 @@
 //! A box as a raw pointer, for a struct that a caller in C holds.
 //!
-//! C can hold no `Box`, but a struct with a pointer. A `RawBox` is that pointer with the allocator that frees its block;
-//! what it owns and which value stands there are the box's. The pointer of a `RawBox` is never null.
+//! C cannot hold a `Box`, but it can hold a struct with a pointer. A `RawBox` is such a pointer, with the allocator
+//! that frees its block. It owns what the box owned, and contracts see the value of the box. Its pointer is never null.
 #![tactic(auto)]
 
 ghost use Rattle.std.specs.Prelude.{◌≡◌};

@@ -4,9 +4,9 @@ use std::cmp::Ordering;
 use std::fmt;
 use std::marker::Model;
 
-/// A height whose parts are in range (Park and Corson 1997, section 3.1; the ranges are this project's own profile).
+/// A height whose parts are in range (Park and Corson 1997, section 3.1; the ranges are this project's choice).
 ///
-/// Heights are ordered lexicographically over the five parts, as the derived `Ord` has it.
+/// Heights are ordered lexicographically over the five parts, as the derived `Ord` does it.
 #[derive(Clone, Copy, Debug, PartialEq, Eq, PartialOrd, Ord, Hash)]
 pub struct Height {
     tau: u64,

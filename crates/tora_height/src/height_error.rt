@@ -4,7 +4,7 @@ ghost use Rattle.tora_height.specs.HeightErrors.{height_error_number};
 
 use thiserror::Error;
 
-/// Why five parts are no height, in the order in which they are tested. Own profile.
+/// Why five parts are no height, in the order in which they are tested.
 #[derive(Clone, Copy, Debug, PartialEq, Eq, Hash, Error)]
 pub enum HeightError {
     /// `tau` is above 2^62.

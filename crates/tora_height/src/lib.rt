@@ -30,13 +30,13 @@ pub use height_error::HeightError;
 pub use level::Level;
 use std::cmp::Ordering;
 
-/// The number of a node, from 1 to 2^32 - 1. Own profile.
+/// The number of a node, from 1 to 2^32 - 1.
 pub type Id = u32;
 
-/// The greatest time tag, 2^62. Own profile.
+/// The greatest time tag, 2^62.
 pub const GREATEST_TAU: u64 = 0x4000_0000_0000_0000;
 
-/// The greatest delta, 2^30; the least is its negative. Own profile.
+/// The greatest delta, 2^30; the least is its negative.
 pub const GREATEST_DELTA: i32 = 0x4000_0000;
 
 /// A height as a node knows it; `None` is NULL, the absent height.

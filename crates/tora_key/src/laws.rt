@@ -2,11 +2,12 @@
 ghost use Rattle.std.specs.Prelude.{◌≡◌, List, ℕ, map, filter_map, All, Contains, IsTrue};
 ghost use Rattle.tora_key.specs.Sealing.{sealed, is_authentic, opened, IsPart};
 
-/// A link with a key gives what was tagged.
+/// A link with a key passes on only tagged messages.
 ///
-/// `through`: what was tagged comes through, as it was, in order. `tagged`: of whatever came, what comes through is a part of it
-/// once each has its tag again, in order; no other message comes through. `unforged`: where nobody but the one who tagged `sent` has
-/// made authentic bytes, each message that comes through is one of `sent` (once or often: tags don't tell that apart).
+/// `through`: tagged messages come through unchanged and in order. `tagged`: the messages that come through, each with
+/// its tag appended again, are a part of what came, in order. `unforged`: if nobody but the tagger of `sent` makes
+/// authentic bytes, each message that comes through is one of `sent`; it may come several times, since a tag does not
+/// show repetition.
 pub fn keyed_links_give_what_was_tagged()
     ensures through { (key : List ℕ) (messages : List (List ℕ)) → filter_map (opened key) (map (sealed key) messages) ≡ messages }
     ensures tagged { (key : List ℕ) (came : List (List ℕ)) → IsPart (map (sealed key) (filter_map (opened key) came)) came }

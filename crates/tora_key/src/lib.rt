@@ -1,7 +1,7 @@
-//! The key of a neighbour link, and the tags that it makes.
+//! The key of a neighbour link, and its tags.
 //!
-//! A tag is the first 16 bytes of HMAC-SHA-256 of a datagram (RFC 2104 and FIPS 198-1), which is computed over the
-//! digest of the crate `sha2`.
+//! A tag is the first 16 bytes of the HMAC-SHA-256 of a datagram (RFC 2104 and FIPS 198-1), computed with the digest of
+//! the crate `sha2`.
 #![tactic(auto)]
 
 mod key;

@@ -1,9 +1,10 @@
-//! Ruled lanes between the core thread and the neighbour threads.
+//! The lanes (queues) between the core's thread and the neighbours' threads.
 //!
-//! The lane into the core is a channel under a rule: of each seat, what the core has taken and then what the lane holds
-//! is what the seat has put, numbered from 1 without gaps. The lane to a neighbour is a ring with one producer and one
-//! consumer: what was received and then what is waiting is what was sent. Putting into the lane into the core and taking
-//! from it may wait. Sending to a neighbour and taking there wait for nobody, and take no memory.
+//! Each lane is first-in, first-out, and contracts say so. The lane into the core is a channel: for each seat, the
+//! items that the core took, followed by those in the lane, are the items that the seat put, numbered from 1 without
+//! gaps. The lane to a neighbour is a ring with one producer and one consumer: the received cargoes, followed by the
+//! waiting ones, are the cargoes sent. A call on the lane into the core may wait. A call on the lane to a neighbour
+//! never waits and takes no memory.
 //!
 //! ```rust
 //! let Lanes { mut core, mut links, mut outs, .. } = lanes(rt, alloc, 1)?;

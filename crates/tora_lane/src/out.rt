@@ -110,8 +110,8 @@ impl OutTake {
     }
 }
 
-/// Brings both ends of a lane together, once each has ended its work, and tells what became of the cargoes: what was
-/// received and then what is left in the lane is what was sent, and what was found and not received is left first.
+/// Closes a lane whose two threads have ended, and returns the counts of its cargoes. The received cargoes, followed by
+/// those left in the lane, are all that were sent. Cargoes that were seen but not received are the first ones left.
 pub fn settle_out(put: OutPut, take: OutTake) -> OutEnd
     requires { AreEndsOf put take }
     ensures { (waiting : List Cargo) × (take.received ++ waiting ≡ put.sent) × IsPrefix take.found waiting × (result.sent ≡ length put.sent) × (result.received ≡ length take.received) × (result.waiting ≡ length waiting) }

@@ -187,7 +187,7 @@ impl CorePort {
         })
     }
 
-    /// Takes the item at the front of the lane into the core: of its seat the one with the next number. It may wait.
+    /// Takes the first item of the lane into the core, which has the next number of its seat. It may wait.
     ///
     /// # Errors
     ///
@@ -214,8 +214,8 @@ impl CorePort {
         }
     }
 
-    /// Takes in the port of a seat once its thread has ended, and tells what became of its items: what was taken of the
-    /// seat and then what is left of it in the lane is what it has put.
+    /// Closes the port of a seat whose thread has ended, and returns the counts of its items. The items that the core
+    /// took from this seat, followed by those left in the lane, are all that the seat put.
     pub fn settle<R: Wait>(&mut self, _rt: &R, port: InPort) -> Settled
         requires { IsPortOf self.old port }
         ensures same { self.new ≡ self.old }
@@ -239,7 +239,8 @@ impl CorePort {
         }
     }
 
-    /// Ends the port: from now on nothing is taken, and a put that waits or comes is answered `Gone`. What was taken stays known.
+    /// Ends the port. No item is taken after this, and every put that waits or follows returns `Gone`. The items that
+    /// were taken stay known to contracts.
     pub fn end(self) -> Settling
         ensures { result ≡ self }
     {
@@ -254,7 +255,7 @@ impl CorePort {
 }
 
 impl Settling {
-    /// Takes in the port of a seat once its thread has ended, and tells what became of its items.
+    /// Closes the port of a seat whose thread has ended, and returns the counts of its items.
     pub fn settle(&mut self, port: InPort) -> Settled
         requires { IsPortOf self.old port }
         ensures same { self.new ≡ self.old }

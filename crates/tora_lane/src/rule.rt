@@ -13,7 +13,7 @@ pub enum LaneView {
     Spent,
 }
 
-/// The rule of the lane: of each seat, what was taken and then what the lane holds is what was put.
+/// The rule of the lane: for each seat, the items taken, followed by those in the lane, are the items put.
 pub struct LaneRule;
 
 impl Protocol<Item, LaneView> for LaneRule {

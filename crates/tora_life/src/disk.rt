@@ -10,7 +10,7 @@ use thiserror::Error;
 #[error("a call of the disk failed")]
 pub struct DiskError;
 
-/// One file on a disk, as bytes from place 0 on, which nobody else writes. Own profile.
+/// One file on a disk, as bytes from place 0 on, which nobody else writes.
 ///
 /// A disk either tells contracts its bytes, as `MemDisk` does, or tells none, as `FileDisk`. No call changes
 /// which. Of one that tells, contracts know what a read gives and the images that a crash may leave:
@@ -35,7 +35,7 @@ pub trait Disk {
     /// The moment, as a number that doesn't fall.
     ghost moment: { Self → ℕ };
 
-    /// What a crash at some moment from that one on might have left, during a call or between two.
+    /// What a crash at some moment since this one may have left, during a call or between two.
     ghost left_since: { Self → ℕ → List ℕ → Type 0 };
 
     /// How often a call has failed, and 2^64 - 1 from there on.
@@ -87,7 +87,7 @@ pub trait Disk {
     /// It reads as one of its images.
     ghost seen_may_stay: { (disk : Self) → IsTrue (tells disk) → may_leave disk (seen disk) };
 
-    /// This moment is one of those since an earlier one.
+    /// What a crash may leave now is among what crashes since an earlier moment may have left.
     ghost counts_now: { (disk : Self) (t : ℕ) (c : List ℕ) → t ≤ moment disk → may_leave disk c → left_since disk t c };
 
     /// Since this moment there is no other.

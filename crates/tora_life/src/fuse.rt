@@ -1,4 +1,4 @@
-//! A fuse: so many calls pass, and then one fails, or all do.
+//! A fuse for tests: some calls succeed, then one call fails, or all following calls do.
 ghost use Rattle.std.specs.Prelude.{◌≡◌, ◌-◌, not, Some};
 ghost use Rattle.tora_life.specs.Fuse.{is_blown, after_call};
 

@@ -5,7 +5,7 @@ use crate::disk::{Disk, DiskError};
 use crate::fuse::{Fuse, FuseMode};
 use std::marker::Model;
 
-/// For tests alone, a disk around another one: so many calls pass, and then one fails, or all do. Own profile.
+/// For tests alone, a disk around another one: so many calls pass, and then one fails, or all do.
 ///
 /// A call that fails so is counted, and makes no call of the disk inside. Calls that the disk inside fails are counted
 /// too. The count begins at 0. It tells contracts its bytes where the disk inside does.

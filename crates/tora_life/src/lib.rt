@@ -1,17 +1,16 @@
 //! Life numbers that rise across crashes.
 //!
-//! Each end of a neighbour link has a life file of its own. A life number that is drawn from it is greater than
-//! every number drawn from it before, across a crash at any moment, whatever the crash tears. The file
-//! keeps a bound, and no number above the bound is drawn before a greater bound is on the disk.
-//! Sixteen numbers are reserved at a time, so that fifteen draws of sixteen make no call of the disk.
+//! Each end of a link has its own life file. A number drawn from it is greater than every number drawn before, also
+//! after a crash at any moment that tears any unsynced bytes. The file stores a bound, and no number above the bound is
+//! drawn before a greater bound is on the disk. Numbers are reserved 16 at a time, so 15 of 16 draws make no call of
+//! the disk.
 //!
-//! `LifeFile` is generic over `Disk`, whose clauses say what a read gives and what a crash at each moment
-//! may leave. `MemDisk` tells contracts its bytes, so over it all clauses count, and it can be torn at will.
-//! `FileDisk` is a file of the operating system. It tells contracts no bytes, but which calls of the system it makes
-//! (`SystemFile`, `SystemFiles`): that a real disk keeps what was synced is a premise of the program that runs over it,
-//! and no clause here.
+//! `LifeFile` is generic over `Disk`, whose clauses say what a read returns and what a crash may leave at each moment.
+//! `MemDisk` makes its bytes visible to contracts, so all clauses apply to it, and it can be torn at will. `FileDisk`
+//! is a file of the operating system: contracts see only which system calls it makes (`SystemFile`, `SystemFiles`).
+//! That a real disk keeps what was synced is a premise of the program.
 //!
-//! The rules of the life file are this project's own profile. No call takes memory.
+//! No call takes memory.
 //!
 //! ```rust
 //! // The file of node 1 for its link to node 2.

@@ -16,7 +16,7 @@ use crate::writing::replace_slot;
 use std::marker::Model;
 use thiserror::Error;
 
-/// Why a life file did not open, and its disk. Where only the error is wanted, `?` makes a `LifeError` of it. Own profile.
+/// Why a life file did not open, and its disk. Where only the error is wanted, `?` makes a `LifeError` of it.
 #[derive(Debug, Drop, Error)]
 #[error("the life file did not open: {error}")]
 pub struct OpenFault<D> {
@@ -36,7 +36,7 @@ impl<D: Drop> From<OpenFault<D>> for LifeError {
     }
 }
 
-/// An open life file on a disk, which draws numbers from 1 to 2^62. Own profile.
+/// An open life file on a disk, which draws numbers from 1 to 2^62.
 ///
 /// It is of one end of a link: behind its two slots stands a tag with the node and the peer, so that a file that was copied
 /// to another node is refused before a number is drawn from it.

@@ -7,7 +7,7 @@ use crate::state::{DiskCall, State};
 use std::marker::Model;
 
 /// A disk of at most 80 bytes in memory, which tells contracts its bytes. Its calls may be armed to fail, and it
-/// may be crashed. It takes no memory. Own profile.
+/// may be crashed. It takes no memory.
 ///
 /// A write past 80 bytes fails, marks nothing as written, and uses up an armed write. A write that is armed to fail
 /// keeps the old bytes, but its range counts as written: a later crash tears it. A crash settles nothing: what

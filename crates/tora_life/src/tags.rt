@@ -28,7 +28,7 @@ const BEGINNING: u64 = 0x544f_5241_4c49_4632;
 
 impl Tag {
     /// What 32 bytes say: the beginning "TORALIF2", the node and the peer (4 bytes each, in network byte order), and then
-    /// the complement of these 16 bytes. Bytes after the 32 are passed over. Own profile.
+    /// the complement of these 16 bytes. Bytes after the 32 are passed over.
     #[tactic(auto, unfolding(crate::specs::Tags::tag_read))]
     pub fn read(bytes: &[u8]) -> Tag
         ensures { result ≡ tag_read bytes.now }

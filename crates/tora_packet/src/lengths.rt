@@ -4,19 +4,19 @@ ghost use Rattle.tora_packet.specs.PacketGrammar.{packet_length, is_packet_lengt
 
 use crate::Packet;
 
-/// The bytes of a query. Own profile.
+/// The bytes of a query.
 pub const QUERY_LENGTH: usize = 8;
 
-/// The bytes of an update. Own profile.
+/// The bytes of an update.
 pub const UPDATE_LENGTH: usize = 32;
 
-/// The bytes of a clear. Own profile.
+/// The bytes of a clear.
 pub const CLEAR_LENGTH: usize = 20;
 
-/// The fewest bytes that a packet has: those of a query. Own profile.
+/// The length of the shortest packet, a query, in bytes.
 pub const SHORTEST_PACKET: usize = QUERY_LENGTH;
 
-/// The most bytes that a packet has: those of an update. Own profile.
+/// The length of the longest packet, an update, in bytes.
 pub const LONGEST_PACKET: usize = UPDATE_LENGTH;
 
 /// How many bytes a packet has, as `encode` gives them.
@@ -32,7 +32,7 @@ pub fn encoded_length(packet: &Packet) -> usize
     }
 }
 
-/// Whether the packets of some kind have so many bytes.
+/// Whether packets of some kind have this length.
 #[inline(always)]
 pub fn is_packet_length(len: usize) -> bool
     ensures { result ≡ is_packet_length len }

@@ -1,7 +1,7 @@
 //! TORA's control packets and their bytes.
 //!
-//! A query (QRY) asks for a route, an update (UPD) tells a height, a clear (CLR) erases a reflected reference level
-//! after a partition. Numbers in bytes are in network byte order. No call of this crate takes memory.
+//! A query (QRY) asks for a route. An update (UPD) announces a height. A clear (CLR) erases a reflected reference level
+//! after a partition. Numbers are in network byte order. No call of this crate takes memory.
 //!
 //! ```rust
 //! let height = Height::new(0, 0, 0, 1, 3)?;
@@ -32,7 +32,7 @@ use std::fmt;
 use thiserror::Error;
 use tora_height::Id;
 
-/// Why bytes spell no packet, or parts make none. Own profile.
+/// Why bytes spell no packet, or parts make none.
 #[derive(Clone, Copy, Debug, PartialEq, Eq, Hash, Error)]
 pub enum PacketError {
     /// The bytes end before the packet does.
@@ -44,7 +44,7 @@ pub enum PacketError {
     /// The version is not 1.
     #[error("the version is not 1")]
     Version,
-    /// The kind is none of 1 (QRY), 2 (UPD) and 3 (CLR).
+    /// The kind is not 1 (QRY), 2 (UPD) or 3 (CLR).
     #[error("the kind is not 1, 2 or 3")]
     Kind,
     /// A byte that has to be zero is not.

@@ -9,7 +9,7 @@ pub enum Change {
     LinkUp(Id),
     /// The link to this neighbour is down, for this reason.
     LinkDown(Id, Reason),
-    /// The next hop to this destination is another one, or there is none now.
+    /// The next hop to this destination has changed; `None` if there is none now.
     NextHop(Id, Option<Id>),
 }
 

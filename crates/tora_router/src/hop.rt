@@ -28,7 +28,7 @@ fn is_same_hop(one: Option<Id>, two: Option<Id>) -> bool
 }
 
 impl Hop {
-    /// The next hop, where it is not the one that was told. It is told then.
+    /// Returns the next hop if it differs from the one polled last, and marks it as polled.
     fn poll(&mut self, core: &Core) -> Option<Change>
         ensures change { result ≡ hop_change core.now self.old }
         ensures none { IfNone result (self.new ≡ self.old) }
@@ -43,7 +43,8 @@ impl Hop {
     }
 }
 
-/// The next hop to the first destination to which it is not the one that was told, with the place of the destination. It is told then.
+/// Returns the next hop of the first destination whose next hop differs from the one polled last, with the index of the
+/// destination, and marks it as polled.
 pub fn poll_hops(hops: &mut Vec<Hop>, core: &Core) -> Option<(usize, Change)>
     ensures first { result ≡ first_in (hop_change core.now) hops.old.items }
     ensures none { IfNone result (hops.new.items ≡ hops.old.items) }

@@ -2,7 +2,7 @@
 use tora_arq::Verdict;
 use tora_frame::FrameError;
 
-/// What a router made of a datagram.
+/// The outcome of a datagram at a router.
 #[derive(Clone, Copy, Debug, PartialEq, Eq)]
 pub enum Intake {
     /// The node that it came from is no neighbour. Nothing is changed.

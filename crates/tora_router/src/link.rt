@@ -20,7 +20,8 @@ use tora_frame::{LONGEST_FRAME, Packets, decode_into, encode_into};
 use tora_height::Id;
 use tora_seat::{Cargo, cut_bound, hand_in};
 
-/// What a router keeps of a link: its end, what was made of the datagrams of the neighbour, and what has changed and was not told yet.
+/// A link of a router: its end, the counts of the neighbour's datagrams by outcome, and the latest change that was not
+/// polled yet.
 #[derive(Drop)]
 pub struct Link {
     pub end: LinkEnd,
@@ -36,7 +37,7 @@ impl Link {
         hand_in(&mut self.end, cargo);
     }
 
-    /// Takes the first event of the end, and notes what it tells of the link.
+    /// Takes the first event of the end, and notes the change of the link that it reports.
     pub fn poll(&mut self) -> Option<LinkEvent>
         ensures event { result ≡ event_of self.old }
         ensures none { IfNone result (self.new ≡ self.old) }
@@ -121,7 +122,7 @@ impl Link {
         Some(count)
     }
 
-    /// What has changed at the link, which is then told.
+    /// Returns the latest change of the link, and marks it as polled.
     pub fn poll_news(&mut self) -> Option<Change>
         ensures change { result ≡ link_change self.old }
         ensures none { IfNone result (self.new ≡ self.old) }
@@ -155,7 +156,7 @@ impl Link {
     }
 }
 
-/// What an event tells of its link, where it tells something; else what was told before stays.
+/// The latest change of a link after an event. An event that changes nothing for the host leaves it as it was.
 fn news_after(event: &LinkEvent, news: Option<News>) -> Option<News>
     ensures { result ≡ news_after event.now news }
 {

@@ -138,7 +138,7 @@ impl Links {
         None
     }
 
-    /// What has changed at the first link at which something has and was not told, with the place of the link. It is told then.
+    /// Returns the change of the first link that has one, with the index of the link, and marks it as polled.
     pub fn poll_news(&mut self) -> Option<(usize, Change)>
         ensures first { result ≡ first_in link_change self.old }
         ensures none { IfNone result (self.new ≡ self.old) }

@@ -33,7 +33,7 @@ fn has_no_time(times: Times) -> bool
     no_hearing || no_try
 }
 
-/// Why a router is not made, but for what its core refuses.
+/// Why a router is refused, apart from the causes that its core checks.
 pub fn early_refusal(
     config: &Config,
     neighbours: &[Id],
@@ -86,7 +86,7 @@ fn new_hop(destination: Id) -> Hop
     }
 }
 
-/// For each of these destinations no next hop, as one that was told.
+/// For each destination the state that no next hop was polled.
 pub fn new_hops(alloc: Global, destinations: &[Id]) -> Result<Vec<Hop>, AllocError>
     ensures { IfOk result (λ hops. hops.items ≡ map new_hop destinations.now) }
 {

@@ -243,9 +243,11 @@ impl Router {
         Some((self.links.peer(place), count))
     }
 
-    /// What has changed and was not told yet: at a link first, and then a next hop. `None` only where all was told.
+    /// Returns the next change that was not polled yet: first those of links, then those of next hops. `None` if there
+    /// is none.
     ///
-    /// Of each link the last change is told, and of each destination the next hop where it is not the one that was told last.
+    /// For a link it is the latest change only. For a destination it is the next hop, if it differs from the one polled
+    /// last.
     pub fn poll_change(&mut self) -> Option<Change>
         ensures change { result ≡ change_in (router_of self.old) }
         ensures router { router_of self.new ≡ after_poll_change (router_of self.old) }
@@ -300,7 +302,7 @@ impl Router {
         self.seat.core().entry(destination, neighbour)
     }
 
-    /// The next hop to a destination, `None` where there is none.
+    /// The next hop to a destination; `None` if there is none.
     pub fn next_hop(&self, destination: Id) -> Option<Id>
         ensures { result ≡ hop_of self.now.seat.core destination }
     {
@@ -314,7 +316,7 @@ impl Router {
         self.seat.core().flag(destination)
     }
 
-    /// What was made of the datagrams of a neighbour; `None` where it is none.
+    /// The counts of datagrams from a neighbour, by outcome; `None` if `peer` is no neighbour.
     pub fn tally(&self, peer: Id) -> Option<Tally>
         ensures { result ≡ tally_of peer self.now.links }
     {

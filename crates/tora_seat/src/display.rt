@@ -33,7 +33,7 @@ impl fmt::Display for What {
     }
 }
 
-/// The seat, the number, the tick, and what is told.
+/// The seat, the number, the tick, and the content.
 impl fmt::Display for Item {
     ghost use Rattle.std.specs.Prelude.{Some};
     ghost use Rattle.tora_seat.specs.Texts.{written_item};

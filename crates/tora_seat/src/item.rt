@@ -11,6 +11,6 @@ pub struct Item {
     pub number: u64,
     /// The tick of 100 ms at which it was put.
     pub now: u64,
-    /// What it tells.
+    /// The content of the item.
     pub what: What,
 }

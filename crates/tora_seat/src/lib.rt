@@ -1,9 +1,8 @@
-//! What goes between the neighbour links of a node and its core.
+//! The messages between the neighbour links of a node and its core.
 //!
-//! A link gives its core items: a life that came up, its packets, and that it went down. The core gives a link cargoes:
-//! packets of the current life, and that a life is cut.
-//!
-//! The seat of a core serves one item after another over any lanes, and says what each came to:
+//! A link gives the core items: a life that came up, its packets, and its end. The core gives a link cargoes: packets
+//! of the current life, and orders to cut a life. The seat of a core serves one item after another over any lanes, and
+//! reports the outcome of each:
 //!
 //! ```rust
 //! let core = Core::new(alloc, 1, &[2, 3], &[4])?;

@@ -44,8 +44,8 @@ impl Model for BareSeat {
 }
 
 impl BareSeat {
-    /// Reads what serving an item reads, so that it is at hand by then: for callers who serve many seats in turn. The number says nothing; it is to
-    /// be kept, as that of `Core::prefetch`.
+    /// Prefetches what serving an item reads; for callers that serve many seats in turn. As with `Core::prefetch`, the
+    /// result has no meaning, but the caller must use it.
     #[inline(always)]
     pub fn prefetch(&self, item: &Item) -> u64 {
         let row = match self.rows.get(item.seat) {

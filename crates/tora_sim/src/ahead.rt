@@ -1,8 +1,8 @@
-//! Reads ahead of what the next events of a round look at.
+//! Prefetching for the next events of a round.
 //!
-//! A round asks the events of one kind of all nodes or link ends in turn. What an event reads of a node or an end lies in some ten lines of the cache, most
-//! of which have gone from there since it was last looked at, and one waits for each of them. Read for many at once, and one behind the other, their waits
-//! fall together. Whatever is read here, and in whatever order, changes no event and no answer: so no contract says anything of it.
+//! A round visits all nodes or link ends in turn, for one kind of event at a time. An event reads some ten cache lines
+//! of its node or end, most of which are no longer in the cache. Reading them for many events at once lets the waits
+//! overlap. A prefetch changes no event and no answer, so no contract mentions it.
 ghost use Rattle.std.specs.Prelude.{◌≡◌, IfErr};
 
 use crate::SimError;
@@ -14,26 +14,26 @@ use crate::stills::Stills;
 use std::alloc::Global;
 use tora_frame::{BorrowedBody, BorrowedFrame};
 
-/// Of so many frames that were sent in a pass at most it is known where they go.
+/// The greatest number of frames of a pass whose receivers are remembered.
 const MOST_KNOWN: usize = 4096;
 
 /// So many link ends, or items, are read at once at most: what is read stays in the first cache until it is asked for.
 const AT_ONCE: usize = 32;
 
-/// What was read ahead, and of which frames it has to be.
+/// The state of the prefetching: what was read, and for which frames.
 #[derive(Drop)]
 pub struct Ahead {
     /// To which link ends the frames go that were sent in this pass, but for HELLOs: their places.
     far_ends: Vec<u32>,
-    /// Of so many of them the receivers were read.
+    /// The number of frames whose receivers were read.
     read: usize,
-    /// So many frames came since.
+    /// The number of frames sent since then.
     came: usize,
     /// Of the nodes before this place those were read whose cores have an item to take.
     turned: usize,
     /// Of the link ends before this place those were read at which a cargo is to be pulled.
     pulled: usize,
-    /// What was read. It says nothing; as it is kept, the reads are made.
+    /// The combined words that were read. It has no meaning, but because it is stored, the compiler keeps the reads.
     word: u64,
 }
 

@@ -102,7 +102,7 @@ pub fn next_due(stills: &Stills, now: u64, place: usize) -> usize
     due_from(stills, now, place + BLOCK)
 }
 
-/// The first such place, with the blocks passed over whose ticks tell that there is none in them.
+/// The index of the first end that may be due, skipping the blocks whose deadlines have not come.
 fn due_from(stills: &Stills, now: u64, place: usize) -> usize
     ensures onward { place ≤ result }
     ensures passed { (at : ℕ) → place ≤ at → at < result → now < slice_index stills.now at }

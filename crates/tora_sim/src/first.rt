@@ -50,7 +50,7 @@ impl Sim {
     }
 
     /// The world of a topology at its start, as `Sim::new` makes it, but with these times of each link end, none of which
-    /// is 0. Own profile.
+    /// is 0.
     ///
     /// # Errors
     /// `Memory`.

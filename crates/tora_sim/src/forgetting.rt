@@ -5,8 +5,9 @@ use crate::sim::Sim;
 use tora_datagrams::{FirstDatagrams, GoneDatagrams};
 
 impl Sim {
-    /// Lets the first datagrams go, so many or all, and tells contracts which they were: those behind them have the numbers from 1 on then.
-    /// What they took is for datagrams to come. It is no event, and nothing else is changed.
+    /// Forgets the first `n` datagrams, or all if there are fewer; the result names them for contracts. The remaining
+    /// datagrams are numbered from 1. Their memory is used for later datagrams. This is no event, and nothing else
+    /// changes.
     pub fn forget_first(&mut self, n: u64) -> GoneDatagrams
         ensures gone { result.frames ≡ take n self.old.datagrams }
         ensures left { self.new ≡ record self.old { datagrams = drop n self.old.datagrams } }

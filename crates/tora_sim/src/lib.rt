@@ -2,7 +2,7 @@
 //!
 //! `Sim` is the world that the prefix law speaks of, with its cores, link ends, life files and lanes, as a value: `step` lets
 //! one event happen, or refuses it and changes nothing. Nothing happens by itself, and nothing is random. All datagrams that
-//! were ever sent stay, so that each can be delivered late, twice or never, until `forget_first` lets the first of them go. Own profile.
+//! were ever sent stay, so that each can be delivered late, twice or never, until `forget_first` lets the first of them go.
 //!
 //! ```rust
 //! let topology = Topology::new(alloc, &[(1, 2)], &[2])?; // one link, and tables for the destination 2

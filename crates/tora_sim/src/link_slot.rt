@@ -33,7 +33,7 @@ use tora_seat::Cargo;
 /// lie close together, and a HELLO that says nothing new looks at no more than a line or two of the cache.
 #[derive(Drop)]
 pub struct LinkSlot {
-    /// What is kept of the end while it is steady; else that of no end.
+    /// The fields of the end while it is idle, otherwise those of no end.
     steady: Steady,
     parts: Box<LinkParts>,
 }
@@ -49,7 +49,7 @@ impl Model for LinkSlot {
     ghost invariant = { λ s. IsKept s.steady s.parts.value };
 }
 
-/// Makes of the parts what was kept of them, so that nothing is.
+/// Writes the idle fields back into the parts, so that no idle fields are left.
 #[inline(always)]
 fn wake(steady: &mut Steady, parts: &mut LinkParts)
     requires { IsKept steady.old parts.old }
@@ -173,8 +173,8 @@ impl LinkSlot {
         frame
     }
 
-    /// Takes the first frame due by what is kept of the end, which is a HELLO: its header. Where nothing is kept, or no frame is due, nothing is
-    /// changed.
+    /// Sends the HELLO that an idle end owes, and returns its header. `None` if the end is not idle or no frame is due;
+    /// nothing changes then.
     #[inline(always)]
     pub fn send_hello(&mut self, now: u64) -> Option<Header>
         ensures frame { IfSome result (λ header. frame_due self.old.settings self.old.state now ≡ Some (frame_of header Body.Hello)) }
@@ -188,8 +188,8 @@ impl LinkSlot {
         self.steady.send_hello(now)
     }
 
-    /// Whether it is seen by what is kept of the end that each HELLO goes out in both versions, one after the other: the peer isn't known to
-    /// speak version 2.
+    /// Whether the idle fields show that each HELLO is sent in both versions, because the peer is not known to speak
+    /// version 2.
     #[inline(always)]
     pub fn says_both(&self) -> bool
         ensures { result ≡ true → self.now.state.speaks_two ≡ false }
@@ -200,9 +200,10 @@ impl LinkSlot {
             && self.steady.version == Version::Two
     }
 
-    /// Takes the first two frames due by what is kept of the end, which are a HELLO in both versions, and puts them behind the datagrams, to the
-    /// end that may stand at the place `far_end`, where the end at the place `end` sent the same ones before; and tells before which tick nothing
-    /// is to be done at it then. Else nothing is changed.
+    /// Sends a HELLO in both versions and appends the two datagrams, if the idle fields show that they are due and the
+    /// end at the index `end` has sent the same two before. `far_end` is a guess at the index of the receiving end.
+    ///
+    /// Returns the tick before which the end has nothing to do. `None` otherwise; nothing changes then.
     #[inline(always)]
     pub fn send_pair(
         &mut self,
@@ -239,8 +240,8 @@ impl LinkSlot {
         Some(self.steady.still_until())
     }
 
-    /// Takes a frame in, and tells whether the end is busy then, and before which tick nothing is to be done at it; 0 where something is to be
-    /// done at once. `None` where there is no memory, and then nothing is changed.
+    /// Handles a frame. Returns whether the end is busy afterwards, and the tick before which it has nothing to do (0
+    /// if it has something to do at once). `None` if memory is refused; nothing changes then.
     #[inline(always)]
     pub fn receive_and_look(&mut self, frame: &BorrowedFrame<'_>, now: u64) -> Option<(bool, u64)>
         ensures state { IfSome result (λ _. self.new ≡ with_state self.old (after_frame self.old.settings self.old.state frame.now now)) }
@@ -257,7 +258,7 @@ impl LinkSlot {
         Some(seen)
     }
 
-    /// Takes a HELLO in, by its header, and tells the same.
+    /// Handles a HELLO, given by its header, and returns the same as `receive_and_look`.
     #[inline(always)]
     pub fn receive_hello_and_look(&mut self, header: &Header, now: u64) -> Option<(bool, u64)>
         requires { IsHeader header.now }
@@ -273,8 +274,8 @@ impl LinkSlot {
         self.receive_first_hello(*header, now)
     }
 
-    /// Takes a HELLO in by what is kept of the end, where it says nothing new, and tells before which tick nothing is to be done at it then;
-    /// `None` where it has to be taken in by the end itself, and then nothing is changed.
+    /// Handles a HELLO that says nothing new by the idle fields alone, and returns the tick before which the end has
+    /// nothing to do. `None` if the end itself must handle the HELLO; nothing changes then.
     #[inline(always)]
     fn hear(&mut self, header: &Header, now: u64) -> Option<u64>
         ensures state { IfSome result (λ _. self.new ≡ with_state self.old (after_frame self.old.settings self.old.state (frame_of header.now Body.Hello) now)) }
@@ -291,7 +292,7 @@ impl LinkSlot {
         Some(self.steady.still_until())
     }
 
-    /// The same at an end of which nothing is kept, or where the HELLO says something new.
+    /// `receive_hello_and_look` for an end that is not idle, or for a HELLO that says something new.
     #[inline(never)]
     fn receive_first_hello(&mut self, header: Header, now: u64) -> Option<(bool, u64)>
         requires { IsHeader header }
@@ -321,7 +322,7 @@ impl LinkSlot {
         self.tick_parts(now)
     }
 
-    /// Whether it is seen by what is kept of the end that this tick changes nothing.
+    /// Whether the idle fields show that this tick changes nothing.
     #[inline(always)]
     fn is_calm(&self, now: u64) -> bool
         ensures same { result ≡ true → after_tick self.now.settings self.now.state now ≡ self.now.state }

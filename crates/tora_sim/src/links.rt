@@ -173,7 +173,7 @@ impl LinkParts {
         self.end.steady()
     }
 
-    /// Makes of the end what was said, heard and ticked at what was kept of it.
+    /// Writes the idle fields back into the end.
     pub fn resume(&mut self, steady: &Steady)
         requires { IsSteadyLink steady.now self.old }
         ensures { self.new ≡ with_state self.old (resumed steady.now self.old.state) }
@@ -429,7 +429,7 @@ pub fn place_near(
     }
 }
 
-/// The place, where the end of node `n` towards `k` stands there.
+/// The index `at`, if the end of node `n` towards `k` is there.
 #[inline(always)]
 fn stands_at(keys: &[(Id, Id)], at: usize, n: Id, k: Id) -> Option<usize>
     ensures { IfSome result (λ i. slice_get keys.now i ≡ Some (n, k)) }

@@ -261,7 +261,7 @@ impl NodeSlot {
     }
 }
 
-/// Counts of nothing, for so many seats.
+/// Counts for `seats` seats, all 0.
 pub fn no_counts(alloc: Global, seats: usize) -> Result<Vec<u64>, SimError>
     ensures { MatchResult result (λ counts. counts.items ≡ replicate seats 0) (λ e. e ≡ SimError.Memory) }
 {
@@ -320,7 +320,7 @@ pub fn place_near(nodes: &Vec<NodeSlot>, at: usize, n: Id) -> Option<usize>
     }
 }
 
-/// The place, where the node stands there.
+/// The index `place`, if the node is there.
 #[inline(always)]
 fn near(nodes: &[NodeSlot], place: usize, n: Id) -> Option<usize>
     requires { AreRising nodes.now }

@@ -16,9 +16,11 @@ use tora_arq::data_frames_are_what_was_submitted;
 use tora_height::Id;
 
 impl Sim {
-    /// The first two frames due of an end go out, one after the other, where it is known by what is kept of the end that they are a HELLO in both
-    /// versions, which it sent before, where so many may go, and the next send of its node isn't armed; and says whether no frame is due then: that is known by the tick before
-    /// which nothing is to be done, which is kept. Else nothing is changed.
+    /// Sends a HELLO in both versions, if the idle fields show that the two are due, the end has sent the same two
+    /// before, `most` is at least 2, and the next send of the node is not armed. Otherwise nothing changes, and the
+    /// result is `None`.
+    ///
+    /// Returns whether the end has no further frame due. If so, the tick before which it has nothing to do is stored.
     #[inline(always)]
     pub(crate) fn transmit_pair(
         &mut self,

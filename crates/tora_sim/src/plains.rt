@@ -103,7 +103,7 @@ impl LinkParts {
         Some((busy, until))
     }
 
-    /// Takes a HELLO in, by its header, and tells the same.
+    /// Handles a HELLO, given by its header, and returns the same.
     #[inline(always)]
     pub fn receive_hello_and_look(&mut self, header: &Header, now: u64) -> Option<(bool, u64)>
         requires { IsHeader header.now }

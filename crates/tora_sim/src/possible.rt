@@ -1,4 +1,4 @@
-//! Which events may be possible now, told by what is stored at a place.
+//! A quick test whether an event may be possible now, from what is stored at an index.
 ghost use Rattle.std.specs.Prelude.{◌≡◌, ◌<◌, Some, true, false, is_some, nat_lt, length, map, slice_get};
 ghost use Rattle.tora_arq.specs.LinkEnd.{is_closed, first_event, frame_due};
 ghost use Rattle.tora_world.specs.World.{refusal_of};
@@ -14,11 +14,11 @@ use crate::sim::Sim;
 use tora_height::Id;
 
 impl Sim {
-    /// Whether an event may be possible now: where the answer is `false`, `step` refuses it.
+    /// Whether an event may be possible now. If the answer is `false`, `step` refuses it.
     ///
-    /// The place says where to look: the place of the node among `nodes` for a `CoreTurn`, and that of the link end among
-    /// `ends` for `Open`, `Pull`, `Transmit` and `Pump`, both from 0 on. What stands there is looked at alone, and nothing
-    /// is searched. Where another node or end stands there, and for every other event, the answer is `true`.
+    /// `place` says where to look: it is the index of the node among `nodes` for a `CoreTurn`, and of the link end
+    /// among `ends` for `Open`, `Pull`, `Transmit` and `Pump`. Only this place is read; nothing is searched for. If
+    /// another node or end is there, and for every other event, the answer is `true`.
     #[inline(always)]
     pub fn may_happen(&self, place: usize, event: &Event) -> bool
         // What stands at the place has something to do, or is another.

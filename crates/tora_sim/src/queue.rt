@@ -4,7 +4,7 @@ ghost use Rattle.std.specs.Prelude.{◌≡◌, ◌<◌, ◌≤◌, ◌+◌, ◌+
 use std::alloc::{AllocError, Global};
 use std::marker::Model;
 
-/// For so many items there is room from the beginning, beside what else stands of a node: so few queues ever move to other pages.
+/// The initial room of a queue, in items. It lies beside the node's other data, so few queues ever move to other pages.
 const FIRST_ROOM: usize = 32;
 
 /// Items in the order in which they came. Where none is left, it begins at its first place again: a core takes all in each pass, so the same few
@@ -100,7 +100,7 @@ impl<T: Copy + Drop> Queue<T> {
     }
 }
 
-/// Lets the first item go that was not taken yet; where none is left, all go.
+/// Removes the first item that was not taken yet. If none is left, the list becomes empty.
 #[inline(always)]
 fn let_go<T: Drop>(list: &mut Vec<T>, taken: &mut usize)
     requires { taken.old < length list.old.items }

@@ -4,7 +4,7 @@ ghost use Rattle.std.specs.Prelude.{◌≡◌, ◌<◌, false, MatchResult, leng
 use crate::SimError;
 use std::alloc::Global;
 
-/// Nothing is known of so many ends.
+/// For each of `count` ends: nothing is known.
 pub fn none_ready(alloc: Global, count: usize) -> Result<Vec<bool>, SimError>
     ensures { MatchResult result (λ ready. ready.items ≡ replicate count false) (λ e. e ≡ SimError.Memory) }
 {

@@ -119,7 +119,7 @@ impl Sim {
     }
 }
 
-/// Whether the life of one core is that of the other and the end is bound in it, or there is none at either.
+/// Whether both cores have the same current life and the end is bound in it, or neither core has one.
 fn is_one_life(here: Option<Life>, there: Option<Life>, bound: Option<Life>) -> bool
     ensures { result ≡ is_one_life here there bound }
 {

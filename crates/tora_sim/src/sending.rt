@@ -19,10 +19,10 @@ use tora_arq::data_frames_are_what_was_submitted;
 use tora_height::Id;
 
 impl Sim {
-    /// Lets `Transmit` happen at the end of node `n` towards `k` until it is refused, and so many times at most, and answers whether it ever
-    /// did: all frames go out that are due. The end and its node are found once.
+    /// Makes `Transmit` happen at the end of node `n` towards `k` until it is refused, at most `most` times, and
+    /// returns whether it happened at all. The end and its node are looked up once.
     ///
-    /// The place is that of the link end among `ends`, from 0 on; where another end stands there, it is searched.
+    /// `place` is the index of the link end among `ends`. If another end is there, the end is searched for.
     ///
     /// # Errors
     /// Where there is no memory for a frame that is due. The world is then as after the frames before it.
@@ -45,8 +45,8 @@ impl Sim {
         self.transmit_from(n, k, at, home, most)
     }
 
-    /// Whether it is seen that no frame is due at the end that stands at the place `at`, by the tick before which none is. It is looked at only
-    /// where a frame was sent; that tick is then kept.
+    /// Whether the end at the index `at` is known to have no frame due. This is checked only after a frame was sent;
+    /// the tick before which the end has nothing to do is then stored.
     #[inline(always)]
     fn is_over(&mut self, at: usize, sent: bool) -> bool
         requires { at < length self.old.links }
@@ -64,8 +64,8 @@ impl Sim {
         true
     }
 
-    /// The first frame due of an end goes out, where it is known by what is kept of the end that it is a HELLO, as most are, and says whether it did;
-    /// else nothing is changed.
+    /// Sends the first due frame of an end, if the idle fields show that it is a HELLO, as most frames are, and returns
+    /// whether it did. Otherwise nothing changes.
     #[inline(always)]
     fn transmit_hello(&mut self, _n: Id, _k: Id, at: usize, home: usize) -> bool
         requires end { IsFirst (is_at _n _k) self.old.links at }
@@ -110,7 +110,7 @@ impl Sim {
         self.transmit_at(n, k, at, home)
     }
 
-    /// Lets the frames of an end go out that are due, and so many at most: the end stands at the place `at`, and its node at the place `home`.
+    /// Sends the due frames of an end, at most `most`. The end has the index `at`, and its node the index `home`.
     #[inline(always)]
     fn transmit_from(
         &mut self,

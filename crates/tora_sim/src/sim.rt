@@ -65,7 +65,7 @@ pub struct Sim {
     pub(crate) spares: Spares,
     /// Whether it is known that no item waits for any core.
     pub(crate) idle: bool,
-    /// Where the packets of a frame stand while it is sent.
+    /// A buffer for the packets of the frame that is being sent.
     pub(crate) packets: Packets,
     /// Where the packets of a core's step stand while they are put. One list serves all cores, so that it stays at hand.
     pub(crate) sends: Sends,
@@ -159,7 +159,8 @@ impl Sim {
         let _made = make_room_at(&mut self.links, &mut self.ready, at);
     }
 
-    /// The same at the end of a node's seat, where it is that of a neighbour: the ends of the node stand from the place `first` on.
+    /// The same for the end of a seat, if the seat belongs to a neighbour. The ends of the node begin at the index
+    /// `first`.
     #[inline(always)]
     pub(crate) fn make_seat_ready(&mut self, first: usize, count: usize, seat: usize)
         ensures { world_of self.new ≡ world_of self.old }
@@ -481,8 +482,8 @@ impl Sim {
         self.step_at(0, event)
     }
 
-    /// Lets one event happen as `step` does. The place is that of the link end of a `Pull` or `Pump` in the order of `ends` and from 0 on, which
-    /// then isn't searched; where another end stands there, it is.
+    /// Makes one event happen as `step` does. `place` is the index of the link end of a `Pull` or `Pump` among `ends`,
+    /// so that it need not be searched for. If another end is there, it is.
     ///
     /// # Errors
     /// Those of `step`.
@@ -540,7 +541,7 @@ fn numbered_hello(datagrams: &Datagrams, i: u64) -> Option<(Header, usize)>
     Some((told.header(), told.far_end as usize))
 }
 
-/// Where the link end may stand to which the datagram of a number from 1 on goes: a guess.
+/// A guess at the index of the link end that receives a datagram, given by its number from 1.
 #[inline(always)]
 fn numbered_far_end(datagrams: &Datagrams, i: u64) -> usize {
     match usize::try_from(i) {

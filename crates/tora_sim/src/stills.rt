@@ -1,8 +1,8 @@
-//! Of each link end a tick before which something holds of it, as that nothing is to be done at it, and of each block of ends one for them
-//! all, and likewise of each block of blocks.
+//! For each link end a deadline: a tick before which something holds, for instance that the end has nothing to do. Each
+//! block of ends, and each block of blocks, has the earliest deadline of its members.
 //!
-//! Ticks are kept in four bytes: sixteen of them are one line of the cache. One that is later than the last such number is kept as that number,
-//! so that from there on, after more than four thousand million rounds, all ends are looked at in each round.
+//! Deadlines are stored in four bytes, so sixteen fit into a cache line. A later tick is stored as the greatest such
+//! number. After more than four thousand million rounds, every end is therefore examined in each round.
 ghost use Rattle.std.specs.Prelude.{◌≡◌, ◌+◌, ◌*◌, ◌-◌, ◌^◌, ◌<◌, ◌≤◌, ℕ, true, IfNone, IfSome, MatchResult, length, min, replicate, slice_index, slice_set};
 ghost use Rattle.tora_sim.specs.Quiet.{AreForgotten};
 ghost use Rattle.tora_sim.specs.Stills.{AreBlocks, AreLater, due_bits, short};
@@ -12,13 +12,14 @@ use crate::due_bits::due_bits;
 use std::alloc::Global;
 use std::marker::Model;
 
-/// How many link ends stand in a block; fewer may stand in the last.
+/// The number of link ends in a block; the last block may have fewer.
 pub const BLOCK: usize = 16;
 
-/// Of each link end the tick before which nothing is to be done at it, in the order of the ends; or likewise that before which it is plain.
+/// The deadline of each link end, in the order of the ends: the tick before which the end has nothing to do, or is
+/// plain.
 ///
-/// The ends stand in blocks of 16, and each block has a tick, too, so that a block at whose ends nothing is to be done is passed over by
-/// one look; and so do the blocks, of which 16 are passed over by one look.
+/// The ends are in blocks of 16, and each block has a deadline, too, so one comparison skips a block. The blocks are
+/// grouped in the same way.
 #[derive(Drop)]
 pub struct Stills {
     ends: Vec<u32>,
@@ -39,7 +40,7 @@ impl Model for Stills {
     ghost invariant = { λ s. AreBlocks s.blocks.items s.ends.items × AreBlocks s.tops.items s.blocks.items };
 }
 
-/// A tick as it is kept: the last one of four bytes in the place of any later one.
+/// A tick in four bytes; a later tick becomes the greatest such number.
 #[inline(always)]
 pub fn short(tick: u64) -> u32
     ensures { result ≡ short tick }
@@ -47,7 +48,7 @@ pub fn short(tick: u64) -> u32
     u32::try_from(tick).unwrap_or(u32::MAX)
 }
 
-/// Nothing is known of so many ends.
+/// Deadlines of `count` ends, all 0: nothing is known.
 pub fn no_stills(alloc: Global, count: usize) -> Result<Stills, SimError>
     ensures { MatchResult result (λ stills. stills ≡ replicate count 0) (λ e. e ≡ SimError.Memory) }
 {
@@ -77,7 +78,7 @@ pub fn block_of(at: usize) -> usize
     at / BLOCK
 }
 
-/// In how many blocks so many ends stand.
+/// The number of blocks for `count` ends.
 fn blocks_of(count: usize) -> usize
     ensures all { count ≤ 16 * result }
     ensures each { 16 * result < count + 16 }
@@ -190,7 +191,7 @@ fn first_due(ticks: &Vec<u32>, now: u64, from: usize, to: usize) -> Option<usize
     None
 }
 
-/// Keeps the tick of a block; those of 16 blocks is no later then.
+/// Stores the deadline of a block, and lowers the deadline of its 16 blocks if necessary.
 #[inline(always)]
 fn set_block(blocks: &mut Vec<u32>, tops: &mut Vec<u32>, block: usize, tick: u32)
     requires within { block < length blocks.old.items }
@@ -233,7 +234,8 @@ fn keep_first(tops: &mut Vec<u32>, blocks: &Vec<u32>, top: usize)
     tops[top] = first_tick(blocks, first, count);
 }
 
-/// Keeps the tick of an end; most often it is the one that is kept. That of its block is no later then.
+/// Stores the deadline of an end, which is usually the stored one already, and lowers the deadline of its block if
+/// necessary.
 #[inline(always)]
 pub fn keep_still(stills: &mut Stills, at: usize, until: u32)
     requires { at < length stills.old }
@@ -308,7 +310,7 @@ pub fn still_until(stills: &Stills, now: u64) -> u64
     first_after(&stills.tops, now)
 }
 
-/// The first of these ticks, where all are still to come; else 0.
+/// The earliest of these ticks if all are in the future, otherwise 0.
 fn first_after(ticks: &Vec<u32>, now: u64) -> u64
     ensures { 0 < result → (at : ℕ) → at < length ticks.now.items → (now < slice_index ticks.now.items at) × (result ≤ slice_index ticks.now.items at) }
 {

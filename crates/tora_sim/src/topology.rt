@@ -34,7 +34,7 @@ pub struct Topology {
     olds: ArrayVec<Id, GREATEST_NODES>,
     /// What nodes make of erased levels.
     erasure: Erasure,
-    /// What single nodes make of them, of which the last of a node holds.
+    /// The choices of erasure of single nodes; the last choice for a node counts.
     choices: Vec<(Id, Erasure)>,
 }
 
@@ -245,7 +245,7 @@ impl Topology {
     }
 }
 
-/// What a node makes of erased levels, behind one choice more.
+/// The node's choice of erasure after one more choice.
 fn chosen_by(n: Id, erasure: Erasure, choice: (Id, Erasure)) -> Erasure
     ensures { result ≡ chosen_by n erasure choice }
 {
@@ -259,7 +259,7 @@ fn is_named(n: Id, links: &[(Id, Id)]) -> bool
     links.iter().any(|link| link.0 == n || link.1 == n)
 }
 
-/// Whether a number is that of one of the nodes that links name. No list of these is made.
+/// Whether a link names this node. It builds no list of the nodes.
 fn names_node(n: Id, links: &[(Id, Id)]) -> bool
     ensures { result ≡ has_number n (nodes_in (links_in links.now)) }
 {
@@ -284,8 +284,8 @@ fn neighbours_of(links: &[(Id, Id)], n: Id) -> ArrayVec<Id, GREATEST_NEIGHBOURS>
 
 // ---- why there is no such topology
 
-/// Why there is no topology of these links, each between two nodes, and these destinations, if there is none: the cause that
-/// `Topology::new` answers, unless that is `Memory`.
+/// The cause for which `Topology::new` refuses these links and destinations, apart from `Memory`; `None` if it accepts
+/// them.
 pub fn topology_fault(links: &[(Id, Id)], destinations: &[Id]) -> Option<CoreError>
     ensures { result ≡ topology_fault (topology_of links.now destinations.now) }
 {
@@ -354,7 +354,7 @@ pub(crate) fn nodes_of(links: &[(Id, Id)]) -> Option<ArrayVec<Id, GREATEST_NODES
     Some(nodes)
 }
 
-/// Whether the links of a node name more than so many others.
+/// Whether a node has links to more than `most` others.
 fn has_many_neighbours(most: usize, n: Id, links: &[(Id, Id)]) -> bool
     requires { most ≤ GREATEST_NEIGHBOURS }
     ensures { result ≡ nat_lt most (length (different_neighbours n (links_in links.now))) }

@@ -46,7 +46,7 @@ impl Unready {
         self.from <= place && place < self.behind
     }
 
-    /// These, and the end at a place.
+    /// The list with the end at an index appended.
     #[inline(always)]
     pub fn with_place(self, place: usize) -> Unready
         requires { place < 18446744073709551615 }
@@ -72,7 +72,7 @@ impl Unready {
     }
 }
 
-/// Nothing is known of any end of so many nodes, none of which has more ends than `most`.
+/// The lists of `nodes` nodes with at most `most` ends each, in which nothing is known of any end.
 pub fn all_unready(alloc: Global, nodes: usize, most: usize) -> Result<Vec<Unready>, SimError>
     ensures { MatchResult result (λ ranges. ranges.items ≡ replicate nodes (ends_below most)) (λ e. e ≡ SimError.Memory) }
 {
@@ -105,7 +105,7 @@ pub fn set_unready(ranges: &mut Vec<Unready>, home: usize, range: Unready)
     ranges[home] = range;
 }
 
-/// Those of some ends that are not ready, of the node whose ends stand from the place `first` on.
+/// The ends of this range that are not ready, of the node whose ends begin at the index `first`.
 pub fn still_unready(ready: &Vec<bool>, first: usize, range: Unready) -> Unready
     requires ordered { range.from ≤ range.behind }
     requires within { first + range.behind ≤ length ready.now.items }

@@ -57,7 +57,7 @@ impl Sim {
         }
     }
 
-    /// The walk of at most so many hops.
+    /// The walk with at most this many hops.
     fn walk_within(
         &self,
         alloc: Global,
@@ -98,7 +98,7 @@ impl Sim {
         neighbours.iter().all(|k| self.is_exact_entry(n, *k, d))
     }
 
-    /// Whether the entry of neighbour `k` at node `n` is NULL or the height of `k`, or there is none.
+    /// Whether node `n` has no entry for neighbour `k`, or the entry is NULL or the present height of `k`.
     fn is_exact_entry(&self, n: Id, k: Id, d: Id) -> bool
         ensures { result ≡ is_exact_entry (entry_at (world_of self.now) n k d) (height_at (world_of self.now) k d) }
     {

@@ -6,7 +6,7 @@ ghost use Rattle.tora_trace.specs.Trace.{neighbours_in};
 use crate::names::is_less;
 use tora_height::Id;
 
-/// Whether ends are known to stand by ascending node.
+/// Whether the ends are in ascending order of nodes.
 pub fn are_by_node(ends: &[(Id, Id)]) -> bool
     ensures { MatchBool result (AreByNode ends.now) ⊤ }
 {
@@ -18,7 +18,7 @@ pub fn are_by_node(ends: &[(Id, Id)]) -> bool
     true
 }
 
-/// Ends among which all of a node stand: where they are known to stand by ascending node, no other.
+/// A part of the ends that has all ends of node `n`. It has no others if the ends are in ascending order of nodes.
 pub fn ends_of(ends: &[(Id, Id)], is_by_node: bool, n: Id) -> &[(Id, Id)]
     requires { MatchBool is_by_node (AreByNode ends.now) ⊤ }
     ensures { neighbours_in result.now n ≡ neighbours_in ends.now n }
@@ -30,7 +30,7 @@ pub fn ends_of(ends: &[(Id, Id)], is_by_node: bool, n: Id) -> &[(Id, Id)]
     }
 }
 
-/// The ends of a node, where all stand by ascending node.
+/// The ends of a node, if all ends are in ascending order of nodes.
 fn ends_by_halves(ends: &[(Id, Id)], n: Id) -> &[(Id, Id)]
     requires { AreByNode ends.now }
     ensures { neighbours_in result.now n ≡ neighbours_in ends.now n }
@@ -42,7 +42,7 @@ fn ends_by_halves(ends: &[(Id, Id)], n: Id) -> &[(Id, Id)]
     own
 }
 
-/// How many ends stand before those of a node.
+/// The number of ends before those of a node.
 fn count_before(ends: &[(Id, Id)], n: Id) -> usize
     requires { AreByNode ends.now }
     ensures bound { result ≤ length ends.now }
@@ -51,7 +51,7 @@ fn count_before(ends: &[(Id, Id)], n: Id) -> usize
     ends.partition_point(|end| end.0 < n)
 }
 
-/// How many ends stand before those of greater nodes.
+/// The number of ends before those of greater nodes.
 fn count_up_to(ends: &[(Id, Id)], n: Id) -> usize
     requires { AreByNode ends.now }
     ensures bound { result ≤ length ends.now }

@@ -1,7 +1,7 @@
-//! The trace of a simulation: a record for each need, part and mend, for each link that a core steps up or down, for each
-//! packet that it broadcasts, for each route that changes, and for the datagrams of each round.
+//! The trace of a simulation: a record for each need, `part` and `mend`, for each link that a core steps up or down,
+//! for each packet that it broadcasts, for each route that changes, and for the datagrams of each round.
 //!
-//! A trace is told what happens and keeps the text of its records, which a caller hands on. It does no input and no output.
+//! The caller reports what happens, and takes the text of the records. The crate does no input and no output.
 #![tactic(auto)]
 
 mod core_copy;

@@ -7,7 +7,7 @@ use std::alloc::AllocError;
 use tora_height::Id;
 use tora_packet::Packet;
 
-/// Puts the record of a packet behind a text, which goes to so many neighbours.
+/// Appends the record of a packet that goes to this many neighbours to a text.
 #[tactic(auto, unfolding(crate::specs::Records::packet_record))]
 fn write_packet(
     out: &mut String,

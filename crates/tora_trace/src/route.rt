@@ -1,4 +1,4 @@
-//! What was told last of a destination, and what changed since.
+//! The last recorded route to a destination, and its changes.
 ghost use Rattle.std.specs.Prelude.{◌≡◌, ◌++◌, IfOk, OnOk, map, string_bytes};
 ghost use Rattle.tora_trace.specs.Records.{route_record};
 ghost use Rattle.tora_trace.specs.Copies.{known_height, is_same_height, is_same_hop, is_changed, route_of, route_told, routes_told, route_change, route_changes};
@@ -9,7 +9,7 @@ use std::cmp::Ordering;
 use tora_core::Core;
 use tora_height::{Entry, Id};
 
-/// What was told last of a node's route to a destination.
+/// The last recorded route of a node to a destination.
 #[derive(Clone, Copy, Debug)]
 pub struct Route {
     pub destination: Id,
@@ -76,7 +76,7 @@ pub fn routes_to(alloc: Global, core: &Core, destinations: &[Id]) -> Result<Vec<
         .collect::<Vec<Route>>(alloc)
 }
 
-/// Whether the route of a core is another one than was told last.
+/// Whether the route of a core differs from the last recorded one.
 fn is_changed(core: &Core, told: &Route) -> bool
     ensures { result ≡ is_changed core.now told.now }
 {
@@ -97,7 +97,7 @@ fn write_route(out: &mut String, now: u64, n: Id, route: &Route) -> Result<(), A
     writeln!(out, " {height} {hop}")
 }
 
-/// Puts the record of a route behind a text, where it is another one than was told last.
+/// Appends the record of a route to a text, if it differs from the last recorded one.
 #[tactic(auto, unfolding(crate::specs::Copies::route_change))]
 fn write_change(out: &mut String, now: u64, core: &Core, told: &Route) -> Result<(), AllocError>
     ensures { OnOk result (string_bytes out.new ≡ string_bytes out.old ++ route_change now core.now told.now) }

@@ -1,4 +1,4 @@
-//! What a trace keeps between two events, and what it is told.
+//! The state of a trace between two events, and the calls that extend it.
 ghost use Rattle.std.specs.Prelude.{◌≡◌, ◌⊎◌, ◌++◌, if◌then◌else◌, ◌==◌, ⊤, IfOk, IfErr, MatchBool, OnOk, None, Some, [], map, filter_map};
 ghost use Rattle.std.specs.List.{position};
 ghost use Rattle.tora_trace.specs.Records.{need_record, part_record, mend_record};
@@ -73,14 +73,14 @@ fn neighbours_among(
     neighbours_in(alloc, ends_of(ends, is_by_node, n), n)
 }
 
-/// What a node makes of erased levels, behind one choice more.
+/// The node's choice of erasure after one more line `erasure`.
 fn chosen_by(n: Id, erasure: Erasure, choice: (Id, Erasure)) -> Erasure
     ensures { result ≡ chosen_by n erasure choice }
 {
     if choice.0 == n { choice.1 } else { erasure }
 }
 
-/// What a node makes of erased levels, where single nodes may have chosen, of whose choices the last holds.
+/// The node's choice of erasure: the last choice of `choices` for this node, or `erasure` if there is none.
 fn chosen(erasure: Erasure, choices: &[(Id, Erasure)], n: Id) -> Erasure
     ensures { result ≡ chosen erasure choices.now n }
 {
@@ -89,7 +89,7 @@ fn chosen(erasure: Erasure, choices: &[(Id, Erasure)], n: Id) -> Erasure
         .fold(erasure, |erasure, choice| chosen_by(n, erasure, *choice))
 }
 
-/// The copy of a node's first core; whether the ends are known to stand by ascending node is told.
+/// The copy of a node's first core. `is_by_node` says that the ends are known to be in ascending order of nodes.
 fn first_copy(
     alloc: Global,
     erasure: Erasure,
@@ -109,7 +109,7 @@ fn first_copy(
     CoreCopy::new(alloc, erasure, n, neighbours.as_slice(), destinations)
 }
 
-/// The place of the copy of a node's core, where the copies stand in the order of these nodes: no copy is looked at.
+/// The index of the copy of a node's core. The copies are in the order of `names`, so no copy is read.
 fn place(names: &Names, copies: &[CoreCopy], n: Id) -> Option<usize>
     requires { owners_of copies.now ≡ names.now }
     ensures { result ≡ position (is_copy_of n) copies.now }
