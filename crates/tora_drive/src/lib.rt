@@ -5,6 +5,9 @@
 //!
 //! ```rust
 //! let ended = drive_in::<Sim, R, W>(alloc, WorldOptions::within(Limits::STANDARD), Times::STANDARD, &mut reader, &mut writer)?;
+//!
+//! let mut drive: Drive<Sim> = Drive::new(alloc, WorldOptions::within(Limits::STANDARD), Times::STANDARD);
+//! drive.answer(alloc, b"dests 2", &mut text)?; // the text is `ok` and its end
 //! ```
 #![tactic(auto)]
 
@@ -16,6 +19,7 @@ mod driving;
 mod event_lines;
 mod laws;
 mod line;
+mod one_line;
 mod own;
 mod recorded;
 mod records;
