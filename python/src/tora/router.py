@@ -22,7 +22,7 @@ LONGEST_DATAGRAM = 560  # bytes
 
 
 class Times(NamedTuple):
-    """The times of a router's links. A part that is 0 stands for the standard one.
+    """The times of links. A part that is 0 stands for the standard one.
 
     Attributes
     ----------
@@ -40,6 +40,11 @@ class Times(NamedTuple):
     silent: int = 0
     retry: int = 0
     tries: int = 0
+
+
+def spelt_times(times: Times) -> _Times:
+    """Times as the library reads them."""
+    return _Times(*(within(name, it, GREATEST_TICK) for name, it in times._asdict().items()))
 
 
 class Intake(enum.IntEnum):
@@ -152,10 +157,9 @@ class Router(Handle):
         first_life: int,
     ) -> None:
         """A router whose links are closed until the first tick."""
-        parts = _Times(*(within(name, it, GREATEST_TICK) for name, it in times._asdict().items()))
         life = within("first_life", first_life, GREATEST_TICK)
         self._room = (c_uint8 * LONGEST_DATAGRAM)()
-        self._make(me, neighbours, destinations, int(erasure), byref(parts), life)
+        self._make_node(me, neighbours, destinations, int(erasure), byref(spelt_times(times)), life)
 
     def datagram(self, peer: int, datagram: bytes, now: int) -> Intake:
         """A datagram of any bytes came from node `peer` at the tick `now`: what was made of it."""
