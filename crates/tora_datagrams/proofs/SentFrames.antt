@@ -1,6 +1,5 @@
 -- Datagrams as places of frames that are kept, where more frames come behind those.
-use Rattle.std.proofs.Common.{◌≡◌, ℕ, zero, suc, ◌+◌, ◌<◌, List, [], ◌∷◌, ◌++◌, length, take, drop, slice_get, Some, None, Option, refl, sym, ap, ◌∙◌, subst, arith, length-append, append-nil}
-use Rattle.std.specs.Prelude.{option_to_list}
+use Rattle.std.proofs.Common.{◌≡◌, ℕ, zero, suc, ◌+◌, ◌<◌, List, [], ◌∷◌, ◌++◌, length, slice_get, Some, None, Option, refl, sym, ap, ◌∙◌, subst, arith, length-append, append-nil}
 use Rattle.std.specs.List.{cons_option}
 use Rattle.std.proofs.lemmas.List.Elements.{filter_map-append}
 use Rattle.tora_frame.specs.FrameParts.{FrameParts}
@@ -90,26 +89,3 @@ module _ (frames : List FrameParts) (places : List ℕ) (one two : ℕ) (first s
 
   pub both_within : AreWithin frames ((places ++ one ∷ []) ++ two ∷ [])
   both_within = all_within frames frames (places ++ one ∷ []) two second (no_more frames) is' within_one
-
--- ---- the first datagrams are let go
-
-pub within_drop : (frames : List FrameParts) (places : List ℕ) (n : ℕ) → AreWithin frames places → AreWithin frames (drop n places)
-within_drop frames [] zero h = tt
-within_drop frames [] (suc n) h = tt
-within_drop frames (place ∷ places) zero h = h
-within_drop frames (place ∷ places) (suc n) h = within_drop frames places n h.1
-
-pub sent_drop : (frames : List FrameParts) (places : List ℕ) (n : ℕ) → AreWithin frames places → sent_frames frames (drop n places) ≡ drop n (sent_frames frames places)
-sent_drop frames [] zero h = refl
-sent_drop frames [] (suc n) h = refl
-sent_drop frames (place ∷ places) zero h = refl
-sent_drop frames (place ∷ places) (suc n) h =
-    let here = item_at frames place h.0 in
-    sent_drop frames places n h.1 ∙ sym (ap (λ (o : Option FrameParts). drop (suc n) (cons_option o (sent_frames frames places))) here.1)
-
--- the first of a list up to a place, and up to the next one
-pub take_next : (xs : List FrameParts) (n : ℕ) → take n xs ++ option_to_list (slice_get xs n) ≡ take (n + 1) xs
-take_next [] zero = refl
-take_next [] (suc n) = let e : suc n + 1 ≡ suc (suc n) = omega arith in rw e refl
-take_next (x ∷ xs) zero = refl
-take_next (x ∷ xs) (suc n) = let e : suc n + 1 ≡ suc (n + 1) = omega arith in rw e (ap (λ (ys : List FrameParts). x ∷ ys) (take_next xs n))

@@ -1,10 +1,9 @@
 //! The datagrams that were sent.
-ghost use Rattle.std.specs.Prelude.{◌≡◌, ◌<◌, ◌∷◌, ◌++◌, [], true, false, length, drop, option_map, option_to_list, slice_get, Some, IfOk, IfSome, OnOk};
+ghost use Rattle.std.specs.Prelude.{◌≡◌, ◌<◌, ◌∷◌, ◌++◌, [], true, false, length, option_map, slice_get, Some, IfSome, OnOk};
 ghost use Rattle.tora_frame.specs.FrameParts.{IsHeader, frame_of};
 ghost use Rattle.tora_frame.specs.declared.parts.Body.{Body};
 ghost use Rattle.tora_datagrams.specs.Datagrams.{DatagramList, HasRoom, way_of};
 
-use crate::first_items::let_go;
 use crate::kept_frames::{KeptFrame, KeptFrames};
 use crate::last_hellos::LastHellos;
 use std::alloc::{AllocError, Global};
@@ -12,10 +11,7 @@ use std::marker::Model;
 use tora_frame::{BorrowedBody, BorrowedFrame, Header};
 use tora_height::Id;
 
-/// Unused frames are removed once there are more than this number and twice the number of datagrams.
-const MOST_UNUSED: usize = 1024;
-
-/// All datagrams that were ever sent, in order, but for the first ones that were let go.
+/// All datagrams that were ever sent, in order.
 ///
 /// Most of them are HELLOs that say what the last one of their link end said: such a frame is kept once, and a datagram is the place of its
 /// frame, in four bytes.
@@ -193,66 +189,6 @@ impl Datagrams {
             return None;
         };
         self.frames.way(at as usize)
-    }
-
-    /// Lets the first datagrams go, so many or all. What they took is for those to come: their places, and their frames once those that no
-    /// datagram has any more are most of all.
-    pub fn forget_first(&mut self, many: usize)
-        ensures { self.new.items ≡ drop many self.old.items }
-    {
-        self.forget_places(many);
-        self.renew();
-    }
-
-    /// Lets the places of the first datagrams go.
-    fn forget_places(&mut self, many: usize)
-        ensures { self.new.items ≡ drop many self.old.items }
-    {
-        let_go(&mut self.places, many);
-    }
-
-    /// Keeps only the frames that datagrams have, where most of those that are kept are of none. Where memory for them is refused, all stays as
-    /// it is.
-    fn renew(&mut self)
-        ensures { self.new.items ≡ self.old.items }
-    {
-        let most = self.places.len().saturating_mul(2);
-        if self.frames.len() <= most.saturating_add(MOST_UNUSED) {
-            return;
-        }
-        if let Ok(renewed) = self.renewed() {
-            *self = renewed;
-        }
-    }
-
-    /// The same datagrams, whose frames are kept anew.
-    ///
-    /// # Errors
-    /// Want of memory.
-    fn renewed(&self) -> Result<Datagrams, AllocError>
-        ensures { IfOk result (λ renewed. renewed.items ≡ self.now.items) }
-    {
-        let alloc = *self.hellos.allocator();
-        let mut renewed = Datagrams::new(alloc);
-        for place in 0..self.len() {
-            renewed.push_from(self, place)?;
-        }
-        Ok(renewed)
-    }
-
-    /// Appends the datagram of `datagrams` at the index `place`.
-    ///
-    /// # Errors
-    /// Want of memory.
-    fn push_from(&mut self, datagrams: &Datagrams, place: usize) -> Result<(), AllocError>
-        ensures { OnOk result (self.new.items ≡ self.old.items ++ option_to_list (slice_get datagrams.now.items place)) }
-    {
-        let Some(frame) = datagrams.get(place) else {
-            return Ok(());
-        };
-        self.reserve(0)?;
-        self.push(0, 0, &frame);
-        Ok(())
     }
 }
 

@@ -81,14 +81,6 @@ impl KeptFrames {
         }
     }
 
-    /// How many there are.
-    #[inline(always)]
-    pub fn len(&self) -> usize
-        ensures { result ≡ length self.now.items }
-    {
-        self.frames.len()
-    }
-
     /// Makes room for one more.
     ///
     /// # Errors

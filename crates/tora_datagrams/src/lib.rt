@@ -9,20 +9,14 @@
 //! datagrams.reserve(0)?; // for one more of the first link end
 //! datagrams.push_hello(0, 1, &header); // its HELLO, to the second end
 //! assert_eq!(rt; datagrams.way(0), Some((header.sender, header.receiver)));
-//! let first = FirstDatagrams { many: 1 };
-//! let gone = GoneDatagrams::first(&datagrams, &first); // for contracts: the datagrams that go
-//! datagrams.forget_first(first.many);
 //! ```
 #![tactic(auto)]
 
 mod datagrams;
-mod first_items;
-mod gone_datagrams;
 mod kept_frames;
 mod last_hellos;
 mod room;
 
 pub use datagrams::Datagrams;
-pub use gone_datagrams::{FirstDatagrams, GoneDatagrams};
 pub use kept_frames::{KeptBody, KeptFrame};
 pub use room::reserve_one;

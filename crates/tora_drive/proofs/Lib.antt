@@ -1,9 +1,6 @@
 pub mod AnswerLaws
-pub mod BeginLaws
 pub mod DigitLaws
 pub mod DriveLaws
-pub mod GivesLaws
-pub mod GoneLaws
 pub mod HopLaws
 pub mod NumberLaws
 pub mod OrderLaws
@@ -18,7 +15,3 @@ pub mod SimulatedLaws
 pub mod StepLaws
 pub mod TakenLaws
 pub mod TellLaws
-pub mod WholeEvents
-pub mod WholeLines
-pub mod WholePlans
-pub mod WholeRounds

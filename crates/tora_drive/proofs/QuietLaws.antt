@@ -18,10 +18,8 @@ use Rattle.tora_drive.specs.declared.records.Route.{Route}
 use Rattle.tora_drive.specs.Steps.{sends_of, step_pass, step_passes, step}
 use Rattle.tora_drive.specs.Records.{sent_from, sent_text, routes_at, routes_of, hop_line, hops_text}
 use Rattle.tora_drive.specs.DriveText.{OwnView, shown, after_step, outcome_of, closing, told}
-use Rattle.tora_drive.specs.Whole.{whole, whole_run, whole_own, whole_outcome, outcome_behind}
 use Rattle.tora_drive.proofs.HopLaws.{SameCores, event_stays, no_hops}
 use Rattle.tora_drive.proofs.SendLaws.{no_sends}
-use Rattle.tora_drive.proofs.WholeLines.{outcomes, sent_left, hops_left}
 
 -- ---- nothing is to be done
 
@@ -65,13 +63,11 @@ nothing_told w nodes dests text =
     ∙ ap (λ (xs : List ℕ). text ++ sent_text w w ++ xs) (sym (no_hops w w (record { seats = refl; topology = refl }) nodes dests))
 
 -- the datagrams and then the next hops, behind a text
-pub told_in_order : (g : List FrameParts) (w v : World) (nodes dests old with_sent last : List ℕ) (routes : List Route)
-    → with_sent ≡ old ++ sent_from (whole g v) (length g + length w.datagrams) (length v.datagrams - length w.datagrams) → routes ≡ routes_of w nodes dests → last ≡ with_sent ++ flat_map (hop_line v) routes
-    → last ≡ old ++ sent_text (whole g w) (whole g v) ++ hops_text nodes dests (whole g w) (whole g v)
-told_in_order g w v nodes dests old with_sent last routes sent looked hops =
-    let told_sent : with_sent ≡ old ++ sent_text (whole g w) (whole g v) = sent ∙ ap (λ (xs : List ℕ). old ++ xs) (sent_left g w v) in
-    let told_hops : flat_map (hop_line v) routes ≡ hops_text nodes dests (whole g w) (whole g v) = ap (λ (rs : List Route). flat_map (hop_line v) rs) looked ∙ hops_left g v (routes_of w nodes dests) in
-    hops ∙ ap₂ (λ (xs ys : List ℕ). xs ++ ys) told_sent told_hops
+pub told_in_order : (w v : World) (nodes dests old with_sent last : List ℕ) (routes : List Route)
+    → with_sent ≡ old ++ sent_text w v → routes ≡ routes_of w nodes dests → last ≡ with_sent ++ flat_map (hop_line v) routes → last ≡ old ++ sent_text w v ++ hops_text nodes dests w v
+told_in_order w v nodes dests old with_sent last routes sent looked hops =
+    let told_hops : flat_map (hop_line v) routes ≡ hops_text nodes dests w v = ap (λ (rs : List Route). flat_map (hop_line v) rs) looked in
+    hops ∙ ap₂ (λ (xs ys : List ℕ). xs ++ ys) sent told_hops
 
 -- ---- a tick
 
@@ -98,7 +94,7 @@ step_is : (nodes : List ℕ) (ends far : List (ℕ × ℕ)) (w : World)
 unfolding step repeats
 step_is nodes ends far w = refl
 
-module _ (g : List FrameParts) (s : RunningView) (o : OwnView) where
+module _ (s : RunningView) (o : OwnView) where
   abbrev ticked : World
   ticked = world_after s.world Tick
 
@@ -108,33 +104,32 @@ module _ (g : List FrameParts) (s : RunningView) (o : OwnView) where
 
   -- what is told of a world and one behind it
   abbrev told_of : World → World → List ℕ
-  told_of w v = sent_text (whole g w) (whole g v) ++ hops_text s.nodes s.dests (whole g w) (whole g v)
+  told_of w v = sent_text w v ++ hops_text s.nodes s.dests w v
 
   -- what is told behind the tick is told of the whole step
   told_behind : (v : World) → told_of ticked v ≡ told_of s.world v
   told_behind v =
       let same = event_stays s.world Tick refl in
-      let sent : sent_text (whole g ticked) (whole g v) ≡ sent_text (whole g s.world) (whole g v) =
-      ap (λ (datagrams : List FrameParts). sent_from (whole g v) (length (g ++ datagrams)) (length (g ++ v.datagrams) - length (g ++ datagrams))) (tick_sends s.world) in
-      let hops : hops_text s.nodes s.dests (whole g ticked) (whole g v) ≡ hops_text s.nodes s.dests (whole g s.world) (whole g v) =
-      ap (λ (routes : List Route). flat_map (hop_line (whole g v)) routes) (routes_stay (whole g s.world) (whole g ticked) (record { seats = same.seats; topology = same.topology }) s.nodes s.dests) in
+      let sent : sent_text ticked v ≡ sent_text s.world v =
+      ap (λ (datagrams : List FrameParts). sent_from v (length datagrams) (length v.datagrams - length datagrams)) (tick_sends s.world) in
+      let hops : hops_text s.nodes s.dests ticked v ≡ hops_text s.nodes s.dests s.world v =
+      ap (λ (routes : List Route). flat_map (hop_line v) routes) (routes_stay s.world ticked (record { seats = same.seats; topology = same.topology }) s.nodes s.dests) in
       ap₂ (λ (xs ys : List ℕ). xs ++ ys) sent hops
 
   answered : (v : World) (text last : List ℕ) → v ≡ after ticked → text ≡ told_of ticked v → last ≡ text ++ closing false
-      → option_map (told (whole_run g s)) (outcome_of (whole_run g s) (whole_own (length g) o) Step) ≡ Some (whole_run g (record s { world = v }), whole_own (length g) o, last)
-  unfolding outcome_behind
+      → option_map (told s) (outcome_of s o Step) ≡ Some (record s { world = v }, o, last)
+  unfolding outcome_of
   answered v text last is tells closed =
       let stepped : after_step s o ≡ v = step_is s.nodes s.ends o.far s.world ∙ sym is in
-      let whole_text : told_of s.world v ++ closing false ≡ last = ap (λ (x : List ℕ). x ++ closing false) (sym (tells ∙ told_behind v)) ∙ sym closed in
-      ap (option_map (told (whole_run g s))) (outcomes g s o Step)
-      ∙ ap (λ (x : World). Some (told (whole_run g s) (whole_outcome g (shown (record s { world = x }) o [])))) stepped
-      ∙ ap (λ (x : List ℕ). Some (whole_run g (record s { world = v }), whole_own (length g) o, x)) whole_text
+      let all_told : told_of s.world v ++ closing false ≡ last = ap (λ (x : List ℕ). x ++ closing false) (sym (tells ∙ told_behind v)) ∙ sym closed in
+      ap (λ (x : World). Some (told s (shown (record s { world = x }) o []))) stepped
+      ∙ ap (λ (x : List ℕ). Some (record s { world = v }, o, x)) all_told
 
   -- the parts of the answer to a step in their order are the answer
   pub step_answered : (u : World) (r : RunningView) (text last : List ℕ) → u ≡ ticked → r ≡ record s { world = after u } → text ≡ told_of u r.world → last ≡ text ++ closing false
-      → option_map (told (whole_run g s)) (outcome_of (whole_run g s) (whole_own (length g) o) Step) ≡ Some (whole_run g r, whole_own (length g) o, last)
+      → option_map (told s) (outcome_of s o Step) ≡ Some (r, o, last)
   step_answered u r text last tick is tells closed =
       let world : r.world ≡ after u = ap (λ (q : RunningView). q.world) is in
       let run : record s { world = r.world } ≡ r = ap (λ (w : World). record s { world = w }) world ∙ sym is in
       answered r.world text last (world ∙ ap after tick) (tells ∙ ap (λ (w : World). told_of w r.world) tick) closed
-      ∙ ap (λ (q : RunningView). Some (whole_run g q, whole_own (length g) o, last)) run
+      ∙ ap (λ (q : RunningView). Some (q, o, last)) run

@@ -6,18 +6,18 @@ use Rattle.tora_world.specs.World.{World}
 use Rattle.tora_drive.specs.Recording.{cleared}
 use Rattle.tora_drive.specs.Records.{sent_of, sent_from}
 
-module _ (w : World) (n first : ℕ) where
-  -- none yet of those that are left behind the first ones, where so many are gone
-  pub none_left : (text : List ℕ) → text ≡ text ++ sent_from w (n + first) (first - first)
+module _ (w : World) (first : ℕ) where
+  -- none yet behind the first ones
+  pub none_sent : (text : List ℕ) → text ≡ text ++ sent_from w first (first - first)
   unfolding sent_from
-  none_left text = let k : first - first ≡ 0 = omega arith in rw k (sym (append-nil text))
+  none_sent text = let k : first - first ≡ 0 = omega arith in rw k (sym (append-nil text))
 
-  pub next_left : (i : ℕ) (old text new : List ℕ) → first ≤ i → text ≡ old ++ sent_from w (n + first) (i - first) → new ≡ text ++ sent_of w (n + (i + 1)) → new ≡ old ++ sent_from w (n + first) (i + 1 - first)
+  pub next_sent : (i : ℕ) (old text new : List ℕ) → first ≤ i → text ≡ old ++ sent_from w first (i - first) → new ≡ text ++ sent_of w (i + 1) → new ≡ old ++ sent_from w first (i + 1 - first)
   unfolding sent_from
-  next_left i old text new above so_far more =
+  next_sent i old text new above so_far more =
       let k : i + 1 - first ≡ suc (i - first) = omega arith in
-      let at : n + first + suc (i - first) ≡ n + (i + 1) = omega arith in
-      rw (k, at, more, so_far) (append_assoc old (sent_from w (n + first) (i - first)) (sent_of w (n + (i + 1))))
+      let at : first + suc (i - first) ≡ i + 1 = omega arith in
+      rw (k, at, more, so_far) (append_assoc old (sent_from w first (i - first)) (sent_of w (i + 1)))
 
 -- a record that begins anew where there is one
 pub cleared_so : {V : Type 0} (items : V → List ℕ) (o : Option V) (is : Bool) → is ≡ is_some o → (if is then Some [] else None) ≡ cleared (option_map items o)

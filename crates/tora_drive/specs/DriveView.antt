@@ -10,9 +10,8 @@ use Rattle.tora_drive.specs.declared.own.Own.{Own}
 use Rattle.tora_drive.specs.declared.recorded.Recording.{Recording}
 use Rattle.tora_drive.specs.DriveText.{OwnView, DriveView, drive_rules}
 use Rattle.tora_drive.specs.Recording.{recorded_rules}
-use Rattle.tora_drive.specs.Whole.{whole_place}
 
--- the datagrams up to a number can't be named any more, of those that the simulator has left
+-- the datagrams up to a number can't be named any more
 abbrev pub own_view : Own → OwnView
 own_view o = record { far = o.far.items; forgotten = o.forgotten }
 
@@ -20,9 +19,8 @@ own_view o = record { far = o.far.items; forgotten = o.forgotten }
 abbrev pub record_view : Own → Option (List ℕ)
 record_view o = option_map (λ v. v.items) o.recorded
 
--- the datagrams that the simulator let go stand in front of those that it has left
 abbrev pub view_of : {S : Type 0} → (S → World) → Drive S → DriveView
-view_of world d = record { lines = d.lines; place = whole_place d.gone (progress_of world d.stage) (own_view d.own) }
+view_of world d = record { lines = d.lines; place = record { progress = progress_of world d.stage; own = own_view d.own } }
 
 abbrev pub drive_kind : {S : Type 0} → (S → World) → Kind (Drive S)
 drive_kind world = record {

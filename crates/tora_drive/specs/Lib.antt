@@ -8,4 +8,3 @@ pub mod Runs
 pub mod Scripts
 pub mod Steps
 pub mod Taking
-pub mod Whole

@@ -15,12 +15,9 @@ ghost use Rattle.tora_drive.specs.Recording.{events_text, with_record, step_reco
 ghost use Rattle.tora_drive.specs.declared.line.DriveLine.TheVariants.{Step};
 ghost use Rattle.tora_drive.specs.Records.{sent_text, hops_text};
 ghost use Rattle.tora_drive.specs.Steps.{step, step_passes};
-ghost use Rattle.tora_drive.specs.Whole.{whole, whole_run, whole_own, outcome_behind};
 
 use crate::driven::Driven;
-use crate::gone::Gone;
 use crate::line::DriveLine;
-use crate::lowering::lowered;
 use crate::own::Own;
 use crate::records::{routes_before, routes_in, write_frame, write_hops, write_sent};
 use crate::stepping::{finish_step, tick};
@@ -190,22 +187,20 @@ fn notice<S: Driven>(
 fn write_bytes<S: Driven>(
     running: &Running<S>,
     own: &Own,
-    gone: &Gone,
     i: u64,
     out: &mut String,
 ) -> Result<bool, AllocError>
     requires { string_bytes out.old ≡ [] }
     ensures { IfOk result (λ r. outcome (running_view S.world running.now) (own_view own.now) (string_bytes out.new) r
-        ≡ option_map_or (λ f. shown (running_view S.world running.now) (own_view own.now) (bytes_line (length gone.now + i) f)) (named (own_view own.now) (S.world running.now.sim) i) (unnamed (running_view S.world running.now) (own_view own.now))) }
+        ≡ option_map_or (λ f. shown (running_view S.world running.now) (own_view own.now) (bytes_line i f)) (named (own_view own.now) (S.world running.now.sim) i) (unnamed (running_view S.world running.now) (own_view own.now))) }
 {
     if i <= own.forgotten {
         refuse(out, SimError::NoDatagram)?;
         return Ok(true);
     }
-    let number = gone.with(i)?;
     match running.sim.frame(i) {
         Some(frame) => {
-            write_frame(out, number, &frame)?;
+            write_frame(out, i, &frame)?;
             Ok(false)
         }
         None => {
@@ -236,25 +231,6 @@ fn forget<S: Driven>(
     Ok(false)
 }
 
-/// Does what a line asks for, puts what is printed first behind an empty text, and says whether it was refused.
-fn perform<S: Driven>(
-    alloc: Global,
-    running: &mut Running<S>,
-    own: &mut Own,
-    gone: &Gone,
-    line: DriveLine,
-    out: &mut String,
-) -> Result<bool, LineError>
-    requires { string_bytes out.old ≡ [] }
-    ensures gives { Gives (λ r. outcome (whole_run gone.now (running_view S.world running.new)) (whole_own (length gone.now) (own_view own.new)) (string_bytes out.new) r) result (outcome_of (whole_run gone.now (running_view S.world running.old)) (whole_own (length gone.now) (own_view own.old)) line) }
-    ensures kept { result ≡ Err LineError.Fault → running_view S.world running.new ≡ running_view S.world running.old }
-    ensures own { result ≡ Err LineError.Fault → own_view own.new ≡ own_view own.old }
-    ensures record { IfOk result (λ r. record_view own.new ≡ step_recorded (record_view own.old) (whole_run gone.now (running_view S.world running.old)) (whole_own (length gone.now) (own_view own.old)) line) }
-{
-    let left = lowered(gone.count(), line);
-    perform_left(alloc, running, own, gone, left, out)
-}
-
 /// Does what a line of a simulation file asks for, puts what is printed first behind an empty text, and says whether it was refused.
 fn perform_script<S: Driven>(
     running: &mut Running<S>,
@@ -275,18 +251,17 @@ fn perform_script<S: Driven>(
     }
 }
 
-/// The same for a line by the numbers of the datagrams that are left, over the world that has only those.
-#[tactic(auto, unfolding(crate::specs::Whole::outcome_behind))]
-fn perform_left<S: Driven>(
+/// Does what a line asks for, puts what is printed first behind an empty text, and says whether it was refused.
+#[tactic(auto, unfolding(crate::specs::DriveText::outcome_of))]
+fn perform<S: Driven>(
     alloc: Global,
     running: &mut Running<S>,
     own: &mut Own,
-    gone: &Gone,
     line: DriveLine,
     out: &mut String,
 ) -> Result<bool, LineError>
     requires { string_bytes out.old ≡ [] }
-    ensures gives { Gives (λ r. outcome (running_view S.world running.new) (own_view own.new) (string_bytes out.new) r) result (outcome_behind (length gone.now) (running_view S.world running.old) (own_view own.old) line) }
+    ensures gives { Gives (λ r. outcome (running_view S.world running.new) (own_view own.new) (string_bytes out.new) r) result (outcome_of (running_view S.world running.old) (own_view own.old) line) }
     ensures kept { result ≡ Err LineError.Fault → running_view S.world running.new ≡ running_view S.world running.old }
     ensures own { result ≡ Err LineError.Fault → own_view own.new ≡ own_view own.old }
     ensures record { IfOk result (λ r. record_view own.new ≡ step_recorded (record_view own.old) (running_view S.world running.old) (own_view own.old) line) }
@@ -310,7 +285,7 @@ fn perform_left<S: Driven>(
             Ok(false)
         }
         DriveLine::Notice(n, k) => notice(running, own, (n, k), out),
-        DriveLine::Bytes(i) => Ok(write_bytes(running, own, gone, i, out)?),
+        DriveLine::Bytes(i) => Ok(write_bytes(running, own, i, out)?),
         DriveLine::Forget(i) => Ok(forget(running, own, i, out)?),
     }
 }
@@ -366,11 +341,10 @@ fn finish<S: Driven>(
     alloc: Global,
     running: &mut Running<S>,
     own: &Own,
-    gone: &Gone,
     out: &mut String,
 ) -> Result<(), AllocError>
     ensures view { OnOk result (running_view S.world running.new ≡ record (running_view S.world running.old) { world = world_after_all (S.world running.old.sim) (plan_then (each_end_once Open running.old.ends.items) (step_passes 1000 running.old.nodes.items running.old.ends.items own.now.far.items) (S.world running.old.sim)) }) }
-    ensures told { OnOk result (string_bytes out.new ≡ string_bytes out.old ++ sent_text (whole gone.now (S.world running.old.sim)) (whole gone.now (S.world running.new.sim)) ++ hops_text running.old.nodes.items running.old.dests.items (whole gone.now (S.world running.old.sim)) (whole gone.now (S.world running.new.sim))) }
+    ensures told { OnOk result (string_bytes out.new ≡ string_bytes out.old ++ sent_text (S.world running.old.sim) (S.world running.new.sim) ++ hops_text running.old.nodes.items running.old.dests.items (S.world running.old.sim) (S.world running.new.sim)) }
 {
     let is_done = running.sim.is_quiet();
     if is_done {
@@ -379,7 +353,7 @@ fn finish<S: Driven>(
     let first = running.sim.datagrams();
     let before = routes_in(alloc, running)?;
     finish_step(&mut running.sim, &running.nodes, &running.ends, &own.far)?;
-    write_sent(out, &running.sim, gone, first)?;
+    write_sent(out, &running.sim, first)?;
     write_hops(out, &running.sim, &before)
 }
 
@@ -388,15 +362,14 @@ fn answer_step<S: Driven>(
     alloc: Global,
     running: &mut Running<S>,
     own: &Own,
-    gone: &Gone,
     out: &mut String,
 ) -> Result<(), AllocError>
     requires { string_bytes out.old ≡ [] }
-    ensures { OnOk result (option_map (told (whole_run gone.now (running_view S.world running.old))) (outcome_of (whole_run gone.now (running_view S.world running.old)) (whole_own (length gone.now) (own_view own.now)) Step)
-        ≡ Some (whole_run gone.now (running_view S.world running.new), whole_own (length gone.now) (own_view own.now), string_bytes out.new)) }
+    ensures { OnOk result (option_map (told (running_view S.world running.old)) (outcome_of (running_view S.world running.old) (own_view own.now) Step)
+        ≡ Some (running_view S.world running.new, own_view own.now, string_bytes out.new)) }
 {
     tick(&mut running.sim)?;
-    finish(alloc, running, own, gone, out)?;
+    finish(alloc, running, own, out)?;
     close(out, false)
 }
 
@@ -406,22 +379,21 @@ fn answer_line<S: Driven>(
     alloc: Global,
     running: &mut Running<S>,
     own: &mut Own,
-    gone: &Gone,
     line: DriveLine,
     text: &[u8],
     out: &mut String,
 ) -> Result<(), LineError>
     requires { string_bytes out.old ≡ [] }
-    ensures gives { Gives (λ _. (whole_run gone.now (running_view S.world running.new), whole_own (length gone.now) (own_view own.new), string_bytes out.new)) result (option_map (told (whole_run gone.now (running_view S.world running.old))) (outcome_of (whole_run gone.now (running_view S.world running.old)) (whole_own (length gone.now) (own_view own.old)) line)) }
+    ensures gives { Gives (λ _. (running_view S.world running.new, own_view own.new, string_bytes out.new)) result (option_map (told (running_view S.world running.old)) (outcome_of (running_view S.world running.old) (own_view own.old) line)) }
     ensures kept { result ≡ Err LineError.Fault → running_view S.world running.new ≡ running_view S.world running.old }
     ensures own { result ≡ Err LineError.Fault → own_view own.new ≡ own_view own.old }
-    ensures record { OnOk result (record_view own.new ≡ option_map_or (λ q. line_recorded (step_recorded (record_view own.old) (whole_run gone.now (running_view S.world running.old)) (whole_own (length gone.now) (own_view own.old)) line) line text.now q.refused) (outcome_of (whole_run gone.now (running_view S.world running.old)) (whole_own (length gone.now) (own_view own.old)) line) (record_view own.old)) }
+    ensures record { OnOk result (record_view own.new ≡ option_map_or (λ q. line_recorded (step_recorded (record_view own.old) (running_view S.world running.old) (own_view own.old) line) line text.now q.refused) (outcome_of (running_view S.world running.old) (own_view own.old) line) (record_view own.old)) }
 {
     let first = running.sim.datagrams();
     let before = routes_before(alloc, running, &line)?;
-    let is_refused = perform(alloc, running, own, gone, line, out)?;
+    let is_refused = perform(alloc, running, own, line, out)?;
     record_line(alloc, own, &line, text, is_refused)?;
-    write_sent(out, &running.sim, gone, first)?;
+    write_sent(out, &running.sim, first)?;
     write_hops(out, &running.sim, &before)?;
     close(out, is_refused)?;
     Ok(())
@@ -434,20 +406,19 @@ pub fn answer<S: Driven>(
     alloc: Global,
     running: &mut Running<S>,
     own: &mut Own,
-    gone: &Gone,
     text: &[u8],
     out: &mut String,
 ) -> Result<(), LineError>
     requires { string_bytes out.old ≡ [] }
-    ensures gives { Gives (λ _. (whole_run gone.now (running_view S.world running.new), whole_own (length gone.now) (own_view own.new), string_bytes out.new)) result (answer_to (whole_run gone.now (running_view S.world running.old)) (whole_own (length gone.now) (own_view own.old)) text.now) }
+    ensures gives { Gives (λ _. (running_view S.world running.new, own_view own.new, string_bytes out.new)) result (answer_to (running_view S.world running.old) (own_view own.old) text.now) }
     ensures kept { result ≡ Err LineError.Fault → running_view S.world running.new ≡ running_view S.world running.old }
     ensures own { result ≡ Err LineError.Fault → own_view own.new ≡ own_view own.old }
-    ensures record { OnOk result (record_view own.new ≡ answer_recorded (record_view own.old) (whole_run gone.now (running_view S.world running.old)) (whole_own (length gone.now) (own_view own.old)) text.now) }
+    ensures record { OnOk result (record_view own.new ≡ answer_recorded (record_view own.old) (running_view S.world running.old) (own_view own.old) text.now) }
 {
-    let line = line_in(alloc, &running.sim, gone, own.forgotten, text)?;
+    let line = line_in(alloc, &running.sim, own.forgotten, text)?;
     if is_unrecorded_step(own, &line) {
-        answer_step(alloc, running, own, gone, out)?;
+        answer_step(alloc, running, own, out)?;
         return Ok(());
     }
-    answer_line(alloc, running, own, gone, line, text, out)
+    answer_line(alloc, running, own, line, text, out)
 }

@@ -2,9 +2,7 @@
 ghost use Rattle.std.specs.Prelude.{◌≡◌, ◌++◌, OnOk, string_bytes};
 ghost use Rattle.tora_script.specs.SimulationView.{progress_of};
 ghost use Rattle.tora_drive.specs.DriveText.{cause_of_line, cause_behind_links, cause_of, cause_words, fault_line};
-ghost use Rattle.tora_drive.specs.Whole.{whole_progress};
 
-use crate::gone::Gone;
 use crate::line::drive_line;
 use std::alloc::AllocError;
 use tora_script::{LinkLines, Simulator, Stage};
@@ -67,13 +65,8 @@ fn cause_behind_links(limits: Limits, lines: &LinkLines, line: &[u8]) -> Cause
 
 /// Why a line is a fault within the limits.
 #[tactic(auto, unfolding(crate::specs::DriveText::cause_of))]
-pub fn fault_cause<S: Simulator>(
-    limits: Limits,
-    stage: &Stage<S>,
-    _gone: &Gone,
-    line: &[u8],
-) -> Cause
-    ensures { result ≡ cause_of limits (whole_progress _gone.now (progress_of S.world stage.now)) line.now }
+pub fn fault_cause<S: Simulator>(limits: Limits, stage: &Stage<S>, line: &[u8]) -> Cause
+    ensures { result ≡ cause_of limits (progress_of S.world stage.now) line.now }
 {
     match stage {
         Stage::First => Cause::Dests,

@@ -1,13 +1,12 @@
 //! What is kept of a drive between two lines.
 ghost use Rattle.tora_arq.specs.Settings.{IsTimes};
 
-use crate::gone::Gone;
 use crate::own::Own;
 use tora_arq::Times;
 use tora_script::{Stage, WorldOptions};
 
 /// A drive, by how many lines came, the options of its world, the times of its link ends, none of which is 0, the simulation that
-/// the lines made, what is kept beside it, and the datagrams that it let go.
+/// the lines made, and what is kept beside it.
 #[derive(Drop)]
 pub struct Drive<S> {
     pub lines: u64,
@@ -15,6 +14,5 @@ pub struct Drive<S> {
     pub times: Times,
     pub stage: Stage<S>,
     pub own: Own,
-    pub gone: Gone,
     ghost are_times: { ∥ IsTimes times ∥₁ },
 }

@@ -1,5 +1,5 @@
 //! What a drive asks of a simulator.
-ghost use Rattle.std.specs.Prelude.{◌≡◌, take, drop};
+ghost use Rattle.std.specs.Prelude.{◌≡◌};
 ghost use Rattle.tora_world.specs.World.{datagram};
 ghost use Rattle.tora_arq.specs.LinkEnd.{bound_life};
 ghost use Rattle.tora_sim.specs.Readers.{flag_at};
@@ -8,7 +8,7 @@ use tora_arq::Life;
 use tora_frame::{BorrowedFrame, Frame};
 use tora_height::Id;
 use tora_script::Simulator;
-use tora_sim::{GoneDatagrams, Sim};
+use tora_sim::Sim;
 
 /// A simulated world that tells what a drive prints.
 pub trait Driven: Simulator {
@@ -27,12 +27,6 @@ pub trait Driven: Simulator {
     /// The life that the end of a node towards another is bound in; `None` where it is not bound, or where there is no such end.
     fn bound_life(&self, n: Id, k: Id) -> Option<Life>
         ensures { result ≡ bound_life ((Self.world self.now).ends n k) };
-
-    /// Lets the first datagrams go, so many or all, and tells contracts which they were: those behind them have the numbers from 1 on then. Nothing
-    /// else is changed.
-    fn forget_first(&mut self, n: u64) -> GoneDatagrams
-        ensures gone { result.frames ≡ take n (Self.world self.old).datagrams }
-        ensures left { Self.world self.new ≡ record (Self.world self.old) { datagrams = drop n (Self.world self.old).datagrams } };
 }
 
 impl Driven for Sim {
@@ -50,9 +44,5 @@ impl Driven for Sim {
 
     fn bound_life(&self, n: Id, k: Id) -> Option<Life> {
         Sim::bound_life(self, n, k)
-    }
-
-    fn forget_first(&mut self, n: u64) -> GoneDatagrams {
-        Sim::forget_first(self, n)
     }
 }

@@ -6,7 +6,6 @@ ghost use Rattle.tora_drive.specs.DriveText.{greeting, Drives, IsDriveBegun};
 
 use crate::drive::Drive;
 use crate::driven::Driven;
-use crate::gone::Gone;
 use crate::own::Own;
 use std::alloc::Global;
 use std::io;
@@ -54,7 +53,6 @@ pub fn drive_in<S: Driven, R: Read, W: Write>(
         times,
         stage: Stage::First,
         own: Own::new(alloc),
-        gone: Gone::new(),
     };
     read_shortened_lines(alloc, state, reader, writer)
 }

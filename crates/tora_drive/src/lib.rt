@@ -5,6 +5,9 @@
 //!
 //! ```rust
 //! let ended = drive_in::<Sim, R, W>(alloc, WorldOptions::within(Limits::STANDARD), Times::STANDARD, &mut reader, &mut writer)?;
+//!
+//! let mut drive: Drive<Sim> = Drive::new(alloc, WorldOptions::within(Limits::STANDARD), Times::STANDARD);
+//! drive.answer(alloc, b"dests 2", &mut text)?; // the text is `ok` and its end
 //! ```
 #![tactic(auto)]
 
@@ -14,11 +17,9 @@ mod drive;
 mod driven;
 mod driving;
 mod event_lines;
-mod giving_back;
-mod gone;
 mod laws;
 mod line;
-mod lowering;
+mod one_line;
 mod own;
 mod recorded;
 mod records;

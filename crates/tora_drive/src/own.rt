@@ -10,8 +10,8 @@ use std::alloc::{AllocError, Global};
 use tora_height::Id;
 use tora_world::Event;
 
-/// The ends that are silent, each as its node and its neighbour, the number up to which datagrams can't be named any more, among those that the
-/// simulator has left, and the lines of a simulation file that stand for the last line.
+/// The ends that are silent, each as its node and its neighbour, the number up to which datagrams can't be named any more, and the lines of a
+/// simulation file that stand for the last line.
 #[derive(Drop)]
 pub struct Own {
     pub far: Vec<(Id, Id)>,

@@ -8,7 +8,6 @@ ghost use Rattle.tora_drive.specs.Recording.{DrivesRecorded, IsRecordedBegun};
 
 use crate::drive::Drive;
 use crate::driven::Driven;
-use crate::gone::Gone;
 use crate::line::says_notice;
 use crate::own::Own;
 use std::alloc::{AllocError, Global};
@@ -85,7 +84,6 @@ pub fn drive_recorded<S: Driven, R: Read, W: Write, V: Output>(
             times,
             stage: Stage::First,
             own: Own::recorded(alloc),
-            gone: Gone::new(),
         },
         out,
     };

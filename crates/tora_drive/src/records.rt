@@ -5,10 +5,8 @@ ghost use Rattle.std.specs.List.{flat_map};
 ghost use Rattle.std.specs.Fmt.{decimal};
 ghost use Rattle.tora_frame.specs.FrameGrammar.{frame_spelling};
 ghost use Rattle.tora_drive.specs.DriveText.{bytes_line, may_change_hops};
-ghost use Rattle.tora_drive.specs.Whole.{whole};
 
 use crate::driven::Driven;
-use crate::gone::Gone;
 use crate::line::DriveLine;
 use std::alloc::{AllocError, Global};
 use tora_frame::{BorrowedBody, BorrowedFrame, Frame, LONGEST_FRAME, encode};
@@ -62,34 +60,23 @@ fn write_datagram(out: &mut String, i: u64, frame: &BorrowedFrame<'_>) -> Result
     writeln!(out, "sent {sender} {receiver} {i} {length}")
 }
 
-/// Puts the line of a datagram behind a text, by its number from 1 among those that are left.
-fn write_sent_one<S: Driven>(
-    out: &mut String,
-    sim: &S,
-    gone: &Gone,
-    i: u64,
-) -> Result<(), AllocError>
+/// Puts the line of a datagram behind a text, by its number from 1.
+fn write_sent_one<S: Driven>(out: &mut String, sim: &S, i: u64) -> Result<(), AllocError>
     requires { 0 < i }
-    ensures { OnOk result (string_bytes out.new ≡ string_bytes out.old ++ sent_of (whole gone.now (S.world sim.now)) (length gone.now + i)) }
+    ensures { OnOk result (string_bytes out.new ≡ string_bytes out.old ++ sent_of (S.world sim.now) (i)) }
 {
-    let number = gone.with(i)?;
     match sim.borrowed_frame(i) {
-        Some(frame) => write_datagram(out, number, &frame),
+        Some(frame) => write_datagram(out, i, &frame),
         None => Ok(()),
     }
 }
 
-/// Puts the lines of the datagrams behind a text that are left behind the first ones.
-pub fn write_sent<S: Driven>(
-    out: &mut String,
-    sim: &S,
-    gone: &Gone,
-    first: u64,
-) -> Result<(), AllocError>
-    ensures { OnOk result (string_bytes out.new ≡ string_bytes out.old ++ sent_from (whole gone.now (S.world sim.now)) (length gone.now + first) (length (S.world sim.now).datagrams - first)) }
+/// Puts the lines of the datagrams behind a text that come after the first ones.
+pub fn write_sent<S: Driven>(out: &mut String, sim: &S, first: u64) -> Result<(), AllocError>
+    ensures { OnOk result (string_bytes out.new ≡ string_bytes out.old ++ sent_from (S.world sim.now) (first) (length (S.world sim.now).datagrams - first)) }
 {
     for i in first..sim.datagrams() {
-        write_sent_one(out, sim, gone, i + 1)?;
+        write_sent_one(out, sim, i + 1)?;
     }
     Ok(())
 }

@@ -1,13 +1,11 @@
 //! Bytes that came to a node, as the datagram that they are.
-ghost use Rattle.std.specs.Prelude.{◌≡◌, ◌+◌, length};
+ghost use Rattle.std.specs.Prelude.{◌≡◌};
 ghost use Rattle.std.specs.Result.{result_ok};
 ghost use Rattle.hex.specs.Hex.{decode_of};
 ghost use Rattle.tora_lines.specs.Gives.{Gives};
 ghost use Rattle.tora_drive.specs.Taking.{is_sent_so, is_sent_at, number_of_bytes, taking, line_in};
-ghost use Rattle.tora_drive.specs.Whole.{whole};
 
 use crate::driven::Driven;
-use crate::gone::Gone;
 use crate::line::{DriveLine, drive_line};
 use hex::FromHexError;
 use std::alloc::Global;
@@ -72,15 +70,14 @@ fn bytes_of(alloc: Global, digits: &[u8]) -> Result<Vec<u8>, LineError>
 }
 
 /// What stands behind `take `: the delivery of the datagram that has these bytes.
-#[tactic(auto, unfolding(crate::specs::Taking::taking), using(crate::proofs::WholeLines::number_so))]
+#[tactic(auto, unfolding(crate::specs::Taking::taking))]
 fn taking<S: Driven>(
     alloc: Global,
     sim: &S,
-    gone: &Gone,
     forgotten: u64,
     text: &[u8],
 ) -> Result<DriveLine, LineError>
-    ensures { Gives (λ line. line) result (taking (whole gone.now (S.world sim.now)) (length gone.now + forgotten) text.now) }
+    ensures { Gives (λ line. line) result (taking (S.world sim.now) forgotten text.now) }
 {
     let Some((receiver, rest)) = words::cut(b' ', text) else {
         return Err(LineError::Fault);
@@ -95,24 +92,22 @@ fn taking<S: Driven>(
         return Err(LineError::Fault);
     };
     let bytes = bytes_of(alloc, digits)?;
-    let left = number_of_bytes(sim, forgotten, sender, receiver, &bytes);
-    let i = gone.raised(left)?;
+    let i = number_of_bytes(sim, forgotten, sender, receiver, &bytes);
     Ok(DriveLine::Script(SimulationLine::Happens(Event::Deliver(i))))
 }
 
-/// What a line says in a world of which datagrams are gone.
+/// What a line says in a world.
 #[tactic(auto, unfolding(crate::specs::Taking::line_in))]
 pub fn line_in<S: Driven>(
     alloc: Global,
     sim: &S,
-    gone: &Gone,
     forgotten: u64,
     text: &[u8],
 ) -> Result<DriveLine, LineError>
-    ensures { Gives (λ line. line) result (line_in (whole gone.now (S.world sim.now)) (length gone.now + forgotten) text.now) }
+    ensures { Gives (λ line. line) result (line_in (S.world sim.now) forgotten text.now) }
 {
     if let Some(rest) = after(b"take ", text) {
-        return taking(alloc, sim, gone, forgotten, rest);
+        return taking(alloc, sim, forgotten, rest);
     }
     match drive_line(text) {
         Some(line) => Ok(line),

@@ -7,15 +7,12 @@ ghost use Rattle.tora_script.specs.SimulationText.{first_progress};
 ghost use Rattle.tora_script.specs.SimulationView.{progress_of};
 ghost use Rattle.tora_drive.specs.DriveText.{closing, first_answer, run_begun, placed, place_reply, drive_reply};
 ghost use Rattle.tora_drive.specs.DriveView.{own_view, record_view, view_of, drive_kind};
-ghost use Rattle.tora_drive.specs.Whole.{whole_run, whole_progress, whole_own, whole_place};
 ghost use Rattle.tora_drive.specs.Recording.{with_line, first_recorded, run_recorded, place_recorded, drive_recorded, unrecorded};
 
 use crate::answer::answer;
 use crate::cause::{Cause, fault_cause, write_fault};
 use crate::drive::Drive;
 use crate::driven::Driven;
-use crate::giving_back::give_back;
-use crate::gone::Gone;
 use crate::own::Own;
 use std::alloc::{AllocError, Global};
 use tora_arq::Times;
@@ -33,16 +30,14 @@ fn begin<S: Driven>(
     times: Times,
     lines: &LinkLines,
     own: &mut Own,
-    gone: &Gone,
     line: &[u8],
     text: &mut String,
 ) -> Result<Running<S>, LineError>
     requires times { IsTimes times }
     requires empty { string_bytes text.old ≡ [] }
-    requires none { gone.now ≡ [] }
-    ensures gives { Gives (λ s. (whole_run gone.now (running_view S.world s), whole_own (length gone.now) (own_view own.new), string_bytes text.new)) result (first_answer options times (whole_own (length gone.now) (own_view own.old)) lines.now.dests.items lines.now.links.items lines.now.marks.items line.now) }
+    ensures gives { Gives (λ s. (running_view S.world s, own_view own.new, string_bytes text.new)) result (first_answer options times (own_view own.old) lines.now.dests.items lines.now.links.items lines.now.marks.items line.now) }
     ensures own { result ≡ Err LineError.Fault → own_view own.new ≡ own_view own.old }
-    ensures record { IfOk result (λ _. record_view own.new ≡ first_recorded (record_view own.old) options times (whole_own (length gone.now) (own_view own.old)) lines.now.dests.items lines.now.links.items lines.now.marks.items line.now) }
+    ensures record { IfOk result (λ _. record_view own.new ≡ first_recorded (record_view own.old) options times (own_view own.old) lines.now.dests.items lines.now.links.items lines.now.marks.items line.now) }
 {
     if lines.links.is_empty() {
         return Err(LineError::Fault);
@@ -52,7 +47,7 @@ fn begin<S: Driven>(
         ..Setup::plain(times)
     };
     let mut running = Running::new(alloc, &lines.dests, &lines.links, &lines.marks, setup)?;
-    answer(alloc, &mut running, own, gone, line, text)?;
+    answer(alloc, &mut running, own, line, text)?;
     Ok(running)
 }
 
@@ -78,13 +73,8 @@ fn take_in(own: &mut Own, line: &[u8], text: &mut String) -> Result<(), AllocErr
 /// As `begin_run` it stands in a function of its own, which is never put into its caller: else every line of a drive would make room for
 /// a simulation.
 #[inline(never)]
-fn begin_links<S: Driven>(
-    stage: &mut Stage<S>,
-    _gone: &Gone,
-    alloc: Global,
-    line: &[u8],
-) -> Result<(), LineError>
-    ensures gives { Gives (λ _. whole_progress _gone.now (progress_of S.world stage.new)) result (first_progress line.now) }
+fn begin_links<S: Driven>(stage: &mut Stage<S>, alloc: Global, line: &[u8]) -> Result<(), LineError>
+    ensures gives { Gives (λ _. progress_of S.world stage.new) result (first_progress line.now) }
     ensures kept { result ≡ Err LineError.Fault → progress_of S.world stage.new ≡ progress_of S.world stage.old }
 {
     *stage = Stage::Links(first_line(alloc, line)?);
@@ -92,12 +82,11 @@ fn begin_links<S: Driven>(
 }
 
 /// Takes a line behind the links that is none of them and says nothing of a node; the simulation runs behind it. At any other place there is no such
-/// line, and nothing changes. Before the simulation runs no datagram is gone.
+/// line, and nothing changes.
 #[inline(never)]
 fn begin_run<S: Driven>(
     stage: &mut Stage<S>,
     own: &mut Own,
-    gone: &Gone,
     options: WorldOptions,
     times: Times,
     alloc: Global,
@@ -106,18 +95,15 @@ fn begin_run<S: Driven>(
 ) -> Result<(), LineError>
     requires times { IsTimes times }
     requires empty { string_bytes text.old ≡ [] }
-    ensures gives { Gives (λ _. placed (whole_progress gone.now (progress_of S.world stage.new)) (whole_own (length gone.now) (own_view own.new)) (string_bytes text.new)) result (run_begun options times (whole_own (length gone.now) (own_view own.old)) (whole_progress gone.now (progress_of S.world stage.old)) line.now) }
+    ensures gives { Gives (λ _. placed (progress_of S.world stage.new) (own_view own.new) (string_bytes text.new)) result (run_begun options times (own_view own.old) (progress_of S.world stage.old) line.now) }
     ensures kept { result ≡ Err LineError.Fault → progress_of S.world stage.new ≡ progress_of S.world stage.old }
     ensures own { result ≡ Err LineError.Fault → own_view own.new ≡ own_view own.old }
-    ensures record { OnOk result (record_view own.new ≡ run_recorded (record_view own.old) options times (whole_own (length gone.now) (own_view own.old)) (whole_progress gone.now (progress_of S.world stage.old)) line.now) }
+    ensures record { OnOk result (record_view own.new ≡ run_recorded (record_view own.old) options times (own_view own.old) (progress_of S.world stage.old) line.now) }
 {
     let Stage::Links(lines) = stage else {
         return Err(LineError::Fault);
     };
-    if gone.count() > 0 {
-        return Err(LineError::Memory);
-    }
-    let running = begin(alloc, options, times, lines, own, gone, line, text)?;
+    let running = begin(alloc, options, times, lines, own, line, text)?;
     *stage = Stage::Runs(running);
     Ok(())
 }
@@ -128,7 +114,6 @@ fn begin_run<S: Driven>(
 fn take_line<S: Driven>(
     stage: &mut Stage<S>,
     own: &mut Own,
-    gone: &Gone,
     options: WorldOptions,
     times: Times,
     alloc: Global,
@@ -137,14 +122,14 @@ fn take_line<S: Driven>(
 ) -> Result<(), LineError>
     requires times { IsTimes times }
     requires empty { string_bytes text.old ≡ [] }
-    ensures gives { Gives (λ _. placed (whole_progress gone.now (progress_of S.world stage.new)) (whole_own (length gone.now) (own_view own.new)) (string_bytes text.new)) result (place_reply options times (whole_own (length gone.now) (own_view own.old)) (whole_progress gone.now (progress_of S.world stage.old)) line.now) }
+    ensures gives { Gives (λ _. placed (progress_of S.world stage.new) (own_view own.new) (string_bytes text.new)) result (place_reply options times (own_view own.old) (progress_of S.world stage.old) line.now) }
     ensures kept { result ≡ Err LineError.Fault → progress_of S.world stage.new ≡ progress_of S.world stage.old }
     ensures own { result ≡ Err LineError.Fault → own_view own.new ≡ own_view own.old }
-    ensures record { OnOk result (record_view own.new ≡ place_recorded (record_view own.old) options times (whole_own (length gone.now) (own_view own.old)) (whole_progress gone.now (progress_of S.world stage.old)) line.now) }
+    ensures record { OnOk result (record_view own.new ≡ place_recorded (record_view own.old) options times (own_view own.old) (progress_of S.world stage.old) line.now) }
 {
     match stage {
         Stage::First => {
-            begin_links(stage, gone, alloc, line)?;
+            begin_links(stage, alloc, line)?;
             take_in(own, line, text)?;
             Ok(())
         }
@@ -159,32 +144,10 @@ fn take_line<S: Driven>(
                 take_in(own, line, text)?;
                 return Ok(());
             }
-            begin_run(stage, own, gone, options, times, alloc, line, text)
+            begin_run(stage, own, options, times, alloc, line, text)
         }
-        Stage::Runs(running) => answer(alloc, running, own, gone, line, text),
+        Stage::Runs(running) => answer(alloc, running, own, line, text),
     }
-}
-
-/// The same, and what the datagrams took that can't be named any more is given back. A line that is a fault changes nothing.
-fn take_and_give_back<S: Driven>(
-    stage: &mut Stage<S>,
-    own: &mut Own,
-    gone: &mut Gone,
-    options: WorldOptions,
-    times: Times,
-    alloc: Global,
-    line: &[u8],
-    text: &mut String,
-) -> Result<(), LineError>
-    requires times { IsTimes times }
-    requires empty { string_bytes text.old ≡ [] }
-    ensures gives { Gives (λ _. placed (whole_progress gone.new (progress_of S.world stage.new)) (whole_own (length gone.new) (own_view own.new)) (string_bytes text.new)) result (place_reply options times (whole_own (length gone.old) (own_view own.old)) (whole_progress gone.old (progress_of S.world stage.old)) line.now) }
-    ensures kept { result ≡ Err LineError.Fault → whole_place gone.new (progress_of S.world stage.new) (own_view own.new) ≡ whole_place gone.old (progress_of S.world stage.old) (own_view own.old) }
-    ensures record { OnOk result (record_view own.new ≡ place_recorded (record_view own.old) options times (whole_own (length gone.old) (own_view own.old)) (whole_progress gone.old (progress_of S.world stage.old)) line.now) }
-{
-    take_line(stage, own, gone, options, times, alloc, line, text)?;
-    give_back(stage, own, gone);
-    Ok(())
 }
 
 impl<S: Driven> Drive<S> {
@@ -202,10 +165,9 @@ impl<S: Driven> Drive<S> {
         let (options, times) = (self.options, self.times);
         let is_recorded = self.own.recorded.is_some();
         self.own.clear_record();
-        let taken = take_and_give_back(
+        let taken = take_line(
             &mut self.stage,
             &mut self.own,
-            &mut self.gone,
             options,
             times,
             alloc,
@@ -220,7 +182,7 @@ impl<S: Driven> Drive<S> {
                 LineError::Fault => {
                     self.own.renew_record(alloc, is_recorded);
                     text.clear();
-                    let cause = fault_cause(options.limits, &self.stage, &self.gone, line);
+                    let cause = fault_cause(options.limits, &self.stage, line);
                     write_fault(text, number, cause)?;
                     Ok(())
                 }

@@ -1,5 +1,5 @@
 -- What is stored, and the functions that it is, after a change of one link end or one node.
-use Rattle.std.proofs.Common.{◌≡◌, ℕ, zero, suc, ◌<◌, ◌≤◌, ◌+◌, Bool, true, false, ◌&&◌, ◌⊎◌, inl, inr, List, [], ◌∷◌, ◌++◌, map, length, drop, get_or, set, slice_get, Option, Some, None, refl, sym, ap, ap₂, ◌∙◌, subst, arith, cond, find, is_some, if◌then◌else◌, nat_eq, eqb-true, eq-eqb, true≢false}
+use Rattle.std.proofs.Common.{◌≡◌, ℕ, zero, suc, ◌<◌, ◌≤◌, ◌+◌, Bool, true, false, ◌&&◌, ◌⊎◌, inl, inr, List, [], ◌∷◌, ◌++◌, map, length, get_or, set, slice_get, Option, Some, None, refl, sym, ap, ap₂, ◌∙◌, subst, arith, cond, find, is_some, if◌then◌else◌, nat_eq, eqb-true, eq-eqb, true≢false}
 use Rattle.std.proofs.lemmas.Bool.{cases_Bool, and_parts}
 use Rattle.std.proofs.lemmas.Bool.Decides.{nat_tests}
 use Rattle.std.proofs.lemmas.List.{get_or-set_same, get_or-set_other, length-set, length-map}
@@ -381,25 +381,4 @@ store_push t times clock nodes links ds f p h = record {
   each_link = h.each_link;
   each_ends = h.each_ends;
   each_datagram = each_push (IsOfLink t) ds f h.each_datagram p;
-}
-
--- ---- the first datagrams are let go
-
-pub each_drop : {A : Type 0} → (P : A → Type 0) (xs : List A) (n : ℕ) → EachOf P xs → EachOf P (drop n xs)
-each_drop P [] zero h = h
-each_drop P [] (suc n) h = h
-each_drop P (x ∷ xs) zero h = h
-each_drop P (x ∷ xs) (suc n) h = each_drop P xs n (λ m z q. h (suc m) z q)
-
-pub store_drop : (t : Topology) (times : Times) (clock : ℕ) (nodes : List NodeView) (links : List LinkView) (ds : List FrameParts) (n : ℕ) → IsStore (state_of t times clock nodes links ds) → IsStore (state_of t times clock nodes links (drop n ds))
-store_drop t times clock nodes links ds n h = record {
-  nodes = h.nodes;
-  links = h.links;
-  keys = h.keys;
-  rising_nodes = h.rising_nodes;
-  rising_links = h.rising_links;
-  each_node = h.each_node;
-  each_link = h.each_link;
-  each_ends = h.each_ends;
-  each_datagram = each_drop (IsOfLink t) ds n h.each_datagram;
 }

@@ -2,7 +2,7 @@
 //!
 //! `Sim` is the world that the prefix law speaks of, with its cores, link ends, life files and lanes, as a value: `step` lets
 //! one event happen, or refuses it and changes nothing. Nothing happens by itself, and nothing is random. All datagrams that
-//! were ever sent stay, so that each can be delivered late, twice or never, until `forget_first` lets the first of them go.
+//! were ever sent stay, so that each can be delivered late, twice or never.
 //!
 //! ```rust
 //! let topology = Topology::new(alloc, &[(1, 2)], &[2])?; // one link, and tables for the destination 2
@@ -22,7 +22,6 @@ mod due_bits;
 mod duplicates;
 mod files;
 mod first;
-mod forgetting;
 mod idle_cores;
 mod lanes;
 mod link_keys;
@@ -53,7 +52,6 @@ mod watching;
 
 pub use sim::Sim;
 pub use topology::{Topology, topology_fault, topology_fault_within};
-pub use tora_datagrams::GoneDatagrams;
 pub use tora_world::{Call, Event, GREATEST_NODES, Limits, MOST_NODES, SimError};
 // the laws that every world of a simulator keeps
 pub use tora_world::{

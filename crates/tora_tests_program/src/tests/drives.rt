@@ -70,7 +70,7 @@ const OWN_LINES: &[Row] = &[
          refused 3\nrefused 3\nrefused 3\nok\nrefused 3\nrefused 3\nok\nrefused 3\nok\n",
         Ended::Whole,
     ),
-    // Numbers go on behind datagrams whose memory was given back.
+    // Numbers go on behind datagrams that are forgotten.
     (
         &[STEPPED],
         &[

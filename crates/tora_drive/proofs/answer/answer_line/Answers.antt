@@ -1,28 +1,19 @@
-use Rattle.std.proofs.Common.{◌≡◌, ◌++◌, ap, sym, subst, ◌∙◌, refl, length, List, ℕ, Some, string_bytes}
+use Rattle.std.proofs.Common.{◌≡◌, sym, subst, refl, Some, string_bytes}
 use Rattle.std.specs.Prelude.{option_map}
 use Rattle.tora_script.specs.RunningView.{running_view}
 use Rattle.tora_drive.specs.DriveText.{OwnView, outcome_of, told}
 use Rattle.tora_drive.specs.DriveView.{own_view}
-use Rattle.tora_drive.specs.Whole.{whole_run, whole_own}
 use Rattle.tora_drive.proofs.AnswerLaws.{answered}
-use Rattle.tora_drive.proofs.WholeLines.{sent_left, hops_left}
 use Rattle.tora_drive.proofs.answer.answer_line.Goals as goal
 
 pub returns-clause-gives : goal.returns-clause-gives
 returns-clause-gives g c =
     let world = g.S.Simulator.world in
-    let gone = c.args.gone.now in
-    let before = world c.args.running.now.sim in
-    let after = world c.perform.new.running.sim in
-    subst (λ (own : OwnView). option_map (told (whole_run gone (running_view world c.args.running.now))) (outcome_of (whole_run gone (running_view world c.args.running.now)) (whole_own (length gone) (own_view c.args.own.now)) c.args.line)
-    ≡ Some (whole_run gone (running_view world c.perform.new.running), whole_own (length gone) own, string_bytes c.close.new.out)) (sym c.record_line.ensures.view)
-    (answered (whole_run gone (running_view world c.args.running.now)) (whole_own (length gone) (own_view c.args.own.now)) c.args.line
-    (whole_run gone (running_view world c.perform.new.running)) (whole_own (length gone) (own_view c.perform.new.own)) (string_bytes c.perform.new.out)
-    (string_bytes c.write_sent.new.out) (string_bytes c.write_hops.new.out) (string_bytes c.close.new.out) c.in_ok-before.before.items c.in_ok-is_refused.is_refused c.in_ok-is_refused.ensures.gives
-    ((rw c.datagrams-first.ensures at c.in_ok-write_sent.ensures) ∙ ap (λ (text : List ℕ). string_bytes c.perform.new.out ++ text) (sent_left gone before after))
-    c.in_ok-before.ensures
-    ((rw c.deref.ensures.value at c.in_ok-write_hops.ensures) ∙ ap (λ (text : List ℕ). string_bytes c.write_sent.new.out ++ text) (hops_left gone after c.in_ok-before.before.items))
-    c.in_ok-close.ensures)
+    let s = running_view world c.args.running.now in
+    let o = own_view c.args.own.now in
+    subst (λ (own : OwnView). option_map (told s) (outcome_of s o c.args.line) ≡ Some (running_view world c.perform.new.running, own, string_bytes c.close.new.out)) (sym c.record_line.ensures.view)
+    (answered s o c.args.line (running_view world c.perform.new.running) (own_view c.perform.new.own) (string_bytes c.perform.new.out) (string_bytes c.write_sent.new.out) (string_bytes c.write_hops.new.out) (string_bytes c.close.new.out)
+    c.in_ok-before.before.items c.in_ok-is_refused.is_refused c.in_ok-is_refused.ensures.gives (rw c.datagrams-first.ensures at c.in_ok-write_sent.ensures) c.in_ok-before.ensures (rw c.deref.ensures.value at c.in_ok-write_hops.ensures) c.in_ok-close.ensures)
 
 pub returns-clause-record : goal.returns-clause-record
 returns-clause-record g c = rw (c.in_ok-record_line.ensures.record, c.in_ok-is_refused.ensures.record, c.in_ok-is_refused.ensures.gives) refl

@@ -9,5 +9,5 @@ pub returns : goal.returns
 returns g c =
     let world = g.S.Simulator.world in
     on_ok_weaker c.close.result
-    (step_answered c.args.gone.now (running_view world c.args.running.now) (own_view c.args.own.now) (world c.tick.new.sim) (running_view world c.finish.new.running) (string_bytes c.finish.new.out) (string_bytes c.close.new.out)
+    (step_answered (running_view world c.args.running.now) (own_view c.args.own.now) (world c.tick.new.sim) (running_view world c.finish.new.running) (string_bytes c.finish.new.out) (string_bytes c.close.new.out)
     c.in_ok-tick.ensures c.in_ok-finish.ensures.view (rw c.requires at c.in_ok-finish.ensures.told)) c.close.ensures

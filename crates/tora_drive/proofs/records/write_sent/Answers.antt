@@ -1,16 +1,15 @@
 use Rattle.std.proofs.Common.{◌≡◌, ◌-◌, arith, length, string_bytes}
-use Rattle.tora_drive.specs.Whole.{whole}
-use Rattle.tora_drive.proofs.RecordLaws.{none_left, next_left}
+use Rattle.tora_drive.proofs.RecordLaws.{none_sent, next_sent}
 use Rattle.tora_drive.proofs.records.write_sent.Goals as goal
 
 pub loop-i-init : goal.loop-i-init
-loop-i-init g c = record { text = none_left (whole c.args.gone.now (g.S.Simulator.world c.args.sim.now)) (length c.args.gone.now) c.args.first _; within = omega arith }
+loop-i-init g c = record { text = none_sent (g.S.Simulator.world c.args.sim.now) c.args.first _; within = omega arith }
 
 pub loop-i-preserved : goal.loop-i-preserved
 loop-i-preserved g c = record {
   text =
-      next_left (whole c.args.gone.now (g.S.Simulator.world c.args.sim.now)) (length c.args.gone.now) c.args.first c.loop-i.i (string_bytes c.args.out.now) (string_bytes c.loop-i.out) (string_bytes c.write_sent_one.new.out) c.loop-i.auto.i
-      c.loop-i.invariant.text c.in_ok-write_sent_one.ensures;
+      next_sent (g.S.Simulator.world c.args.sim.now) c.args.first c.loop-i.i (string_bytes c.args.out.now) (string_bytes c.loop-i.out) (string_bytes c.write_sent_one.new.out) c.loop-i.auto.i c.loop-i.invariant.text
+      c.in_ok-write_sent_one.ensures;
   within = omega (arith, c.loop-i-test.true);
 }
 
