@@ -22,7 +22,8 @@ fn shortened(line: &[u8]) -> &[u8]
 }
 
 impl<S: Driven> Drive<S> {
-    /// A drive to which no line came: its world will have these options, and its link ends these times, none of which is 0. It takes no memory.
+    /// A drive to which no line came: its world will have these options, and its link ends these times, none of which
+    /// is 0. It takes no memory.
     pub fn new(alloc: Global, options: WorldOptions, times: Times) -> Drive<S>
         requires { IsTimes times }
         ensures view { view_of S.world result ≡ (drive_rules options times).start }
@@ -51,8 +52,9 @@ impl<S: Driven> Drive<S> {
         self.own = Own::new(alloc);
     }
 
-    /// Takes a line, which is given without its end, as `drive_in` takes the lines of its input: one of more than 4,096 bytes as an empty one,
-    /// which is a fault. The text is then the answer alone. Where the lines end, nothing is printed.
+    /// Takes a line, which is given without its end, as `drive_in` takes the lines of its input: one of more than 4,096
+    /// bytes as an empty one, which is a fault. The text is then the answer alone. Where the lines end, nothing is
+    /// printed.
     ///
     /// # Errors
     /// Where memory was refused: the text is empty, and the drive is as `new` made it.
@@ -62,9 +64,12 @@ impl<S: Driven> Drive<S> {
         line: &[u8],
         text: &mut String,
     ) -> Result<(), AllocError>
-        ensures answer { OnOk result ((view_of S.world self.new, string_bytes text.new) ≡ drive_reply self.old.options self.old.times (view_of S.world self.old) (shortened line.now)) }
-        ensures record { OnOk result (record_view self.new.own ≡ drive_recorded (record_view self.old.own) self.old.options self.old.times (view_of S.world self.old) (shortened line.now)) }
-        ensures anew { IfErr result (λ _. view_of S.world self.new ≡ (drive_rules self.old.options self.old.times).start) }
+        ensures answer { OnOk result ((view_of S.world self.new, string_bytes text.new)
+            ≡ drive_reply self.old.options self.old.times (view_of S.world self.old) (shortened line.now)) }
+        ensures record { OnOk result (record_view self.new.own ≡ drive_recorded (record_view self.old.own)
+            self.old.options self.old.times (view_of S.world self.old) (shortened line.now)) }
+        ensures anew { IfErr result (λ _.
+            view_of S.world self.new ≡ (drive_rules self.old.options self.old.times).start) }
         ensures unrecorded { IfErr result (λ _. record_view self.new.own ≡ None) }
         ensures silent { IfErr result (λ _. string_bytes text.new ≡ []) }
         ensures options { self.new.options ≡ self.old.options }
