@@ -309,7 +309,7 @@ pub fn place(nodes: &Vec<NodeSlot>, n: Id) -> Option<usize>
 
 /// The place of a node. It is `at`, if the node is there; otherwise the nodes are searched.
 #[inline(always)]
-pub fn place_near(nodes: &Vec<NodeSlot>, at: usize, n: Id) -> Option<usize>
+pub fn node_near(nodes: &Vec<NodeSlot>, at: usize, n: Id) -> Option<usize>
     requires { AreRising nodes.now.items }
     ensures first { IfSome result (λ i. IsFirst (is_of n) nodes.now.items i) }
     ensures none { IfNone result (find (is_of n) nodes.now.items ≡ None) }

@@ -10,7 +10,7 @@ ghost use Rattle.tora_world.specs.declared.event.Event.TheVariants.{Transmit};
 
 use crate::SimError;
 use crate::links::place_near;
-use crate::nodes::place_near as node_near;
+use crate::nodes::node_near;
 use crate::places::{far_end_at, home_at};
 use crate::sim::{Sim, note_hello};
 use crate::stills::{keep_still, short};

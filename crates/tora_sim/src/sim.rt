@@ -15,7 +15,7 @@ use crate::ahead::Ahead;
 use crate::lanes::{make_room_at, shorten};
 use crate::link_slot::LinkSlot;
 use crate::links::{arm, place, place_near};
-use crate::nodes::{NodeSlot, Sending, place as node_place, place_near as node_near};
+use crate::nodes::{NodeSlot, Sending, node_near, place as node_place};
 use crate::places::{Places, far_end_at, home_at};
 use crate::plains::keep_looked;
 use crate::restarts::{new_ends, restart_ends};

@@ -6,7 +6,7 @@ ghost use Rattle.tora_sim.specs.Steps.{Repeats};
 ghost use Rattle.tora_world.specs.declared.event.Event.TheVariants.{CoreTurn};
 
 use crate::lanes::make_room;
-use crate::nodes::place_near as node_near;
+use crate::nodes::node_near;
 use crate::sim::Sim;
 use crate::turns::{forget_waiting, take_items};
 use crate::unready::{set_unready, still_unready, unready_at};
