@@ -14,9 +14,7 @@ use tora_height::{Height, Id};
 use tora_keyed::{Key, KeyedWire};
 use tora_lane::Cargo;
 use tora_life::{LifeFile, MemDisk};
-use tora_neighbour::{
-    ClockTicks, Link, ListHub, NodeClock, UnixClock, WakingWire, Wire, run_neighbour,
-};
+use tora_neighbour::{Link, ListHub, NodeClock, UnixClock, WakingWire, Wire, run_neighbour};
 use tora_packet::{Packet, Update};
 
 /// Places for the life that begins and for the beats of a run.
@@ -84,9 +82,8 @@ fn run_end<R: Clock + Wait, W: Wire + Drop>(
         given: 0,
         over: false,
     };
-    let clock = UnixClock::new(rt);
-    let mut ticks = ClockTicks { clock: &clock };
-    let finished = run_neighbour(rt, Link { end, file, wire }, &mut ticks, hub);
+    let mut clock = UnixClock::new(rt);
+    let finished = run_neighbour(rt, Link { end, file, wire }, &mut clock, hub);
     Some(finished.hub.given)
 }
 

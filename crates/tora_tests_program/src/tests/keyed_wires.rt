@@ -20,9 +20,9 @@ struct SetClock<'a> {
 }
 
 impl Clock for SetClock<'_> {
-    ghost did_tell = { λ c tick. Unit {0} };
+    ghost did_tell = { λ c tick after. Unit {0} };
 
-    fn now(&self) -> u64 {
+    fn now(&mut self) -> u64 {
         self.tick.get()
     }
 }
