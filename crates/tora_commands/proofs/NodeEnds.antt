@@ -1,7 +1,7 @@
 -- How a node ends.
-use Rattle.std.proofs.Common.{◌≡◌, ◌⊎◌, inl, inr, ◌∙◌, sym, ap, subst, ℕ, Bool, true, false, List, Option, length, map, Result, Ok, Err, rules}
-use Rattle.std.proofs.lemmas.List.{length-map}
-use Rattle.std.specs.Prelude.{IfOk, Some}
+use Rattle.std.proofs.Common.{◌≡◌, ◌⊎◌, ◌+◌, ◌++◌, ◌∷◌, [], inl, inr, ◌∙◌, sym, ap, subst, ℕ, Bool, true, false, List, Option, length, map, Result, Ok, Err, rules}
+use Rattle.std.proofs.lemmas.List.{length-map, replicate-append-replicate}
+use Rattle.std.specs.Prelude.{IfOk, Some, replicate}
 use Rattle.std.specs.declared.io.Error.{Error}
 use Rattle.toml.specs.Data.{Members}
 use Rattle.toml.specs.Parse.{parse_document}
@@ -23,6 +23,10 @@ pub ways_had : {K E : Type 0} (text : List ℕ) (ways : List LinkWay) (count : K
     → IfOk made (λ k. count k ≡ length ways) → IfOk made (λ k. HasWays text (count k))
 ways_had text ways count (Ok k) exact is = record { ways = map said_way ways; exact = exact; count_is = length-map ways said_way ∙ sym is }
 ways_had text ways count (Err e) exact is = search rules
+
+-- one more of the same
+pub one_more_of : {C : Type 0} (n : ℕ) (clock : C) (all : List C) → all ≡ replicate n clock → all ++ clock ∷ [] ≡ replicate (n + 1) clock
+one_more_of {C = C} n clock all same = ap (λ (t : List C). t ++ clock ∷ []) same ∙ replicate-append-replicate n 1 clock
 
 module _ {R : Type 0} (did_open : List ℕ → Result R Error → Type 0) where
   pub by_config : (text : List ℕ) (status : ℕ) → IsNoConfig text status ⊎ (status ≡ 5) → IsRefused did_open text status
@@ -67,7 +71,7 @@ ran_or_memory W old new answers ended status is (inl memory) = inl (inr (inr (is
 ran_or_memory W old new answers ended status is (inr ran) = inr (record { ended = ended; answer = ran; status_is = is })
 
 -- what a node answers that began with the one core, where that is the other
-pub answers_of : {W D T Wr : Type 0} (send : W → List ℕ → Result (Unit {0}) WireError → W → Type 0) (receive : W → Result (Option ℕ) WireError → List ℕ → W → Type 0) (told : ℕ → Type 0) (read : T → ℕ → T → Type 0) (opened : ℕ → ℕ → D → Result ℕ LifeError → Type 0)
-    (contents : Wr → Option (List ℕ)) (first core : CoreView) (wires : List W) (disks : List D) (ticks : List T) (input : Option (List ℕ)) (writer : Wr) (left : Option Wr) (answer : Result EndedView NodeError)
-    → first ≡ core → NodeAnswers send receive told read opened contents first wires disks ticks input writer left answer → NodeAnswers send receive told read opened contents core wires disks ticks input writer left answer
-answers_of send receive told read opened contents first core wires disks ticks input writer left answer same given = subst (λ (c : CoreView). NodeAnswers send receive told read opened contents c wires disks ticks input writer left answer) same given
+pub answers_of : {W D C Wr : Type 0} (send : W → List ℕ → Result (Unit {0}) WireError → W → Type 0) (receive : W → Result (Option ℕ) WireError → List ℕ → W → Type 0) (tell : C → ℕ → C → Type 0) (opened : ℕ → ℕ → D → Result ℕ LifeError → Type 0)
+    (contents : Wr → Option (List ℕ)) (first core : CoreView) (wires : List W) (disks : List D) (clocks : List C) (clock : C) (input : Option (List ℕ)) (writer : Wr) (left : Option Wr) (answer : Result EndedView NodeError)
+    → first ≡ core → NodeAnswers send receive tell opened contents first wires disks clocks clock input writer left answer → NodeAnswers send receive tell opened contents core wires disks clocks clock input writer left answer
+answers_of send receive tell opened contents first core wires disks clocks clock input writer left answer same given = subst (λ (x : CoreView). NodeAnswers send receive tell opened contents x wires disks clocks clock input writer left answer) same given

@@ -1,5 +1,5 @@
 -- The exit statuses of a node, and how it ends.
-use Rattle.std.specs.Prelude.{◌≡◌, ◌≢◌, ◌⊎◌, ℕ, Bool, true, false, List, length, Option, Some, None, Result, Ok, Err}
+use Rattle.std.specs.Prelude.{◌≡◌, ◌≢◌, ◌⊎◌, ℕ, Bool, true, false, List, length, replicate, Option, Some, None, Result, Ok, Err}
 use Rattle.std.specs.declared.io.Error.{Error}
 use Rattle.toml.specs.Data.{Members}
 use Rattle.toml.specs.Parse.{parse_document}
@@ -12,7 +12,6 @@ use Rattle.tora_config.specs.declared.fault.ConfigError.{ConfigError}
 use Rattle.tora_config.specs.declared.fault.ConfigError.TheVariants.{Memory as NoRoom}
 use Rattle.tora_life.specs.declared.disk.Disk as Disk
 use Rattle.tora_neighbour.specs.declared.clock.Clock as Clock
-use Rattle.tora_neighbour.specs.declared.ticks.Ticks as Ticks
 use Rattle.tora_neighbour.specs.declared.wire.Wire as Wire
 use Rattle.tora_node.specs.NewLinks.{IsOpened}
 use Rattle.tora_node.specs.NodeRuns.{EndedView}
@@ -116,11 +115,11 @@ pub record IsConfigured {R : Type 0} (did_open : List ℕ → Result R Error →
 abbrev pub IsUnstarted : ℕ → Type 0
 IsUnstarted status = (status ≡ 3) ⊎ ((status ≡ 4) ⊎ (status ≡ 5))
 
--- A node ran that began with this core, over some wires, life files, sources of ticks and a clock: what it answers of this input and this writer, which is given back so.
-abbrev pub RanNode : {W C T D Wr : Type 0} → Wire.Ghosts W → Clock.Ghosts C → Ticks.Ghosts T → Disk.Ghosts D → (Wr → Option (List ℕ)) → CoreView → Option (List ℕ) → Wr → Option Wr → Result EndedView NodeError → Type 0
-RanNode {W = W} {C = C} {T = T} {D = D} wire clock ticks disk contents first input writer left ended =
-    (told : C) × (wires : List W) × (disks : List D) × (sources : List T)
-    × NodeAnswers wire.did_send wire.did_receive (clock.did_tell told) ticks.did_read (IsOpened disk.syncs disk.reads disk.writes) contents first wires disks sources input writer left ended
+-- A node ran that began with this core, over some wires, life files and a clock, which its threads share: what it answers of this input and this writer, which is given back so.
+abbrev pub RanNode : {W C D Wr : Type 0} → Wire.Ghosts W → Clock.Ghosts C → Disk.Ghosts D → (Wr → Option (List ℕ)) → CoreView → Option (List ℕ) → Wr → Option Wr → Result EndedView NodeError → Type 0
+RanNode {W = W} {C = C} {D = D} wire clock disk contents first input writer left ended =
+    (shared : C) × (wires : List W) × (disks : List D)
+    × NodeAnswers wire.did_send wire.did_receive clock.did_tell (IsOpened disk.syncs disk.reads disk.writes) contents first wires disks (replicate (length disks) shared) shared input writer left ended
 
 -- A node ran and answered so, and the status is that of its answer.
 pub record RanAndEnded (answers : Result EndedView NodeError → Type 0) (status : ℕ) : Type 0 where

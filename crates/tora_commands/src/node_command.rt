@@ -1,5 +1,5 @@
 //! `tora node CONFIG`: a node over UDP and real life files.
-ghost use Rattle.std.specs.Prelude.{◌≡◌, ◌⊎◌, List, map, length, IfOk, IfErr, IfSome, Err, None, Some, string_bytes};
+ghost use Rattle.std.specs.Prelude.{◌≡◌, ◌⊎◌, List, map, length, replicate, IfOk, IfErr, IfSome, Err, None, Some, string_bytes};
 ghost use Rattle.std.specs.Process.{exit_status};
 ghost use Rattle.tora_commands.specs.Statuses.{core_of, status_of_node, status_of_fault, IsConfigOf, IsNoConfig, IsConfigured, IsUnconfigured, IsUnstarted, RanNode, RanAndEnded, EndsNode};
 ghost use Rattle.tora_config.specs.NodeConfig.{IsNodeConfig};
@@ -24,7 +24,7 @@ use tora_config::{ConfigError, NodeConfig, read_config};
 use tora_core::numbers_are_put_in_order;
 use tora_height::Id;
 use tora_life::{Disk, FileDisk};
-use tora_neighbour::{ClockTicks, NodeClock, Ticks, Wake, Wire, clock_ticks};
+use tora_neighbour::{NodeClock, Wake, Wire};
 use tora_node::{Config, Ended, NodeError, run_node};
 use tora_simulate::{Paths, tell, tell_at, text_at};
 
@@ -235,7 +235,7 @@ pub fn run<
     writer: W,
 ) -> (ExitCode, Option<W>)
     ensures { EndsNode is_check (R.did_open rt.now) R.did_read ⟦<File as Read>⟧.remaining path.now
-        (λ config. RanNode ⟦<&'a mut ProgramWire<'a, R, L> as Wire>⟧ ⟦<NodeClock<&'a R> as tora_neighbour::Clock>⟧ ⟦<ClockTicks<'a, NodeClock<&'a R>> as Ticks>⟧
+        (λ config. RanNode ⟦<&'a mut ProgramWire<'a, R, L> as Wire>⟧ ⟦<&'a NodeClock<&'a R> as tora_neighbour::Clock>⟧
         ⟦<FileDisk as Disk>⟧ W.contents (core_of config) (Rd.remaining reader.old) writer result.1)
         (Some writer) result.1 (exit_status result.0) }
 {
@@ -281,7 +281,7 @@ fn run_bound<
     requires config { IsNodeConfig config.now }
     requires wires { length wires.now ≡ length config.now.links.items }
     ensures { (IsUnstarted (exit_status result.0) × (result.1 ≡ Some writer))
-        ⊎ RanAndEnded (RanNode ⟦<&'a mut ProgramWire<'a, R, L> as Wire>⟧ ⟦<NodeClock<&'a R> as tora_neighbour::Clock>⟧ ⟦<ClockTicks<'a, NodeClock<&'a R>> as Ticks>⟧
+        ⊎ RanAndEnded (RanNode ⟦<&'a mut ProgramWire<'a, R, L> as Wire>⟧ ⟦<&'a NodeClock<&'a R> as tora_neighbour::Clock>⟧
         ⟦<FileDisk as Disk>⟧ W.contents (core_of config.now) (Rd.remaining reader.old) writer result.1) (exit_status result.0) }
 {
     let (alloc, folder) = (rt.alloc(), config.life_dir.as_str());
@@ -303,7 +303,7 @@ fn run_over<
     Wi: Wire + Send,
     D: Disk + Send + Drop,
     K: Wake + Send + Drop,
-    C: tora_neighbour::Clock + Sync,
+    C: tora_neighbour::Clock + Copy + Send + Drop,
     Rd: Read,
     W: Write + Send + Drop,
 >(
@@ -313,7 +313,7 @@ fn run_over<
     wires: &'a mut [Wi],
     disks: Vec<D>,
     wakers: Vec<K>,
-    clock: &'a C,
+    clock: C,
     reader: &mut Rd,
     writer: W,
 ) -> (Result<Ended, NodeError>, Option<W>)
@@ -321,22 +321,36 @@ fn run_over<
     requires wires { length wires.now ≡ length config.now.links.items }
     requires disks { length disks.items ≡ length config.now.links.items }
     ensures { ((result.0 ≡ Err NodeError.Memory) × (result.1 ≡ Some writer))
-        ⊎ ((lent : List _) × (ticks : List _) × (map (λ l. l.now) lent ≡ wires.old)
-        × NodeAnswers ⟦<&'a mut Wi as Wire>⟧.did_send ⟦<&'a mut Wi as Wire>⟧.did_receive (C.did_tell clock.now) ⟦<ClockTicks<'a, C> as Ticks>⟧.did_read
-        (IsOpened D.syncs D.reads D.writes) W.contents (core_of config.now) lent disks.items ticks (Rd.remaining reader.old) writer result.1 result.0) }
+        ⊎ ((lent : List _) × (map (λ l. l.now) lent ≡ wires.old)
+        × NodeAnswers ⟦<&'a mut Wi as Wire>⟧.did_send ⟦<&'a mut Wi as Wire>⟧.did_receive C.did_tell (IsOpened D.syncs D.reads D.writes) W.contents
+        (core_of config.now) lent disks.items (replicate (length disks.items) clock) clock (Rd.remaining reader.old) writer result.1 result.0) }
 {
     let Some(node) = node_of(alloc, config) else {
         return (Err(NodeError::Memory), Some(writer));
     };
-    let Some(ticks) = clock_ticks(alloc, clock, disks.len()) else {
+    let Some(clocks) = shared(alloc, clock, disks.len()) else {
         return (Err(NodeError::Memory), Some(writer));
     };
     let Some(lent) = lend(alloc, wires) else {
         return (Err(NodeError::Memory), Some(writer));
     };
     run_node(
-        log, alloc, node, lent, disks, wakers, ticks, clock, reader, writer,
+        log, alloc, node, lent, disks, wakers, clocks, clock, reader, writer,
     )
+}
+
+/// A clock for each of so many links, which share it. `None` where memory was refused.
+#[tactic(auto, using(crate::proofs::NodeEnds::one_more_of))]
+fn shared<C: Copy + Drop>(alloc: Global, clock: C, count: usize) -> Option<Vec<C>>
+    ensures { IfSome result (λ all. all.items ≡ replicate count clock) }
+{
+    let mut all = Vec::new(alloc);
+    for place in 0..count {
+        let Ok(()) = all.push(clock) else {
+            return None;
+        };
+    }
+    Some(all)
 }
 
 /// The node of a configuration. `None` where memory was refused.

@@ -8,7 +8,7 @@ use Rattle.tora_frame.specs.FrameGrammar.{frame_spelling, frame_reading}
 use Rattle.tora_arq.specs.Settings.{Settings}
 use Rattle.tora_arq.specs.LinkEnd.{EndState}
 use Rattle.tora_arq.specs.LinkFacts.{list_of}
-use Rattle.tora_neighbour.specs.Turns.{Turn, came_of, IsTurn, AreTurns, AreBeats, AreRead, is_beat_due, beat_after, tally_after}
+use Rattle.tora_neighbour.specs.Turns.{Turn, came_of, IsTurn, AreTurns, AreBeats, AreRead, ticks_of, is_beat_due, beat_after, tally_after}
 use Rattle.tora_neighbour.specs.Traffic.{Outside, Traffic, Came, AreDrawn, entries_of, numbers_opened, frames_sent, readings_come}
 use Rattle.tora_neighbour.specs.declared.tally.Tally.{Tally}
 use Rattle.tora_neighbour.specs.Intake.{Reading}
@@ -69,6 +69,7 @@ pub tally_more : (first : Tally) (ts : List Turn) (mid : Tally) (t : Turn) (afte
 tally_more first [] mid t after so one = one ∙ ap (counted_in t.intake) so
 tally_more first (u ∷ ts) mid t after so one = tally_more (counted_in u.intake first) ts mid t after so one
 
-pub read_more : {T : Type 0} (read : T → ℕ → T → Type 0) (first : T) (ts : List Turn) (mid : T) (t : Turn) (after : T) → AreRead read first ts mid → read mid t.now after → AreRead read first (ts ++ t ∷ []) after
-read_more read first [] mid t after so one = (after, subst (λ x. read x t.now after) so one, refl)
-read_more read first (u ∷ ts) mid t after so one = (so.0, so.1, read_more read so.0 ts mid t after so.2 one)
+pub read_more : {C : Type 0} (tell : C → ℕ → C → Type 0) (first : C) (ts : List Turn) (mid : C) (t : Turn) (after : C)
+    → AreRead tell first (ticks_of ts) mid → tell mid t.now after → AreRead tell first (ticks_of (ts ++ t ∷ [])) after
+read_more tell first [] mid t after so one = (after, subst (λ x. tell x t.now after) so one, refl)
+read_more tell first (u ∷ ts) mid t after so one = (so.0, so.1, read_more tell so.0 ts mid t after so.2 one)

@@ -122,10 +122,13 @@ AreBeats last (t ∷ turns) after = (t.beat ≡ is_beat_due last t.now) × AreBe
 
 -- ---- ticks
 
--- each turn has read its own tick, one after another
-abbrev pub AreRead : {T : Type 0} → (T → ℕ → T → Type 0) → T → List Turn → T → Type 0
-AreRead read ticks [] after = after ≡ ticks
-AreRead {T = T} read ticks (t ∷ turns) after = (between : T) × read ticks t.now between × AreRead read between turns after
+-- each of these ticks was read of its own, one after another
+abbrev pub AreRead : {C : Type 0} → (C → ℕ → C → Type 0) → C → List ℕ → C → Type 0
+AreRead tell clock [] after = after ≡ clock
+AreRead {C = C} tell clock (tick ∷ ticks) after = (between : C) × tell clock tick between × AreRead tell between ticks after
+
+abbrev pub ticks_of : List Turn → List ℕ
+ticks_of turns = map (λ t. t.now) turns
 
 -- ---- the tally
 

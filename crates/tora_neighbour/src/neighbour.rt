@@ -2,18 +2,18 @@
 ghost use Rattle.std.specs.Prelude.{◌≡◌, [], ◌∷◌, ◌++◌, ℕ, List};
 ghost use Rattle.tora_arq.specs.LinkEnd.{first_end};
 ghost use Rattle.tora_neighbour.specs.Tally.{first_tally};
-ghost use Rattle.tora_neighbour.specs.Turns.{Turn, IsTurnRun, AreRead, tally_after};
+ghost use Rattle.tora_neighbour.specs.Turns.{Turn, IsTurnRun, AreRead, ticks_of, tally_after};
 ghost use Rattle.tora_neighbour.specs.Traffic.{Traffic, outside};
 ghost use Rattle.tora_neighbour.specs.Calls.{AreCalls, LastCalls};
 ghost use Rattle.tora_neighbour.specs.Causes.{fault_of, IsEndOf};
 ghost use Rattle.tora_neighbour.specs.declared.ending.Ending.{Ending};
 
+use crate::clock::Clock;
 use crate::ending::Ending;
 use crate::fault::LinkFault;
 use crate::hub::Hub;
 use crate::link::{Finished, Link};
 use crate::tally::Tally;
-use crate::ticks::Ticks;
 use crate::turn::{Course, turn};
 use crate::wire::Wire;
 use std::sync::Wait;
@@ -30,7 +30,7 @@ fn fault_of(ending: Ending) -> Option<LinkFault>
     }
 }
 
-/// Runs the link to a neighbour, whose end was never opened, at the ticks that are read here: each turn reads its own. It
+/// Runs the link to a neighbour, whose end was never opened, at the ticks of its clock: each turn reads its own. It
 /// may wait, and no clause says that it returns.
 ///
 /// In each turn, with one tick of 100 ms, it
@@ -46,14 +46,14 @@ fn fault_of(ending: Ending) -> Option<LinkFault>
 /// It ends where the life file draws no number (`Life`), where a hundred calls of the wire in a row have failed (`Wire`;
 /// it makes no further call of the wire, cuts the bound life, if there is one, and puts the events that are left), and
 /// where the hub answers `Gone` (no fault). A failed send counts as a try of its frame; a failed receive gives nothing.
-pub fn run_neighbour<R: Wait, D: Disk, W: Wire, T: Ticks, H: Hub>(
+pub fn run_neighbour<R: Wait, D: Disk, W: Wire, C: Clock, H: Hub>(
     rt: &R,
     link: Link<D, W>,
-    ticks: &mut T,
+    clock: &mut C,
     hub: H,
 ) -> Finished<D, W, H>
     requires new { link.end.state ≡ first_end }
-    ensures turns { (turns : List Turn) × (last : Turn) × (ending : Ending) × (result.fault ≡ fault_of ending) × IsTurnRun link.end.settings link.end.state turns last ending result.link.end.state × Traffic (outside H.puts H.takes W.tells W.coming W.tries link hub) (turns ++ last ∷ []) (outside H.puts H.takes W.tells W.coming W.tries result.link result.hub) × (result.tally ≡ tally_after first_tally (turns ++ last ∷ [])) × AreRead T.did_read ticks.old (turns ++ last ∷ []) ticks.new × ((before : H) × (wire : W) × AreCalls H.did_take H.did_put W.did_send W.did_receive hub link.wire turns before wire × LastCalls H.did_take H.did_put W.did_send W.did_receive before wire last ending result.hub result.link.wire) }
+    ensures turns { (turns : List Turn) × (last : Turn) × (ending : Ending) × (result.fault ≡ fault_of ending) × IsTurnRun link.end.settings link.end.state turns last ending result.link.end.state × Traffic (outside H.puts H.takes W.tells W.coming W.tries link hub) (turns ++ last ∷ []) (outside H.puts H.takes W.tells W.coming W.tries result.link result.hub) × (result.tally ≡ tally_after first_tally (turns ++ last ∷ [])) × AreRead C.did_tell clock.old (ticks_of (turns ++ last ∷ [])) clock.new × ((before : H) × (wire : W) × AreCalls H.did_take H.did_put W.did_send W.did_receive hub link.wire turns before wire × LastCalls H.did_take H.did_put W.did_send W.did_receive before wire last ending result.hub result.link.wire) }
     ensures cause { IsEndOf result.fault link.file.numbers result.link.file.numbers (D.failures link.file.disk) (D.failures result.link.file.disk) (W.failures link.wire) (W.failures result.link.wire) (H.gone result.hub) }
 {
     let mut link = link;
@@ -64,7 +64,7 @@ pub fn run_neighbour<R: Wait, D: Disk, W: Wire, T: Ticks, H: Hub>(
         tally: Tally::new(),
     };
     for _ in rt.forever() {
-        let now = ticks.read();
+        let now = clock.now();
         match turn(rt, now, &mut link, &mut hub, &mut course) {
             Ok(()) => {}
             Err(ending) => {

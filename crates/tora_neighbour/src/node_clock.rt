@@ -20,7 +20,7 @@ fn rest_of_tick(moment: u128) -> u64
 /// The clock of a node: Unix time in ticks of 100 ms, and the last tick that there is, 2^64 - 1, once its core has ended.
 ///
 /// The thread of a link ends where the core takes nothing any more and a put is refused. By the last tick a beat is due, so that its
-/// next turn is its last. Contracts see that each tick is the last one or that of a reading of the system's clock, and not which of
+/// next turn is its last. All threads of a node share it by reference, and each reference is a clock. Contracts see that each tick is the last one or that of a reading of the system's clock, and not which of
 /// the two: that the core has ended is told by another thread. Own profile.
 #[derive(Drop)]
 pub struct NodeClock<R> {
@@ -59,10 +59,10 @@ impl<R: SystemClock> NodeClock<R> {
     }
 }
 
-impl<R: SystemClock> Clock for NodeClock<R> {
-    ghost did_tell = { λ c tick. (tick ≡ 2 ^ 64 - 1) ⊎ IsTickRead (R.did_read c.rt) tick };
+impl<R: SystemClock> Clock for &NodeClock<R> {
+    ghost did_tell = { λ c tick after. ((tick ≡ 2 ^ 64 - 1) ⊎ IsTickRead (R.did_read c.now.rt) tick) × (after ≡ c) };
 
-    fn now(&self) -> u64 {
+    fn now(&mut self) -> u64 {
         if self.has_ended.load(Ordering::SeqCst) {
             return u64::MAX;
         }

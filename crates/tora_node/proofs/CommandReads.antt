@@ -20,12 +20,12 @@ pub read_once : {R : Type 0} (did_read : R → Given → R → Type 0) (old befo
 read_once did_read old before new n h call = (h.0 + 1, read_more did_read old before new h.0 call.0 h.1 call.1 call.2)
 
 -- a line asks for the end, or the port has answered Gone
-pub read_to_line : {R : Type 0} (did_read : R → Given → R → Type 0) (old before new : R) (n : ℕ) (told : ℕ → Type 0) (text chunk : List ℕ) (mid after : InEnd) (next : Line) (end : CommandsEnd)
-    → HaveRead did_read old before → ReadsOnce did_read before new (Ok n) → PutsAll told text chunk mid after next (Some end) → AreReadBy did_read old new end
-read_to_line did_read old before new n told text chunk mid after next Ends.Quit h call p = let r = (read_once did_read old before new n h call).1 in (r.reads, r.are, r.none)
-read_to_line did_read old before new n told text chunk mid after next Ends.End h call p = absurd p
-read_to_line did_read old before new n told text chunk mid after next Ends.Read h call p = absurd p
-read_to_line did_read old before new n told text chunk mid after next Ends.Gone h call p = let r = (read_once did_read old before new n h call).1 in (r.reads, r.are, inl r.none)
+pub read_to_line : {R : Type 0} (did_read : R → Given → R → Type 0) (old before new : R) (n : ℕ) {C : Type 0} (tell : C → ℕ → C → Type 0) (text chunk : List ℕ) (mid after : InEnd × C) (next : Line) (end : CommandsEnd)
+    → HaveRead did_read old before → ReadsOnce did_read before new (Ok n) → PutsAll tell text chunk mid after next (Some end) → AreReadBy did_read old new end
+read_to_line did_read old before new n tell text chunk mid after next Ends.Quit h call p = let r = (read_once did_read old before new n h call).1 in (r.reads, r.are, r.none)
+read_to_line did_read old before new n tell text chunk mid after next Ends.End h call p = absurd p
+read_to_line did_read old before new n tell text chunk mid after next Ends.Read h call p = absurd p
+read_to_line did_read old before new n tell text chunk mid after next Ends.Gone h call p = let r = (read_once did_read old before new n h call).1 in (r.reads, r.are, inl r.none)
 
 -- the last read gave nothing, or failed
 pub read_to_end : {R : Type 0} (did_read : R → Given → R → Type 0) (old before new : R) (end : CommandsEnd) → HaveRead did_read old before → ReadsOnce did_read before new (Err end) → AreReadBy did_read old new end

@@ -9,6 +9,7 @@ use Rattle.tora_lines.specs.Fronts.{after}
 use Rattle.tora_lines.specs.Words.{id_of, number_of}
 use Rattle.tora_node.specs.CommandText.{asked_by, is_word}
 use Rattle.tora_lane.specs.Ports.{InEnd}
+use Rattle.tora_neighbour.specs.Turns.{AreRead}
 use Rattle.tora_seat.specs.declared.item.Item.{Item}
 use Rattle.tora_seat.specs.declared.what.What.{What}
 use Rattle.tora_seat.specs.declared.what.What.TheVariants as Tells
@@ -17,7 +18,7 @@ use Rattle.tora_node.specs.declared.commands.Command.TheVariants as Asks
 use Rattle.tora_node.specs.declared.commands.CommandsEnd.{CommandsEnd}
 use Rattle.tora_node.specs.declared.commands.CommandsEnd.TheVariants as Ends
 use Rattle.tora_node.specs.declared.commands.Line.{Line}
-use Rattle.tora_node.specs.CommandRuns.{asked_in, put_for, put_from, IsLine, whats, AreTold, HasPut, Commands}
+use Rattle.tora_node.specs.CommandRuns.{asked_in, put_for, put_from, IsLine, whats, HasPut, Commands, ticks_put}
 use Rattle.tora_node.specs.CommandSteps.{Holds, DidPut, Putting, PutsAll, PutsLast, is_gone, EndsReading}
 
 -- ---- items
@@ -26,19 +27,19 @@ pub whats_append : (xs ys : List Item) → whats (xs ++ ys) ≡ whats xs ++ what
 whats_append [] ys = refl
 whats_append (x ∷ xs) ys = ap (λ (t : List What). x.what ∷ t) (whats_append xs ys)
 
-told_append : (told : ℕ → Type 0) (xs ys : List Item) → AreTold told xs → AreTold told ys → AreTold told (xs ++ ys)
-told_append told [] ys p q = q
-told_append told (x ∷ xs) ys p q = (p.0, told_append told xs ys p.1 q)
+read_then : {C : Type 0} (tell : C → ℕ → C → Type 0) (a b c : C) (xs ys : List Item) → AreRead tell a (ticks_put xs) b → AreRead tell b (ticks_put ys) c → AreRead tell a (ticks_put (xs ++ ys)) c
+read_then {C = C} tell a b c [] ys p q = subst (λ (x : C). AreRead tell x (ticks_put ys) c) p q
+read_then tell a b c (x ∷ xs) ys p q = (p.0, p.1, read_then tell p.0 b c xs ys p.2 q)
 
-pub put_then : (told : ℕ → Type 0) (a b c : InEnd) (xs ys : List Item) → HasPut told a xs b → HasPut told b ys c → HasPut told a (xs ++ ys) c
-put_then told a b c xs ys p q = (
-  q.0 ∙ ap (λ (t : List Item). t ++ ys) p.0 ∙ append_assoc a.put xs ys,
-  told_append told xs ys p.1 q.1,
+pub put_then : {C : Type 0} (tell : C → ℕ → C → Type 0) (a b c : InEnd × C) (xs ys : List Item) → HasPut tell a xs b → HasPut tell b ys c → HasPut tell a (xs ++ ys) c
+put_then tell a b c xs ys p q = (
+  q.0 ∙ ap (λ (t : List Item). t ++ ys) p.0 ∙ append_assoc a.0.put xs ys,
+  read_then tell a.1 b.1 c.1 xs ys p.1 q.1,
   (q.2.0 ∙ p.2.0, q.2.1 ∙ p.2.1),
 )
 
-pub put_none : (told : ℕ → Type 0) (a : InEnd) → HasPut told a [] a
-put_none told a = (sym (append-nil a.put), tt, (refl, refl))
+pub put_none : {C : Type 0} (tell : C → ℕ → C → Type 0) (a : InEnd × C) → HasPut tell a [] a
+put_none tell a = (sym (append-nil a.0.put), refl, (refl, refl))
 
 -- ---- bytes
 
@@ -55,9 +56,9 @@ line_goes rest left c h = rw h refl
 
 -- ---- one byte more
 
-pub pushed : (told : ℕ → Type 0) (text bytes left : List ℕ) (before after : InEnd) (line next : Line) (c : ℕ) → Putting told text bytes before after line (c ∷ left) → (c == 10) ≡ false
-    → ((t : List ℕ) → Holds line t → Holds next (t ++ c ∷ [])) → Putting told text bytes before after next left
-pushed told text bytes left before after line next c p other holds = record {
+pub pushed : {C : Type 0} (tell : C → ℕ → C → Type 0) (text bytes left : List ℕ) (before after : InEnd × C) (line next : Line) (c : ℕ) → Putting tell text bytes before after line (c ∷ left) → (c == 10) ≡ false
+    → ((t : List ℕ) → Holds line t → Holds next (t ++ c ∷ [])) → Putting tell text bytes before after next left
+pushed tell text bytes left before after line next c p other holds = record {
   items = p.items;
   rest = p.rest ++ c ∷ [];
   put = p.put;
@@ -69,12 +70,12 @@ pushed told text bytes left before after line next c p other holds = record {
 asks : (p : List ℕ) (left : List ℕ) (c : ℕ) (command : Command) → (c == 10) ≡ true → command ≡ asked_in p → put_from p (c ∷ left) ≡ put_for command (put_from [] left)
 asks p left c command h e = line_goes p left c h ∙ ap (λ (k : Command). put_for k (put_from [] left)) (sym e)
 
-pub lined : (told : ℕ → Type 0) (text bytes left : List ℕ) (before mid after : InEnd) (line next : Line) (c : ℕ) (command : Command) → (p : Putting told text bytes before mid line (c ∷ left)) → (c == 10) ≡ true
-    → command ≡ asked_in p.rest → DidPut told command mid after None → Holds next [] → Putting told text bytes before after next left
-lined told text bytes left before mid after line next c command p at e d holds = record {
+pub lined : {C : Type 0} (tell : C → ℕ → C → Type 0) (text bytes left : List ℕ) (before mid after : InEnd × C) (line next : Line) (c : ℕ) (command : Command) → (p : Putting tell text bytes before mid line (c ∷ left)) → (c == 10) ≡ true
+    → command ≡ asked_in p.rest → DidPut tell command mid after None → Holds next [] → Putting tell text bytes before after next left
+lined tell text bytes left before mid after line next c command p at e d holds = record {
   items = p.items ++ d.0;
   rest = [];
-  put = put_then told before mid after p.items d.0 p.put d.1;
+  put = put_then tell before mid after p.items d.0 p.put d.1;
   holds = holds;
   goes = λ more.
       p.goes more ∙ ap (λ (t : List What). whats p.items ++ t) (asks p.rest (left ++ more) c command at e ∙ d.2 (put_from [] (left ++ more)))
@@ -82,21 +83,23 @@ lined told text bytes left before mid after line next c command p at e d holds =
       ∙ ap (λ (t : List What). t ++ put_from [] (left ++ more)) (sym (whats_append p.items d.0));
 }
 
-pub ended : (told : ℕ → Type 0) (text bytes left : List ℕ) (before mid after : InEnd) (line next : Line) (c : ℕ) (command : Command) (end : CommandsEnd) → (p : Putting told text bytes before mid line (c ∷ left)) → (c == 10) ≡ true
-    → command ≡ asked_in p.rest → DidPut told command mid after (Some end) → PutsAll told text bytes before after next (Some end)
-ended told text bytes left before mid after line next c command Ends.Quit p at e d = (
+pub ended : {C : Type 0} (tell : C → ℕ → C → Type 0) (text bytes left : List ℕ) (before mid after : InEnd × C) (line next : Line) (c : ℕ) (command : Command) (end : CommandsEnd) → (p : Putting tell text bytes before mid line (c ∷ left)) → (c == 10) ≡ true
+    → command ≡ asked_in p.rest → DidPut tell command mid after (Some end) → PutsAll tell text bytes before after next (Some end)
+ended tell text bytes left before mid after line next c command Ends.Quit p at e d = (
   p.items ++ d.0,
-  put_then told before mid after p.items d.0 p.put d.1,
+  put_then tell before mid after p.items d.0 p.put d.1,
   (λ more.
       p.goes more ∙ ap (λ (t : List What). whats p.items ++ t) (asks p.rest (left ++ more) c command at e ∙ d.2 (put_from [] (left ++ more)))
       ∙ sym (whats_append p.items d.0)),
 )
-ended told text bytes left before mid after line next c command Ends.End p at e d = d
-ended told text bytes left before mid after line next c command Ends.Read p at e d = d
-ended told text bytes left before mid after line next c command Ends.Gone p at e d = (
+ended tell text bytes left before mid after line next c command Ends.End p at e d = d
+ended tell text bytes left before mid after line next c command Ends.Read p at e d = d
+ended tell text bytes left before mid after line next c command Ends.Gone p at e d = (
   p.items ++ [],
-  put_then told before mid after p.items [] p.put d.0,
+  mid.1,
+  put_then tell before mid (after.0, mid.1) p.items [] p.put d.0,
   d.1,
+  d.2,
   (λ more. (
     put_from p.rest (c ∷ (left ++ more)),
     p.goes more ∙ ap (λ (t : List Item). whats t ++ put_from p.rest (c ∷ (left ++ more))) (sym (append-nil p.items)),
@@ -104,22 +107,22 @@ ended told text bytes left before mid after line next c command Ends.Gone p at e
 )
 
 -- an answer that ends it
-pub stopped : (told : ℕ → Type 0) (text bytes left : List ℕ) (before mid after : InEnd) (line next : Line) (c : ℕ) (command : Command) (answer : Option CommandsEnd) → (p : Putting told text bytes before mid line (c ∷ left)) → (c == 10) ≡ true
-    → command ≡ asked_in p.rest → DidPut told command mid after answer → is_some answer ≡ true → PutsAll told text bytes before after next answer
-stopped told text bytes left before mid after line next c command None p at e d some = absurd cc
-stopped told text bytes left before mid after line next c command (Some end) p at e d some = ended told text bytes left before mid after line next c command end p at e d
+pub stopped : {C : Type 0} (tell : C → ℕ → C → Type 0) (text bytes left : List ℕ) (before mid after : InEnd × C) (line next : Line) (c : ℕ) (command : Command) (answer : Option CommandsEnd) → (p : Putting tell text bytes before mid line (c ∷ left)) → (c == 10) ≡ true
+    → command ≡ asked_in p.rest → DidPut tell command mid after answer → is_some answer ≡ true → PutsAll tell text bytes before after next answer
+stopped tell text bytes left before mid after line next c command None p at e d some = absurd cc
+stopped tell text bytes left before mid after line next c command (Some end) p at e d some = ended tell text bytes left before mid after line next c command end p at e d
 
 -- an answer that does not
-pub went_on : (told : ℕ → Type 0) (text bytes left : List ℕ) (before mid after : InEnd) (line next : Line) (c : ℕ) (command : Command) (answer : Option CommandsEnd) → (p : Putting told text bytes before mid line (c ∷ left)) → (c == 10) ≡ true
-    → command ≡ asked_in p.rest → DidPut told command mid after answer → is_some answer ≡ false → Holds next [] → Putting told text bytes before after next left
-went_on told text bytes left before mid after line next c command None p at e d none holds = lined told text bytes left before mid after line next c command p at e d holds
-went_on told text bytes left before mid after line next c command (Some end) p at e d none holds = absurd cc
+pub went_on : {C : Type 0} (tell : C → ℕ → C → Type 0) (text bytes left : List ℕ) (before mid after : InEnd × C) (line next : Line) (c : ℕ) (command : Command) (answer : Option CommandsEnd) → (p : Putting tell text bytes before mid line (c ∷ left)) → (c == 10) ≡ true
+    → command ≡ asked_in p.rest → DidPut tell command mid after answer → is_some answer ≡ false → Holds next [] → Putting tell text bytes before after next left
+went_on tell text bytes left before mid after line next c command None p at e d none holds = lined tell text bytes left before mid after line next c command p at e d holds
+went_on tell text bytes left before mid after line next c command (Some end) p at e d none holds = absurd cc
 
 -- ---- the last line
 
 -- nothing follows quit
-pub quits : (told : ℕ → Type 0) (before after : InEnd) → DidPut told Asks.Quit before after None → ⊥
-quits told before after d = too_long (whats d.0) (d.2 (Tells.Quit ∷ Tells.Quit ∷ []))
+pub quits : {C : Type 0} (tell : C → ℕ → C → Type 0) (before after : InEnd × C) → DidPut tell Asks.Quit before after None → ⊥
+quits tell before after d = too_long (whats d.0) (d.2 (Tells.Quit ∷ Tells.Quit ∷ []))
   where
     too_long : (xs : List What) → Tells.Quit ∷ [] ≡ xs ++ Tells.Quit ∷ Tells.Quit ∷ [] → ⊥
     too_long xs h = absurd (omega (arith, ap (λ (t : List What). length t) h, length-append xs (Tells.Quit ∷ Tells.Quit ∷ [])))
@@ -129,60 +132,62 @@ unfolding asked_by is_word after id_of number_of
 nothing_asked = refl
 
 -- Quit behind nothing, where the last line is empty
-pub empty_last : (told : ℕ → Type 0) (text : List ℕ) (before after : InEnd) (answer : Option CommandsEnd) → text ≡ [] → DidPut told Asks.Quit before after answer → PutsLast told text before after answer
-empty_last told text before after None e d = quits told before after d
-empty_last told text before after (Some Ends.Quit) e d = (
+pub empty_last : {C : Type 0} (tell : C → ℕ → C → Type 0) (text : List ℕ) (before after : InEnd × C) (answer : Option CommandsEnd) → text ≡ [] → DidPut tell Asks.Quit before after answer → PutsLast tell text before after answer
+empty_last tell text before after None e d = quits tell before after d
+empty_last tell text before after (Some Ends.Quit) e d = (
   d.0,
   d.1,
   ap (λ (t : List ℕ). put_from t []) e ∙ ap (λ (k : Command). put_for k (Tells.Quit ∷ [])) nothing_asked ∙ d.2 [],
 )
-empty_last told text before after (Some Ends.End) e d = d
-empty_last told text before after (Some Ends.Read) e d = d
-empty_last told text before after (Some Ends.Gone) e d = ([], d.0, d.1, put_from text [], refl)
+empty_last tell text before after (Some Ends.End) e d = d
+empty_last tell text before after (Some Ends.Read) e d = d
+empty_last tell text before after (Some Ends.Gone) e d = ([], before.1, d.0, d.1, d.2, put_from text [], refl)
 
 -- the last line, and Quit behind it
-pub last_then : (told : ℕ → Type 0) (text : List ℕ) (before mid after : InEnd) (command : Command) (answer : Option CommandsEnd) → command ≡ asked_in text → DidPut told command before mid None
-    → DidPut told Asks.Quit mid after answer → PutsLast told text before after answer
-last_then told text before mid after command None e p d = quits told mid after d
-last_then told text before mid after command (Some Ends.Quit) e p d = (
+pub last_then : {C : Type 0} (tell : C → ℕ → C → Type 0) (text : List ℕ) (before mid after : InEnd × C) (command : Command) (answer : Option CommandsEnd) → command ≡ asked_in text → DidPut tell command before mid None
+    → DidPut tell Asks.Quit mid after answer → PutsLast tell text before after answer
+last_then tell text before mid after command None e p d = quits tell mid after d
+last_then tell text before mid after command (Some Ends.Quit) e p d = (
   p.0 ++ d.0,
-  put_then told before mid after p.0 d.0 p.1 d.1,
+  put_then tell before mid after p.0 d.0 p.1 d.1,
   ap (λ (k : Command). put_for k (Tells.Quit ∷ [])) (sym e) ∙ p.2 (Tells.Quit ∷ []) ∙ ap (λ (t : List What). whats p.0 ++ t) (d.2 []) ∙ sym (whats_append p.0 d.0),
 )
-last_then told text before mid after command (Some Ends.End) e p d = d
-last_then told text before mid after command (Some Ends.Read) e p d = d
-last_then told text before mid after command (Some Ends.Gone) e p d = (
+last_then tell text before mid after command (Some Ends.End) e p d = d
+last_then tell text before mid after command (Some Ends.Read) e p d = d
+last_then tell text before mid after command (Some Ends.Gone) e p d = (
   p.0 ++ [],
-  put_then told before mid after p.0 [] p.1 d.0,
+  mid.1,
+  put_then tell before mid (after.0, mid.1) p.0 [] p.1 d.0,
   d.1,
+  d.2,
   Tells.Quit ∷ [],
   ap (λ (k : Command). put_for k (Tells.Quit ∷ [])) (sym e) ∙ p.2 (Tells.Quit ∷ []) ∙ ap (λ (t : List Item). whats t ++ Tells.Quit ∷ []) (sym (append-nil p.0)),
 )
 
-pub went_last : (told : ℕ → Type 0) (text : List ℕ) (before mid after : InEnd) (command : Command) (first answer : Option CommandsEnd) → command ≡ asked_in text → DidPut told command before mid first → is_some first ≡ false
-    → DidPut told Asks.Quit mid after answer → PutsLast told text before after answer
-went_last told text before mid after command None answer e p none d = last_then told text before mid after command answer e p d
-went_last told text before mid after command (Some end) answer e p none d = absurd cc
+pub went_last : {C : Type 0} (tell : C → ℕ → C → Type 0) (text : List ℕ) (before mid after : InEnd × C) (command : Command) (first answer : Option CommandsEnd) → command ≡ asked_in text → DidPut tell command before mid first → is_some first ≡ false
+    → DidPut tell Asks.Quit mid after answer → PutsLast tell text before after answer
+went_last tell text before mid after command None answer e p none d = last_then tell text before mid after command answer e p d
+went_last tell text before mid after command (Some end) answer e p none d = absurd cc
 
 -- the last line, behind which nothing follows
-pub last_ends : (told : ℕ → Type 0) (text : List ℕ) (before after : InEnd) (command : Command) (end : CommandsEnd) → command ≡ asked_in text → DidPut told command before after (Some end) → PutsLast told text before after (Some end)
-last_ends told text before after command Ends.Quit e d = (
+pub last_ends : {C : Type 0} (tell : C → ℕ → C → Type 0) (text : List ℕ) (before after : InEnd × C) (command : Command) (end : CommandsEnd) → command ≡ asked_in text → DidPut tell command before after (Some end) → PutsLast tell text before after (Some end)
+last_ends tell text before after command Ends.Quit e d = (
   d.0,
   d.1,
   ap (λ (k : Command). put_for k (Tells.Quit ∷ [])) (sym e) ∙ d.2 (Tells.Quit ∷ []),
 )
-last_ends told text before after command Ends.End e d = d
-last_ends told text before after command Ends.Read e d = d
-last_ends told text before after command Ends.Gone e d = ([], d.0, d.1, put_from text [], refl)
+last_ends tell text before after command Ends.End e d = d
+last_ends tell text before after command Ends.Read e d = d
+last_ends tell text before after command Ends.Gone e d = ([], before.1, d.0, d.1, d.2, put_from text [], refl)
 
 -- ---- between two reads
 
-pub record Underway (told : ℕ → Type 0) (old_reader reader : Option (List ℕ)) (before after : InEnd) (line : Line) : Type 0 where
+pub record Underway {C : Type 0} (tell : C → ℕ → C → Type 0) (old_reader reader : Option (List ℕ)) (before after : InEnd × C) (line : Line) : Type 0 where
   pub given : List ℕ
   pub items : List Item
   pub rest : List ℕ
   pub read : Consumes old_reader reader given
-  pub put : HasPut told before items after
+  pub put : HasPut tell before items after
   pub holds : Holds line rest
   pub goes : (more : List ℕ) → put_from [] (given ++ more) ≡ whats items ++ put_from rest more
 
@@ -202,17 +207,17 @@ Consumes-keeps (Some a) None c p k = absurd p
 Consumes-keeps (Some a) (Some b) None p k = absurd k
 Consumes-keeps (Some a) (Some b) (Some c) p k = p ∙ sym k
 
-pub begun : (told : ℕ → Type 0) (reader : Option (List ℕ)) (before : InEnd) (line : Line) → Holds line [] → Underway told reader reader before before line
-begun told reader before line holds = record { given = []; items = []; rest = []; read = Consumes-nil reader; put = put_none told before; holds = holds; goes = λ more. refl }
+pub begun : {C : Type 0} (tell : C → ℕ → C → Type 0) (reader : Option (List ℕ)) (before : InEnd × C) (line : Line) → Holds line [] → Underway tell reader reader before before line
+begun tell reader before line holds = record { given = []; items = []; rest = []; read = Consumes-nil reader; put = put_none tell before; holds = holds; goes = λ more. refl }
 
-pub read_on : (told : ℕ → Type 0) (r0 r1 r2 : Option (List ℕ)) (before mid after : InEnd) (line next : Line) (chunk : List ℕ) → (u : Underway told r0 r1 before mid line) → Consumes r1 r2 chunk
-    → Putting told u.rest chunk mid after next [] → Underway told r0 r2 before after next
-read_on told r0 r1 r2 before mid after line next chunk u c p = record {
+pub read_on : {C : Type 0} (tell : C → ℕ → C → Type 0) (r0 r1 r2 : Option (List ℕ)) (before mid after : InEnd × C) (line next : Line) (chunk : List ℕ) → (u : Underway tell r0 r1 before mid line) → Consumes r1 r2 chunk
+    → Putting tell u.rest chunk mid after next [] → Underway tell r0 r2 before after next
+read_on tell r0 r1 r2 before mid after line next chunk u c p = record {
   given = u.given ++ chunk;
   items = u.items ++ p.items;
   rest = p.rest;
   read = Consumes-then r0 r1 r2 u.given chunk u.read c;
-  put = put_then told before mid after u.items p.items u.put p.put;
+  put = put_then tell before mid after u.items p.items u.put p.put;
   holds = p.holds;
   goes = λ more.
       ap (λ (t : List ℕ). put_from [] t) (append_assoc u.given chunk more) ∙ u.goes (chunk ++ more)
@@ -221,62 +226,70 @@ read_on told r0 r1 r2 before mid after line next chunk u c p = record {
       ∙ ap (λ (t : List What). t ++ put_from p.rest more) (sym (whats_append u.items p.items));
 }
 
-pub stops : (told : ℕ → Type 0) (r0 r1 r2 : Option (List ℕ)) (before mid after : InEnd) (line next : Line) (chunk : List ℕ) (end : CommandsEnd) → (u : Underway told r0 r1 before mid line) → Consumes r1 r2 chunk
-    → PutsAll told u.rest chunk mid after next (Some end) → Commands told r0 r2 before after end
-stops told r0 r1 r2 before mid after line next chunk Ends.Quit u c p = record {
+pub stops : {C : Type 0} (tell : C → ℕ → C → Type 0) (r0 r1 r2 : Option (List ℕ)) (before mid after : InEnd × C) (line next : Line) (chunk : List ℕ) (end : CommandsEnd) → (u : Underway tell r0 r1 before mid line) → Consumes r1 r2 chunk
+    → PutsAll tell u.rest chunk mid after next (Some end) → Commands tell r0 r2 before after end
+stops tell r0 r1 r2 before mid after line next chunk Ends.Quit u c p = record {
   given = u.given ++ chunk;
   items = u.items ++ p.0;
   read = Consumes-then r0 r1 r2 u.given chunk u.read c;
-  put = put_then told before mid after u.items p.0 u.put p.1;
+  last = after.1;
+  put = put_then tell before mid after u.items p.0 u.put p.1;
+  clock = refl;
   ends = λ more.
       ap (λ (t : List ℕ). put_from [] t) (append_assoc u.given chunk more) ∙ u.goes (chunk ++ more)
       ∙ ap (λ (t : List What). whats u.items ++ t) (p.2 more)
       ∙ sym (whats_append u.items p.0);
 }
-stops told r0 r1 r2 before mid after line next chunk Ends.End u c p = absurd p
-stops told r0 r1 r2 before mid after line next chunk Ends.Read u c p = absurd p
-stops told r0 r1 r2 before mid after line next chunk Ends.Gone u c p =
-    let l = p.3 [] in
+stops tell r0 r1 r2 before mid after line next chunk Ends.End u c p = absurd p
+stops tell r0 r1 r2 before mid after line next chunk Ends.Read u c p = absurd p
+stops tell r0 r1 r2 before mid after line next chunk Ends.Gone u c p =
+    let l = p.5 [] in
     record {
       given = u.given ++ chunk;
       items = u.items ++ p.0;
       read = Consumes-then r0 r1 r2 u.given chunk u.read c;
-      put = put_then told before mid after u.items p.0 u.put p.1;
+      last = p.1;
+      put = put_then tell before mid (after.0, p.1) u.items p.0 u.put p.2;
+      clock = p.4;
       ends = (
         l.0,
         ap (λ (t : List ℕ). put_from [] (u.given ++ t)) (sym (append-nil chunk)) ∙ u.goes (chunk ++ [])
             ∙ ap (λ (t : List What). whats u.items ++ t) l.1
             ∙ sym (append_assoc (whats u.items) (whats p.0) l.0)
             ∙ ap (λ (t : List What). t ++ l.0) (sym (whats_append u.items p.0)),
-        p.2,
+        p.3,
       );
     }
 
 -- the input has ended, or a read has failed
-all_given : (told : ℕ → Type 0) (r0 r1 : Option (List ℕ)) (before mid : InEnd) (line : Line) → (u : Underway told r0 r1 before mid line) → put_from [] u.given ≡ whats u.items ++ put_from u.rest []
-all_given told r0 r1 before mid line u = ap (λ (t : List ℕ). put_from [] t) (sym (append-nil u.given)) ∙ u.goes []
+all_given : {C : Type 0} (tell : C → ℕ → C → Type 0) (r0 r1 : Option (List ℕ)) (before mid : InEnd × C) (line : Line) → (u : Underway tell r0 r1 before mid line) → put_from [] u.given ≡ whats u.items ++ put_from u.rest []
+all_given tell r0 r1 before mid line u = ap (λ (t : List ℕ). put_from [] t) (sym (append-nil u.given)) ∙ u.goes []
 
 none_more : (r0 r1 r2 : Option (List ℕ)) (given : List ℕ) → Consumes r0 r1 given → Consumes r1 r2 [] → Consumes r0 r2 given
 none_more r0 r1 r2 given p q = subst (λ (t : List ℕ). Consumes r0 r2 t) (append-nil given) (Consumes-then r0 r1 r2 given [] p q)
 
-pub closes : (told : ℕ → Type 0) (r0 r1 r2 : Option (List ℕ)) (before mid after : InEnd) (line : Line) (end : CommandsEnd) → (u : Underway told r0 r1 before mid line) → EndsReading end r1 r2
-    → PutsLast told u.rest mid after (Some Ends.Quit) → Commands told r0 r2 before after end
-closes told r0 r1 r2 before mid after line Ends.Quit u e p = absurd e
-closes told r0 r1 r2 before mid after line Ends.End u e p = record {
+pub closes : {C : Type 0} (tell : C → ℕ → C → Type 0) (r0 r1 r2 : Option (List ℕ)) (before mid after : InEnd × C) (line : Line) (end : CommandsEnd) → (u : Underway tell r0 r1 before mid line) → EndsReading end r1 r2
+    → PutsLast tell u.rest mid after (Some Ends.Quit) → Commands tell r0 r2 before after end
+closes tell r0 r1 r2 before mid after line Ends.Quit u e p = absurd e
+closes tell r0 r1 r2 before mid after line Ends.End u e p = record {
   given = u.given;
   items = u.items ++ p.0;
   read = none_more r0 r1 r2 u.given u.read e.0;
-  put = put_then told before mid after u.items p.0 u.put p.1;
-  ends = (all_given told r0 r1 before mid line u ∙ ap (λ (t : List What). whats u.items ++ t) p.2 ∙ sym (whats_append u.items p.0), e.1);
+  last = after.1;
+  put = put_then tell before mid after u.items p.0 u.put p.1;
+  clock = refl;
+  ends = (all_given tell r0 r1 before mid line u ∙ ap (λ (t : List What). whats u.items ++ t) p.2 ∙ sym (whats_append u.items p.0), e.1);
 }
-closes told r0 r1 r2 before mid after line Ends.Read u e p = record {
+closes tell r0 r1 r2 before mid after line Ends.Read u e p = record {
   given = u.given;
   items = u.items ++ p.0;
   read = none_more r0 r1 r2 u.given u.read e;
-  put = put_then told before mid after u.items p.0 u.put p.1;
-  ends = all_given told r0 r1 before mid line u ∙ ap (λ (t : List What). whats u.items ++ t) p.2 ∙ sym (whats_append u.items p.0);
+  last = after.1;
+  put = put_then tell before mid after u.items p.0 u.put p.1;
+  clock = refl;
+  ends = all_given tell r0 r1 before mid line u ∙ ap (λ (t : List What). whats u.items ++ t) p.2 ∙ sym (whats_append u.items p.0);
 }
-closes told r0 r1 r2 before mid after line Ends.Gone u e p = absurd e
+closes tell r0 r1 r2 before mid after line Ends.Gone u e p = absurd e
 
 consumed : (end : CommandsEnd) (r1 r2 : Option (List ℕ)) → EndsReading end r1 r2 → Consumes r1 r2 []
 consumed Ends.Quit r1 r2 e = absurd e
@@ -284,38 +297,40 @@ consumed Ends.End r1 r2 e = e.0
 consumed Ends.Read r1 r2 e = e
 consumed Ends.Gone r1 r2 e = absurd e
 
-pub closes_gone : (told : ℕ → Type 0) (r0 r1 r2 : Option (List ℕ)) (before mid after : InEnd) (line : Line) (end : CommandsEnd) → (u : Underway told r0 r1 before mid line) → EndsReading end r1 r2
-    → PutsLast told u.rest mid after (Some Ends.Gone) → Commands told r0 r2 before after Ends.Gone
-closes_gone told r0 r1 r2 before mid after line end u e p = record {
+pub closes_gone : {C : Type 0} (tell : C → ℕ → C → Type 0) (r0 r1 r2 : Option (List ℕ)) (before mid after : InEnd × C) (line : Line) (end : CommandsEnd) → (u : Underway tell r0 r1 before mid line) → EndsReading end r1 r2
+    → PutsLast tell u.rest mid after (Some Ends.Gone) → Commands tell r0 r2 before after Ends.Gone
+closes_gone tell r0 r1 r2 before mid after line end u e p = record {
   given = u.given;
   items = u.items ++ p.0;
   read = none_more r0 r1 r2 u.given u.read (consumed end r1 r2 e);
-  put = put_then told before mid after u.items p.0 u.put p.1;
+  last = p.1;
+  put = put_then tell before mid (after.0, p.1) u.items p.0 u.put p.2;
+  clock = p.4;
   ends = (
+    p.5,
+    all_given tell r0 r1 before mid line u ∙ ap (λ (t : List What). whats u.items ++ t) p.6
+        ∙ sym (append_assoc (whats u.items) (whats p.0) p.5)
+        ∙ ap (λ (t : List What). t ++ p.5) (sym (whats_append u.items p.0)),
     p.3,
-    all_given told r0 r1 before mid line u ∙ ap (λ (t : List What). whats u.items ++ t) p.4
-        ∙ sym (append_assoc (whats u.items) (whats p.0) p.3)
-        ∙ ap (λ (t : List What). t ++ p.3) (sym (whats_append u.items p.0)),
-    p.2,
   );
 }
 
 -- what the last line came to, with what ended the input
-pub closes_with : (told : ℕ → Type 0) (r0 r1 r2 : Option (List ℕ)) (before mid after : InEnd) (line : Line) (end : CommandsEnd) (answer : Option CommandsEnd) → (u : Underway told r0 r1 before mid line) → EndsReading end r1 r2
-    → PutsLast told u.rest mid after answer → is_gone answer ≡ false → Commands told r0 r2 before after end
-closes_with told r0 r1 r2 before mid after line end None u e p h = absurd p
-closes_with told r0 r1 r2 before mid after line end (Some Ends.Quit) u e p h = closes told r0 r1 r2 before mid after line end u e p
-closes_with told r0 r1 r2 before mid after line end (Some Ends.End) u e p h = absurd p
-closes_with told r0 r1 r2 before mid after line end (Some Ends.Read) u e p h = absurd p
-closes_with told r0 r1 r2 before mid after line end (Some Ends.Gone) u e p h = absurd cc
+pub closes_with : {C : Type 0} (tell : C → ℕ → C → Type 0) (r0 r1 r2 : Option (List ℕ)) (before mid after : InEnd × C) (line : Line) (end : CommandsEnd) (answer : Option CommandsEnd) → (u : Underway tell r0 r1 before mid line) → EndsReading end r1 r2
+    → PutsLast tell u.rest mid after answer → is_gone answer ≡ false → Commands tell r0 r2 before after end
+closes_with tell r0 r1 r2 before mid after line end None u e p h = absurd p
+closes_with tell r0 r1 r2 before mid after line end (Some Ends.Quit) u e p h = closes tell r0 r1 r2 before mid after line end u e p
+closes_with tell r0 r1 r2 before mid after line end (Some Ends.End) u e p h = absurd p
+closes_with tell r0 r1 r2 before mid after line end (Some Ends.Read) u e p h = absurd p
+closes_with tell r0 r1 r2 before mid after line end (Some Ends.Gone) u e p h = absurd cc
 
-pub closes_without : (told : ℕ → Type 0) (r0 r1 r2 : Option (List ℕ)) (before mid after : InEnd) (line : Line) (end : CommandsEnd) (answer : Option CommandsEnd) → (u : Underway told r0 r1 before mid line) → EndsReading end r1 r2
-    → PutsLast told u.rest mid after answer → is_gone answer ≡ true → Commands told r0 r2 before after Ends.Gone
-closes_without told r0 r1 r2 before mid after line end None u e p h = absurd p
-closes_without told r0 r1 r2 before mid after line end (Some Ends.Quit) u e p h = absurd cc
-closes_without told r0 r1 r2 before mid after line end (Some Ends.End) u e p h = absurd p
-closes_without told r0 r1 r2 before mid after line end (Some Ends.Read) u e p h = absurd p
-closes_without told r0 r1 r2 before mid after line end (Some Ends.Gone) u e p h = closes_gone told r0 r1 r2 before mid after line end u e p
+pub closes_without : {C : Type 0} (tell : C → ℕ → C → Type 0) (r0 r1 r2 : Option (List ℕ)) (before mid after : InEnd × C) (line : Line) (end : CommandsEnd) (answer : Option CommandsEnd) → (u : Underway tell r0 r1 before mid line) → EndsReading end r1 r2
+    → PutsLast tell u.rest mid after answer → is_gone answer ≡ true → Commands tell r0 r2 before after Ends.Gone
+closes_without tell r0 r1 r2 before mid after line end None u e p h = absurd p
+closes_without tell r0 r1 r2 before mid after line end (Some Ends.Quit) u e p h = absurd cc
+closes_without tell r0 r1 r2 before mid after line end (Some Ends.End) u e p h = absurd p
+closes_without tell r0 r1 r2 before mid after line end (Some Ends.Read) u e p h = absurd p
+closes_without tell r0 r1 r2 before mid after line end (Some Ends.Gone) u e p h = closes_gone tell r0 r1 r2 before mid after line end u e p
 
 -- ---- line by line
 

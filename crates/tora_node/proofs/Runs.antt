@@ -77,9 +77,9 @@ pub did_not_start : (first : CoreView) (links : List LinkName) (e : NodeError) �
 did_not_start first links e same h = opening_start first e (subst (λ (l : List LinkName). IsOpening l e) same h) (opening_fault first.me first.neighbours links e same h)
 
 -- so a node answers whose threads were not started
-pub not_started : {W D T Wr : Type 0} (send : W → List ℕ → Result (Unit {0}) WireError → W → Type 0) (receive : W → Result (Option ℕ) WireError → List ℕ → W → Type 0) (told : ℕ → Type 0) (read : T → ℕ → T → Type 0) (opened : ℕ → ℕ → D → Result ℕ LifeError → Type 0) (contents : Wr → Option (List ℕ)) (first : CoreView) (wires : List W) (disks : List D) (ticks : List T)
-    (input : Option (List ℕ)) (writer : Wr) (links : List LinkName) (e : NodeError) → links ≡ links_of first → IsOpening links e → FailsToOpen opened links disks e → NodeAnswers send receive told read opened contents first wires disks ticks input writer (Some writer) (Err e)
-not_started send receive told read opened contents first wires disks ticks input writer links e same h failed =
+pub not_started : {W D C Wr : Type 0} (send : W → List ℕ → Result (Unit {0}) WireError → W → Type 0) (receive : W → Result (Option ℕ) WireError → List ℕ → W → Type 0) (tell : C → ℕ → C → Type 0) (opened : ℕ → ℕ → D → Result ℕ LifeError → Type 0) (contents : Wr → Option (List ℕ)) (first : CoreView) (wires : List W) (disks : List D) (clocks : List C) (clock : C)
+    (input : Option (List ℕ)) (writer : Wr) (links : List LinkName) (e : NodeError) → links ≡ links_of first → IsOpening links e → FailsToOpen opened links disks e → NodeAnswers send receive tell opened contents first wires disks clocks clock input writer (Some writer) (Err e)
+not_started send receive tell opened contents first wires disks clocks clock input writer links e same h failed =
     let start = did_not_start first links e same h in
     record { core = tt; links = tt; fault = opening_fault first.me first.neighbours links e same h; cause = inl start; count = tt; ran = tt; failed = inl (failed_start opened first disks e (subst (λ (l : List LinkName). FailsToOpen opened l disks e) same failed), inl refl) }
 

@@ -32,7 +32,7 @@ use Rattle.tora_node.specs.CoreRuns.{items_served, offers_made}
 use Rattle.tora_node.specs.LinkRuns.{LinkName, AreFaultless, AreLinkRuns, IsCause, IsLinkRun, OpenedOn, link_made, wire_made, links_of, name_of}
 use Rattle.tora_node.specs.NodeRuns.{EndedView, IsCoreRun, IsNodeFault, IsRunOf, IsServedCore, first_fault}
 use Rattle.tora_node.specs.Settled.{AreSettled, SettlesTo}
-use Rattle.tora_node.specs.Threads.{Each, LinkStart, LinkLeaves, CoreLeaves, HasEnds, IsSettled, hub_of, hub_started, link_to_start, outcome_of, started, ticks_started}
+use Rattle.tora_node.specs.Threads.{Each, LinkStart, LinkLeaves, CoreLeaves, HasEnds, IsSettled, hub_of, hub_started, link_to_start, outcome_of, started, clock_started}
 use Rattle.tora_node.specs.WholeRuns.{CommandsRan, EndsWithFault, LinkRan, NodeRan}
 use Rattle.tora_node.proofs.Faults.{ended_fault}
 use Rattle.tora_node.proofs.Kept.{ring_of, rings_stay}
@@ -50,9 +50,9 @@ runs_of [] (o ∷ outcomes) h = absurd h
 runs_of (link ∷ links) [] h = absurd h
 runs_of (link ∷ links) (o ∷ outcomes) h = (h.0, runs_of links outcomes h.1)
 
-module _ {D W C T Wr : Type 0} {disk : Disk.Ghosts D} {wire : Wire.Ghosts W} (send : W → List ℕ → Result (Unit {0}) WireError → W → Type 0) (receive : W → Result (Option ℕ) WireError → List ℕ → W → Type 0) (tell : C → ℕ → Type 0) (clock : C) (read : T → ℕ → T → Type 0)
-    (opened : ℕ → ℕ → D → Result ℕ LifeError → Type 0) (first : CoreView) (wires : List W) (disks : List D) (ticks : List T) (port : CoreEnd) (command : InEnd) (hubs : List (InEnd × ReceiveEnd)) (outs : List SendEnd)
-    (contents : Wr → Option (List ℕ)) (writer : Wr) (new : List (NewLink D W disk wire)) (starts : List (Start D W T disk wire)) (core : CoreRest Wr) (rests : List LinkRest) where
+module _ {D W C Wr : Type 0} {disk : Disk.Ghosts D} {wire : Wire.Ghosts W} (send : W → List ℕ → Result (Unit {0}) WireError → W → Type 0) (receive : W → Result (Option ℕ) WireError → List ℕ → W → Type 0) (tell : C → ℕ → C → Type 0)
+    (opened : ℕ → ℕ → D → Result ℕ LifeError → Type 0) (first : CoreView) (wires : List W) (disks : List D) (clocks : List C) (clock : C) (port : CoreEnd) (command : InEnd) (hubs : List (InEnd × ReceiveEnd)) (outs : List SendEnd)
+    (contents : Wr → Option (List ℕ)) (writer : Wr) (new : List (NewLink D W disk wire)) (starts : List (Start D W C disk wire)) (core : CoreRest Wr) (rests : List LinkRest) where
   -- what the threads of a node began with, and what they have left
   pub record Left : Type 0 where
     pub lanes : AreLanes (length first.neighbours) port command hubs outs
@@ -61,8 +61,8 @@ module _ {D W C T Wr : Type 0} {disk : Disk.Ghosts D} {wire : Wire.Ghosts W} (se
     pub files_are : Each (OpenedOn opened) disks new
     pub starts_are : map started starts ≡ map link_to_start new
     pub hubs_are : map hub_started starts ≡ map hub_of hubs
-    pub ticks_are : map ticks_started starts ≡ ticks
-    pub ran : Each (λ t rest. LinkLeaves send receive read (link_made t.new) t.new.link.wire t.ticks t.new.link.file.numbers.drawn t.hub rest) starts rests
+    pub clocks_are : map clock_started starts ≡ clocks
+    pub ran : Each (λ t rest. LinkLeaves send receive tell (link_made t.new) t.new.link.wire t.clock t.new.link.file.numbers.drawn t.hub rest) starts rests
     pub served : CoreLeaves contents (first_seat first) port outs writer core
     pub ascending : IsAscending first.neighbours
 
@@ -79,15 +79,15 @@ module _ {D W C T Wr : Type 0} {disk : Disk.Ghosts D} {wire : Wire.Ghosts W} (se
     disks_long : length disks ≡ length first.neighbours
     disks_long = each_long _ disks new h.files_are ∙ made_long
 
-    ticks_long : length ticks ≡ length first.neighbours
-    ticks_long = sym (ap length h.ticks_are) ∙ length_map ticks_started starts ∙ as_long started link_to_start starts new h.starts_are ∙ made_long
+    clocks_long : length clocks ≡ length first.neighbours
+    clocks_long = sym (ap length h.clocks_are) ∙ length_map clock_started starts ∙ as_long started link_to_start starts new h.starts_are ∙ made_long
 
     outs_long : length core.outs.ends.items ≡ length first.neighbours
     outs_long =
         as_long ring_of ring_of core.outs.ends.items outs (rings_stay first.neighbours outs core.outs.ends.items (offers_made h.served.xs) h.served.offered) ∙ h.lanes.links_are.out_count
 
     -- the link at a place
-    record AtPlace (k peer : ℕ) (w : W) (d : D) (s : T) (r : LinkRest) (out : SendEnd) : Type 0 where
+    record AtPlace (k peer : ℕ) (w : W) (d : D) (s : C) (r : LinkRest) (out : SendEnd) : Type 0 where
       drawn : ℕ
       file : opened first.me peer d (Ok drawn)
       hub : LaneHub
@@ -97,21 +97,21 @@ module _ {D W C T Wr : Type 0} {disk : Disk.Ghosts D} {wire : Wire.Ghosts W} (se
       old_at : slice_get outs k ≡ Some old
       sent : old.sent ≡ []
       ring : out.ring ≡ hub.outs.ring
-      leaves : LinkLeaves send receive read (name_of first.me peer) w s drawn hub r
+      leaves : LinkLeaves send receive tell (name_of first.me peer) w s drawn hub r
 
-    at_place : (k peer : ℕ) (w : W) (d : D) (s : T) (r : LinkRest) (out : SendEnd)
-        → slice_get first.neighbours k ≡ Some peer → slice_get wires k ≡ Some w → slice_get disks k ≡ Some d → slice_get ticks k ≡ Some s → slice_get rests k ≡ Some r → slice_get core.outs.ends.items k ≡ Some out → AtPlace k peer w d s r out
-    at_place k peer w d s r out at_peer at_wire at_disk at_ticks at_rest at_out =
+    at_place : (k peer : ℕ) (w : W) (d : D) (s : C) (r : LinkRest) (out : SendEnd)
+        → slice_get first.neighbours k ≡ Some peer → slice_get wires k ≡ Some w → slice_get disks k ≡ Some d → slice_get clocks k ≡ Some s → slice_get rests k ≡ Some r → slice_get core.outs.ends.items k ≡ Some out → AtPlace k peer w d s r out
+    at_place k peer w d s r out at_peer at_wire at_disk at_clock at_rest at_out =
         let name : LinkName = name_of first.me peer in
         let l = map_get link_made new k name (ap (λ (xs : List LinkName). slice_get xs k) h.links_are ∙ get_map (name_of first.me) first.neighbours k peer at_peer) in
         let v = map_get wire_made new k w (ap (λ (xs : List W). slice_get xs k) h.wires_are ∙ at_wire) in
         let same : v.0 ≡ l.0 = same_got new k v.0 l.0 v.1 l.1 in
         let b = map_get started starts k (link_to_start l.0) (ap (λ (xs : List (LinkStart W)). slice_get xs k) h.starts_are ∙ get_map link_to_start new k l.0 l.1) in
-        let t : Start D W T disk wire = b.0 in
+        let t : Start D W C disk wire = b.0 in
         let begins : started t ≡ record { link = name; wire = w; drawn = l.0.link.file.numbers.drawn } =
         b.2 ∙ (λ i. record { link = l.2 i; wire = (ap wire_made (sym same) ∙ v.2) i; drawn = l.0.link.file.numbers.drawn }) in
-        let q = map_get ticks_started starts k s (ap (λ (xs : List T). slice_get xs k) h.ticks_are ∙ at_ticks) in
-        let reads : t.ticks ≡ s = ap ticks_started (same_got starts k t q.0 b.1 q.1) ∙ q.2 in
+        let q = map_get clock_started starts k s (ap (λ (xs : List C). slice_get xs k) h.clocks_are ∙ at_clock) in
+        let reads : t.clock ≡ s = ap clock_started (same_got starts k t q.0 b.1 q.1) ∙ q.2 in
         let e = map_get hub_of hubs k t.hub (ap (λ (xs : List LaneHub). slice_get xs k) (sym h.hubs_are) ∙ get_map hub_started starts k t b.1) in
         let p = h.lanes.links_are.ports k e.0 e.1 in
         let o = get_within outs k (omega (arith, got_within first.neighbours k peer at_peer, h.lanes.links_are.out_count)) in
@@ -129,8 +129,8 @@ module _ {D W C T Wr : Type 0} {disk : Disk.Ghosts D} {wire : Wire.Ghosts W} (se
           old_at = o.1;
           sent = ends.0;
           ring = same_ring ∙ ends.1 ∙ ap (λ (x : LaneHub). x.outs.ring) e.2;
-          leaves = subst (λ (y : T). LinkLeaves send receive read name w y l.0.link.file.numbers.drawn t.hub r) reads
-              (subst (λ (x : LinkStart W). LinkLeaves send receive read x.link x.wire t.ticks x.drawn t.hub r) begins (each_at _ starts rests k t r h.ran b.1 at_rest));
+          leaves = subst (λ (y : C). LinkLeaves send receive tell name w y l.0.link.file.numbers.drawn t.hub r) reads
+              (subst (λ (x : LinkStart W). LinkLeaves send receive tell x.link x.wire t.clock x.drawn t.hub r) begins (each_at _ starts rests k t r h.ran b.1 at_rest));
         }
 
     -- ---- what the lanes' ends need to be brought together
@@ -141,7 +141,7 @@ module _ {D W C T Wr : Type 0} {disk : Disk.Ghosts D} {wire : Wire.Ghosts W} (se
         let peer = get_within first.neighbours k (omega (arith, less, rests_long)) in
         let w = get_within wires k (omega (arith, less, rests_long, wires_long)) in
         let d = get_within disks k (omega (arith, less, rests_long, disks_long)) in
-        let s = get_within ticks k (omega (arith, less, rests_long, ticks_long)) in
+        let s = get_within clocks k (omega (arith, less, rests_long, clocks_long)) in
         let a = at_place k peer.0 w.0 d.0 s.0 r out peer.1 w.1 d.1 s.1 at_rest at_out in (
           a.leaves.port.0 ∙ ap (λ (p : InEnd). p.lane) a.port_is ∙ sym h.served.lane,
           a.ring ∙ sym a.leaves.ring,
@@ -162,7 +162,7 @@ module _ {D W C T Wr : Type 0} {disk : Disk.Ghosts D} {wire : Wire.Ghosts W} (se
         let w = get_within wires k (omega (arith, less, wires_long)) in
         let out = get_within core.outs.ends.items k (omega (arith, less, outs_long)) in
         let d = get_within disks k (omega (arith, less, disks_long)) in
-        let s = get_within ticks k (omega (arith, less, ticks_long)) in
+        let s = get_within clocks k (omega (arith, less, clocks_long)) in
         let a = at_place k peer.0 w.0 d.0 s.0 r.0 out.0 peer.1 w.1 d.1 s.1 r.1 out.1 in
         subst (λ (x : LinkName × Outcome). IsLinkRun x.0.me x.0.peer x.1.fault x.1.tally) (λ i. (peer.2 i, r.2 i)) a.leaves.run
 
@@ -176,15 +176,15 @@ module _ {D W C T Wr : Type 0} {disk : Disk.Ghosts D} {wire : Wire.Ghosts W} (se
     -- ---- what each link did
 
     module _ (sents : OffersAreSent) (settled : Each (IsSettled core.port.taken) rests core.outs.ends.items) where
-      of_rest : (k peer : ℕ) (w : W) (d : D) (q : T) (r : LinkRest)
-          → slice_get first.neighbours k ≡ Some peer → slice_get wires k ≡ Some w → slice_get disks k ≡ Some d → slice_get ticks k ≡ Some q → slice_get rests k ≡ Some r
-          → LinkRan send receive read (opened first.me peer d) first.me h.served.xs k peer w q r.outcome
-      of_rest k peer w d q r at_peer at_wire at_disk at_ticks at_rest =
+      of_rest : (k peer : ℕ) (w : W) (d : D) (q : C) (r : LinkRest)
+          → slice_get first.neighbours k ≡ Some peer → slice_get wires k ≡ Some w → slice_get disks k ≡ Some d → slice_get clocks k ≡ Some q → slice_get rests k ≡ Some r
+          → LinkRan send receive tell (opened first.me peer d) first.me h.served.xs k peer w q r.outcome
+      of_rest k peer w d q r at_peer at_wire at_disk at_clock at_rest =
           let xs = h.served.xs in
           let ks = first.neighbours in
           let less = got_within ks k peer at_peer in
           let out = get_within core.outs.ends.items k (omega (arith, less, outs_long)) in
-          let a = at_place k peer w d q r out.0 at_peer at_wire at_disk at_ticks at_rest out.1 in
+          let a = at_place k peer w d q r out.0 at_peer at_wire at_disk at_clock at_rest out.1 in
           let s = each_at _ rests core.outs.ends.items k r out.0 settled at_rest out.1 in
           let turns = a.leaves.run.turns ++ a.leaves.run.last ∷ [] in
           let seat : r.hub.port.seat ≡ k = a.leaves.port.1 ∙ ap (λ (p : InEnd). p.seat) a.port_is in
@@ -217,19 +217,19 @@ module _ {D W C T Wr : Type 0} {disk : Disk.Ghosts D} {wire : Wire.Ghosts W} (se
             numbers = a.leaves.numbers;
           }
 
-      pub link_ran : (k peer : ℕ) (w : W) (d : D) (q : T) (outcome : Outcome)
-          → slice_get first.neighbours k ≡ Some peer → slice_get wires k ≡ Some w → slice_get disks k ≡ Some d → slice_get ticks k ≡ Some q → slice_get (map outcome_of rests) k ≡ Some outcome
-          → LinkRan send receive read (opened first.me peer d) first.me h.served.xs k peer w q outcome
-      link_ran k peer w d q outcome at_peer at_wire at_disk at_ticks at_outcome =
+      pub link_ran : (k peer : ℕ) (w : W) (d : D) (q : C) (outcome : Outcome)
+          → slice_get first.neighbours k ≡ Some peer → slice_get wires k ≡ Some w → slice_get disks k ≡ Some d → slice_get clocks k ≡ Some q → slice_get (map outcome_of rests) k ≡ Some outcome
+          → LinkRan send receive tell (opened first.me peer d) first.me h.served.xs k peer w q outcome
+      link_ran k peer w d q outcome at_peer at_wire at_disk at_clock at_outcome =
           let r = map_get outcome_of rests k outcome at_outcome in
-          subst (λ (o : Outcome). LinkRan send receive read (opened first.me peer d) first.me h.served.xs k peer w q o) r.2 (of_rest k peer w d q r.0 at_peer at_wire at_disk at_ticks r.1)
+          subst (λ (o : Outcome). LinkRan send receive tell (opened first.me peer d) first.me h.served.xs k peer w q o) r.2 (of_rest k peer w d q r.0 at_peer at_wire at_disk at_clock r.1)
 
     -- ---- the commands, and all together
 
-    module _ (input : Option (List ℕ)) (after : InEnd) (end : CommandsEnd) (reads : CommandsFrom (tell clock) input command after end) where
-      commands_ran : (left : List Item) → items_of after.seat core.port.taken ++ left ≡ after.put → CommandsRan (tell clock) input (length first.neighbours) core.port.taken
+    module _ (input : Option (List ℕ)) (after : InEnd) (end : CommandsEnd) (reads : CommandsFrom tell clock input command after end) where
+      commands_ran : (left : List Item) → items_of after.seat core.port.taken ++ left ≡ after.put → CommandsRan tell clock input (length first.neighbours) core.port.taken
       commands_ran left settled =
-          let commands : Commands (tell clock) input reads.0 command after end = reads.1 in
+          let commands : Commands tell input reads.0 (command, clock) (after, reads.1) end = reads.2 in
           let seat : after.seat ≡ length first.neighbours = commands.put.2.1 ∙ ap (λ (p : InEnd). p.seat) h.lanes.command_is in
           record {
             given = commands.given;
@@ -239,6 +239,7 @@ module _ {D W C T Wr : Type 0} {disk : Disk.Ghosts D} {wire : Wire.Ghosts W} (se
             end = end;
             gone = after.gone;
             read = commands.read;
+            clock_after = commands.last;
             ticks = commands.put.1;
             ends = commands.ends;
             items =
@@ -247,7 +248,7 @@ module _ {D W C T Wr : Type 0} {disk : Disk.Ghosts D} {wire : Wire.Ghosts W} (se
           }
 
       pub node_ran : (answer : Option NodeError) → OffersAreSent → AreSettled core rests after → first_fault core.fault core.seat.core.neighbours (map outcome_of rests) ≡ answer
-          → NodeRan send receive (tell clock) read opened first wires disks ticks input (contents writer) (contents core.writer) answer core.seat.core (map (λ o. o.tally) (map outcome_of rests)) core.port.taken core.port.gone
+          → NodeRan send receive tell opened first wires disks clocks clock input (contents writer) (contents core.writer) answer core.seat.core (map (λ o. o.tally) (map outcome_of rests)) core.port.taken core.port.gone
       node_ran answer sents settled first_is = record {
         xs = h.served.xs;
         after = _;
@@ -273,8 +274,8 @@ module _ {D W C T Wr : Type 0} {disk : Disk.Ghosts D} {wire : Wire.Ghosts W} (se
         pub fault_is_one : IfErr result (IsNodeFault first.neighbours)
         pub cause_is : IfErr result (IsCause first)
         pub ran_is : IfOk result (λ ended. (after : Wr) × (Some core.writer ≡ Some after)
-            × NodeRan send receive (tell clock) read opened first wires disks ticks input (contents writer) (contents after) None ended.core ended.tallies ended.taken ended.gone)
-        pub failed_is : IfErr result (EndsWithFault send receive (tell clock) read opened contents first wires disks ticks input writer (Some core.writer))
+            × NodeRan send receive tell opened first wires disks clocks clock input (contents writer) (contents after) None ended.core ended.tallies ended.taken ended.gone)
+        pub failed_is : IfErr result (EndsWithFault send receive tell opened contents first wires disks clocks clock input writer (Some core.writer))
 
       first_is : (answer : Option NodeError) → first_fault core.fault core.seat.core.neighbours (map outcome_of rests) ≡ answer → first_fault core.fault first.neighbours (map outcome_of rests) ≡ answer
       first_is answer e = ap (λ (ks : List ℕ). first_fault core.fault ks (map outcome_of rests)) (sym h.served.neighbours) ∙ e

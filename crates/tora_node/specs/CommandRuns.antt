@@ -4,6 +4,7 @@ use Rattle.std.specs.Io.KnownBytes.{Consumes, IsAtEnd}
 use Rattle.tora_lines.specs.Reads.{Given, AreReads, NoneFailed, AreToTheEnd, FailedLast}
 use Rattle.tora_lane.specs.Ports.{InEnd}
 use Rattle.tora_neighbour.specs.LaneHub.{IsSamePort}
+use Rattle.tora_neighbour.specs.Turns.{AreRead}
 use Rattle.tora_seat.specs.declared.item.Item.{Item}
 use Rattle.tora_seat.specs.declared.what.What.{What}
 use Rattle.tora_seat.specs.declared.what.What.TheVariants as Tells
@@ -44,14 +45,23 @@ IsLine (c ∷ bytes) = ((c == 10) ≡ false) × IsLine bytes
 abbrev pub whats : List Item → List What
 whats items = map (λ x. x.what) items
 
--- each tick is one that the clock told
-abbrev pub AreTold : (ℕ → Type 0) → List Item → Type 0
-AreTold told [] = Unit {0}
-AreTold told (x ∷ xs) = told x.now × AreTold told xs
+abbrev pub ticks_put : List Item → List ℕ
+ticks_put items = map (λ x. x.now) items
 
--- the port has put these items, and then these, at ticks that the clock told; it is the same port
-abbrev pub HasPut : (ℕ → Type 0) → InEnd → List Item → InEnd → Type 0
-HasPut told before items after = (after.put ≡ before.put ++ items) × AreTold told items × IsSamePort before after
+-- These items were put at this port, each with a tick that was read of this clock for it, one after another; it is the same port.
+abbrev pub HasPut : {C : Type 0} → (C → ℕ → C → Type 0) → InEnd × C → List Item → InEnd × C → Type 0
+HasPut tell before items after = (after.0.put ≡ before.0.put ++ items) × AreRead tell before.1 (ticks_put items) after.1 × IsSamePort before.0 after.0
+
+-- one tick more was read, as for an item that was refused
+abbrev pub ReadsMore : {C : Type 0} → (C → ℕ → C → Type 0) → C → C → Type 0
+ReadsMore tell clock after = (now : ℕ) × tell clock now after
+
+-- The clock that is left, by why it has ended: the one behind the last item that was put, of which one tick more was read where the port has answered Gone.
+abbrev pub LeavesClock : {C : Type 0} → (C → ℕ → C → Type 0) → CommandsEnd → C → C → Type 0
+LeavesClock tell Ends.Quit last after = after ≡ last
+LeavesClock tell Ends.End last after = after ≡ last
+LeavesClock tell Ends.Read last after = after ≡ last
+LeavesClock tell Ends.Gone last after = ReadsMore tell last after
 
 -- Why it has ended, where an input that begins so had these items put: a line is quit, whatever comes behind it; the input is
 -- at its end; a read has failed, which is taken for the end of the input; or the port has answered Gone, with some left to put
@@ -61,13 +71,15 @@ EndsAt Ends.End given items remaining gone = (put_from [] given ≡ whats items)
 EndsAt Ends.Read given items remaining gone = put_from [] given ≡ whats items
 EndsAt Ends.Gone given items remaining gone = (left : List What) × (put_from [] given ≡ whats items ++ left) × (gone ≡ true)
 
--- Some bytes were read, and what they ask was put
-pub record Commands (told : ℕ → Type 0) (old_reader new_reader : Option (List ℕ)) (before after : InEnd) (end : CommandsEnd) : Type 0 where
+-- Some bytes were read, and what they ask was put at the port, with ticks of the clock
+pub record Commands {C : Type 0} (tell : C → ℕ → C → Type 0) (old_reader new_reader : Option (List ℕ)) (before after : InEnd × C) (end : CommandsEnd) : Type 0 where
   pub given : List ℕ
   pub items : List Item
   pub read : Consumes old_reader new_reader given
-  pub put : HasPut told before items after
-  pub ends : EndsAt end given items new_reader after.gone
+  pub last : C
+  pub put : HasPut tell before items (after.0, last)
+  pub clock : LeavesClock tell end last after.1
+  pub ends : EndsAt end given items new_reader after.0.gone
 
 -- why it has ended by these reads, the last of them first: with End where the last one gave nothing, with Read where it failed, and none
 -- before it did; a line that asks for the end, and a port that has answered Gone, may end it at any read
@@ -81,6 +93,7 @@ EndsByReads Ends.Gone reads = NoneFailed reads ⊎ FailedLast reads
 abbrev pub AreReadBy : {R : Type 0} → (R → Given → R → Type 0) → R → R → CommandsEnd → Type 0
 AreReadBy did_read old new end = (reads : List Given) × AreReads did_read old reads new × EndsByReads end reads
 
--- and what has become of the input is not said
-abbrev pub CommandsFrom : (ℕ → Type 0) → Option (List ℕ) → InEnd → InEnd → CommandsEnd → Type 0
-CommandsFrom told old_reader before after end = (new_reader : Option (List ℕ)) × Commands told old_reader new_reader before after end
+-- and what has become of the input and of the clock is not said
+abbrev pub CommandsFrom : {C : Type 0} → (C → ℕ → C → Type 0) → C → Option (List ℕ) → InEnd → InEnd → CommandsEnd → Type 0
+CommandsFrom {C = C} tell clock old_reader before after end =
+    (new_reader : Option (List ℕ)) × (clock_after : C) × Commands tell old_reader new_reader (before, clock) (after, clock_after) end

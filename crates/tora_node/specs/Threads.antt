@@ -56,21 +56,21 @@ module _ {D W : Type 0} {disk : Disk.Ghosts D} {wire : Wire.Ghosts W} where
   abbrev pub link_to_start : NewLink D W disk wire → LinkStart W
   link_to_start new = record { link = link_made new; wire = new.link.wire; drawn = new.link.file.numbers.drawn }
 
-module _ {D W T : Type 0} {disk : Disk.Ghosts D} {wire : Wire.Ghosts W} where
-  abbrev pub started : Start D W T disk wire → LinkStart W
+module _ {D W C : Type 0} {disk : Disk.Ghosts D} {wire : Wire.Ghosts W} where
+  abbrev pub started : Start D W C disk wire → LinkStart W
   started start = link_to_start start.new
 
-  abbrev pub hub_started : Start D W T disk wire → LaneHub
+  abbrev pub hub_started : Start D W C disk wire → LaneHub
   hub_started start = start.hub
 
-  abbrev pub ticks_started : Start D W T disk wire → T
-  ticks_started start = start.ticks
+  abbrev pub clock_started : Start D W C disk wire → C
+  clock_started start = start.clock
 
--- It has run this link with this wire, each turn at a tick that it has read itself, under the numbers behind this one. What it has put and taken is what its turns did, by the same
+-- It has run this link with this wire, each turn at a tick that it has read of this clock, under the numbers behind this one. What it has put and taken is what its turns did, by the same
 -- port and out of the same lane
-pub record LinkLeaves {W T : Type 0} (send : W → List ℕ → Result (Unit {0}) WireError → W → Type 0) (receive : W → Result (Option ℕ) WireError → List ℕ → W → Type 0) (read : T → ℕ → T → Type 0) (link : LinkName) (wire : W) (ticks : T) (drawn : ℕ) (hub : LaneHub) (rest : LinkRest) : Type 0 where
+pub record LinkLeaves {W C : Type 0} (send : W → List ℕ → Result (Unit {0}) WireError → W → Type 0) (receive : W → Result (Option ℕ) WireError → List ℕ → W → Type 0) (tell : C → ℕ → C → Type 0) (link : LinkName) (wire : W) (clock : C) (drawn : ℕ) (hub : LaneHub) (rest : LinkRest) : Type 0 where
   pub run : IsLinkRun link.me link.peer rest.outcome.fault rest.outcome.tally
-  pub called : HasCalled send receive read wire ticks run.turns run.last run.ending
+  pub called : HasCalled send receive tell wire clock run.turns run.last run.ending
   pub last_drawn : ℕ
   pub numbers : AreDrawn drawn (numbers_opened (run.turns ++ run.last ∷ [])) last_drawn
   pub puts : map put_in rest.hub.port.put ≡ map put_in hub.port.put ++ entries_put (run.turns ++ run.last ∷ [])

@@ -7,6 +7,7 @@ use Rattle.tora_lane.specs.declared.limits.TheConstants.{MOST_LINKS}
 use Rattle.tora_life.specs.declared.numbers.LifeError.{LifeError}
 use Rattle.tora_neighbour.specs.Puts.{put_in}
 use Rattle.tora_neighbour.specs.Traffic.{AreDrawn, cargoes_taken, entries_put, numbers_opened}
+use Rattle.tora_neighbour.specs.Turns.{AreRead}
 use Rattle.tora_node.specs.declared.fault.NodeError.{NodeError}
 use Rattle.tora_node.specs.declared.fault.NodeError.TheVariants as Fault
 use Rattle.tora_neighbour.specs.declared.tally.Tally.{Tally}
@@ -17,7 +18,7 @@ use Rattle.tora_seat.specs.declared.cargo.Cargo.{Cargo}
 use Rattle.tora_seat.specs.declared.item.Item.{Item}
 use Rattle.tora_node.specs.declared.commands.CommandsEnd.{CommandsEnd}
 use Rattle.tora_node.specs.declared.link_task.Outcome.{Outcome}
-use Rattle.tora_node.specs.CommandRuns.{AreTold, EndsAt}
+use Rattle.tora_node.specs.CommandRuns.{EndsAt, ticks_put}
 use Rattle.tora_node.specs.CoreRuns.{ServedItem, AreServed, items_served, offers_made, inputs_stepped, text_served, EndsSo}
 use Rattle.tora_node.specs.LinkRuns.{IsLinkRun, FailsToStart, AreFaultless, IsCause, links_of}
 use Rattle.tora_node.specs.NodeRuns.{EndedView, IsNodeFault, IsRunOf, first_fault}
@@ -32,17 +33,17 @@ pub record LinkExchanged (me : ℕ) (xs : List ServedItem) (place peer : ℕ) (o
   pub waiting : List Cargo
   pub cargoes : cargoes_taken (run.turns ++ run.last ∷ []) ++ waiting ≡ put_to peer (offers_made xs)
 
--- and it has run it with this wire, each turn at a tick that it has read itself from this source on, under the numbers behind the last one of its life file, each the next
-pub record LinkRan {W T : Type 0} (send : W → List ℕ → Result (Unit {0}) WireError → W → Type 0) (receive : W → Result (Option ℕ) WireError → List ℕ → W → Type 0) (read : T → ℕ → T → Type 0) (opened : Result ℕ LifeError → Type 0) (me : ℕ) (xs : List ServedItem) (place peer : ℕ) (wire : W) (ticks : T) (outcome : Outcome) : Type 0 where
+-- and it has run it with this wire, each turn at a tick that it has read of this clock, under the numbers behind the last one of its life file, each the next
+pub record LinkRan {W C : Type 0} (send : W → List ℕ → Result (Unit {0}) WireError → W → Type 0) (receive : W → Result (Option ℕ) WireError → List ℕ → W → Type 0) (tell : C → ℕ → C → Type 0) (opened : Result ℕ LifeError → Type 0) (me : ℕ) (xs : List ServedItem) (place peer : ℕ) (wire : W) (clock : C) (outcome : Outcome) : Type 0 where
   pub exchanged : LinkExchanged me xs place peer outcome
-  pub called : HasCalled send receive read wire ticks exchanged.run.turns exchanged.run.last exchanged.run.ending
+  pub called : HasCalled send receive tell wire clock exchanged.run.turns exchanged.run.last exchanged.run.ending
   pub drawn : ℕ
   pub file : opened (Ok drawn)
   pub last_drawn : ℕ
   pub numbers : AreDrawn drawn (numbers_opened (exchanged.run.turns ++ exchanged.run.last ∷ [])) last_drawn
 
--- Some bytes were read, and the items of the last seat that the core served, and then those left in the lane, are what they ask
-pub record CommandsRan (told : ℕ → Type 0) (input : Option (List ℕ)) (seat : ℕ) (served : List Item) : Type 0 where
+-- Some bytes were read, and the items of the last seat that the core served, and then those left in the lane, are what they ask, each with a tick that was read of this clock for it
+pub record CommandsRan {C : Type 0} (tell : C → ℕ → C → Type 0) (clock : C) (input : Option (List ℕ)) (seat : ℕ) (served : List Item) : Type 0 where
   pub given : List ℕ
   pub rest : Option (List ℕ)
   pub put : List Item
@@ -50,14 +51,15 @@ pub record CommandsRan (told : ℕ → Type 0) (input : Option (List ℕ)) (seat
   pub end : CommandsEnd
   pub gone : Bool
   pub read : Consumes input rest given
-  pub ticks : AreTold told put
+  pub clock_after : C
+  pub ticks : AreRead tell clock (ticks_put put) clock_after
   pub ends : EndsAt end given put rest gone
   pub items : items_of seat served ++ left ≡ put
 
--- The threads of a node that began with this core, these wires, these disks, these sources of ticks and this input, and with a writer that held these bytes. Items were served one
+-- The threads of a node that began with this core, these wires, these disks, these clocks of the links and one of the commands, this input, and a writer that held these bytes. Items were served one
 -- after another, the core is the run of the inputs that serving made of them, and each link and the commands had a thread that put them. Where the core had no fault, the text of these
 -- items was written behind what the writer held. The first of their faults is the answer
-pub record NodeRan {W D T : Type 0} (send : W → List ℕ → Result (Unit {0}) WireError → W → Type 0) (receive : W → Result (Option ℕ) WireError → List ℕ → W → Type 0) (told : ℕ → Type 0) (read : T → ℕ → T → Type 0) (opened : ℕ → ℕ → D → Result ℕ LifeError → Type 0) (first : CoreView) (wires : List W) (disks : List D) (ticks : List T) (input held holds : Option (List ℕ))
+pub record NodeRan {W D C : Type 0} (send : W → List ℕ → Result (Unit {0}) WireError → W → Type 0) (receive : W → Result (Option ℕ) WireError → List ℕ → W → Type 0) (tell : C → ℕ → C → Type 0) (opened : ℕ → ℕ → D → Result ℕ LifeError → Type 0) (first : CoreView) (wires : List W) (disks : List D) (clocks : List C) (clock : C) (input held holds : Option (List ℕ))
     (answer : Option NodeError) (core : CoreView) (tallies : List Tally) (taken : List Item) (gone : Bool) : Type 0 where
   pub xs : List ServedItem
   pub after : SeatState
@@ -69,23 +71,23 @@ pub record NodeRan {W D T : Type 0} (send : W → List ℕ → Result (Unit {0})
   pub ends : EndsSo fault xs gone
   pub written : fault ≡ None → Appends held holds (text_served first.neighbours None (state_of (first_seat first)) xs)
   pub count : length outcomes ≡ length first.neighbours
-  pub links : (place peer : ℕ) (wire : W) (disk : D) (source : T) (outcome : Outcome) → slice_get first.neighbours place ≡ Some peer → slice_get wires place ≡ Some wire → slice_get disks place ≡ Some disk → slice_get ticks place ≡ Some source → slice_get outcomes place ≡ Some outcome
-      → LinkRan send receive read (opened first.me peer disk) first.me xs place peer wire source outcome
-  pub commands : CommandsRan told input (length first.neighbours) taken
+  pub links : (place peer : ℕ) (wire : W) (disk : D) (own : C) (outcome : Outcome) → slice_get first.neighbours place ≡ Some peer → slice_get wires place ≡ Some wire → slice_get disks place ≡ Some disk → slice_get clocks place ≡ Some own → slice_get outcomes place ≡ Some outcome
+      → LinkRan send receive tell (opened first.me peer disk) first.me xs place peer wire own outcome
+  pub commands : CommandsRan tell clock input (length first.neighbours) taken
   pub answer_is : first_fault fault first.neighbours outcomes ≡ answer
   pub tallies_are : tallies ≡ map (λ o. o.tally) outcomes
 
 -- a node that ends with a fault: one of its start, where nothing is written or memory is gone, or the first one of its threads
-abbrev pub EndsWithFault : {W D T Wr : Type 0} → (W → List ℕ → Result (Unit {0}) WireError → W → Type 0) → (W → Result (Option ℕ) WireError → List ℕ → W → Type 0) → (ℕ → Type 0) → (T → ℕ → T → Type 0)
-    → (ℕ → ℕ → D → Result ℕ LifeError → Type 0) → (Wr → Option (List ℕ)) → CoreView → List W → List D → List T → Option (List ℕ) → Wr → Option Wr → NodeError → Type 0
-EndsWithFault {Wr = Wr} send receive told read opened contents first wires disks ticks input writer left e =
+abbrev pub EndsWithFault : {W D C Wr : Type 0} → (W → List ℕ → Result (Unit {0}) WireError → W → Type 0) → (W → Result (Option ℕ) WireError → List ℕ → W → Type 0) → (C → ℕ → C → Type 0)
+    → (ℕ → ℕ → D → Result ℕ LifeError → Type 0) → (Wr → Option (List ℕ)) → CoreView → List W → List D → List C → C → Option (List ℕ) → Wr → Option Wr → NodeError → Type 0
+EndsWithFault {Wr = Wr} send receive tell opened contents first wires disks clocks clock input writer left e =
     (FailsToStart opened first disks e × ((left ≡ Some writer) ⊎ (e ≡ Fault.Memory)))
     ⊎ ((core : CoreView) × (tallies : List Tally) × (taken : List Item) × (gone : Bool) × (after : Wr) × (left ≡ Some after)
-    × NodeRan send receive told read opened first wires disks ticks input (contents writer) (contents after) (Some e) core tallies taken gone)
+    × NodeRan send receive tell opened first wires disks clocks clock input (contents writer) (contents after) (Some e) core tallies taken gone)
 
--- What a node answers that began with this core, these wires, these disks, these sources of ticks, this input and this writer, which is given back so
-pub record NodeAnswers {W D T Wr : Type 0} (send : W → List ℕ → Result (Unit {0}) WireError → W → Type 0) (receive : W → Result (Option ℕ) WireError → List ℕ → W → Type 0) (told : ℕ → Type 0) (read : T → ℕ → T → Type 0) (opened : ℕ → ℕ → D → Result ℕ LifeError → Type 0)
-    (contents : Wr → Option (List ℕ)) (first : CoreView) (wires : List W) (disks : List D) (ticks : List T) (input : Option (List ℕ)) (writer : Wr) (left : Option Wr)
+-- What a node answers that began with this core, these wires, these disks, these clocks of the links and one of the commands, this input and this writer, which is given back so
+pub record NodeAnswers {W D C Wr : Type 0} (send : W → List ℕ → Result (Unit {0}) WireError → W → Type 0) (receive : W → Result (Option ℕ) WireError → List ℕ → W → Type 0) (tell : C → ℕ → C → Type 0) (opened : ℕ → ℕ → D → Result ℕ LifeError → Type 0)
+    (contents : Wr → Option (List ℕ)) (first : CoreView) (wires : List W) (disks : List D) (clocks : List C) (clock : C) (input : Option (List ℕ)) (writer : Wr) (left : Option Wr)
     (answer : Result EndedView NodeError) : Type 0 where
   -- where it ends without a fault, the core is the run of what serving makes of some items from the first core on
   pub core : IfOk answer (λ ended. IsRunOf first ended.core)
@@ -100,5 +102,5 @@ pub record NodeAnswers {W D T Wr : Type 0} (send : W → List ℕ → Result (Un
   -- what its threads did: the runs of its links with their wires and life files, the commands that were read, and the items that the core
   -- served, which are what these have put, as the lanes carry it, and whose text was written
   pub ran : IfOk answer (λ ended. (after : Wr) × (left ≡ Some after)
-      × NodeRan send receive told read opened first wires disks ticks input (contents writer) (contents after) None ended.core ended.tallies ended.taken ended.gone)
-  pub failed : IfErr answer (EndsWithFault send receive told read opened contents first wires disks ticks input writer left)
+      × NodeRan send receive tell opened first wires disks clocks clock input (contents writer) (contents after) None ended.core ended.tallies ended.taken ended.gone)
+  pub failed : IfErr answer (EndsWithFault send receive tell opened contents first wires disks clocks clock input writer left)

@@ -1,7 +1,7 @@
 -- The calls that the thread of a link makes of its wire and its clock.
 use Rattle.std.specs.Prelude.{◌≡◌, ℕ, List, [], ◌∷◌, ◌++◌, Option, Result}
 use Rattle.tora_neighbour.specs.Calls.{SendsSome, ReceivesOnce, ExchangesUpTo}
-use Rattle.tora_neighbour.specs.Turns.{Turn, AreRead}
+use Rattle.tora_neighbour.specs.Turns.{Turn, AreRead, ticks_of}
 use Rattle.tora_neighbour.specs.declared.ending.Ending.{Ending}
 use Rattle.tora_neighbour.specs.declared.ending.Ending.TheVariants.{NoNumber, Broken, Refused}
 use Rattle.tora_neighbour.specs.declared.wire.WireError.{WireError}
@@ -18,11 +18,11 @@ LastWireCalls send receive wire t (NoNumber error) after = after ≡ wire
 LastWireCalls send receive wire t (Broken at) after = ExchangesUpTo send receive wire t.sent t.answers t.answer t.buffer at after
 LastWireCalls {W = W} send receive wire t Refused after = (sent : W) × SendsSome send wire t.sent t.answers sent × ReceivesOnce receive sent t.answer t.buffer after
 
--- the calls of this wire in these turns, each of which has read its own tick, one after another, from this source on
-pub record HasCalled {W T : Type 0} (send : W → List ℕ → Result (Unit {0}) WireError → W → Type 0) (receive : W → Result (Option ℕ) WireError → List ℕ → W → Type 0) (read : T → ℕ → T → Type 0) (wire : W) (ticks : T) (turns : List Turn) (last : Turn) (ending : Ending) : Type 0 where
+-- the calls of this wire in these turns, each of which has read its own tick of this clock, one after another
+pub record HasCalled {W C : Type 0} (send : W → List ℕ → Result (Unit {0}) WireError → W → Type 0) (receive : W → Result (Option ℕ) WireError → List ℕ → W → Type 0) (tell : C → ℕ → C → Type 0) (wire : W) (clock : C) (turns : List Turn) (last : Turn) (ending : Ending) : Type 0 where
   pub between : W
   pub after : W
   pub calls : AreWireCalls send receive wire turns between
   pub last_calls : LastWireCalls send receive between last ending after
-  pub ticks_after : T
-  pub reads : AreRead read ticks (turns ++ last ∷ []) ticks_after
+  pub clock_after : C
+  pub reads : AreRead tell clock (ticks_of (turns ++ last ∷ [])) clock_after

@@ -178,11 +178,11 @@ fn tell_unknown<R: Log, D: Display + Drop>(rt: &R, what: D) {
 /// Puts what a command asks. Nothing follows `quit`, and where nobody takes items any more.
 fn put<R: Wait + Log, C: Clock>(
     rt: &R,
-    clock: &C,
+    clock: &mut C,
     port: &mut InPort,
     command: Command,
 ) -> Option<CommandsEnd>
-    ensures { DidPut (C.did_tell clock.now) command port.old port.new result }
+    ensures { DidPut C.did_tell command (port.old, clock.old) (port.new, clock.new) result }
 {
     let what = match command {
         Command::Need(d) => What::Need(d),
@@ -231,12 +231,12 @@ fn read<Rd: Input>(reader: &mut Rd, chunk: &mut [u8; CHUNK]) -> Result<usize, Co
 /// items any more.
 fn put_all<R: Wait + Log, C: Clock>(
     rt: &R,
-    clock: &C,
+    clock: &mut C,
     port: &mut InPort,
     line: &mut Line,
     bytes: &[u8],
 ) -> Option<CommandsEnd>
-    ensures { (text : List ℕ) → Holds line.old text → PutsAll (C.did_tell clock.now) text bytes.now port.old port.new line.new result }
+    ensures { (text : List ℕ) → Holds line.old text → PutsAll C.did_tell text bytes.now (port.old, clock.old) (port.new, clock.new) line.new result }
 {
     for byte in bytes {
         if *byte == b'\n' {
@@ -255,11 +255,11 @@ fn put_all<R: Wait + Log, C: Clock>(
 /// Puts what a last line asks, which has no end, and then `Quit`.
 fn put_last<R: Wait + Log, C: Clock>(
     rt: &R,
-    clock: &C,
+    clock: &mut C,
     port: &mut InPort,
     line: &mut Line,
 ) -> Option<CommandsEnd>
-    ensures { (text : List ℕ) → Holds line.old text → PutsLast (C.did_tell clock.now) text port.old port.new result }
+    ensures { (text : List ℕ) → Holds line.old text → PutsLast C.did_tell text (port.old, clock.old) (port.new, clock.new) result }
 {
     if !line.is_empty() {
         line.tell(rt);
@@ -285,14 +285,14 @@ fn is_gone(end: Option<CommandsEnd>) -> bool
 /// has ended.
 ///
 /// A line that is no command is logged and passed over; so is `help`, which logs the commands. The end of the input and a failed read put `Quit`, and a last
-/// line without its end counts. Each item has the tick of the moment when it is put. It may wait.
+/// line without its end counts. Each item has a tick that is read of the clock when it is put. It may wait.
 pub fn run_commands<R: Wait + Log, Rd: Input, C: Clock>(
     rt: &R,
     reader: &mut Rd,
-    clock: &C,
+    clock: &mut C,
     port: &mut InPort,
 ) -> CommandsEnd
-    ensures put { Commands (C.did_tell clock.now) (Rd.remaining reader.old) (Rd.remaining reader.new) port.old port.new result }
+    ensures put { Commands C.did_tell (Rd.remaining reader.old) (Rd.remaining reader.new) (port.old, clock.old) (port.new, clock.new) result }
     // It ends by its reads: with `Read` where one failed, and with `End` where one gave nothing.
     ensures reads { AreReadBy Rd.did_read reader.old reader.new result }
 {

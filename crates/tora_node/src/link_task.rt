@@ -6,7 +6,7 @@ use crate::task::Task;
 use log::{Log, info};
 use std::sync::Wait;
 use tora_life::Disk;
-use tora_neighbour::{Finished, LaneHub, LinkFault, Tally, Ticks, Wire, run_neighbour};
+use tora_neighbour::{Clock, Finished, LaneHub, LinkFault, Tally, Wire, run_neighbour};
 
 /// What a neighbour's thread came to.
 #[derive(Clone, Copy)]
@@ -22,24 +22,24 @@ pub(crate) struct LinkRest {
     pub(crate) hub: LaneHub,
 }
 
-impl<D: Disk + Drop, W: Wire + Drop, T: Ticks + Drop> Task<LinkRest> for Start<D, W, T> {
+impl<D: Disk + Drop, W: Wire + Drop, C: Clock + Drop> Task<LinkRest> for Start<D, W, C> {
     ghost use Rattle.tora_node.specs.LinkRuns.{link_made};
     ghost use Rattle.tora_node.specs.Threads.{LinkLeaves};
 
-    ghost leaves = { λ t rest. LinkLeaves W.did_send W.did_receive T.did_read (link_made t.new) t.new.link.wire t.ticks t.new.link.file.numbers.drawn t.hub rest };
+    ghost leaves = { λ t rest. LinkLeaves W.did_send W.did_receive C.did_tell (link_made t.new) t.new.link.wire t.clock t.new.link.file.numbers.drawn t.hub rest };
 
     fn run<R: Wait + Log>(self, rt: &R) -> LinkRest {
-        let Start { new, hub, ticks } = self;
+        let Start { new, hub, clock } = self;
         let NewLink { link } = new;
         let peer = link.end.peer();
         let hub = LogHub { log: rt, peer, hub };
-        let mut ticks = ticks;
+        let mut clock = clock;
         let Finished {
             link: _,
             hub,
             fault,
             tally,
-        } = run_neighbour(rt, link, &mut ticks, hub);
+        } = run_neighbour(rt, link, &mut clock, hub);
         let bad = bad_datagrams(&tally);
         info!(rt; "link {peer} bad datagrams {bad}");
         let LogHub {

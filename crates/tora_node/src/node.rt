@@ -24,7 +24,7 @@ use tora_core::Core;
 use tora_height::Id;
 use tora_lane::{Lanes, OutPuts, Settling, what_was_offered_was_sent};
 use tora_life::Disk;
-use tora_neighbour::{Clock, LinkFault, Tally, Ticks, Wake, Wire};
+use tora_neighbour::{Clock, LinkFault, Tally, Wake, Wire};
 use tora_seat::CoreSeat;
 
 /// What a node has ended with. Contracts see its core, the tally of each neighbour in ascending order, the items that the
@@ -157,13 +157,12 @@ fn settled<Wr: Drop>(
 /// Runs a node until its commands or a fault of its core end it, and gives the writer back. The writer is `None` only where the
 /// answer is `Memory`.
 ///
-/// It takes one wire, one disk and one source of ticks for each link, by ascending neighbour; the commands have the ticks of
-/// `clock`. First it makes the core, the link ends and
-/// the lanes, then it opens the life files by ascending neighbour; the first fault there is answered, and no thread
-/// starts. Then the core and each neighbour have a thread, and the commands are read by this one: `need D`, `show` and
-/// `quit`, one a line; any other line is logged and passed over, and the end of the input is a `quit`. The core's thread
-/// writes the lines of `show`, and `refused N` for a need that is refused. A link whose thread has ended with a fault
-/// is down from then on, and the others go on.
+/// It takes one wire, one disk and one clock for each link, by ascending neighbour, and a clock for the commands. First it
+/// makes the core, the link ends and the lanes, then it opens the life files by ascending neighbour; the first fault there
+/// is answered, and no thread starts. Then the core and each neighbour have a thread, and the commands are read by this
+/// one: `need D`, `show` and `quit`, one a line; any other line is logged and passed over, and the end of the input is a
+/// `quit`. The core's thread writes the lines of `show`, and `refused N` for a need that is refused. A link whose thread
+/// has ended with a fault is down from then on, and the others go on.
 ///
 /// The thread of a neighbour is woken once a cargo was put into its lane: the wakers stand in the order of the wires, and where
 /// there is none, nobody is woken. No clause says that anybody is.
@@ -177,8 +176,7 @@ pub fn run_node<
     D: Disk + Send + Drop,
     W: Wire + Send + Drop,
     K: Wake + Send + Drop,
-    T: Ticks + Send + Drop,
-    C: Clock,
+    C: Clock + Send + Drop,
     Rd: Read,
     Wr: Write + Send + Drop,
 >(
@@ -188,16 +186,16 @@ pub fn run_node<
     wires: Vec<W>,
     disks: Vec<D>,
     wakers: Vec<K>,
-    ticks: Vec<T>,
-    clock: &C,
+    clocks: Vec<C>,
+    clock: C,
     reader: &mut Rd,
     writer: Wr,
 ) -> (Result<Ended, NodeError>, Option<Wr>)
     requires wires { length wires.items ≡ length config.neighbours }
     requires disks { length disks.items ≡ length config.neighbours }
-    requires ticks { length ticks.items ≡ length config.neighbours }
-    ensures { NodeAnswers W.did_send W.did_receive (C.did_tell clock.now) T.did_read (IsOpened D.syncs D.reads D.writes) Wr.contents
-        config wires.items disks.items ticks.items (Rd.remaining reader.old) writer result.1 result.0 }
+    requires clocks { length clocks.items ≡ length config.neighbours }
+    ensures { NodeAnswers W.did_send W.did_receive C.did_tell (IsOpened D.syncs D.reads D.writes) Wr.contents
+        config wires.items disks.items clocks.items clock (Rd.remaining reader.old) writer result.1 result.0 }
 {
     what_was_offered_was_sent();
     let core = config.into_core();
@@ -218,7 +216,7 @@ pub fn run_node<
         Ok(new) => new,
         Err(fault) => return (Err(fault), Some(writer)),
     };
-    let Some(starts) = new_starts(alloc, new, links, ticks) else {
+    let Some(starts) = new_starts(alloc, new, links, clocks) else {
         return (Err(NodeError::Memory), Some(writer));
     };
     let mut outcomes = Vec::new(alloc);

@@ -21,10 +21,10 @@ pub(crate) struct NewLink<D: Disk, W: Wire> {
     pub ghost owner: { link.file.owner ≡ owner_of link.end.settings.me link.end.settings.peer },
 }
 
-/// The work of a neighbour's thread: a new link, its lanes, and where its ticks come from.
+/// The work of a neighbour's thread: a new link, its lanes, and its clock.
 #[derive(Drop)]
-pub(crate) struct Start<D: Disk, W: Wire, T> {
+pub(crate) struct Start<D: Disk, W: Wire, C> {
     pub(crate) new: NewLink<D, W>,
     pub(crate) hub: LaneHub,
-    pub(crate) ticks: T,
+    pub(crate) clock: C,
 }

@@ -4,7 +4,7 @@ ghost use Rattle.tora_lane.specs.NodeLanes.{AreLanes};
 ghost use Rattle.tora_node.specs.declared.fault.NodeError.{NodeError};
 ghost use Rattle.tora_node.specs.NewLinks.{IsOpened};
 ghost use Rattle.tora_node.specs.LinkRuns.{name_of, link_ended, link_made, wire_made, OpenedOn, IsOpening, FailsToOpen};
-ghost use Rattle.tora_node.specs.Threads.{Each, started, link_to_start, hub_started, hub_of, ticks_started};
+ghost use Rattle.tora_node.specs.Threads.{Each, started, link_to_start, hub_started, hub_of, clock_started};
 
 use crate::fault::NodeError;
 use crate::start::{NewEnd, NewLink, Start};
@@ -102,35 +102,30 @@ fn new_link<D: Disk + Drop, W: Wire + Drop>(
 }
 
 /// Puts the work of each neighbour's thread together.
-pub(crate) fn new_starts<D: Disk + Drop, W: Wire + Drop, T: Drop>(
+pub(crate) fn new_starts<D: Disk + Drop, W: Wire + Drop, C: Drop>(
     alloc: Global,
     links: Vec<NewLink<D, W>>,
     hubs: Vec<(InPort, OutTake)>,
-    ticks: Vec<T>,
-) -> Option<Vec<Start<D, W, T>>>
+    clocks: Vec<C>,
+) -> Option<Vec<Start<D, W, C>>>
     requires hubs { length hubs.items ≡ length links.items }
-    requires ticks { length ticks.items ≡ length links.items }
+    requires clocks { length clocks.items ≡ length links.items }
     ensures links { IfSome result (λ starts. map started starts.items ≡ map link_to_start links.items) }
     ensures hubs { IfSome result (λ starts. map hub_started starts.items ≡ map hub_of hubs.items) }
-    ensures ticks { IfSome result (λ starts. map ticks_started starts.items ≡ ticks.items) }
+    ensures clocks { IfSome result (λ starts. map clock_started starts.items ≡ clocks.items) }
 {
     let mut starts = Vec::new(alloc);
     let mut hubs = hubs.into_iter();
-    let mut ticks = ticks.into_iter();
+    let mut clocks = clocks.into_iter();
     for new in links {
         let Some((port, outs)) = hubs.next() else {
             unreachable!()
         };
-        let Some(own) = ticks.next() else {
+        let Some(clock) = clocks.next() else {
             unreachable!()
         };
         let hub = LaneHub { port, outs };
-        let start = Start {
-            new,
-            hub,
-            ticks: own,
-        };
-        let Ok(()) = starts.push(start) else {
+        let Ok(()) = starts.push(Start { new, hub, clock }) else {
             return None;
         };
     }

@@ -12,7 +12,7 @@ use std::io::Read;
 use std::snapshot::Snapshot;
 use std::sync::Wait;
 use std::thread;
-use std::thread::{PromisedHandle, Threads};
+use std::thread::{PromisedHandle, Scope, Threads};
 use tora_lane::{InPort, What};
 use tora_neighbour::Clock;
 
@@ -34,7 +34,7 @@ pub(crate) fn run_threads<
     K: Task<O> + Send + Drop,
     L: Send + Drop,
     T: Task<L> + Send + Drop,
-    C: Clock,
+    C: Clock + Drop,
     Rd: Read,
 >(
     rt: &R,
@@ -42,60 +42,79 @@ pub(crate) fn run_threads<
     core_task: K,
     command: InPort,
     tasks: Vec<T>,
-    clock: &C,
+    clock: C,
     reader: &mut Rd,
 ) -> Option<Rests<O, L>>
     ensures core { IfSome result (λ rests. K.leaves core_task rests.core) }
     ensures links { IfSome result (λ rests. Each T.leaves tasks.items rests.links.items) }
-    ensures commands { IfSome result (λ rests. CommandsFrom (C.did_tell clock.now) (Rd.remaining reader.old) command rests.command rests.end) }
+    ensures commands { IfSome result
+        (λ rests. CommandsFrom C.did_tell clock (Rd.remaining reader.old) command rests.command rests.end) }
 {
     thread::scope(
         thread::scope_env(),
         rt,
         |scope| -> Option<Rests<O, L>>
             requires { IsSync R.row × IsSend K.row × IsSend T.row × IsSend O.row × IsSend L.row }
-            ensures { IfSome result (λ rests. K.leaves core_task rests.core × Each T.leaves tasks.items rests.links.items
-                × CommandsFrom (C.did_tell clock.entry.now) (Rd.remaining reader.entry.now) command rests.command rests.end) }
+            ensures { IfSome result (λ rests. K.leaves core_task rests.core
+                × Each T.leaves tasks.items rests.links.items
+                × CommandsFrom C.did_tell clock (Rd.remaining reader.entry.now) command rests.command rests.end) }
         {
             let mut command = command;
-            let mut handles = room_for(alloc, tasks.len())?;
+            let mut clock = clock;
+            let handles = room_for(alloc, tasks.len())?;
             let rests = room_for(alloc, tasks.len())?;
             let promise = Does(Snapshot::of(&core_task));
             let Ok(core_thread) = scope.spawn_with(promise, move || core_task.run(rt)) else {
                 return None;
             };
-            let mut has_all = true;
-            for task in tasks {
-                let promise = Does(Snapshot::of(&task));
-                match scope.spawn_with(promise, move || task.run(rt)) {
-                    Err(_) => has_all = false,
-                    Ok(handle) => match handles.push(handle) {
-                        Err(_) => has_all = false,
-                        Ok(()) => {}
-                    },
-                }
-            }
-            if has_all {
-                let end = run_commands(rt, reader, clock, &mut command);
-                if end == CommandsEnd::Read {
-                    warn!(rt; "the commands can't be read any further");
-                }
-                let core = core_thread.join(rt);
-                let links = join_all(rt, handles, rests)?;
-                Some(Rests {
-                    core,
-                    links,
-                    command,
-                    end,
-                })
-            } else {
+            let Some(handles) = start_all(scope, rt, tasks, handles) else {
                 let _ = command.put(rt, clock.now(), What::Quit);
-                let _ = core_thread.join(rt);
-                let _ = join_all(rt, handles, rests);
-                None
+                return None;
+            };
+            let end = run_commands(rt, reader, &mut clock, &mut command);
+            if end == CommandsEnd::Read {
+                warn!(rt; "the commands can't be read any further");
             }
+            let core = core_thread.join(rt);
+            let links = join_all(rt, handles, rests)?;
+            Some(Rests {
+                core,
+                links,
+                command,
+                end,
+            })
         },
     )
+}
+
+/// Starts a thread for each task, in order, behind no threads. `None` where one could not be started, or memory is
+/// gone; the scope waits for those that were.
+fn start_all<
+    's,
+    E,
+    R: Threads + Wait + Log + Sync,
+    L: Send + Drop + 's,
+    T: Task<L> + Send + Drop + 's,
+>(
+    scope: &Scope<'s, E>,
+    rt: &'s R,
+    tasks: Vec<T>,
+    handles: Vec<PromisedHandle<L, Does<T>>>,
+) -> Option<Vec<PromisedHandle<L, Does<T>>>>
+    requires { handles.items ≡ [] }
+    ensures { IfSome result (λ all. map begun_by all.items ≡ tasks.items) }
+{
+    let mut handles = handles;
+    for task in tasks {
+        let promise = Does(Snapshot::of(&task));
+        let Ok(handle) = scope.spawn_with(promise, move || task.run(rt)) else {
+            return None;
+        };
+        let Ok(()) = handles.push(handle) else {
+            return None;
+        };
+    }
+    Some(handles)
 }
 
 /// Room for so many. `None` where memory is gone.
@@ -109,7 +128,8 @@ fn room_for<X: Drop>(alloc: Global, count: usize) -> Option<Vec<X>>
     }
 }
 
-/// Joins threads, in order, behind no results. `None` where memory is gone; the scope of the threads waits for those left.
+/// Joins threads, in order, behind no results. `None` where memory is gone; the scope of the threads waits for those
+/// left.
 fn join_all<R: Threads, L: Drop, T: Task<L>>(
     rt: &R,
     handles: Vec<PromisedHandle<L, Does<T>>>,

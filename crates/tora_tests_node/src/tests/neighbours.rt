@@ -6,7 +6,6 @@ use super::sees::{ends, same, same_at, sees, there};
 use std::alloc::{AllocError, Global};
 use std::process::Abort;
 use std::sync::Wait;
-use std::sync::atomic::{AtomicU64, Ordering};
 use tora_arq::{Life, LinkEnd, Reason, Times, Verdict};
 use tora_frame::FrameError;
 use tora_height::Id;
@@ -23,23 +22,22 @@ mod sockets;
 // A clock that goes on by so many ticks each time it is read.
 #[derive(Drop)]
 struct Leaping {
-    now: AtomicU64,
+    now: u64,
     step: u64,
 }
 
 impl Clock for Leaping {
-    ghost did_tell = { λ c tick. Unit {0} };
+    ghost did_tell = { λ c tick after. Unit {0} };
 
-    fn now(&self) -> u64 {
-        self.now.fetch_add(self.step, Ordering::SeqCst)
+    fn now(&mut self) -> u64 {
+        let now = self.now;
+        self.now = now.wrapping_add(self.step);
+        now
     }
 }
 
 fn clock_of(step: u64) -> Leaping {
-    Leaping {
-        now: AtomicU64::new(0),
-        step,
-    }
+    Leaping { now: 0, step }
 }
 
 // The bytes of a frame, by the table of the formats.

@@ -18,7 +18,7 @@ use streams::{Asking, Course, Meeting, Page, Screen, Waiting};
 use tora_core::CoreError;
 use tora_height::Id;
 use tora_life::{Disk, LifeError};
-use tora_neighbour::{ClockTicks, NodeClock, UnixClock, clock_ticks};
+use tora_neighbour::{NodeClock, UnixClock};
 use tora_node::*;
 use tora_seat::Status;
 
@@ -67,10 +67,11 @@ fn run_over<
     as_many(rt, wires.len(), links);
     as_many(rt, disks.len(), links);
     let clock = UnixClock::new(rt);
-    let ticks = there(rt, clock_ticks(alloc, &clock, links), "memory for ticks");
+    let clocks = there(rt, vec![in alloc; clock; links].ok(), "memory for clocks");
+    as_many(rt, clocks.len(), links);
     let wakers = Vec::<()>::new(alloc);
     let (ended, _) = run_node(
-        rt, alloc, config, wires, disks, wakers, ticks, &clock, commands, screen,
+        rt, alloc, config, wires, disks, wakers, clocks, clock, commands, screen,
     );
     ended
 }
@@ -94,12 +95,12 @@ fn run_one<R: Threads + Wait + Sync + time::Clock + log::Log + Abort>(
     let wires = list_of(rt, alloc, wire);
     let wakers = list_of(rt, alloc, waker);
     let disks = list_of(rt, alloc, ByteDisk::of_zeros(0));
-    let ticks = list_of(rt, alloc, ClockTicks { clock });
+    let clocks = list_of(rt, alloc, clock);
     let links = config.peers().len();
     as_many(rt, wires.len(), links);
     as_many(rt, disks.len(), links);
-    as_many(rt, ticks.len(), links);
-    let mut commands = Asking {
+    as_many(rt, clocks.len(), links);
+    let mut read = Asking {
         rt,
         first,
         course,
@@ -107,16 +108,7 @@ fn run_one<R: Threads + Wait + Sync + time::Clock + log::Log + Abort>(
     };
     let screen = Screen { course };
     let (ended, screen) = run_node(
-        rt,
-        alloc,
-        config,
-        wires,
-        disks,
-        wakers,
-        ticks,
-        clock,
-        &mut commands,
-        screen,
+        rt, alloc, config, wires, disks, wakers, clocks, clock, &mut read, screen,
     );
     ended.is_ok() && screen.is_some()
 }

@@ -4,4 +4,4 @@ use Rattle.tora_commands.proofs.node_command.run_bound.Goals as goal
 pub returns : goal.returns
 returns g c =
     ran_or_memory _ _ _ _ c.run_over-ended.result.0 _ c.finish.ensures
-    (map_right c.run_over-ended.ensures (λ ran. (c.args.clock.now, ran.0, c.in-Ok.disks.items, ran.1, ran.3)))
+    (map_right c.run_over-ended.ensures (λ ran. (c.args.clock, ran.0, c.in-Ok.disks.items, ran.2)))

@@ -4,4 +4,8 @@ use Rattle.tora_commands.proofs.node_command.run_over.Goals as goal
 
 pub returns : goal.returns
 returns g c =
-    inr (c.in-Some-lend.lent.items, c.in-Some-clock_ticks.ticks.items, c.in-Some-lend.ensures, answers_of _ _ _ _ _ _ _ _ _ _ _ _ _ _ _ c.in-Some.ensures.node c.run_node.ensures)
+    inr (
+      c.in-Some-lend.lent.items,
+      c.in-Some-lend.ensures,
+      answers_of _ _ _ _ _ _ _ _ _ _ _ _ _ _ _ c.in-Some.ensures.node (rw c.in-Some-shared.ensures at c.run_node.ensures),
+    )

@@ -38,7 +38,7 @@ loop-preserved g c =
         tally_more first_tally h.so_far.0 c.loop.course.tally t.0 _ h.so_far.3 t.4,
         traffic_more _ _ _ h.so_far.0 (t.0 ∷ []) h.so_far.4 t.5,
         calls_more g.H.Hub.did_take g.H.Hub.did_put g.W.Wire.did_send g.W.Wire.did_receive c.args.hub c.args.link.wire h.so_far.0 c.loop.hub c.loop.link.wire t.0 c.turn.new.hub c.turn.new.link.wire h.so_far.5 t.6,
-        read_more g.T.Ticks.did_read c.args.ticks.now h.so_far.0 c.loop.ticks t.0 c.read-now.new.self h.so_far.6 (subst (λ (n : ℕ). g.T.Ticks.did_read c.loop.ticks n c.read-now.new.self) (sym t.7) c.read-now.ensures),
+        read_more g.C.Clock.did_tell c.args.clock.now h.so_far.0 c.loop.clock t.0 c.now-now.new.self h.so_far.6 (subst (λ (n : ℕ). g.C.Clock.did_tell c.loop.clock n c.now-now.new.self) (sym t.7) c.now-now.ensures),
         row_turns 0 c.loop.course.row c.turn.new.course.row h.so_far.0 t.0 h.so_far.7 t.8,
       );
     }
@@ -63,7 +63,7 @@ returns-in-Err-clause-turns g c =
       },
       traffic_more _ _ _ h.so_far.0 (t.0 ∷ []) h.so_far.4 t.3,
       tally_more first_tally h.so_far.0 c.loop.course.tally t.0 _ h.so_far.3 t.2,
-      read_more g.T.Ticks.did_read c.args.ticks.now h.so_far.0 c.loop.ticks t.0 c.read-now.new.self h.so_far.6 (subst (λ (n : ℕ). g.T.Ticks.did_read c.loop.ticks n c.read-now.new.self) (sym t.5) c.read-now.ensures),
+      read_more g.C.Clock.did_tell c.args.clock.now h.so_far.0 c.loop.clock t.0 c.now-now.new.self h.so_far.6 (subst (λ (n : ℕ). g.C.Clock.did_tell c.loop.clock n c.now-now.new.self) (sym t.5) c.now-now.ensures),
       (c.loop.hub, c.loop.link.wire, h.so_far.5, t.4),
     )
 

@@ -1,7 +1,7 @@
 use Rattle.std.proofs.Common.{◌≡◌, ◌<◌, List, None}
 use Rattle.tora_neighbour.specs.Datagrams.{RoseBy}
 use Rattle.tora_neighbour.specs.Tally.{first_tally}
-use Rattle.tora_neighbour.specs.Turns.{Turn, AreTurns, AreBeats, AreRead, IsRow, calls_failed, tally_after}
+use Rattle.tora_neighbour.specs.Turns.{Turn, AreTurns, AreBeats, AreRead, ticks_of, IsRow, calls_failed, tally_after}
 use Rattle.tora_neighbour.specs.Traffic.{Traffic, outside}
 use Rattle.tora_neighbour.specs.Calls.{AreCalls}
 use Rattle.tora_neighbour.specs.Causes.{IsReady}
@@ -22,6 +22,6 @@ invariant-loop g l = record {
       × (l.course.tally ≡ tally_after first_tally turns)
       × Traffic (outside g.H.Hub.puts g.H.Hub.takes g.W.Wire.tells g.W.Wire.coming g.W.Wire.tries l.fn.link l.fn.hub) turns (outside g.H.Hub.puts g.H.Hub.takes g.W.Wire.tells g.W.Wire.coming g.W.Wire.tries l.link l.hub)
       × AreCalls g.H.Hub.did_take g.H.Hub.did_put g.W.Wire.did_send g.W.Wire.did_receive l.fn.hub l.fn.link.wire turns l.hub l.link.wire
-      × AreRead g.T.Ticks.did_read l.fn.ticks turns l.ticks
+      × AreRead g.C.Clock.did_tell l.fn.clock (ticks_of turns) l.clock
       × IsRow 0 (calls_failed turns) l.course.row;
 }

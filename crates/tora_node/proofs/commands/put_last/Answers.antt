@@ -8,12 +8,12 @@ use Rattle.tora_node.proofs.commands.put_last.Goals.{then-not-is_empty+else-is_s
 
 pub returns : goal.returns
 returns g c = λ text holds.
-    let told = g.C.Clock.did_tell c.args.clock.now in
-    let quits = λ (port : InEnd). DidPut told Quit port c.put.new.port c.put.result in
+    let tell = g.C.Clock.did_tell in
+    let quits = λ (p : InEnd × _). DidPut tell Quit p (c.put.new.port, c.put.new.clock) c.put.result in
     elim c.if-not-is_empty.branch [
       | then-not-is_empty+else-is_some w ↦
-          went_last told text c.args.port.now w.put-end.new.port c.put.new.port w.take.result w.put-end.result c.put.result (w.take.ensures.asked text holds) w.put-end.ensures (sym w.is_some.ensures ∙ w.if-is_some.false)
-          (subst quits w.port-is c.put.ensures)
+          went_last tell text (c.args.port.now, c.args.clock.now) (w.put-end.new.port, w.put-end.new.clock) (c.put.new.port, c.put.new.clock) w.take.result w.put-end.result c.put.result (w.take.ensures.asked text holds) w.put-end.ensures (sym w.is_some.ensures ∙ w.if-is_some.false)
+          (subst quits (λ i. (w.port-is i, w.clock-is i)) c.put.ensures)
       | else-not-is_empty w ↦
-          empty_last told text c.args.port.now c.put.new.port c.put.result (c.is_empty.ensures w.if-not-is_empty.false text holds) (subst quits w.port-is c.put.ensures)
+          empty_last tell text (c.args.port.now, c.args.clock.now) (c.put.new.port, c.put.new.clock) c.put.result (c.is_empty.ensures w.if-not-is_empty.false text holds) (subst quits (λ i. (w.port-is i, w.clock-is i)) c.put.ensures)
     ]

@@ -4,6 +4,6 @@ use Rattle.tora_node.proofs.commands.run_commands.Given as goal
 
 abbrev pub invariant-loop : goal.invariant-loop
 invariant-loop g l = record {
-  underway : Underway (g.C.Clock.did_tell l.clock) (g.Rd.Input.remaining l.fn.reader) (g.Rd.Input.remaining l.reader) l.fn.port l.port l.line;
+  underway : Underway g.C.Clock.did_tell (g.Rd.Input.remaining l.fn.reader) (g.Rd.Input.remaining l.reader) (l.fn.port, l.fn.clock) (l.port, l.clock) l.line;
   reads : HaveRead g.Rd.Input.did_read l.fn.reader l.reader;
 }

@@ -24,15 +24,15 @@ new_links-requires-clause-wires g c =
     let ends : map link_ended c.in-Some.ends.items ≡ links_of c.args.config = subst (λ (v : CoreView). map link_ended c.in-Some.ends.items ≡ links_of v) c.into_core-core.ensures.same c.in-Some.ensures in
     c.requires.wires ∙ sym (as_long link_ended (name_of c.args.config.me) c.in-Some.ends.items c.args.config.neighbours ends)
 
-pub new_starts-requires-clause-ticks : goal.new_starts-requires-clause-ticks
-new_starts-requires-clause-ticks g c =
+pub new_starts-requires-clause-clocks : goal.new_starts-requires-clause-clocks
+new_starts-requires-clause-clocks g c =
     let ends : map link_ended c.in-Some.ends.items ≡ links_of c.args.config = subst (λ (v : CoreView). map link_ended c.in-Some.ends.items ≡ links_of v) c.into_core-core.ensures.same c.in-Some.ensures in
-    c.requires.ticks ∙ sym (as_long link_made (name_of c.args.config.me) c.in-Ok-new_links.new.items c.args.config.neighbours (c.in-Ok-new_links.ensures.made ∙ ends))
+    c.requires.clocks ∙ sym (as_long link_made (name_of c.args.config.me) c.in-Ok-new_links.new.items c.args.config.neighbours (c.in-Ok-new_links.ensures.made ∙ ends))
 
 pub returns-in-Err-new_links : goal.returns-in-Err-new_links
 returns-in-Err-new_links g c =
     let ends : map link_ended c.in-Some.ends.items ≡ links_of c.args.config = subst (λ (v : CoreView). map link_ended c.in-Some.ends.items ≡ links_of v) c.into_core-core.ensures.same c.in-Some.ensures in
-    not_started g.W.Wire.did_send g.W.Wire.did_receive (g.C.Clock.did_tell c.args.clock.now) g.T.Ticks.did_read (IsOpened g.D.Disk.syncs g.D.Disk.reads g.D.Disk.writes) g.Wr.Write.contents c.args.config c.args.wires.items c.args.disks.items c.args.ticks.items (g.Rd.Read.remaining c.args.reader.now)
+    not_started g.W.Wire.did_send g.W.Wire.did_receive g.C.Clock.did_tell (IsOpened g.D.Disk.syncs g.D.Disk.reads g.D.Disk.writes) g.Wr.Write.contents c.args.config c.args.wires.items c.args.disks.items c.args.clocks.items c.args.clock (g.Rd.Read.remaining c.args.reader.now)
     c.args.writer (map link_ended c.in-Some.ends.items) c.in-Err-new_links.fault ends c.in-Err-new_links.ensures.fault c.in-Err-new_links.ensures.failed
 
 pub settled-ended-requires-clause-ends : goal.settled-ended-requires-clause-ends
@@ -43,19 +43,19 @@ settled-ended-requires-clause-ends g c =
     let asked : length c.neighbours.result.now ≡ length c.args.config.neighbours = ap length c.neighbours.ensures ∙ ap (λ (v : CoreView). length v.neighbours) same in
     let ends : map link_ended c.in-Some.ends.items ≡ links_of c.args.config = subst (λ (v : CoreView). map link_ended c.in-Some.ends.items ≡ links_of v) same c.in-Some.ensures in
     let core = c.in-Ok-new_core_start.ensures.made in
-    let left : Left g.W.Wire.did_send g.W.Wire.did_receive g.C.Clock.did_tell c.args.clock.now g.T.Ticks.did_read (IsOpened g.D.Disk.syncs g.D.Disk.reads g.D.Disk.writes) c.args.config c.args.wires.items c.args.disks.items c.args.ticks.items lanes.core lanes.command lanes.links.items lanes.outs.items g.Wr.Write.contents c.args.writer c.in-Ok-new_links.new.items c.in-Some-new_starts.starts.items rests.core rests.links.items = record {
+    let left : Left g.W.Wire.did_send g.W.Wire.did_receive g.C.Clock.did_tell (IsOpened g.D.Disk.syncs g.D.Disk.reads g.D.Disk.writes) c.args.config c.args.wires.items c.args.disks.items c.args.clocks.items c.args.clock lanes.core lanes.command lanes.links.items lanes.outs.items g.Wr.Write.contents c.args.writer c.in-Ok-new_links.new.items c.in-Some-new_starts.starts.items rests.core rests.links.items = record {
       lanes = subst (λ (n : ℕ). AreLanes n lanes.core lanes.command lanes.links.items lanes.outs.items) asked c.in-Ok.ensures.made.0;
       links_are = c.in-Ok-new_links.ensures.made ∙ ends;
       wires_are = c.in-Ok-new_links.ensures.wired;
       files_are = c.in-Ok-new_links.ensures.opened;
       starts_are = c.in-Some-new_starts.ensures.links;
       hubs_are = c.in-Some-new_starts.ensures.hubs;
-      ticks_are = c.in-Some-new_starts.ensures.ticks;
+      clocks_are = c.in-Some-new_starts.ensures.clocks;
       ran = c.in-Some-run_threads.ensures.links;
       served = subst (λ (x : SeatView × (CoreEnd × (List SendEnd × _))). CoreLeaves g.Wr.Write.contents x.0 x.1.0 x.1.1.0 x.1.1.1 rests.core) (λ i. ((core.0 ∙ ap first_seat same) i, (core.1 i, (core.2 i, core.3 i)))) c.in-Some-run_threads.ensures.core;
       ascending = subst (λ (v : CoreView). IsAscending v.neighbours) same c.into_core-core.ensures.ascending;
     } in
-    have_ends _ _ _ _ _ _ _ _ _ _ _ _ _ _ _ _ _ _ _ _ left
+    have_ends _ _ _ _ _ _ _ _ _ _ _ _ _ _ _ _ _ _ _ left
 
 pub returns : goal.returns
 returns g c =
@@ -65,19 +65,19 @@ returns g c =
     let asked : length c.neighbours.result.now ≡ length c.args.config.neighbours = ap length c.neighbours.ensures ∙ ap (λ (v : CoreView). length v.neighbours) same in
     let ends : map link_ended c.in-Some.ends.items ≡ links_of c.args.config = subst (λ (v : CoreView). map link_ended c.in-Some.ends.items ≡ links_of v) same c.in-Some.ensures in
     let core = c.in-Ok-new_core_start.ensures.made in
-    let left : Left g.W.Wire.did_send g.W.Wire.did_receive g.C.Clock.did_tell c.args.clock.now g.T.Ticks.did_read (IsOpened g.D.Disk.syncs g.D.Disk.reads g.D.Disk.writes) c.args.config c.args.wires.items c.args.disks.items c.args.ticks.items lanes.core lanes.command lanes.links.items lanes.outs.items g.Wr.Write.contents c.args.writer c.in-Ok-new_links.new.items c.in-Some-new_starts.starts.items rests.core rests.links.items = record {
+    let left : Left g.W.Wire.did_send g.W.Wire.did_receive g.C.Clock.did_tell (IsOpened g.D.Disk.syncs g.D.Disk.reads g.D.Disk.writes) c.args.config c.args.wires.items c.args.disks.items c.args.clocks.items c.args.clock lanes.core lanes.command lanes.links.items lanes.outs.items g.Wr.Write.contents c.args.writer c.in-Ok-new_links.new.items c.in-Some-new_starts.starts.items rests.core rests.links.items = record {
       lanes = subst (λ (n : ℕ). AreLanes n lanes.core lanes.command lanes.links.items lanes.outs.items) asked c.in-Ok.ensures.made.0;
       links_are = c.in-Ok-new_links.ensures.made ∙ ends;
       wires_are = c.in-Ok-new_links.ensures.wired;
       files_are = c.in-Ok-new_links.ensures.opened;
       starts_are = c.in-Some-new_starts.ensures.links;
       hubs_are = c.in-Some-new_starts.ensures.hubs;
-      ticks_are = c.in-Some-new_starts.ensures.ticks;
+      clocks_are = c.in-Some-new_starts.ensures.clocks;
       ran = c.in-Some-run_threads.ensures.links;
       served = subst (λ (x : SeatView × (CoreEnd × (List SendEnd × _))). CoreLeaves g.Wr.Write.contents x.0 x.1.0 x.1.1.0 x.1.1.1 rests.core) (λ i. ((core.0 ∙ ap first_seat same) i, (core.1 i, (core.2 i, core.3 i)))) c.in-Some-run_threads.ensures.core;
       ascending = subst (λ (v : CoreView). IsAscending v.neighbours) same c.into_core-core.ensures.ascending;
     } in
-    let a = answers _ _ _ _ _ _ _ _ _ _ _ _ _ _ _ _ _ _ _ _ left _ _ _ c.in-Some-run_threads.ensures.commands c.what_was_offered_was_sent.ensures c.settled-ended.result.0 c.settled-ended.ensures.settles in
+    let a = answers _ _ _ _ _ _ _ _ _ _ _ _ _ _ _ _ _ _ _ left _ _ _ c.in-Some-run_threads.ensures.commands c.what_was_offered_was_sent.ensures c.settled-ended.result.0 c.settled-ended.ensures.settles in
     rw (c.settled-ended.ensures.writer) (record {
       core = a.core_is_run;
       links = a.links_ran;

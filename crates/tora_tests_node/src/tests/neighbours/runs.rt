@@ -68,9 +68,8 @@ pub fn run_over<R: Wait + Abort, W: Wire>(
         file,
         wire,
     };
-    let clock = clock_of(step);
-    let mut ticks = ClockTicks { clock: &clock };
-    run_neighbour(rt, link, &mut ticks, hub)
+    let mut clock = clock_of(step);
+    run_neighbour(rt, link, &mut clock, hub)
 }
 
 /// What is seen of a run: its fault, what was counted, and what was put.
@@ -329,9 +328,8 @@ fn want_of_memory_is_answered(rt: HostRuntime) {
         file: file_of(&rt, MemDisk::new()),
         wire: MemWire::<16>::new(datagrams),
     };
-    let clock = clock_of(10);
-    let mut ticks = ClockTicks { clock: &clock };
-    let finished = run_neighbour(&rt, link, &mut ticks, hub);
+    let mut clock = clock_of(10);
+    let finished = run_neighbour(&rt, link, &mut clock, hub);
     fault_is(&rt, finished.fault, None);
     tally_is(&rt, &finished.tally, (1, 1));
     puts_are(&rt, &finished.hub, 2, &[Told::Up(0), Told::Beat(0)]);

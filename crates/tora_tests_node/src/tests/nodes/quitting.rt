@@ -10,7 +10,7 @@ use std::sync::atomic::{AtomicU64, Ordering};
 use std::thread::Threads;
 use std::time::Duration;
 use std::{thread, time};
-use tora_neighbour::{Clock, NodeClock, Wake, clock_ticks};
+use tora_neighbour::{Clock, NodeClock, Wake};
 use tora_node::run_node;
 
 /// What a node tells of its end.
@@ -25,16 +25,16 @@ struct Course {
 }
 
 /// A clock of a node that counts how often it is read.
-#[derive(Drop)]
+#[derive(Clone, Copy)]
 struct CountingClock<'a, C> {
-    clock: &'a C,
+    clock: C,
     course: &'a Course,
 }
 
 impl<C: Clock> Clock for CountingClock<'_, C> {
-    ghost did_tell = { λ c tick. Unit {0} };
+    ghost did_tell = { λ c tick after. Unit {0} };
 
-    fn now(&self) -> u64 {
+    fn now(&mut self) -> u64 {
         self.course.read.fetch_add(1, Ordering::SeqCst);
         if self.course.told.load(Ordering::SeqCst) > 0 {
             self.course.read_since.fetch_add(1, Ordering::SeqCst);
@@ -105,7 +105,12 @@ fn run_to_the_end<R: Threads + Wait + Sync + time::Clock + log::Log + Abort>(
     as_many(rt, wires.len(), links);
     as_many(rt, disks.len(), links);
     let counting = CountingClock { clock, course };
-    let ticks = there(rt, clock_ticks(alloc, &counting, links), "memory for ticks");
+    let clocks = there(
+        rt,
+        vec![in alloc; counting; links].ok(),
+        "memory for clocks",
+    );
+    as_many(rt, clocks.len(), links);
     let mut commands = Running { rt, course };
     let screen = Vec::new(alloc);
     let (ended, screen) = run_node(
@@ -115,8 +120,8 @@ fn run_to_the_end<R: Threads + Wait + Sync + time::Clock + log::Log + Abort>(
         wires,
         disks,
         wakers,
-        ticks,
-        &counting,
+        clocks,
+        counting,
         &mut commands,
         screen,
     );

@@ -25,7 +25,7 @@ returns g c =
         after = after.link.wire;
         calls = calls.0;
         last_calls = calls.1;
-        ticks_after = c.run_neighbour-hub.new.ticks;
+        clock_after = c.run_neighbour-hub.new.clock;
         reads = t.7;
       };
       last_drawn = after.link.file.numbers.drawn;
