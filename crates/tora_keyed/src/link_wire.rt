@@ -25,7 +25,7 @@ const ROOM: usize = LONGEST_FRAME + 1 + TAG;
 ///
 /// The log has a line where datagrams come that are not authentic, at most once a minute: `link 2 unauthenticated
 /// datagrams 17`, with the count since the wire was made. Once the link has ended, `close` logs the last count and
-/// overwrites the key. Own profile.
+/// overwrites the key.
 #[derive(Drop)]
 pub struct LinkWire<'a, W: Wire, C, L> {
     wire: W,

@@ -11,7 +11,6 @@ use tora_neighbour::Clock;
 const MINUTE: u64 = 600;
 
 /// What the log says of the link to `peer`, and when a count is told: where it is a new one, and at most once a minute.
-/// Own profile.
 #[derive(Drop)]
 pub(crate) struct Notices<'a, C, L> {
     peer: Id,

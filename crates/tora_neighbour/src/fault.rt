@@ -2,7 +2,7 @@
 use thiserror::Error;
 use tora_life::LifeError;
 
-/// Why the thread of a neighbour has ended though nobody told it to. Own profile.
+/// Why the thread of a neighbour has ended by itself.
 #[derive(Clone, Copy, Debug, PartialEq, Eq, Hash, Error)]
 pub enum LinkFault {
     /// Its life file drew no number.

@@ -19,7 +19,7 @@ pub struct Put {
     pub what: What,
 }
 
-/// The seat of a neighbour's thread: it puts what the link tells, and takes the cargoes for the link. Own profile.
+/// The seat of a neighbour's thread: it puts what the link tells, and takes the cargoes for the link.
 pub trait Hub {
     /// What was put since the hub was made, the first of it first.
     ghost puts: { Self → List Put };

@@ -6,7 +6,7 @@ use crate::intake::Intake;
 use tora_arq::Verdict;
 use tora_frame::FrameError;
 
-/// How many datagrams of one link came to each verdict, and to each fault of their bytes. Own profile.
+/// How many datagrams of one link came to each verdict, and to each fault of their bytes.
 ///
 /// Each datagram that `take_in` is given adds 1 to exactly one of the counts, which stays at 2^64 - 1 once there.
 #[derive(Clone, Copy, Debug, PartialEq, Eq, Hash)]

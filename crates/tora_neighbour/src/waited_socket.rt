@@ -16,7 +16,7 @@ const SOCKET: Token = Token(0);
 /// What the wake-up is registered under.
 const WAKE_UP: Token = Token(1);
 
-/// How many events a wait gives at most: that of the socket, and that of the wake-up.
+/// The most events of one wait: one of the socket and one of the wake-up.
 const MOST_EVENTS: usize = 2;
 
 /// A socket for datagrams that is waited for, whose calls contracts tell: what each was given, how it was answered, and the socket

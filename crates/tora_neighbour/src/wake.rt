@@ -2,7 +2,7 @@
 
 /// Ends the wait of a neighbour's thread for its wire, so that it takes the cargoes that are in its lane.
 ///
-/// No contract speaks of it: where a call does nothing, a cargo waits as long as the wire does, and none is lost. Own profile.
+/// No contract speaks of it: where a call does nothing, a cargo waits as long as the wire does, and none is lost.
 pub trait Wake {
     /// Ends the wait that is under way, or else the next one. It waits for nobody.
     fn wake(&self);

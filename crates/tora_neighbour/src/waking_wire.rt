@@ -45,7 +45,7 @@ pub struct WakingWire<'a, R, S = PolledSocket> {
     socket: S,
     remote: SocketAddr,
     clock: &'a NodeClock<R>,
-    /// Whether a datagram may have come of which no further event tells.
+    /// Whether the socket may still hold a datagram for which no event will be reported.
     has_more: bool,
     failures: u64,
 }

@@ -10,7 +10,7 @@ use thiserror::Error;
 #[error("a call of the wire failed")]
 pub struct WireError;
 
-/// A way for datagrams to one neighbour and from it. Datagrams may be lost, repeated and reordered. Own profile.
+/// A way for datagrams to one neighbour and from it. Datagrams may be lost, repeated and reordered.
 ///
 /// A wire either tells contracts its datagrams, as `MemWire` does, or tells none. One that tells may stop, and never
 /// begins again. Each wire counts its failed calls. The count stays at 2^64 - 1 once there.

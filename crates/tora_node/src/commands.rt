@@ -74,7 +74,7 @@ pub fn command_of(line: &[u8]) -> Command
     }
 }
 
-/// What a line asks that is none of the others: `cut K`.
+/// The command of a line that is no other command: `cut K`, or an unknown one.
 fn cut_asked(line: &[u8]) -> Command
     ensures exact { result ≡ cut_in (after (codes "cut ") line.now) }
     ensures cut { (d : ℕ) → result ≡ Command.Need d → ⊥ }
@@ -110,7 +110,7 @@ struct Line {
 }
 
 impl Line {
-    /// A line of which nothing was read.
+    /// A line with no bytes read yet.
     fn new() -> Line
         ensures { Holds result [] }
     {

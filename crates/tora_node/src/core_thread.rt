@@ -96,7 +96,7 @@ fn print_refusal<W: Write>(answer: &Answer, writer: &mut W) -> Result<(), NodeEr
     write(writer, text.as_slice())
 }
 
-/// Prints all that is told of a core, which is watched from then on.
+/// Prints all heights and next hops; from then on, changes are printed.
 fn begin_watch<W: Write>(
     alloc: Global,
     seat: &CoreSeat,
@@ -117,7 +117,7 @@ fn begin_watch<W: Write>(
     write(writer, text.as_bytes())
 }
 
-/// Prints what has changed since something was told, and keeps what is told now.
+/// Prints what has changed since the last time, and remembers what it has printed.
 fn print_changes<W: Write>(
     alloc: Global,
     seat: &CoreSeat,

@@ -6,13 +6,13 @@ use thiserror::Error;
 use tora_height::Id;
 use tora_life::LifeError;
 
-/// Why a node, or a thread of it, has ended though nobody told it to. Own profile.
+/// Why a node, or a thread of it, has ended though nobody told it to.
 #[derive(Clone, Copy, Debug, PartialEq, Eq, Hash, Error)]
 pub enum NodeError {
     /// There is no memory, or no thread.
     #[error("out of memory")]
     Memory,
-    /// There are no lanes for so many links.
+    /// There are more links than lanes can be made for.
     #[error("there are no lanes for so many links")]
     Lane,
     /// The life file of the link to this neighbour did not open, or drew no number.

@@ -1,7 +1,7 @@
-//! A running node: the thread of its core, a thread for each neighbour, and the commands. Own profile.
+//! A running node: the thread of its core, a thread for each neighbour, and the commands.
 //!
-//! The core is owned by one thread, which takes items from a lane and serves them one after another. Each neighbour's
-//! thread drives the end of its link over a wire. The commands are read by the thread that runs the node.
+//! The core's thread owns the core. It takes items from a lane and serves them one after another. Each neighbour's
+//! thread runs its link end over a wire. The thread that starts the node reads the commands.
 //!
 //! ```rust
 //! let config = Config::new(alloc, 1, &[3, 2], &[4])?; // node 1 between nodes 2 and 3, with destination 4

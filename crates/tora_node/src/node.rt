@@ -53,7 +53,7 @@ impl Ended {
         self.seat.core()
     }
 
-    /// What the datagrams of a neighbour came to; `None` where it is no neighbour.
+    /// The counts of datagrams from a neighbour, by outcome; `None` if it is no neighbour.
     pub fn tally(&self, peer: Id) -> Option<Tally>
         ensures { result ≡ tally_of self.now peer }
     {
@@ -96,7 +96,7 @@ fn first_link_fault(neighbours: &[Id], outcomes: &[Outcome]) -> Option<NodeError
     None
 }
 
-/// The first fault: the core's, then that of the least neighbour.
+/// The first fault: the core's, otherwise the fault of the lowest neighbour that has one.
 fn first_fault(
     core: Option<NodeError>,
     neighbours: &[Id],

@@ -33,7 +33,7 @@ pub(crate) fn new_ends(alloc: Global, core: &Core) -> Option<Vec<NewEnd>>
     Some(ends)
 }
 
-/// The lanes of a node with so many links.
+/// The lanes of a node with this many links.
 pub(crate) fn new_lanes<R: Wait>(rt: &R, alloc: Global, links: usize) -> Result<Lanes, NodeError>
     ensures made { IfOk result (λ l. AreLanes links l.core l.command l.links.items l.outs.items × (0 < links) × (links ≤ MOST_LINKS)) }
     ensures refused { IfErr result (λ e. (e ≡ NodeError.Memory) ⊎ ((e ≡ NodeError.Lane) × ((links ≡ 0) ⊎ (MOST_LINKS < links)))) }

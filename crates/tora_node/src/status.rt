@@ -12,7 +12,7 @@ use tora_core::{Core, Erasure};
 use tora_height::{Direction, Entry, Id, status};
 use tora_seat::CoreSeat;
 
-/// NULL also where there is none.
+/// The entry, or NULL if there is none.
 fn or_null(entry: Option<Entry>) -> Entry
     ensures { result ≡ or_null entry }
 {
@@ -91,7 +91,7 @@ fn write_life(out: &mut String, life: Option<Life>) -> Result<(), AllocError>
     }
 }
 
-/// Puts behind a text what a neighbour told of a destination.
+/// Appends a neighbour's height of a destination to a text.
 #[tactic(auto, unfolding(crate::specs::StatusJson::via_json))]
 fn write_via(out: &mut String, core: &Core, d: Id, k: Id) -> Result<(), AllocError>
     ensures { OnOk result (string_bytes out.new ≡ string_bytes out.old ++ via_json core.now d k) }
@@ -104,7 +104,7 @@ fn write_via(out: &mut String, core: &Core, d: Id, k: Id) -> Result<(), AllocErr
     out.push_str("}")
 }
 
-/// Puts behind a text what the neighbours told of a destination whose links are up.
+/// Appends the heights of a destination that the neighbours with links that are up have sent.
 fn write_vias(out: &mut String, core: &Core, d: Id) -> Result<(), AllocError>
     ensures { OnOk result (string_bytes out.new ≡ string_bytes out.old ++ array_json (via_json core.now d) core.now.up) }
 {
@@ -132,7 +132,7 @@ fn write_own(out: &mut String, core: &Core, d: Id) -> Result<(), AllocError>
     write_height(out, own_height(core, d))
 }
 
-/// Puts whether a route is required, the next hop and what the neighbours told behind a text.
+/// Appends whether a route is required, the next hop, and the neighbours' heights to a text.
 #[tactic(auto, unfolding(crate::specs::StatusJson::route_json))]
 fn write_route(out: &mut String, core: &Core, d: Id) -> Result<(), AllocError>
     ensures { OnOk result (string_bytes out.new ≡ string_bytes out.old ++ route_json core.now d) }
@@ -204,7 +204,7 @@ fn write_links(out: &mut String, seat: &CoreSeat) -> Result<(), AllocError>
     }
 }
 
-/// Puts what the node makes of erased levels behind a text, where that is not plain.
+/// Appends the node's choice of erasure to a text, if it is not plain.
 fn write_erasure(out: &mut String, erasure: Erasure) -> Result<(), AllocError>
     ensures { OnOk result (string_bytes out.new ≡ string_bytes out.old ++ erasure_json erasure) }
 {

@@ -16,7 +16,7 @@ use std::thread::{PromisedHandle, Scope, Threads};
 use tora_lane::{InPort, What};
 use tora_neighbour::Clock;
 
-/// What the threads of a node leave: that of the core, those of the neighbours in order, and the commands' port.
+/// The results of a node's threads: the core's, the neighbours' in order, and the port of the commands.
 #[derive(Drop)]
 pub(crate) struct Rests<O, L> {
     pub(crate) core: O,
@@ -117,7 +117,7 @@ fn start_all<
     Some(handles)
 }
 
-/// Room for so many. `None` where memory is gone.
+/// An empty list with room for `count` items. `None` if memory is refused.
 fn room_for<X: Drop>(alloc: Global, count: usize) -> Option<Vec<X>>
     ensures { IfSome result (λ room. room.items ≡ []) }
 {

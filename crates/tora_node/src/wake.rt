@@ -11,7 +11,7 @@ pub(crate) fn end_all<K: Wake>(wakers: &[K]) {
 
 /// The lanes from a core to its neighbours, which wake the thread of a neighbour once a cargo was put into its lane.
 ///
-/// They are the lanes inside. Own profile.
+/// They are the lanes inside.
 #[derive(Drop)]
 pub struct WakingLanes<O, K> {
     /// The lanes.

@@ -1,4 +1,4 @@
-//! What is told of a core to a program that watches it.
+//! What `watch` prints of a core.
 ghost use Rattle.std.specs.Prelude.{◌≡◌, ◌++◌, IfOk, OnOk, string_bytes};
 ghost use Rattle.std.specs.List.{flat_map};
 ghost use Rattle.tora_node.specs.StatusLines.{told_of, all_told, height_line, hop_line, told_lines, is_same_height, is_same_hop, change_text, news_of, changes_text};
@@ -8,7 +8,7 @@ use std::alloc::{AllocError, Global};
 use tora_core::Core;
 use tora_height::{Entry, Id};
 
-/// What was told of a destination.
+/// The last printed state of a destination.
 #[derive(Clone, Copy, Debug)]
 pub(crate) struct Told {
     pub(crate) to: Id,
@@ -18,7 +18,7 @@ pub(crate) struct Told {
     pub(crate) hop: Option<Id>,
 }
 
-/// What is told of a destination.
+/// The state of a destination that is printed.
 fn told_of(core: &Core, d: Id) -> Told
     ensures { result ≡ told_of core.now d }
 {
@@ -29,7 +29,7 @@ fn told_of(core: &Core, d: Id) -> Told
     }
 }
 
-/// What is told of each destination.
+/// The state of each destination that is printed.
 pub(crate) fn all_told(alloc: Global, core: &Core) -> Result<Vec<Told>, AllocError>
     ensures { IfOk result (λ told. told.items ≡ all_told core.now) }
 {
@@ -85,7 +85,7 @@ fn is_same_hop(a: Option<Id>, b: Option<Id>) -> bool
     }
 }
 
-/// Puts the lines of what has changed for a destination behind a text.
+/// Appends the lines of what has changed for a destination to a text.
 fn write_change(out: &mut String, old: &Told, new: &Told) -> Result<(), AllocError>
     ensures { OnOk result (string_bytes out.new ≡ string_bytes out.old ++ change_text old.now new.now) }
 {
@@ -98,7 +98,7 @@ fn write_change(out: &mut String, old: &Told, new: &Told) -> Result<(), AllocErr
     Ok(())
 }
 
-/// Puts the lines of what has changed for a destination since this was told of it behind a text.
+/// Appends the lines of what has changed for a destination since it was last printed.
 fn write_news(out: &mut String, old: &Told, core: &Core) -> Result<(), AllocError>
     ensures { OnOk result (string_bytes out.new ≡ string_bytes out.old ++ news_of core.now old.now) }
 {
@@ -125,7 +125,7 @@ pub(crate) fn state(alloc: Global, told: &[Told]) -> Result<String, AllocError>
     Ok(out)
 }
 
-/// The lines of what has changed since this was told.
+/// The lines of what has changed since the last printed state.
 pub(crate) fn changes(alloc: Global, told: &[Told], core: &Core) -> Result<String, AllocError>
     ensures { IfOk result (λ text. string_bytes text ≡ changes_text told.now core.now) }
 {

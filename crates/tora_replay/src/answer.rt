@@ -68,7 +68,7 @@ fn show(core: &Core, out: &mut String) -> Result<(), AllocError>
     out.push_str(&text)
 }
 
-/// Takes a line, and puts what is printed for it behind a text. What the list of packets held goes.
+/// Carries out a line, and appends what is printed for it to a text. The list of packets is overwritten.
 #[tactic(auto, unfolding(crate::specs::Answers::answer))]
 pub fn answer(
     core: &mut Core,

@@ -1,4 +1,4 @@
-//! The replay of the inputs of one node: a file of lines in, what the node sends out.
+//! The replay of one node: it reads a file of inputs and writes what the node sends.
 //!
 //! ```rust
 //! let ended = replay(alloc, &mut reader, &mut writer)?;

@@ -72,7 +72,7 @@ impl Replaying {
     }
 }
 
-/// A replay file: what its node makes of erased levels, and what is kept, once the first line is taken.
+/// A replay file in progress: the node's choice of erasure, and the node once the first line is read.
 #[derive(Drop)]
 pub struct ReplayFile {
     erasure: Erasure,
@@ -120,7 +120,7 @@ impl FileKind for ReplayFile {
 }
 
 /// Reads the lines of a replay file to the end of the input or to the first line that is a fault, and writes what is
-/// printed for each, for a node that remembers no erased level. Own profile.
+/// printed for each, for a node that remembers no erased level.
 ///
 /// The first line is `node I links LIST dests LIST`, and each further one `NOW up K`, `NOW down K`, `NOW need D`,
 /// `NOW from K HEX` or `NOW show`. A line has at most 4,096 bytes without its LF. What is printed for a line is written

@@ -1,4 +1,5 @@
-//! What the threads of running nodes do is a run of the free world, so that its laws hold of running nodes.
+//! The laws of running nodes: the actions of their threads are a run of the free world, so the laws of worlds hold for
+//! them.
 #![tactic(auto)]
 
 mod laws;
