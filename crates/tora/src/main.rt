@@ -1,7 +1,8 @@
-//! The program `tora`: a TORA router node on files of lines, a simulator, and a running node.
+//! The program `tora`: it replays, simulates and runs TORA router nodes.
 //!
-//! `replay` reads the inputs of one node from standard input and writes what the node sends; `sim` simulates a file; `node` runs
-//! a node over UDP; `key` prints a new key. The commands themselves are those of `tora_commands`.
+//! `replay` reads the inputs of one node from standard input and writes what the node sends. `sim` simulates a file.
+//! `drive` lets another program control a simulation. `node` runs a node over UDP. `key` prints a new key.
+//! `tora_commands` has the commands.
 #![tactic(auto)]
 
 use clap::ArgMatches;

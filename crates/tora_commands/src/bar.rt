@@ -123,7 +123,8 @@ pub struct Paced<'a, T, R> {
 }
 
 impl<'a, T: Eprint + Clock, R: Read> Paced<'a, T, R> {
-    /// Nothing was read yet. The lines ask for so many rounds, where that is known, and not more than these are done.
+    /// A bar before the first line. `total` is the number of rounds that the lines ask for, if it is known; no more
+    /// than `until` are done.
     pub fn new(rt: &'a T, total: Option<u64>, until: Option<u64>, reader: R) -> Paced<'a, T, R>
         ensures { result.reader ≡ reader }
     {

@@ -32,7 +32,7 @@ impl ChannelFile {
     }
 }
 
-/// Says which line of a channel file is none, and why.
+/// Reports the line of a channel file that is wrong, and why.
 fn refuse_line<T: Eprint>(rt: &T, path: &str, number: u64, cause: LineCause) -> ExitCode
     ensures { exit_status result ≡ 1 }
 {

@@ -234,7 +234,7 @@ fn trace<'a>(alloc: Global) -> Arg<'a> {
         .help("Writes a record of what happens to this file, one a line")
 }
 
-/// An option that is there or not.
+/// An option without a value.
 fn flag<'a>(alloc: Global, name: &'a str, help: &'a str) -> Arg<'a> {
     Arg::new(alloc, name)
         .long(name)

@@ -21,7 +21,7 @@ use tora_lines::{Ended, Output, Recent, ReplayError, flushed};
 use tora_script::WorldOptions;
 use tora_sim::Sim;
 
-/// Drives a world, and flushes the writer: `Write` where that alone fails.
+/// Runs `tora drive`, then flushes the writer. The error is `Write` if only the flush fails.
 fn drive_and_flush<S: Driven, R: Read, W: Output>(
     alloc: Global,
     options: WorldOptions,

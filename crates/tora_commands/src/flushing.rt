@@ -1,4 +1,4 @@
-//! The engines, with all that was written handed on.
+//! The engines, each followed by a flush of the writer.
 ghost use Rattle.std.specs.Prelude.{◌≡◌, ◌≢◌, Bool, Ok, IfOk, IfErr, IfSome};
 ghost use Rattle.std.specs.Io.KnownBytes.{IsAtEnd, Keeps};
 ghost use Rattle.tora_arq.specs.Settings.{IsTimes};
@@ -16,7 +16,8 @@ use tora_lines::{Ended, Output, ReplayError, flushed};
 use tora_replay::replay_with;
 use tora_script::{Simulator, simulate_in, simulate_told};
 
-/// Replays for a node that makes this of erased levels, and flushes the writer: `Write` where that alone fails.
+/// Replays for a node with this choice of erasure, then flushes the writer. The error is `Write` if only the flush
+/// fails.
 pub fn replay_and_flush<R: Read, W: Output>(
     alloc: Global,
     erasure: Erasure,
@@ -35,7 +36,7 @@ pub fn replay_and_flush<R: Read, W: Output>(
     flushed(writer, result)
 }
 
-/// Simulates with these times of each link end, and flushes the writer: `Write` where that alone fails.
+/// Simulates with these times of every link end, then flushes the writer. The error is `Write` if only the flush fails.
 pub fn simulate_and_flush<S: Simulator, R: Read, W: Output>(
     alloc: Global,
     times: Times,
@@ -55,7 +56,7 @@ pub fn simulate_and_flush<S: Simulator, R: Read, W: Output>(
     flushed(writer, result)
 }
 
-/// Simulates with these times of each link end, tells on standard error what is refused, and flushes the writer: `Write` where that alone fails.
+/// Simulates as `simulate_and_flush` does, and reports refused events on standard error.
 pub fn simulate_told_and_flush<S: Simulator, T: Eprint, R: Read, W: Output>(
     rt: &T,
     alloc: Global,

@@ -1,8 +1,8 @@
-//! The commands of the program `tora`, over any readers and writers: what each does, and its exit status.
+//! The commands of the program `tora`, over any readers and writers, and their exit statuses.
 //!
-//! The command line (`command`), the replay of a reader (`replay_command`), the simulation of a file (`simulate_file`), and the
-//! running node (`node_command`). Nothing here reads the standard input or writes to the standard output of the program: `main`
-//! hands these on.
+//! They are the command line (`command`), the replay of a reader (`replay_command`), the simulation of a file
+//! (`simulate_file`), and the running node (`node_command`). This crate does not use the program's standard input and
+//! output; `main` passes them in.
 #![tactic(auto)]
 
 ghost use Rattle.std.specs.Prelude.{◌≡◌, ◌≢◌, ◌⊎◌, [], true, None, is_ok, option_map, IfSome, IfOk, IfErr};

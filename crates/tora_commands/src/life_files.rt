@@ -75,7 +75,7 @@ fn owner_in<R: Files<File = File>>(rt: &R, path: &str) -> Option<Owner> {
     }
 }
 
-/// Says on standard error whose a life file is.
+/// Reports on standard error to which node and peer a life file belongs.
 fn tell_owner(rt: &impl Eprint, path: &str, owner: Owner) {
     let (node, peer) = (owner.node, owner.peer);
     let _ = rt.eprintln(format_args!(
@@ -83,7 +83,8 @@ fn tell_owner(rt: &impl Eprint, path: &str, owner: Owner) {
     ));
 }
 
-/// Says on standard error what is wrong with the life file of the link to `peer`, and with `is_verbose` of a foreign one whose it is.
+/// Reports on standard error what is wrong with the life file of the link to `peer`. If `is_verbose` and the file
+/// belongs to another node or peer, it also reports which.
 pub(crate) fn tell_life<R: Files<File = File> + AllocGlobal + Eprint>(
     rt: &R,
     folder: &str,

@@ -33,7 +33,7 @@ use tora_simulate::{Paths, tell, tell_at, text_at};
 pub enum Fault {
     /// There is no memory.
     Memory,
-    /// The configuration can't be read, or is none.
+    /// The configuration cannot be read, or is at fault.
     Config,
     /// A socket can't be bound.
     Socket,
@@ -41,7 +41,7 @@ pub enum Fault {
     Life,
 }
 
-/// Says in one word on standard error why a node is not started. What says more stands behind it.
+/// Reports on standard error, in one word, why a node does not start. Details follow that line.
 pub(crate) fn say(rt: &impl Eprint, fault: Fault) -> Fault
     ensures { result ≡ fault }
 {
@@ -145,7 +145,7 @@ fn read<R: Paths + Files<File = File> + AllocGlobal + Eprint>(
     Ok((config, ways))
 }
 
-/// What stands behind a word for so many.
+/// The ending of a noun after this count: `s`, or nothing for 1.
 fn plural(count: usize) -> &'static str {
     if count == 1 { "" } else { "s" }
 }

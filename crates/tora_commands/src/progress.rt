@@ -8,7 +8,7 @@ use tora_script::{SimulationLine, simulation_line};
 /// The bytes of the longest line that says rounds, and one: a longer front says none.
 const FRONT: usize = 13;
 
-/// The most reads of a file. Own profile.
+/// The most reads of a file.
 const MOST_READS: u64 = 0x1_0000_0000;
 
 /// How many rounds the lines of a simulation file ask for, as its bytes come.

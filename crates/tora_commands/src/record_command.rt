@@ -25,7 +25,7 @@ use tora_sim::Sim;
 use tora_simulate::Paths;
 use tora_traced::TraceOut;
 
-/// Drives a world, writes its record, and flushes the writer: `Write` where that alone fails.
+/// Runs `tora drive` and writes its record, then flushes the writer. The error is `Write` if only the flush fails.
 fn drive_and_flush<S: Driven, R: Read, W: Output, V: Output>(
     alloc: Global,
     options: WorldOptions,

@@ -130,7 +130,7 @@ fn limits(is_large: bool) -> Limits
     }
 }
 
-/// What a word asks that nodes make of erased levels, which is plain where there is no word; nothing where the word is none.
+/// The choice of erasure that a word names; `Plain` if there is no word. `None` if the word names no choice.
 pub(crate) fn asked_erasure(word: Option<&str>) -> Option<Erasure>
     ensures { result ≡ asked_erasure (option_map (λ w. w.now) word.entry) }
 {
@@ -150,7 +150,7 @@ fn options(is_large: bool, erasure: Erasure) -> WorldOptions
     }
 }
 
-/// The options of a world that words ask for; nothing where the word for its erasure is none.
+/// The options of a world that the words ask for; `None` if the word for erasure names no choice.
 pub(crate) fn asked_options(is_large: bool, erasure: Option<&str>) -> Option<WorldOptions>
     ensures { result ≡ asked_options is_large (option_map (λ w. w.now) erasure.entry) }
 {

@@ -37,7 +37,7 @@ fn times(text: &[u8]) -> Option<Times>
     })
 }
 
-/// The times that a word asks for, and the standard ones where there is no word; nothing where the word is none.
+/// The times that a word gives; the standard times if there is no word. `None` if the word is malformed.
 pub fn asked_times(word: Option<&str>) -> Option<Times>
     ensures value { result ≡ asked_times (option_map (λ w. w.now) word.entry) }
     ensures times { IfSome result (λ t. IsTimes t) }

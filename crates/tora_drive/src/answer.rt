@@ -324,7 +324,7 @@ fn close(out: &mut String, is_refused: bool) -> Result<(), AllocError>
     }
 }
 
-/// Whether a line is a step of which nothing is recorded.
+/// Whether a line is a `step` that is not recorded.
 fn is_unrecorded_step(own: &Own, line: &DriveLine) -> bool
     ensures { IsTrue result ↔ ((line.now ≡ Step) × (record_view own.now ≡ None)) }
 {
@@ -357,7 +357,7 @@ fn finish<S: Driven>(
     write_hops(out, &running.sim, &before)
 }
 
-/// Takes a step of which nothing is recorded, and puts the answer behind an empty text.
+/// Carries out a `step` that is not recorded, and appends its answer to an empty text.
 fn answer_step<S: Driven>(
     alloc: Global,
     running: &mut Running<S>,

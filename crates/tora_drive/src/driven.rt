@@ -10,13 +10,13 @@ use tora_height::Id;
 use tora_script::Simulator;
 use tora_sim::Sim;
 
-/// A simulated world that tells what a drive prints.
+/// A simulator that `tora drive` can run.
 pub trait Driven: Simulator {
     /// A datagram, by its number from 1.
     fn frame(&self, i: u64) -> Option<Frame>
         ensures { result ≡ datagram (Self.world self.now) i };
 
-    /// A datagram, by its number from 1, whose packets are lent: where little of it is asked for, it is not copied.
+    /// A datagram, by its number from 1, without a copy of its packets.
     fn borrowed_frame(&self, i: u64) -> Option<BorrowedFrame<'_>>
         ensures { result ≡ datagram (Self.world self.now) i };
 

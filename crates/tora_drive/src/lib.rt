@@ -1,7 +1,8 @@
-//! A simulated world that another program drives: the lines of a simulation file, answered one by one, with what each of them
-//! put under way and changed. Own profile.
+//! External control: a simulated world that another program controls. It sends the lines of a simulation file one by
+//! one; each answer says what the line sent and changed.
 //!
-//! The engine asks for a simulator (`Driven`), which `tora_sim::Sim` is. `docs/formats.md`, "Driving", says what the lines are.
+//! The engine runs over any simulator (`Driven`), such as `tora_sim::Sim`. `docs/formats.md`, "External control",
+//! defines the lines.
 //!
 //! ```rust
 //! let ended = drive_in::<Sim, R, W>(alloc, WorldOptions::within(Limits::STANDARD), Times::STANDARD, &mut reader, &mut writer)?;

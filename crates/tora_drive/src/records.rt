@@ -1,4 +1,4 @@
-//! What is told of a line that changed a world.
+//! The lines that report what a line changed in a world.
 ghost use Rattle.std.specs.Prelude.{◌≡◌, ◌<◌, ◌+◌, ◌-◌, ◌++◌, ◌∷◌, [], codes, OnOk, IfOk, length, string_bytes, if◌then◌else◌};
 ghost use Rattle.tora_drive.specs.Records.{sent_line, sent_of, sent_from, is_same_hop, hop_line, routes_at, routes_of};
 ghost use Rattle.std.specs.List.{flat_map};

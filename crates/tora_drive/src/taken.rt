@@ -69,7 +69,7 @@ fn bytes_of(alloc: Global, digits: &[u8]) -> Result<Vec<u8>, LineError>
     }
 }
 
-/// What stands behind `take `: the delivery of the datagram that has these bytes.
+/// The rest of a line after `take `: the delivery of the datagram with these bytes.
 #[tactic(auto, unfolding(crate::specs::Taking::taking))]
 fn taking<S: Driven>(
     alloc: Global,

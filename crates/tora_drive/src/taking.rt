@@ -151,7 +151,8 @@ fn take_line<S: Driven>(
 }
 
 impl<S: Driven> Drive<S> {
-    /// Takes a line, and puts the answer behind an empty text; the record, if there is one, is then that of this line alone.
+    /// Carries out a line, and appends its answer to an empty text. The record, if there is one, then holds the lines
+    /// for this line alone.
     pub fn reply(&mut self, alloc: Global, line: &[u8], text: &mut String) -> Result<(), AllocError>
         requires { string_bytes text.old ≡ [] }
         ensures answer { OnOk result ((view_of S.world self.new, string_bytes text.new) ≡ drive_reply self.old.options self.old.times (view_of S.world self.old) line.now) }

@@ -11,8 +11,8 @@ use tora_height::Id;
 use tora_script::{EndTurn, Simulator};
 use tora_world::Event;
 
-/// Makes an event happen until it is refused, and so many times at most, and says whether it ever did. The place is that of
-/// its node or link end.
+/// Makes an event happen until it is refused, at most `most` times, and returns whether it happened at all. `place` is
+/// the index of its node or link end.
 fn repeat_told<S: Simulator>(
     sim: &mut S,
     place: usize,
@@ -128,7 +128,7 @@ fn make_passes_told<S: Simulator>(
     Ok(())
 }
 
-/// One step, whose events are told behind a text, each as its line.
+/// Makes one `step`, and appends the line of each of its events to a text.
 pub fn make_step_told<S: Simulator>(
     sim: &mut S,
     nodes: &[Id],

@@ -15,7 +15,7 @@ use std::alloc::{AllocError, Global};
 use std::io::ErrorKind;
 use std::{io, mem};
 
-/// The most times that a reader is asked. Own profile.
+/// The most times that a reader is asked.
 pub const MOST_READS: u64 = 0x1_0000_0000;
 
 /// How many bytes are asked for at once.
@@ -133,7 +133,7 @@ fn take_rest<K: FileKind, W: Output>(
     keep(pending, &text[text.len() - left..])
 }
 
-/// Takes the whole lines of what is pending and the chunk behind it, and keeps what is left of them.
+/// Processes the complete lines of the pending bytes and the new chunk, and keeps the rest as pending.
 fn take_chunk<K: FileKind, W: Output>(
     alloc: Global,
     session: &mut Session<K>,
@@ -212,7 +212,7 @@ fn finish<K: FileKind, W: Output>(
     }
 }
 
-/// So many bytes that are 0.
+/// A list of `size` zero bytes.
 pub fn zeros(alloc: Global, size: usize) -> Result<Vec<u8>, AllocError>
     ensures { IfOk result (λ v. vec_len v ≡ size) }
 {

@@ -6,7 +6,7 @@ ghost use Rattle.tora_lines.specs.Flushing.{after_flush};
 use crate::ended::{Ended, ReplayError};
 use crate::output::Output;
 
-/// Hands on all that was written: `Write` where that alone fails.
+/// Flushes the writer. The error is `Write` if only the flush fails.
 pub fn flushed<W: Output>(
     writer: &mut W,
     ended: Result<Ended, ReplayError>,

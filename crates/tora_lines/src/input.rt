@@ -1,4 +1,4 @@
-//! A reader whose calls contracts tell.
+//! Readers whose calls contracts can name.
 ghost use Rattle.std.specs.Prelude.{ℕ, List, Option};
 ghost use Rattle.std.specs.Io.{ReadsAtMost};
 ghost use Rattle.std.specs.Io.KnownBytes.{ReadConsumes};
@@ -7,8 +7,9 @@ ghost use Rattle.tora_lines.specs.Reads.{Given, given_by, Gives};
 use std::io;
 use std::io::Read;
 
-/// A reader whose calls contracts tell: that a call was made, and what it gave. Every `Read` is one. A type that hands on what a reader
-/// gives is one by itself, and no `Read`: what its calls gave is what the reader's gave.
+/// A reader whose calls contracts can name: that a read was made, and what it gave. Every `Read` is an `Input`. A type
+/// that passes on the data of another reader implements `Input` and not `Read`; its calls give what that reader's calls
+/// gave.
 pub trait Input {
     /// The bytes that reads will give from here on, where they are known.
     ghost remaining: { Self → Option (List ℕ) };

@@ -1,9 +1,9 @@
-//! Files of lines: the words of a line, the engine that reads lines and writes what is printed for each, and how that ends.
+//! Line-based files: the words of a line, and the engine that reads lines, writes the text printed for each, and
+//! reports how the file ended.
 //!
-//! A kind of file is what is kept between two of its lines (`FileKind`). The engine gives it one line after another, of at most
-//! 4,096 bytes, writes what it puts for each by one call, and ends at the end of the input or at the first line that is a
-//! fault. The replay of one node and the simulation of a world are such kinds. `read_shortened_lines` takes longer lines as empty ones, as a
-//! drive does. Own profile.
+//! A kind of file (`FileKind`) is defined by the state between two of its lines. The engine passes it one line after
+//! another, of at most 4,096 bytes, and writes its text for each line by one call. It ends at the end of the input or
+//! at the first fault. `read_shortened_lines` treats a longer line as an empty one, as `tora drive` does.
 //!
 //! ```rust
 //! let ended = read_lines(alloc, state, &mut reader, &mut writer)?;

@@ -7,10 +7,10 @@ ghost use Rattle.tora_lines.specs.Session.{TakesLine};
 use crate::words::LineError;
 use std::alloc::{AllocError, Global};
 
-/// The most bytes of a line, without its LF. Own profile.
+/// The most bytes of a line, without its LF.
 pub const LONGEST_LINE: usize = 4096;
 
-/// A kind of file of lines, by what is kept between two of them.
+/// A kind of line-based file: the state between two of its lines.
 pub trait FileKind: Drop {
     ghost kind: { Kind Self };
 
@@ -25,7 +25,7 @@ pub trait FileKind: Drop {
         ensures { IfOk result (λ fault. kind.text self.now number [] ≡ ending fault) };
 }
 
-/// What is kept between two lines, and what was printed for the last line.
+/// The state between two lines, and the text printed for the last line.
 #[derive(Drop)]
 pub struct Session<K> {
     pub state: K,

@@ -21,7 +21,7 @@ pub struct Held {
 }
 
 impl Held {
-    /// A line of which nothing was read.
+    /// A line with no bytes read yet.
     fn new(alloc: Global) -> Result<Held, AllocError>
         ensures { IfOk result (λ held. Holds held []) }
     {

@@ -34,7 +34,7 @@ impl<T: Drop> From<AllocFailed<T>> for LineError {
     }
 }
 
-/// Where the first separator stands.
+/// The index of the first separator.
 pub fn place(separator: u8, text: &[u8]) -> Option<usize>
     ensures { result ≡ position (λ x. x == separator) text.now }
 {

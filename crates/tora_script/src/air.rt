@@ -90,7 +90,7 @@ pub fn copies<S: Simulator>(
     copies_behind(table, moment, way, before)
 }
 
-/// What becomes of a datagram that goes this way, behind so many of its round that went the same way.
+/// The copies of a datagram in this direction, after `before` earlier ones of its round in the same direction.
 fn copies_behind(table: &ChannelTable, moment: Moment, way: (Id, Id), before: u64) -> Copies
     ensures { result ≡ copies_on (over table.now moment.channel) (record { round = moment.round; sender = way.0; receiver = way.1; before = before }) }
 {

@@ -35,7 +35,8 @@ pub fn deliver_new<S: Simulator>(
     }
 }
 
-/// Whether there are datagrams behind the first ones, of which each comes as often as those before it say.
+/// Whether there are datagrams after the first ones and all of them were sent in this round, so that they are counted
+/// by direction.
 fn is_to_count<S: Simulator>(sim: &S, moment: Moment, first: u64) -> bool
     ensures { result ≡ true → moment.start ≤ first }
 {
@@ -107,7 +108,7 @@ fn deliver<S: Simulator>(
     sim.deliver(i, at_once(copies))
 }
 
-/// Delivers the datagrams behind the first ones, of which none is counted.
+/// Delivers each datagram after the first ones once, without counting.
 fn deliver_each<S: Simulator>(
     sim: &mut S,
     parted: &Parted,

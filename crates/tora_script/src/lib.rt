@@ -1,7 +1,7 @@
-//! The simulation of a file of lines: the lines, the rounds, what is printed, and why a line is a fault.
+//! The simulation of a file of lines: its lines, its rounds, the printed text, and the causes of faults.
 //!
-//! The engine asks for a simulator (`Simulator`), which `tora_sim::Sim` is; another one may stand around it and watch its
-//! events.
+//! The engine runs over any simulator (`Simulator`), such as `tora_sim::Sim`. Another simulator may wrap that one and
+//! watch its events.
 //!
 //! ```rust
 //! let ended = simulate_in::<Sim, R, W>(alloc, Times::STANDARD, &mut reader, &mut writer)?;

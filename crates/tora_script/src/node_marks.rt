@@ -1,4 +1,4 @@
-//! What the lines right behind the links say of single nodes.
+//! The lines about single nodes, directly after the links.
 ghost use Rattle.std.specs.Prelude.{◌≡◌, filter_map, None, Some, IfOk};
 ghost use Rattle.tora_script.specs.Marks.{marked, choice_in, choices_in};
 
@@ -6,7 +6,7 @@ use std::alloc::{AllocError, Global};
 use tora_core::Erasure;
 use tora_height::Id;
 
-/// What a line right behind the links says of a node.
+/// A line about a node, directly after the links.
 #[derive(Clone, Copy, Debug)]
 pub enum Mark {
     /// The link ends of the node speak version 1 of frames alone.
@@ -27,7 +27,7 @@ impl Mark {
     }
 }
 
-/// The node and what it makes of erased levels, if that is what is said.
+/// The node and its choice of erasure, if the line is an `erasure` line.
 fn choice_in(mark: Mark) -> Option<(Id, Erasure)>
     ensures { result ≡ choice_in mark }
 {

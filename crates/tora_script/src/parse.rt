@@ -16,7 +16,7 @@ use tora_lines::words::LineError;
 use tora_lines::{after, behind, words};
 use tora_world::{Call, Event};
 
-/// The most rounds of one line. Own profile.
+/// The most rounds of one line.
 const MOST_ROUNDS: u64 = 10_000;
 
 /// The greatest number of a life.

@@ -17,7 +17,7 @@ use tora_channel::{Channel, ChannelTable};
 use tora_height::Id;
 use tora_world::Event;
 
-/// The most passes of a round. Own profile.
+/// The most passes of a round.
 const MOST_PASSES: u64 = 1000;
 
 /// Delivers a datagram that was sent before the round, unless its nodes are parted.
@@ -159,7 +159,7 @@ fn make_round<S: Simulator>(
     air.go_on(sim, parted, table, moment)
 }
 
-/// So many rounds over a channel that the lines of a table change.
+/// Makes rounds over a channel that a table changes by round.
 pub fn make_parted_rounds_over<S: Simulator>(
     sim: &mut S,
     count: u64,
@@ -179,7 +179,7 @@ pub fn make_parted_rounds_over<S: Simulator>(
     Ok(())
 }
 
-/// So many rounds over a channel.
+/// Makes rounds over a channel.
 pub fn make_parted_rounds<S: Simulator>(
     sim: &mut S,
     count: u64,

@@ -8,7 +8,7 @@ use tora_world::Event;
 pub enum SimulationLine {
     /// The event happens.
     Happens(Event),
-    /// So many rounds are made, 10,000 at most.
+    /// This many rounds, at most 10,000.
     Rounds(u64),
     /// Rounds stop to deliver datagrams between two nodes.
     Part(Id, Id),

@@ -7,7 +7,7 @@ use tora_channel::Channel;
 use tora_core::Erasure;
 use tora_world::Limits;
 
-/// How large a world may be, and what its nodes make of erased levels, but for those of which a line says it.
+/// The limits of a world, and the choice of erasure of all nodes without a line `erasure` of their own.
 #[derive(Clone, Copy, Debug, PartialEq, Eq)]
 pub struct WorldOptions {
     pub limits: Limits,
@@ -34,7 +34,7 @@ pub struct Setup {
     pub channel: Channel,
     pub has_notice: bool,
     pub options: WorldOptions,
-    /// Once so many rounds are done, nothing more is.
+    /// The number of rounds after which the simulation ends.
     pub until: Option<u64>,
 }
 

@@ -19,8 +19,8 @@ pub enum Stage<S> {
     Runs(Running<S>),
 }
 
-/// A simulation file, by what it is made with, where no time of a link end is 0, by the table whose lines change its channel, and
-/// by what is kept between two of its lines.
+/// A simulation file in progress: its setup (no time of a link end is 0), the table of its channel file, and the state
+/// between two lines.
 #[derive(Drop)]
 pub struct Simulation<S> {
     pub setup: Setup,

@@ -152,8 +152,8 @@ fn begin_links<S: Simulator>(
     Ok(())
 }
 
-/// Takes a line behind the links that is none of them and says nothing of a node; the simulation runs behind it. At any other stage there is
-/// no such line, and nothing changes.
+/// Carries out the first line after the links and node lines, which starts the simulation. At any other stage nothing
+/// changes.
 #[inline(never)]
 fn begin_run<S: Simulator>(
     stage: &mut Stage<S>,

@@ -102,8 +102,8 @@ pub trait Simulator: Drop {
         ensures refused { IfOk result (λ refused. refused ≡ refusal_of (world self.old) event.now) }
         ensures after { IfOk result (λ _. world self.new ≡ world_after (world self.old) event.now) };
 
-    /// Makes an event happen as `happen` does. The place says where to look, as that of `may_happen` does: where another node or link end stands
-    /// there, it is searched. A simulator that looks there itself searches less; by itself each event is searched.
+    /// Makes an event happen as `happen` does. `place` says where to look, as for `may_happen`; if another node or end
+    /// is there, it is searched for. The default body always searches.
     fn happen_at(&mut self, _place: usize, event: &Event) -> Result<Option<SimError>, AllocError>
         ensures refused { IfOk result (λ refused. refused ≡ refusal_of (world self.old) event.now) }
         ensures after { IfOk result (λ _. world self.new ≡ world_after (world self.old) event.now) }

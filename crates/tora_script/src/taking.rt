@@ -26,7 +26,7 @@ impl<S: Simulator> Running<S> {
         }
     }
 
-    /// So many rounds, over a channel that the lines of a table change.
+    /// Makes rounds over a channel that a table changes by round.
     fn rounds_over(&mut self, table: &ChannelTable, count: u64) -> Result<(), AllocError>
         ensures { OnOk result (running_view S.world self.new ≡ after_rounds_on (over table.now self.old.channel) count (running_view S.world self.old)) }
     {

@@ -38,7 +38,7 @@ pub fn tell_cause<T: Eprint>(rt: &T, number: u64, cause: SimulationCause) {
     let _ = rt.eprintln(format_args!("tora: line {number}: {cause}"));
 }
 
-/// Tells that a core refuses a need, where its destination is not in the list.
+/// Reports that a core refuses a need because the destination is not in the list.
 fn tell_need<T: Eprint>(rt: &T, number: u64, line: &[u8], dests: &[Id]) {
     if let Some(SimulationLine::Happens(Event::Need(n, d))) = simulation_line(line) {
         if !has_number(d, dests) {

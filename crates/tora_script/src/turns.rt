@@ -10,7 +10,7 @@ use std::alloc::AllocError;
 use tora_height::Id;
 use tora_world::Event;
 
-/// The most times that an event is made to happen on end. Own profile.
+/// The most times that an event is made to happen on end.
 pub const MOST_TIMES: u64 = 1024;
 
 /// What a link end does in its turn.
@@ -57,8 +57,9 @@ fn may_go_on<S: Simulator>(sim: &S, place: usize, event: &Event, some: bool) -> 
     sim.may_happen(place, event)
 }
 
-/// Makes an event happen until it is refused, and so many times at most, and says whether it ever did. The place is that of
-/// its node or link end. Whether it may happen is asked each time but the first: before that the caller asks, where the event has a place.
+/// Makes an event happen until it is refused, at most `most` times, and returns whether it happened at all. `place` is
+/// the index of its node or link end. Except for the first time, it asks before whether the event may happen; for the
+/// first time the caller asks.
 #[inline(never)]
 pub fn repeat<S: Simulator>(
     sim: &mut S,

@@ -22,7 +22,7 @@ fn make_old(topology: &mut Topology, n: Id)
     let _ = topology.set_old(n);
 }
 
-/// Says what a node of a topology makes of erased levels; where there is no such node, nothing is changed.
+/// Sets a node's choice of erasure in a topology. If there is no such node, nothing changes.
 #[tactic(auto, using(crate::proofs::Starting::not_chosen))]
 fn choose(topology: &mut Topology, n: Id, erasure: Erasure) -> Result<(), AllocError>
     ensures { OnOk result (topology.new ≡ with_choice topology.old n erasure) }

@@ -13,8 +13,8 @@ use tora_channel::ChannelTable;
 use tora_lines::{Ended, Output, ReplayError, flushed};
 use tora_script::{Setup, Simulator, simulate_telling, simulate_telling_last};
 
-/// Simulates what is made with this over a channel that the lines of a table change, tells on standard error why a line is a fault
-/// and, where it is verbose, what is refused, and flushes the writer: `Write` where that alone fails.
+/// Simulates with this setup, over the channel that the table gives, then flushes the writer. It reports the cause of a
+/// fault on standard error, and refused events if `is_verbose`. The error is `Write` if only the flush fails.
 pub fn simulate_telling_and_flush<S: Simulator, T: Eprint, R: Read, W: Output>(
     rt: &T,
     alloc: Global,

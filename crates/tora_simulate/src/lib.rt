@@ -1,5 +1,5 @@
-//! The simulation of a file of lines as the program runs it: in its own simulator (`simulate`), and as the command `sim`
-//! (`sim_command`), which ends with an exit status (`status`).
+//! The simulation that the program runs: a file of lines in its own simulator (`simulate`), and the command `sim`
+//! (`sim_command`) with its exit status (`status`).
 //!
 //! ```rust
 //! let ended = simulate(alloc, &mut reader, &mut writer)?;

@@ -14,7 +14,7 @@ use tora_script::simulate_in;
 use tora_sim::Sim;
 
 /// Reads the lines of a simulation file to the end of the input or to the first line that is a fault, and writes what is
-/// printed for each. Own profile.
+/// printed for each.
 ///
 /// The first line is `dests LIST`, then come lines `link A B`, one or more, then any lines `old N`, and then the lines of
 /// `docs/formats.md`, "Simulation files". A line has at most 4,096 bytes without its LF. What is printed for a line is
@@ -45,7 +45,7 @@ pub fn simulate<R: Read, W: Write>(
     simulate_with(alloc, Times::STANDARD, reader, writer)
 }
 
-/// Simulates as `simulate` does, but in a world whose link ends have these times, none of which is 0. Own profile.
+/// Simulates as `simulate` does, but in a world whose link ends have these times, none of which is 0.
 ///
 /// # Errors
 /// Those of `simulate`.

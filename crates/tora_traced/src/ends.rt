@@ -35,7 +35,7 @@ fn more_fields(out: &mut String, until: Option<u64>, file: Option<&str>) -> Resu
     }
 }
 
-/// Puts a blank and the last round behind a text, `-` where there is none.
+/// Appends a blank and the last round to a text; `-` if there is none.
 #[tactic(auto, unfolding(crate::specs::Ends::until_field))]
 fn until_field(out: &mut String, until: Option<u64>) -> Result<(), AllocError>
     ensures { OnOk result (string_bytes out.new ≡ string_bytes out.old ++ until_field until) }
@@ -46,7 +46,7 @@ fn until_field(out: &mut String, until: Option<u64>) -> Result<(), AllocError>
     }
 }
 
-/// Puts a blank and the digest of a channel file behind a text, `-` where there is none.
+/// Appends a blank and the digest of the channel file to a text; `-` if there is none.
 #[tactic(auto, unfolding(crate::specs::Ends::file_field))]
 fn file_field(out: &mut String, file: Option<&str>) -> Result<(), AllocError>
     ensures { OnOk result (string_bytes out.new ≡ string_bytes out.old ++ file_field (option_map (λ w. w.now) file.entry)) }

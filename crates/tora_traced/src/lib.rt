@@ -1,6 +1,6 @@
-//! A simulation whose trace is written: the simulator whose events are told, and the file of lines that is simulated in it.
+//! A simulation that writes a trace: a simulator whose events are recorded, and the simulation of a file in it.
 //!
-//! The records themselves, and the copies of cores that they are told from, are those of `tora_trace`.
+//! `tora_trace` has the records, and the copies of cores from which they are computed.
 #![tactic(auto)]
 
 mod ends;

@@ -66,7 +66,7 @@ fn life_told(item: Option<Item>) -> Option<Life>
     }
 }
 
-/// The inputs behind so many.
+/// The inputs after the first `count`.
 fn behind(inputs: &[(Input, u64)], count: usize) -> &[(Input, u64)]
     ensures { result.now ≡ drop count inputs.now }
 {
@@ -124,7 +124,7 @@ impl<S: Watched> Traced<S> {
         }
     }
 
-    /// Tells of a datagram that was sent, if one was since there were so many.
+    /// Records the datagram that was sent, if there are now more than `count` datagrams.
     fn tell_sent(&mut self, count: u64) -> Result<(), AllocError>
         ensures kept { self.new ≡ record self.old { trace = self.new.trace } }
         ensures told { OnOk result (self.new.trace ≡ after_sent self.old.parted count (S.world self.old.sim) self.old.trace) }
@@ -165,7 +165,7 @@ impl<S: Watched> Traced<S> {
         }
     }
 
-    /// Makes an event happen, and tells what it did. The place is that of its node or link end.
+    /// Makes an event happen and records what it did. `place` is the index of its node or link end.
     fn step(&mut self, place: usize, event: &Event) -> Result<Option<SimError>, AllocError>
         ensures refused { IfOk result (λ refused. refused ≡ refusal_of (S.world self.old.sim) event.now) }
         ensures after { IfOk result (λ _. S.world self.new.sim ≡ world_after (S.world self.old.sim) event.now) }
@@ -183,8 +183,8 @@ impl<S: Watched> Traced<S> {
         }
     }
 
-    /// Makes an event happen until it is refused, and so many times at most, tells each time what it did, and says whether it ever happened. The
-    /// place is that of its node or link end.
+    /// Makes an event happen until it is refused, at most `most` times, and records each time what it did. Returns
+    /// whether it happened at all. `place` is the index of its node or link end.
     fn step_on(&mut self, place: usize, event: &Event, most: u64) -> Result<bool, AllocError>
         ensures { IfOk result (λ some. Happened (S.world self.old.sim) (repeats most event.now (S.world self.old.sim)) (S.world self.new.sim) some) }
     {

@@ -9,7 +9,7 @@ use tora_script::Simulator;
 use tora_seat::Item;
 use tora_sim::Sim;
 
-/// A simulated world that tells what a trace has.
+/// A simulator that a trace can be written of.
 pub trait Watched: Simulator {
     /// How many ticks have passed.
     fn clock(&self) -> u64
