@@ -125,7 +125,8 @@ pub(crate) fn new_starts<D: Disk + Drop, W: Wire + Drop, C: Drop>(
             unreachable!()
         };
         let hub = LaneHub { port, outs };
-        let Ok(()) = starts.push(Start { new, hub, clock }) else {
+        let start = Start { new, hub, clock };
+        let Ok(()) = starts.push(start) else {
             return None;
         };
     }
