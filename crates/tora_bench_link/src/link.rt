@@ -2,7 +2,6 @@
 ghost use Rattle.std.specs.Prelude.{◌≢◌, ◌<◌};
 
 use crate::paced_hub::{Course, PacedHub};
-use log::Log;
 use std::alloc::Global;
 use std::net::{IpAddr, Ipv4Addr, Net, SocketAddr};
 use std::sync::Wait;
@@ -12,7 +11,7 @@ use std::time::{Clock, Instant};
 use std::{io, thread};
 use tora_arq::{Life, LinkEnd, Times};
 use tora_height::{Height, Id};
-use tora_keyed::{Key, LinkWire};
+use tora_keyed::{Key, KeyedWire};
 use tora_lane::Cargo;
 use tora_life::{LifeFile, MemDisk};
 use tora_neighbour::{Link, ListHub, NodeClock, UnixClock, WakingWire, Wire, run_neighbour};
@@ -107,13 +106,13 @@ fn run_ends<R: Clock + Threads + Wait + Sync, W: Wire + Send + Drop>(
     Some(())
 }
 
-/// The wire of a link to `peer` under a key of its own making.
-fn keyed<R: Clock + Log, W: Wire>(rt: &R, peer: Id, wire: W) -> LinkWire<'_, W, UnixClock<&R>, R> {
-    LinkWire::new(wire, Some(Key::new(&[7; 32])), peer, UnixClock::new(rt), rt)
+/// The wire under a key of its own making.
+fn keyed<W: Wire>(wire: W) -> KeyedWire<W> {
+    KeyedWire::new(wire, Key::new(&[7; 32]))
 }
 
 /// Runs a link, with a key or without one.
-fn run_link<R: Clock + Log + Net + Threads + Wait + Sync>(
+fn run_link<R: Clock + Net + Threads + Wait + Sync>(
     rt: &R,
     alloc: Global,
     count: u32,
@@ -124,14 +123,14 @@ fn run_link<R: Clock + Log + Net + Threads + Wait + Sync>(
     let (first, second) = pair(rt, alloc, &clock)?;
     let list = cargoes(alloc, count)?;
     if is_keyed {
-        let wires = (keyed(rt, 2, first), keyed(rt, 1, second));
+        let wires = (keyed(first), keyed(second));
         return run_ends(rt, alloc, wires, list, course);
     }
     run_ends(rt, alloc, (first, second), list, course)
 }
 
 /// Times the link, with so many packets, with a key or without one.
-pub fn time_link<R: Clock + Log + Net + Print + Threads + Wait + Sync>(
+pub fn time_link<R: Clock + Net + Print + Threads + Wait + Sync>(
     rt: &R,
     alloc: Global,
     count: u32,

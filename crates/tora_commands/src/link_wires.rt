@@ -15,7 +15,7 @@ use std::net::Net;
 use std::rt::Files;
 use std::time::Clock;
 use tora_config::{ConfigError, LinkWay, read_ways};
-use tora_keyed::{Key, LinkWire};
+use tora_keyed::{Key, LinkWire, NoticedWire};
 use tora_neighbour::{NodeClock, SocketWaker, UnixClock, WakingWire};
 use tora_simulate::{Paths, tell_at};
 
@@ -28,7 +28,7 @@ pub(crate) struct KeyedWay {
 }
 
 /// The wire of a link of the program.
-pub(crate) type ProgramWire<'a, R, L> = LinkWire<'a, WakingWire<'a, &'a R>, UnixClock<&'a R>, L>;
+pub(crate) type ProgramWire<'a, R, L> = NoticedWire<'a, WakingWire<'a, &'a R>, UnixClock<&'a R>, L>;
 
 /// What ends the waits of a link of the program.
 pub(crate) type ProgramWaker<'a, R> = SocketWaker<'a, &'a R>;
@@ -117,7 +117,8 @@ fn wire_of<'a, R: Net + Eprint + Clock, L: Log>(
     let KeyedWay { way, key } = keyed;
     match WakingWire::bind(rt, alloc, clock, way.local, way.remote) {
         Ok((wire, waker)) => {
-            let wire = LinkWire::new(wire, key, way.peer, UnixClock::new(rt), log);
+            let wire = LinkWire::over(wire, key);
+            let wire = NoticedWire::new(wire, way.peer, UnixClock::new(rt), log);
             Ok((wire, waker))
         }
         Err(error) if error.kind() == ErrorKind::OutOfMemory => Err(say(rt, Fault::Memory)),

@@ -6,7 +6,7 @@ use Rattle.std.proofs.lemmas.Grind.{common_steps}
 use Rattle.tora_key.specs.Sealing.{sealed}
 use Rattle.tora_key.proofs.Tags.{length-sealed, opened-sealed}
 use Rattle.tora_neighbour.specs.Datagrams.{IsCut, IsReceived}
-use Rattle.tora_keyed.specs.Links.{let_in, Writes}
+use Rattle.tora_keyed.specs.Keyed.{let_in, Writes}
 
 pub let_in-sealed : (key message : List ℕ) → length message ≤ 560 → let_in key (sealed key message) ≡ Some message
 let_in-sealed key message short =

@@ -1,3 +1,4 @@
+pub mod Keyed
 pub mod Links
 pub mod KeyFile
 pub mod Notices

@@ -8,7 +8,7 @@ use std::cell::Cell;
 use std::process::Abort;
 use std::str;
 use tora_commands::LogLines;
-use tora_keyed::{Key, LinkWire};
+use tora_keyed::{Key, LinkWire, NoticedWire};
 use tora_neighbour::{Clock, Wire, WireError};
 
 const MESSAGE: &[u8] = b"a datagram";
@@ -90,7 +90,7 @@ const LINES: &str = "[WARN  tora_keyed::noticed_wire] link 2 unauthenticated dat
 /// A datagram comes at each turn; one that is forged is not given.
 fn turn_each<L: Log>(
     rt: &impl Abort,
-    wire: &mut LinkWire<'_, GivingWire<'_>, SetClock<'_>, L>,
+    wire: &mut NoticedWire<'_, GivingWire<'_>, SetClock<'_>, L>,
     tick: &Cell<u64>,
     is_forged: &Cell<bool>,
 ) {
@@ -111,8 +111,8 @@ fn minutes_pass(rt: &impl Abort, desk: &Desk) {
         key: Key::new(&[7; 32]),
         is_forged: &is_forged,
     };
-    let key = Key::new(&[7; 32]);
-    let mut wire = LinkWire::new(giving, Some(key), 2, SetClock { tick: &tick }, &log);
+    let wire = LinkWire::over(giving, Some(Key::new(&[7; 32])));
+    let mut wire = NoticedWire::new(wire, 2, SetClock { tick: &tick }, &log);
     turn_each(rt, &mut wire, &tick, &is_forged);
     same_at(rt, &wire.unauthenticated(), &6, &"the count");
     wire.close();
@@ -129,7 +129,8 @@ fn plain_link_ends(rt: &impl Abort, desk: &Desk) {
         key: Key::new(&[7; 32]),
         is_forged: &is_forged,
     };
-    let mut wire = LinkWire::new(giving, None, 2, SetClock { tick: &tick }, &log);
+    let wire = LinkWire::over(giving, None);
+    let mut wire = NoticedWire::new(wire, 2, SetClock { tick: &tick }, &log);
     let given = wire.receive(&mut [0; 30]);
     same_at(rt, &given, &Ok(Some(26)), &"no key");
     wire.close();
