@@ -1,14 +1,10 @@
 -- Tests of a list that go from each item to those behind it, and tests of links by their two numbers.
-use Rattle.std.proofs.Common.{◌≡◌, refl, sym, ap, ◌∙◌, subst, ℕ, zero, suc, ◌+◌, ◌-◌, ◌<◌, ◌≤◌, ◌==◌, Bool, true, false, ◌||◌, List, [], ◌∷◌, length, take, drop, get_or, if◌then◌else◌, true≢false, eqb-true, eq-eqb, arith}
-use Rattle.std.proofs.lemmas.Bool.{or_from, or_right}
-use Rattle.std.proofs.lemmas.Bool.Decides.{nat_tests}
+use Rattle.std.proofs.Common.{◌≡◌, refl, sym, ap, ◌∙◌, ℕ, zero, suc, ◌+◌, ◌-◌, ◌<◌, ◌≤◌, ◌==◌, true, ◌||◌, List, [], ◌∷◌, length, take, drop, get_or, arith}
+use Rattle.std.proofs.lemmas.Bool.{or_right}
 use Rattle.std.specs.List.{list_any}
 use Rattle.std.proofs.lemmas.List.{drop_more, take_rest}
-use Rattle.tora_core.specs.Numbers.{has_number, has_repeat}
-use Rattle.tora_world.specs.Topology.{Link, nodes_in, other_ends, different, is_same_link, has_link, has_repeated_link, has_own_link}
-use Rattle.tora_world.proofs.SoundTopology.{or-false-left, or-false-right, others-once, has-different, unnamed}
-use Rattle.tora_sim.specs.Topologies.{link_in, links_in, with_end, has_other, has_repeated_end}
-use Rattle.tora_sim.proofs.Named.{ends_from, ends-step}
+use Rattle.tora_world.specs.Topology.{is_same_link, has_link, has_repeated_link, has_own_link}
+use Rattle.tora_sim.specs.Topologies.{link_in, links_in}
 
 -- ---- links
 

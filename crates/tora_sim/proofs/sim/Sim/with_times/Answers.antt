@@ -20,9 +20,6 @@ add_node-requires-clause-me c =
     let lt : c.loop-n.n-index < length (nodes_in c.in-Ok.own.links) = subst (λ (ns : List ℕ). c.loop-n.n-index < length ns) same c.loop-n-test.true in
     subst (λ (ns : List ℕ). 0 < get_or ns c.loop-n.n-index 0) (sym same) (positive-node c.in-Ok.own c.nodes-named.ensures.kept c.loop-n.n-index 0 lt)
 
-pub add_node-requires-clause-lists : goal.add_node-requires-clause-lists
-add_node-requires-clause-lists c = record { pairs = c.links.result.now; links = c.links.ensures; by_bits = c.in_ok-lists.ensures }
-
 pub loop-n-preserved : goal.loop-n-preserved
 loop-n-preserved c =
     let more : IsMade c.args.topology.now c.args.times (get_or c.as_slice-n-items.result.now c.loop-n.n-index 0) c.loop-n.nodes.items c.loop-n.links.items c.add_node.new.nodes.items c.add_node.new.links.items =
@@ -55,6 +52,11 @@ invariant_of-result c =
 
 pub returns-clause-made : goal.returns-clause-made
 returns-clause-made c =
+    let same : c.as_slice-n-items.result.now ≡ nodes_in c.in-Ok.own.links = c.as_slice-n-items.ensures.value ∙ c.nodes-named.ensures.items in
+    let whole : take c.loop-n.n-index c.as_slice-n-items.result.now ≡ c.as_slice-n-items.result.now = take_all c.loop-n.n-index c.as_slice-n-items.result.now c.loop-n-test.false in
+    let made : AreMade c.in-Ok.own c.args.times (nodes_in c.in-Ok.own.links) c.loop-n.nodes.items c.loop-n.links.items =
+    subst (λ (t : Topology). AreMade t c.args.times (nodes_in c.in-Ok.own.links) c.loop-n.nodes.items c.loop-n.links.items) (sym c.in-Ok.ensures)
+    (subst (λ (ns : List ℕ). AreMade c.args.topology.now c.args.times ns c.loop-n.nodes.items c.loop-n.links.items) (whole ∙ same) c.loop-n.invariant) in
     ap (λ (ds : List FrameParts). world_of (state_of c.in-Ok.own c.args.times 0 c.loop-n.nodes.items c.loop-n.links.items ds)) c.new.ensures
-    ∙ is-first c.numbers_are_put_in_order.ensures.order c.numbers_come_and_go.ensures.in_order c.in-Ok.own c.args.times c.nodes-named.ensures.kept c.loop-n.nodes.items c.loop-n.links.items (made c.before)
+    ∙ is-first c.numbers_are_put_in_order.ensures.order c.numbers_come_and_go.ensures.in_order c.in-Ok.own c.args.times c.nodes-named.ensures.kept c.loop-n.nodes.items c.loop-n.links.items made
     ∙ ap (λ (t : Topology). first_world t c.args.times) c.in-Ok.ensures

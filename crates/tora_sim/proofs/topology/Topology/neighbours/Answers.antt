@@ -10,10 +10,10 @@ neighbours_of-requires c =
     let s = c.self.inside in
     let few : length (other_ends c.args.n (links_in s.links.items)) ≤ 255 =
     few-ends (topology_of s.links.items s.destinations.items) (sound (topology_of s.links.items s.destinations.items) (greatest_limits, c.self.invariant.sound)) c.args.n in
-    subst (λ (links : List (ℕ × ℕ)). length (other_ends c.args.n (links_in links)) ≤ 255) (sym c.deref.ensures) few
+    subst (λ (links : List (ℕ × ℕ)). length (other_ends c.args.n (links_in links)) ≤ 255) (sym c.deref.ensures.value) few
 
 pub returns-clause-items : goal.returns-clause-items
 returns-clause-items c =
     c.neighbours_of.ensures
-    ∙ ap (λ (links : List (ℕ × ℕ)). ascending (other_ends c.args.n (links_in links))) c.deref.ensures
+    ∙ ap (λ (links : List (ℕ × ℕ)). ascending (other_ends c.args.n (links_in links))) c.deref.ensures.value
     ∙ ap (λ (t : Topology). ascending (other_ends c.args.n t.links)) c.self.view_is
