@@ -4,4 +4,3 @@ pub mod Readers
 pub mod RouterHeld
 pub mod RouterParts
 pub mod Version
-pub mod WorldHeld

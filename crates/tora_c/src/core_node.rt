@@ -10,24 +10,19 @@ use std::marker::Model;
 use tora_core::numbers::has_number;
 use tora_core::{Core, CoreLimits, Erasure, Input, Sends};
 
-/// A core, and the packets that its last step broadcast which was not refused. Two lists take turns, so that a step that is refused leaves those
-/// packets, and none is moved.
+/// A core, and the packets that its last step broadcast which was not refused.
 #[derive(Drop)]
 pub struct CoreNode {
     pub core: Core,
-    first: Sends,
-    second: Sends,
-    /// Whether the second list has the packets of the last step.
-    is_second: bool,
+    pub sends: Sends,
 }
 
 impl Model for CoreNode {
-    ghost use Rattle.std.specs.Prelude.{if◌then◌else◌};
     ghost use Rattle.tora_c.specs.CoreNode.{NodeView};
 
     ghost Value = { NodeView };
 
-    ghost view = { λ n. record { core = n.core; sent = if n.is_second then n.second.items else n.first.items } };
+    ghost view = { λ n. record { core = n.core; sent = n.sends.items } };
 }
 
 /// The choice of what becomes of erased levels: 0 is `Plain`, 1 is `Remembered`.
@@ -72,9 +67,7 @@ impl CoreNode {
         ) {
             Ok(core) => Ok(CoreNode {
                 core,
-                first: ArrayVec::new(),
-                second: ArrayVec::new(),
-                is_second: false,
+                sends: ArrayVec::new(),
             }),
             Err(error) => Err(core_code(error)),
         }
@@ -88,26 +81,10 @@ impl CoreNode {
         let Ok(core) = self.core.try_clone(alloc) else {
             return Err(MEMORY);
         };
-        let Ok(first) = self.sent().clone() else {
+        let Ok(sends) = self.sends.clone() else {
             return Err(MEMORY);
         };
-        Ok(CoreNode {
-            core,
-            first,
-            second: ArrayVec::new(),
-            is_second: false,
-        })
-    }
-
-    /// The packets that the last step broadcast which was not refused.
-    pub fn sent(&self) -> &Sends
-        ensures { result.now.items ≡ self.now.sent }
-    {
-        if self.is_second {
-            &self.second
-        } else {
-            &self.first
-        }
+        Ok(CoreNode { core, sends })
     }
 
     /// Takes an input in at a tick, and answers its code. One that is refused changes nothing.
@@ -115,22 +92,12 @@ impl CoreNode {
         ensures code { result ≡ step_code self.old input }
         ensures node { self.new ≡ node_after self.old input now }
     {
-        if self.is_second {
-            match self.core.step_into(&input, now, &mut self.first) {
-                Ok(()) => {
-                    self.is_second = false;
-                    OK
-                }
-                Err(error) => refused_code(error),
+        match self.core.step(input, now) {
+            Ok(sends) => {
+                self.sends = sends;
+                OK
             }
-        } else {
-            match self.core.step_into(&input, now, &mut self.second) {
-                Ok(()) => {
-                    self.is_second = true;
-                    OK
-                }
-                Err(error) => refused_code(error),
-            }
+            Err(error) => refused_code(error),
         }
     }
 }

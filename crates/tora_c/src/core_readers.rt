@@ -129,7 +129,7 @@ pub extern "C" fn tora_core_sent_count(
     let Some(node) = core.take(alloc) else {
         return NULL;
     };
-    *count = node.sent().len();
+    *count = node.sends.len();
     core.put(alloc, node);
     OK
 }
@@ -152,7 +152,7 @@ pub extern "C" fn tora_core_sent(
     let Some(node) = core.take(alloc) else {
         return NULL;
     };
-    let packet = node.sent().get(place).copied();
+    let packet = node.sends.get(place).copied();
     core.put(alloc, node);
     match packet {
         Some(packet) => write(encode(&packet).as_slice(), bytes, len),
