@@ -1,8 +1,8 @@
 #!/usr/bin/env bash
 # Checks what the gate does not check: the package of studies by its own tests (python/tests), the laws in random networks, the
 # dissector, the completion, what ./tora install installs, what the scripts of dev/ refuse, that the version is the same everywhere,
-# and that the manual pages and the help have the lines of docs/formats.md. If the program is built, nodes of it are tried, too:
-# their lock, log and keys, and what they tell programs.
+# that limits have names, and that the manual pages and the help have the lines of docs/formats.md. If the program is built, nodes of
+# it are tried, too: their lock, log and keys, and what they report to programs.
 # usage: dev/check.sh [--store]
 #   --store   write the results to dev/stored and python/tests/stored/frames.pcap instead of comparing
 # The package needs /usr/bin/python3 with the Debian packages of docs/how-to/install.md, and python3-pytest. The program is that of
@@ -313,6 +313,11 @@ check_version() {
   refuses 2 'usage: dev/version.py' "$here/version.py" 1.0.0
 }
 
+# Limits have names: no further number is written in several files.
+check_literals() {
+  holds 'numbers in several files have a name or a reason' "$here/literals.py"
+}
+
 # The module for ns-3: its checks, where ns3/build has built it.
 check_ns3() {
   if [ ! -x "${TORA_NS3_OUT:-$here/../out/ns3}/tora-test" ]; then
@@ -335,6 +340,7 @@ check_library
 check_completion
 check_licence
 check_version
+check_literals
 check_ns3
 echo "$passed passed, $failed failed"
 [ "$failed" = 0 ]

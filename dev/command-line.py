@@ -22,7 +22,7 @@ HEAD = """# Command line
 `tora-study` makes studies with it; from the repository it runs as `python/tora-study`.
 This page is what the commands print with `--help`; `dev/command-line.py` writes it.
 
-The option `-v` may also stand in front of a word.
+The option `-v` may also come before a word.
 [The program](../formats.md#the-program) states what the options of `tora` do.
 """
 

@@ -153,8 +153,9 @@ def stage_library(tree):
     if told.stdout.strip() not in package:
         stop("include/tora.pc.in has no line libdir=${prefix}/lib", 1)
     write(f"{tree}/staged/lib/tora.pc", package)
-    guide = re.sub(r"\]\((?!/|#|\w+:)([^)]+)", lambda it: f"]({os.path.normpath(f'{GUIDES}/{it[1]}')}", read("docs/how-to/embed.md"))
-    write(f"{tree}/staged/embed.md", guide)
+    for name in "embed.md", "embed-a-world.md":
+        guide = re.sub(r"\]\((?!/|#|\w+:)([^)]+)", lambda it: f"]({os.path.normpath(f'{GUIDES}/{it[1]}')}", read(f"docs/how-to/{name}"))
+        write(f"{tree}/staged/{name}", guide)
 
 
 def write_control(state, tree):

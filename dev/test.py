@@ -8,17 +8,21 @@ usage: ./tora test [--jobs N] [CRATE ..]
 
 `rt try --test` compiles each crate with its tests and runs them with checks at run time. Each crate is reported when it ends, and
 each test that fails is reported with its output. The last line is `N passed, M failed`, counted in tests; a crate whose tests
-cannot be compiled counts as one that failed. Nothing is proved here: `rt ci` is the gate. Exit status: 0 if none failed, 1 if one did
-or there is none, 2 for wrong usage.
+cannot be compiled counts as one that failed. Without CRATE, dev/check-lib.sh also tests the library for C, if it is built of
+these sources and gcc, g++ and valgrind are there. Nothing is proved here: `rt ci` is the gate. Exit status: 0 if none failed, 1 if
+one did or there is none, 2 for wrong usage.
 """
 import argparse
 import os
 import re
+import shutil
 import signal
 import subprocess
 import sys
 import time
 from concurrent.futures import ThreadPoolExecutor, as_completed
+
+import library
 
 TOP = os.path.dirname(os.path.dirname(os.path.realpath(__file__)))
 MOST_JOBS = 1024
@@ -63,6 +67,16 @@ def run(crate):
     return crate, time.time() - began, ran.returncode, said
 
 
+def check_library():
+    """Tests the library for C, if that is possible; answers how many tests passed, and how many failed."""
+    if not library.is_current() or not all(map(shutil.which, ["gcc", "g++", "valgrind"])):
+        return 0, 0
+    ran = subprocess.run([f"{TOP}/dev/check-lib.sh"], stdin=subprocess.DEVNULL, capture_output=True, text=True, errors="replace")
+    print(f"{ran.stderr}{ran.stdout}", end="", flush=True)
+    found = re.search(r"^check-lib: (\d+) passed, (\d+) failed$", ran.stdout, re.M)
+    return (int(found[1]), int(found[2])) if found else (0, 1)
+
+
 def broken_off(number, _):
     """Ends, and has the runs end and take their folders away."""
     for it in [*running]:
@@ -100,6 +114,9 @@ def main():
             for name, wrote in found[1].items():
                 print(f"{crate}: {name} FAILED\n{wrote}", end="")
             print(f"{crate}: {found[0]} passed, {len(found[1])} failed ({round(seconds)} s)", flush=True)
+    if not asked.crates:
+        found = check_library()
+        passed, failed = passed + found[0], failed + found[1]
     print("run with checks at run time, and not proved: `rt ci` is the gate" if have else "no tests")
     print(f"{passed} passed, {failed} failed")
     return 1 if failed or not have else 0

@@ -5,10 +5,11 @@
  * LINK
  *   cc program.c $(pkg-config --cflags --libs tora)
  *
- * WHICH OF THE TWO
+ * WHICH OF THE THREE
  *   A `tora_router` is a whole node: the rules, and a link end for each neighbour. Its host carries datagrams, which
  *   may be lost, repeated, reordered and delayed. A `tora_core` is the rules alone, for a host whose links lose
- *   nothing, keep the order, and tell when they come up and go down.
+ *   nothing, keep the order, and tell when they come up and go down. A `tora_world` is a simulated network, which
+ *   its host controls by lines.
  *
  * A ROUTER
  *   A `tora_router` keeps the heights and next hops of its node, and finds out itself which of its neighbours are
@@ -55,6 +56,19 @@
  *   tora_core_sent(&core, place, ..);             before the next one; the readers at any time
  *   tora_core_free(&core);                        in the end
  *
+ * A WORLD
+ *   A `tora_world` is a simulated network: nodes, links, life files, and datagrams that come late, twice or never. It
+ *   takes the lines of `tora drive`, and answers each with the same bytes; formats.md, "External control", defines
+ *   them. A line that is refused or a fault has an answer that says so, and is no error of the call. The memory of a
+ *   world grows with the lines.
+ *
+ * ORDER OF CALLS OF A WORLD
+ *   tora_world world = TORA_WORLD_NULL;
+ *   tora_world_new(&world, ..);                   once
+ *   tora_world_line(&world, line, ..);            a line, which keeps its answer until the next one, and
+ *   tora_world_answer(&world, ..);                that answer, as often as it is wanted
+ *   tora_world_free(&world);                      in the end
+ *
  * UNITS
  *   `now`, `tau` and times count ticks of 100 ms, from any start. `now` should not fall from one call to the next; a
  *   handle is safe where it does. The number of a node is from 1 to 2^32 - 1, a life number from 1 to 2^62. Lengths
@@ -63,19 +77,20 @@
  *   most 560.
  *
  * OWNERSHIP
- *   A `tora_core` or `tora_router` holds one pointer, and is made, read and freed by these calls alone. It begins as
- *   TORA_CORE_NULL or TORA_ROUTER_NULL. What it holds is freed by `tora_core_free` or `tora_router_free`, which
- *   leaves it null, and by a call that puts another one in its place. A copy of the struct is no second core or
- *   router: never use both copies (`tora_core_clone` makes a second core). The library keeps no pointer to what a
- *   caller hands in, and memory comes from `malloc`, `realloc` and `free`.
+ *   A `tora_core`, `tora_router` or `tora_world` holds one pointer, and is made, read and freed by these calls
+ *   alone. It begins as TORA_CORE_NULL, TORA_ROUTER_NULL or TORA_WORLD_NULL. What it holds is freed by
+ *   `tora_core_free`, `tora_router_free` or `tora_world_free`, which leaves it null, and by a call that puts another
+ *   one in its place. A copy of the struct is no second core, router or world: never use both copies
+ *   (`tora_core_clone` makes a second core). The library keeps no pointer to what a caller hands in, and memory
+ *   comes from `malloc`, `realloc` and `free`.
  *
  * ERRORS
- *   Each call but the two that free answers a code, TORA_OK (0) where it did what it says. Where it answers another
- *   one it changed nothing: neither what the handle holds nor what the pointers lead to, but for the `length` of
- *   TORA_ROOM. A handle that is null is answered by TORA_NULL, also after it was freed. Each call names its codes in
- *   the order in which they are tested.
- *   A pointer is never NULL, but that to an array may be where its count is 0. What pointers lead to does not
- *   overlap.
+ *   Each call but the three that free answers a code, TORA_OK (0) where it did what it says. Where it answers
+ *   another one it changed nothing: neither what the handle holds nor what the pointers lead to, but for the
+ *   `length` of TORA_ROOM, and for the world of a line for which there is not enough memory. A handle that is null
+ *   is answered by TORA_NULL, also after it was freed. Each call names its codes in the order in which they are
+ *   tested. A pointer is never NULL, but that to an array may be where its count is 0. What pointers lead to does
+ *   not overlap.
  *
  * THREADS
  *   The library has no state of its own. Threads may use different handles at once. One handle is used by one thread
@@ -83,9 +98,9 @@
  *   handler.
  *
  * PROVED
- *   For any calls with pointers as above: what each call answers and changes is what the rules of TORA and of its
- *   links say, no memory is read or written outside of what it is given, nothing overflows, and each call ends. The
- *   header itself, the C compiler and the C library are not part of the proof.
+ *   For any calls with pointers as above: what each call answers and changes is what the rules of TORA, of its links
+ *   and of simulated worlds say, no memory is read or written outside of what it is given, nothing overflows, and
+ *   each call ends. The header itself, the C compiler and the C library are not part of the proof.
  */
 #ifndef TORA_H
 #define TORA_H
@@ -129,6 +144,13 @@ extern "C" {
 #define TORA_PLAIN 0u       /* a clear erases heights of its level (the default of the program) */
 #define TORA_REMEMBERED 1u  /* an update of the level that was erased last is withdrawn, too */
 
+/* How large a world may be: nodes, neighbours of a node, and destinations. */
+#define TORA_STANDARD_LIMITS 0u  /* 64, 32 and 64 */
+#define TORA_LARGE_LIMITS 1u     /* 1024, 255 and 64, as `tora drive --large` */
+
+/* The longest line of a world that is no fault, in bytes. */
+#define TORA_LONGEST_LINE 4096u
+
 /* The longest packet, in bytes. */
 #define TORA_LONGEST_PACKET 32u
 
@@ -149,6 +171,13 @@ typedef struct {
 
 #define TORA_ROUTER_NULL { NULL }
 
+/* A driven world, or null. */
+typedef struct {
+    void *at;
+} tora_world;
+
+#define TORA_WORLD_NULL { NULL }
+
 /* A height. Of two, the lower one is the first in the order of tau, oid, r, delta and id. */
 typedef struct {
     uint64_t tau;   /* when the reference level was defined, in ticks; 0 for the level of the destination */
@@ -158,7 +187,7 @@ typedef struct {
     uint32_t id;    /* the node whose height it is */
 } tora_height;
 
-/* The times of a router's links. A part that is 0 stands for the standard one. */
+/* The times of links. A part that is 0 stands for the standard one. */
 typedef struct {
     uint64_t hello;   /* how many ticks after a HELLO the next one is due; standard: 10 */
     uint64_t silent;  /* after how many ticks without hearing the neighbour a link goes down; standard: 50 */
@@ -418,6 +447,31 @@ uint32_t tora_router_tally(tora_router *router, uint32_t k, tora_tally *tally);
  * TORA_NULL, TORA_MEMORY, TORA_ROOM.
  */
 uint32_t tora_router_show(tora_router *router, uint8_t *text, size_t room, size_t *length);
+
+/*
+ * Makes a new world. Its limits are TORA_STANDARD_LIMITS or TORA_LARGE_LIMITS; `erasure` is the choice of each node for
+ * which no line names another one, and `times` are those of every link. What `world` held is freed.
+ * TORA_CHOICE, TORA_MEMORY.
+ */
+uint32_t tora_world_new(tora_world *world, uint32_t limits, uint32_t erasure, const tora_times *times);
+
+/* Frees the world, and leaves the handle null. A null handle stays null. */
+void tora_world_free(tora_world *world);
+
+/*
+ * Hands the world a line of `tora drive`, without the byte that ends it, and writes the length of the answer, which
+ * `tora_world_answer` returns. The answer is what the program prints for the line; the last line of it is "ok",
+ * "refused N" or "fault N CAUSE".
+ * TORA_NULL, TORA_MEMORY. If there is not enough memory, the world is as `tora_world_new` made it, with no answer.
+ */
+uint32_t tora_world_line(tora_world *world, const uint8_t *line, size_t length, size_t *answer);
+
+/*
+ * Writes the answer to the last line, and its length, which is 0 before the first line. No zero byte ends it. It stays
+ * until the next line.
+ * TORA_NULL, TORA_ROOM.
+ */
+uint32_t tora_world_answer(tora_world *world, uint8_t *text, size_t room, size_t *length);
 
 #ifdef __cplusplus
 }

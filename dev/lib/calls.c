@@ -1,5 +1,6 @@
 /* SPDX-License-Identifier: MIT */
-/* Each call of tora.h, with handles that are null, freed, of cores and of routers, and each allocation refused in turn: for dev/check-lib.sh. */
+/* Each call of tora.h, with handles that are null, freed, of cores, routers and worlds, and each allocation refused in
+   turn: for dev/check-lib.sh. */
 #include <stdio.h>
 #include <stdlib.h>
 #include <string.h>
@@ -256,11 +257,89 @@ static int uses_router(long after) {
     return done;
 }
 
+/* The same of a world. */
+static void all_world_calls_are_null(tora_world *world) {
+    size_t size = 7;
+    IS(TORA_NULL, tora_world_line(world, (const uint8_t *)"step", 4, &size));
+    IS(TORA_NULL, tora_world_answer(world, NULL, 0, &size));
+    IS(7, (uint32_t)size);
+    tora_world_free(world);
+}
+
+/* Hands a world a line, and tests that this is the answer. */
+static void line_is(tora_world *world, const char *line, const char *wanted) {
+    uint8_t text[128];
+    size_t said = 7, size = 7, length = strlen(wanted);
+    IS(TORA_OK, tora_world_line(world, (const uint8_t *)line, strlen(line), &said));
+    if (length) IS(TORA_ROOM, tora_world_answer(world, text, length - 1, &size));
+    IS(TORA_OK, tora_world_answer(world, text, length, &size));
+    if (said != length || size != length || memcmp(text, wanted, length) != 0) {
+        failures++;
+        printf("%s: the answer is %.*s, and not %s\n", line, (int)size, (const char *)text, wanted);
+    }
+}
+
+static const char FIRST_STEP[] = "sent 1 2 1 28\nsent 1 2 2 28\nsent 2 1 3 28\nsent 2 1 4 28\nok\n";
+
+/* What a world answers in turn. */
+static void world_answers(tora_world *world) {
+    static uint8_t line[TORA_LONGEST_LINE + 1];
+    size_t size = 7;
+    IS(TORA_OK, tora_world_answer(world, NULL, 0, &size));
+    IS(0, (uint32_t)size);
+    line_is(world, "", "fault 1 the first line is `dests LIST`, the destinations\n");
+    line_is(world, "dests 2", "ok\n");
+    line_is(world, "link 1 2", "ok\n");
+    line_is(world, "step", FIRST_STEP);
+    line_is(world, "deliver 5", "refused 3\n");
+    line_is(world, "deliver 1\n", "fault 6 it is no line that may stand here\n");
+    line_is(world, "forget 1", "ok\n");
+    line_is(world, "deliver 1", "refused 3\n");
+    memset(line, ' ', sizeof line);
+    IS(TORA_OK, tora_world_line(world, line, sizeof line, &size));
+    IS(42, (uint32_t)size);
+}
+
+/* Worlds that are refused, and two that are not. */
+static void worlds(void) {
+    const tora_times times = TORA_STANDARD_TIMES, quick = {1, 2, 1, 1};
+    tora_world world = TORA_WORLD_NULL;
+    all_world_calls_are_null(&world);
+    IS(TORA_CHOICE, tora_world_new(&world, 2, TORA_PLAIN, &times));
+    IS(TORA_CHOICE, tora_world_new(&world, TORA_LARGE_LIMITS, 2, &times));
+    all_world_calls_are_null(&world);
+    IS(TORA_OK, tora_world_new(&world, TORA_LARGE_LIMITS, TORA_REMEMBERED, &quick));
+    line_is(&world, "dests 2", "ok\n");
+    IS(TORA_OK, tora_world_new(&world, TORA_STANDARD_LIMITS, TORA_PLAIN, &times));
+    world_answers(&world);
+    tora_world_free(&world);
+    all_world_calls_are_null(&world);
+}
+
+/* As `uses`, of a world: one whose line was refused memory is as it was made. */
+static int uses_world(long after) {
+    static const char *const LINES[] = {"dests 2", "link 1 2", "step", "deliver 1", "step"};
+    const tora_times times = TORA_STANDARD_TIMES;
+    tora_world world = TORA_WORLD_NULL;
+    size_t at = 0, size = 7;
+    uint32_t code;
+    left = after;
+    code = tora_world_new(&world, TORA_STANDARD_LIMITS, TORA_PLAIN, &times);
+    if (code != TORA_OK && world.at) failures++;
+    for (; code == TORA_OK && at < sizeof LINES / sizeof *LINES; at++)
+        code = tora_world_line(&world, (const uint8_t *)LINES[at], strlen(LINES[at]), &size);
+    left = -1;
+    if (code != TORA_OK && code != TORA_MEMORY) failures++;
+    if (code == TORA_MEMORY && world.at) world_answers(&world);
+    tora_world_free(&world);
+    return code == TORA_OK;
+}
+
 int main(void) {
     tora_core core = TORA_CORE_NULL, other = TORA_CORE_NULL;
     uint8_t text[16];
     size_t size;
-    long after = 0, after_router = 0;
+    long after = 0, after_router = 0, after_world = 0;
     if (tora_abi_version() != TORA_ABI_VERSION) failures++;
     IS(TORA_ROOM, tora_version(text, 1, &size));
     IS(TORA_OK, tora_version(text, sizeof text, &size));
@@ -278,8 +357,10 @@ int main(void) {
     IS(TORA_OK, tora_core_link_down(&other, 2, 3));
     tora_core_free(&other);
     routers();
+    worlds();
     while (!uses(after)) after++;
     while (!uses_router(after_router)) after_router++;
-    printf("calls: %ld allocations are refused in turn, %d failures\n", after + after_router, failures);
+    while (!uses_world(after_world)) after_world++;
+    printf("calls: %ld allocations are refused in turn, %d failures\n", after + after_router + after_world, failures);
     return failures != 0;
 }

@@ -2,12 +2,15 @@
 """All orders of deliveries of a small world, by proved rules: how many states there are, and if an order never ends.
 
 usage: explore.py [--erasure plain|remembered] [--most STATES] [--replay DIR] NODES LINKS DESTINATION EVENTS
+       explore.py [--erasure plain|remembered] [--replay DIR] --order FILE NODES LINKS DESTINATION
        explore.py 3 1-2,2-3,3-1 1 'need 3; cut 1 2'
+       explore.py --order storm.order 4 1-2,2-3,3-1,1-4 4
 
 A world has the nodes 1 to NODES, links that are up at first, each a queue in both directions that keeps its order,
 and events: `need N`, `cut A B` (what is under way there is lost), `mend A B`, and `rest`, which waits until nothing
 is under way. Events come in their order. Else anything may happen next: the next event, or the delivery of the
 first packet of any queue. Each input comes at tick 1. Each state is looked at once, the nearest first.
+With --order only one order is looked at, that of the steps of a file, one a line: events, and `deliver A B`.
 
 Two states count as one where all heights in them are of one reflected level, and their deltas differ by a constant:
 the rules compare deltas of a level with each other alone, so what follows is the same. A circle of such states is
@@ -201,6 +204,23 @@ def explored(first: World, most: int) -> Graph:
     return graph
 
 
+def along(first: World, order: list[str]) -> Graph:
+    """The states of one order of steps."""
+    numbers, at, graph = {first.key(): 0}, 0, Graph([(0, "")], [[]], is_whole=False)
+    for step in order:
+        word, *ends = step.split()
+        if word == "deliver" and not first.queues.get((int(ends[0]), int(ends[1]))):
+            sys.exit(f"explore: nothing is under way for `{step}`, step {at + 1}")
+        first = first.followed([step])
+        to = numbers.setdefault(first.key(), len(numbers))
+        if to == len(graph.ways):
+            graph.ways.append((at, step))
+            graph.follows.append([])
+        graph.follows[at].append((to, step))
+        at = to
+    return graph
+
+
 def main(most: int, folder: str | None) -> None:
     """Explores a world, and says what is found."""
     beside = {n: [b if a == n else a for a, b in LINKS if n in (a, b)] for n in NODES}
@@ -208,7 +228,7 @@ def main(most: int, folder: str | None) -> None:
     for n in NODES:
         for k in beside[n]:
             first.input(n, "link_up", k)
-    graph = explored(first, most)
+    graph = along(first, ORDER) if ORDER else explored(first, most)
     print(f"{len(graph.ways)} states{'' if graph.is_whole else ' and more'}, {graph.rest} of them at rest")
     found = graph.circle()
     if found is None:
@@ -232,12 +252,14 @@ PARSER = argparse.ArgumentParser(usage=(__doc__ or "").split("usage: ")[1].split
 PARSER.add_argument("--erasure", choices=["plain", "remembered"], default="plain")
 PARSER.add_argument("--most", type=int, default=100000)
 PARSER.add_argument("--replay")
+PARSER.add_argument("--order")
 PARSER.add_argument("nodes", type=int)
 PARSER.add_argument("links")
 PARSER.add_argument("destination", type=int)
-PARSER.add_argument("events")
+PARSER.add_argument("events", nargs="?", default="")
 ASKED = PARSER.parse_args()
 NODES, DESTINATION, ERASURE = range(1, ASKED.nodes + 1), ASKED.destination, Erasure[ASKED.erasure.upper()]
 LINKS = sorted((min(pair), max(pair)) for pair in (tuple(map(int, it.split("-"))) for it in ASKED.links.split(",")))
-EVENTS = [it.split() for it in ASKED.events.split(";")]
+EVENTS = [it.split() for it in ASKED.events.split(";")] if ASKED.events else []
+ORDER = pathlib.Path(ASKED.order).read_text().splitlines() if ASKED.order else []
 main(ASKED.most, ASKED.replay)

@@ -4,10 +4,11 @@
 /*
  * One simulated node on a real interface, in real time: its packets go out over the interface, and
  * those that come in there are the node's. Two such programs find each other over a wire. It needs
- * root; examples/emulation.sh runs two of them in network namespaces.
+ * root; examples/emulation.sh runs two of them in network namespaces, and
+ * examples/emulation-node.sh two with a program `tora node` between them.
  *
- *   tora-emulation --device=veth0 --address=10.9.9.1 --others="10.9.9.2" [--to=10.9.9.2]
- * [--seconds=20]
+ *   tora-emulation --device=veth0 --address=10.9.9.1 --others=10.9.9.2,10.9.9.3
+ *       [--programs=10.9.9.3] [--to=10.9.9.2] [--seconds=20]
  */
 #include "ns3/core-module.h"
 #include "ns3/fd-net-device-module.h"
@@ -15,6 +16,7 @@
 #include "ns3/network-module.h"
 #include "ns3/tora-helper.h"
 
+#include <algorithm>
 #include <arpa/inet.h>
 #include <iostream>
 #include <linux/if_packet.h>
@@ -55,10 +57,14 @@ OpenInterface(const std::string& name)
  * \param device the name of the interface
  * \param address the address of the node
  * \param others the addresses of the nodes that it may meet
+ * \param programs those of them that are programs `tora node`
  * \returns the node
  */
 Ptr<Node>
-MakeNode(const std::string& device, const std::string& address, const std::string& others)
+MakeNode(const std::string& device,
+         const std::string& address,
+         const std::string& others,
+         const std::string& programs)
 {
     Ptr<Node> node = CreateObject<Node>();
     Ptr<FdNetDevice> wire = CreateObject<FdNetDevice>();
@@ -72,6 +78,7 @@ MakeNode(const std::string& device, const std::string& address, const std::strin
     wire->SetFileDescriptor(OpenInterface(device));
     ToraHelper tora;
     tora.Set("Neighbours", StringValue(others));
+    tora.Set("UnicastNeighbours", StringValue(programs));
     tora.Set("Destinations", StringValue(address + " " + others));
     InternetStackHelper stack;
     stack.SetRoutingHelper(tora);
@@ -91,19 +98,27 @@ main(int argc, char* argv[])
     std::string device = "veth0";
     std::string address = "10.9.9.1";
     std::string others = "10.9.9.2";
+    std::string programs;
     std::string to;
     double seconds = 20;
     CommandLine cmd(__FILE__);
     cmd.AddValue("device", "the interface", device);
     cmd.AddValue("address", "the address of the node", address);
-    cmd.AddValue("others", "the addresses of the nodes that it may meet", others);
+    cmd.AddValue("others",
+                 "the addresses of the nodes that it may meet, with commas between them",
+                 others);
+    cmd.AddValue("programs",
+                 "those of them that are programs `tora node`, with commas between them",
+                 programs);
     cmd.AddValue("to", "the node that packets are sent to, four a second from 5 s on", to);
     cmd.AddValue("seconds", "how long it runs", seconds);
     cmd.Parse(argc, argv);
+    std::replace(others.begin(), others.end(), ',', ' ');
+    std::replace(programs.begin(), programs.end(), ',', ' ');
     GlobalValue::Bind("SimulatorImplementationType", StringValue("ns3::RealtimeSimulatorImpl"));
     GlobalValue::Bind("ChecksumEnabled", BooleanValue(true));
 
-    Ptr<Node> node = MakeNode(device, address, others);
+    Ptr<Node> node = MakeNode(device, address, others, programs);
     uint32_t received = 0;
     Ptr<Socket> sink = Socket::CreateSocket(node, UdpSocketFactory::GetTypeId());
     sink->Bind(InetSocketAddress(Ipv4Address::GetAny(), 9));

@@ -16,10 +16,7 @@ namespace
 constexpr uint8_t WHOLE = 0;
 
 // Offsets in a frame
-constexpr uint32_t KIND_AT = 1;        ///< the kind
 constexpr uint32_t LENGTH_AT = 2;      ///< the length of the payload
-constexpr uint32_t SENDER_AT = 4;      ///< the sender
-constexpr uint32_t RECEIVER_AT = 8;    ///< the receiver
 constexpr uint32_t LIFE_AT = 12;       ///< the life of the sender
 constexpr uint32_t HEARD_AT = 20;      ///< the life of the receiver
 constexpr uint32_t NUMBER_AT = 28;     ///< DATA: the first packet; ACK: the count
@@ -108,46 +105,43 @@ struct Reader
     }
 };
 
-/// \returns what a frame has behind its lives, by the first byte of its short form
-std::vector<uint8_t>
-ReadPayload(uint8_t first, Reader& reader)
+/// Adds what a frame has behind its lives, by the first byte of its short form.
+void
+ReadPayload(uint8_t first, Reader& reader, std::vector<uint8_t>& bytes)
 {
-    std::vector<uint8_t> payload;
     uint8_t kind = first % 16;
     reader.isShort |= kind < Frame::HELLO || kind > Frame::ACK;
     if (kind != Frame::HELLO)
     {
-        Write(payload, reader.ReadGroups(), 8);
+        Write(bytes, reader.ReadGroups(), 8);
     }
     if (kind != Frame::DATA)
     {
-        return payload;
+        return;
     }
-    Write(payload, reader.ReadGroups(), 8);
+    Write(bytes, reader.ReadGroups(), 8);
     uint32_t count = 1;
     if (first / 16 != 1)
     {
         count = reader.ReadByte();
-        Write(payload, count << 24, 4);
+        Write(bytes, count << 24, 4);
     }
     for (uint32_t done = 0; done < count && !reader.isShort; done++)
     {
-        reader.CopyPacket(payload);
+        reader.CopyPacket(bytes);
     }
-    return payload;
 }
 
 /// \returns a frame that was sent whole
 std::optional<Frame>
 ReadWhole(Reader reader)
 {
-    if (reader.end - reader.at < Frame::HEADER_SIZE)
-    {
-        return std::nullopt;
-    }
     std::vector<uint8_t> bytes;
-    uint32_t payload = (reader.at[LENGTH_AT] << 8) + reader.at[LENGTH_AT + 1];
-    reader.Copy(bytes, Frame::HEADER_SIZE + payload);
+    reader.Copy(bytes, Frame::HEADER_SIZE);
+    if (!reader.isShort)
+    {
+        reader.Copy(bytes, (bytes[LENGTH_AT] << 8) + bytes[LENGTH_AT + 1]);
+    }
     return reader.isShort ? std::nullopt : std::optional<Frame>(Frame(std::move(bytes)));
 }
 
@@ -168,22 +162,21 @@ Frame::ReadShort(uint32_t sender, const uint8_t*& at, const uint8_t* end)
     {
         return ReadWhole(reader);
     }
-    std::vector<uint8_t> receiver;
-    reader.Copy(receiver, 4);
-    uint64_t life = reader.ReadGroups();
-    uint64_t heard = reader.ReadGroups();
-    std::vector<uint8_t> payload = ReadPayload(first, reader);
+    std::vector<uint8_t> bytes;
+    Write(bytes, first / 16, 1);
+    Write(bytes, first % 16, 1);
+    Write(bytes, 0, 2); // the length of the payload, which is not known yet
+    Write(bytes, sender, 4);
+    reader.Copy(bytes, 4);
+    Write(bytes, reader.ReadGroups(), 8);
+    Write(bytes, reader.ReadGroups(), 8);
+    ReadPayload(first, reader, bytes);
     if (reader.isShort)
     {
         return std::nullopt;
     }
-    std::vector<uint8_t> bytes{static_cast<uint8_t>(first / 16), static_cast<uint8_t>(first % 16)};
-    Write(bytes, payload.size(), 2);
-    Write(bytes, sender, 4);
-    bytes.insert(bytes.end(), receiver.begin(), receiver.end());
-    Write(bytes, life, 8);
-    Write(bytes, heard, 8);
-    bytes.insert(bytes.end(), payload.begin(), payload.end());
+    bytes[LENGTH_AT] = (bytes.size() - HEADER_SIZE) >> 8;
+    bytes[LENGTH_AT + 1] = bytes.size() - HEADER_SIZE;
     return Frame(std::move(bytes));
 }
 
@@ -227,24 +220,6 @@ Frame::NumberAt(uint32_t at, uint32_t size) const
         number = (number << 8) | m_bytes[i];
     }
     return number;
-}
-
-Frame::Kind
-Frame::GetKind() const
-{
-    return static_cast<Kind>(m_bytes[KIND_AT]);
-}
-
-uint32_t
-Frame::GetSender() const
-{
-    return NumberAt(SENDER_AT, 4);
-}
-
-uint32_t
-Frame::GetReceiver() const
-{
-    return NumberAt(RECEIVER_AT, 4);
 }
 
 std::vector<uint8_t>

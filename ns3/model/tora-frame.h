@@ -73,12 +73,6 @@ class Frame
         return m_bytes;
     }
 
-    /// \returns how many bytes the frame has
-    uint32_t GetSize() const
-    {
-        return m_bytes.size();
-    }
-
     /// \returns the version of the frame
     uint8_t GetVersion() const
     {
@@ -86,11 +80,23 @@ class Frame
     }
 
     /// \returns the kind of the frame
-    Kind GetKind() const;
+    Kind GetKind() const
+    {
+        return static_cast<Kind>(m_bytes[1]);
+    }
+
     /// \returns the sender
-    uint32_t GetSender() const;
+    uint32_t GetSender() const
+    {
+        return NumberAt(4, 4);
+    }
+
     /// \returns the receiver
-    uint32_t GetReceiver() const;
+    uint32_t GetReceiver() const
+    {
+        return NumberAt(8, 4);
+    }
+
     /// \returns the bytes of both lives, the sender's and the one that it heard
     std::vector<uint8_t> GetLives() const;
     /// \returns the number of the first packet of a DATA frame, and of any other frame 0

@@ -60,7 +60,6 @@ ToraHeader::Deserialize(Buffer::Iterator start)
 {
     m_frames.clear();
     m_forms.clear();
-    m_isValid = false;
     if (start.GetRemainingSize() < FIXED_SIZE)
     {
         return 0;
@@ -86,7 +85,6 @@ ToraHeader::Deserialize(Buffer::Iterator start)
         m_frames.push_back(*std::move(frame));
     }
     m_forms.assign(static_cast<const uint8_t*>(bytes.data()), at);
-    m_isValid = true;
     return FIXED_SIZE + m_forms.size();
 }
 

@@ -20,6 +20,7 @@ namespace ns3::tora
  *
  * Its bytes, in network byte order: the version of this format (1 byte), the type (1), how many
  * frames there are (2), the sender (4), and the frames in their short form, one after another.
+ * Packet::RemoveHeader() returns 0 where the bytes are not those of such a packet.
  */
 class ToraHeader : public Header
 {
@@ -59,12 +60,6 @@ class ToraHeader : public Header
         return m_frames;
     }
 
-    /// \returns whether the bytes that were read are those of such a packet
-    bool IsValid() const
-    {
-        return m_isValid;
-    }
-
     /// \brief Get the type ID.
     /// \return the object TypeId
     static TypeId GetTypeId();
@@ -76,7 +71,6 @@ class ToraHeader : public Header
 
   private:
     uint32_t m_sender;            //!< the node that broadcasts
-    bool m_isValid{true};         //!< whether what was read is such a packet
     std::vector<Frame> m_frames;  //!< the frames
     std::vector<uint8_t> m_forms; //!< their short forms
 };

@@ -17,8 +17,7 @@ void
 Interfaces::SetIpv4(Ptr<Ipv4> ipv4)
 {
     m_ipv4 = ipv4;
-    m_lo = m_ipv4->GetNetDevice(0);
-    NS_ASSERT_MSG(DynamicCast<LoopbackNetDevice>(m_lo), "interface 0 is loopback");
+    NS_ASSERT_MSG(DynamicCast<LoopbackNetDevice>(ipv4->GetNetDevice(0)), "interface 0 is loopback");
 }
 
 void
@@ -45,18 +44,6 @@ Interfaces::Close(uint32_t interface)
     }
 }
 
-void
-Interfaces::CloseAll()
-{
-    for (const auto& [interface, socket] : m_sockets)
-    {
-        socket->Close();
-    }
-    m_sockets.clear();
-    m_lo = nullptr;
-    m_ipv4 = nullptr;
-}
-
 uint32_t
 Interfaces::GetNumber() const
 {
@@ -71,29 +58,13 @@ Interfaces::GetNumber() const
 }
 
 Ptr<Ipv4Route>
-Interfaces::GetDirectRoute(Ipv4Address destination, uint32_t interface) const
+Interfaces::GetRoute(Ipv4Address destination, Ipv4Address gateway, uint32_t interface) const
 {
     Ptr<Ipv4Route> route = Create<Ipv4Route>();
     route->SetDestination(destination);
-    route->SetGateway(destination);
+    route->SetGateway(gateway);
     route->SetSource(m_ipv4->GetAddress(interface, 0).GetLocal());
     route->SetOutputDevice(m_ipv4->GetNetDevice(interface));
-    return route;
-}
-
-Ptr<Ipv4Route>
-Interfaces::GetLoopbackRoute(Ipv4Address destination, Ptr<NetDevice> oif) const
-{
-    Ptr<Ipv4Route> route = Create<Ipv4Route>();
-    uint32_t interface = m_sockets.empty() ? 0 : m_sockets.begin()->first;
-    if (oif)
-    {
-        interface = m_ipv4->GetInterfaceForDevice(oif);
-    }
-    route->SetDestination(destination);
-    route->SetGateway(Ipv4Address::GetLoopback());
-    route->SetSource(m_ipv4->GetAddress(interface, 0).GetLocal());
-    route->SetOutputDevice(m_lo);
     return route;
 }
 

@@ -37,8 +37,6 @@ class Interfaces
     /// Closes the socket of an interface, where it is open.
     /// \param interface the interface
     void Close(uint32_t interface);
-    /// Closes all sockets, and lets go of IP.
-    void CloseAll();
 
     /// \param interface an interface
     /// \returns whether its socket is open
@@ -56,21 +54,11 @@ class Interfaces
     /// \returns the first address of the node as a number, or 0 where it has none but loopback's
     uint32_t GetNumber() const;
 
-    /// \param device a device of the node
-    /// \returns whether it is the loopback device
-    bool IsLoopback(Ptr<const NetDevice> device) const
-    {
-        return device == m_lo;
-    }
-
     /// \param destination the destination of a packet
+    /// \param gateway the next hop
     /// \param interface the interface that it goes over
-    /// \returns its route without a next hop
-    Ptr<Ipv4Route> GetDirectRoute(Ipv4Address destination, uint32_t interface) const;
-    /// \param destination the destination of a packet
-    /// \param oif the device that is asked for, or none
-    /// \returns a route over which the packet comes to RouteInput() of this node's routing
-    Ptr<Ipv4Route> GetLoopbackRoute(Ipv4Address destination, Ptr<NetDevice> oif) const;
+    /// \returns its route
+    Ptr<Ipv4Route> GetRoute(Ipv4Address destination, Ipv4Address gateway, uint32_t interface) const;
     /// \param address an address
     /// \returns the interface that it is a broadcast or multicast address of, or -1
     int32_t GetOfBroadcast(Ipv4Address address) const;
@@ -88,7 +76,6 @@ class Interfaces
     Ptr<ArpCache> CacheOf(uint32_t interface) const;
 
     Ptr<Ipv4> m_ipv4;                          //!< IP of the node
-    Ptr<NetDevice> m_lo;                       //!< its loopback device
     std::map<uint32_t, Ptr<Socket>> m_sockets; //!< sockets by interface
 };
 

@@ -26,10 +26,10 @@ QueueEntry::MayGoTo(uint32_t hop) const
 }
 
 std::optional<QueueEntry>
-RequestQueue::Enqueue(const QueueEntry& entry)
+RequestQueue::Enqueue(const QueueEntry& entry, uint32_t length)
 {
     m_entries.push_back(entry);
-    if (m_entries.size() <= m_maxLength)
+    if (m_entries.size() <= length)
     {
         return std::nullopt;
     }
@@ -50,15 +50,14 @@ std::vector<QueueEntry>
 RequestQueue::TakeIf(const std::function<bool(const QueueEntry&)>& test)
 {
     std::vector<QueueEntry> taken;
-    for (auto entry = m_entries.begin(); entry != m_entries.end();)
-    {
-        bool isTaken = test(*entry);
+    m_entries.remove_if([&](const QueueEntry& entry) {
+        bool isTaken = test(entry);
         if (isTaken)
         {
-            taken.push_back(*entry);
+            taken.push_back(entry);
         }
-        entry = isTaken ? m_entries.erase(entry) : std::next(entry);
-    }
+        return isTaken;
+    });
     return taken;
 }
 
@@ -91,19 +90,9 @@ RequestQueue::GetDestinations() const
 }
 
 void
-PacketHistory::Add(const Ipv4Header& header)
+PacketHistory::Add(const Ipv4Header& header, uint32_t hop)
 {
-    m_seen[NameOf(header)] = {Simulator::Now(), 0};
-}
-
-void
-PacketHistory::SetHop(const Ipv4Header& header, uint32_t hop)
-{
-    auto seen = m_seen.find(NameOf(header));
-    if (seen != m_seen.end())
-    {
-        seen->second.hop = hop;
-    }
+    m_seen[NameOf(header)] = {Simulator::Now(), hop};
 }
 
 std::optional<uint32_t>
@@ -121,12 +110,6 @@ PacketHistory::Expire()
     {
         it = it->second.last + SEEN_LIMIT < now ? m_seen.erase(it) : std::next(it);
     }
-}
-
-void
-PacketHistory::Clear()
-{
-    m_seen.clear();
 }
 
 PacketHistory::Name

@@ -47,25 +47,14 @@ struct QueueEntry
 class RequestQueue
 {
   public:
-    /// \param length the most packets that wait
-    void SetMaxLength(uint32_t length)
-    {
-        m_maxLength = length;
-    }
-
-    /// \returns the most packets that wait
-    uint32_t GetMaxLength() const
-    {
-        return m_maxLength;
-    }
-
     /**
      * Adds a packet at the end. Where the queue is full the packet at its front goes.
      *
      * \param entry the packet
+     * \param length the most packets that wait
      * \returns the packet that had to go, which is the new one where the greatest length is 0
      */
-    std::optional<QueueEntry> Enqueue(const QueueEntry& entry);
+    std::optional<QueueEntry> Enqueue(const QueueEntry& entry, uint32_t length);
     /**
      * Tells whether packets wait that may go to a neighbour.
      *
@@ -89,12 +78,6 @@ class RequestQueue
     /// \returns the packets whose time is over, which are taken out, in order
     std::vector<QueueEntry> TakeExpired(Time now);
 
-    /// Takes out all packets.
-    void Clear()
-    {
-        m_entries.clear();
-    }
-
     /// \returns the destinations that packets wait for
     std::set<Ipv4Address> GetDestinations() const;
 
@@ -109,7 +92,6 @@ class RequestQueue
     /// \returns the entries that are taken out, in order
     std::vector<QueueEntry> TakeIf(const std::function<bool(const QueueEntry&)>& test);
 
-    uint32_t m_maxLength{64};        //!< the most packets that wait
     std::list<QueueEntry> m_entries; //!< the packets
 };
 
@@ -120,21 +102,16 @@ class RequestQueue
 class PacketHistory
 {
   public:
-    /// The node takes a packet, which waits as yet.
+    /// The node takes a packet, or sends it.
     /// \param header its header
-    void Add(const Ipv4Header& header);
-    /// The node sends a packet; nothing is noted of one that isn't known.
-    /// \param header its header
-    /// \param hop the number of the next hop
-    void SetHop(const Ipv4Header& header, uint32_t hop);
+    /// \param hop the number of the next hop that it goes to, or 0 where it waits as yet
+    void Add(const Ipv4Header& header, uint32_t hop = 0);
     /// \param header the header of a packet
     /// \returns the number of the next hop that it went to, 0 where it waits; nothing where it
     /// isn't known
     std::optional<uint32_t> GetHop(const Ipv4Header& header) const;
     /// Forgets the packets whose time is over.
     void Expire();
-    /// Forgets all packets.
-    void Clear();
 
   private:
     /// What tells a packet of IPv4 from others: source, destination, protocol, number and offset.

@@ -42,8 +42,12 @@ Router::Make(const RouterConfig& config)
     if (code != TORA_OK)
     {
         NS_FATAL_ERROR("tora: libtora makes no router of node "
-                       << config.me << " with " << config.neighbours.size() << " neighbours and "
-                       << config.destinations.size() << " destinations: code " << code);
+                       << config.me << " with " << config.neighbours.size()
+                       << " possible neighbours (at most " << MOST_NEIGHBOURS << ") and "
+                       << config.destinations.size() << " destinations (at most "
+                       << MOST_DESTINATIONS << "): code " << code
+                       << ". ToraHelper::AddLink and AddDestinations, or the attributes Neighbours "
+                          "and Destinations, name fewer");
     }
 }
 

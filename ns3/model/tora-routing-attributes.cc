@@ -34,6 +34,13 @@ RoutingProtocol::AddRouter(TypeId& tid)
                       StringValue(""),
                       MakeStringAccessor(&RoutingProtocol::m_destinationNames),
                       MakeStringChecker())
+        .AddAttribute("UnicastNeighbours",
+                      "Those of Neighbours that are programs `tora node` and no simulated nodes: "
+                      "their addresses, with blanks between them. A datagram to or from one is a "
+                      "frame. It holds from the next start of the node on.",
+                      StringValue(""),
+                      MakeStringAccessor(&RoutingProtocol::m_unicastNames),
+                      MakeStringChecker())
         .AddAttribute("Erasure",
                       "What the node does with erased reference levels: Plain or Remembered. It "
                       "holds from the next start of the node on.",
@@ -103,8 +110,7 @@ RoutingProtocol::AddLinks(TypeId& tid)
         .AddAttribute("MaxQueueLen",
                       "The most packets that wait for a route, in packets.",
                       UintegerValue(64),
-                      MakeUintegerAccessor(&RoutingProtocol::SetMaxQueueLen,
-                                           &RoutingProtocol::GetMaxQueueLen),
+                      MakeUintegerAccessor(&RoutingProtocol::m_maxQueueLen),
                       MakeUintegerChecker<uint32_t>())
         .AddAttribute("MaxQueueTime",
                       "How long a packet waits for a route at most.",

@@ -4,12 +4,15 @@
 #include "tora-routing-protocol.h"
 
 #include "ns3/inet-socket-address.h"
+#include "ns3/ipv4-route.h"
 #include "ns3/log.h"
 #include "ns3/simulator.h"
+#include "ns3/udp-l4-protocol.h"
 #include "ns3/wifi-mac.h"
 #include "ns3/wifi-mpdu.h"
 
 #include <algorithm>
+#include <utility>
 
 namespace ns3::tora
 {
@@ -26,14 +29,9 @@ const Time RADIO_LIMIT = Seconds(1);
 
 /// Adds a frame to a list, in the place of those that say nothing that it doesn't say.
 void
-Replace(std::vector<Frame>& frames, const Frame& frame)
+Replace(std::list<Frame>& frames, const Frame& frame)
 {
-    frames.erase(std::remove_if(frames.begin(),
-                                frames.end(),
-                                [&frame](const Frame& earlier) {
-                                    return frame.Supersedes(earlier);
-                                }),
-                 frames.end());
+    frames.remove_if([&](const Frame& earlier) { return frame.Supersedes(earlier); });
     frames.push_back(frame);
 }
 
@@ -50,7 +48,10 @@ RoutingProtocol::OnTick()
     Time now = Simulator::Now();
     HandIn();
     m_router.Tick(GetTick());
-    TakeFrames();
+    while (auto frame = m_router.PollFrame(GetTick()))
+    {
+        TakeFrame(*frame);
+    }
     TakeChanges();
     ExpireNeighbours();
     for (auto& entry : m_queue.TakeExpired(now))
@@ -62,16 +63,6 @@ RoutingProtocol::OnTick()
     if (m_isUrgent || now + m_tick >= m_lastBroadcast + m_beaconInterval)
     {
         ScheduleBroadcast(m_tick);
-    }
-}
-
-void
-RoutingProtocol::TakeFrames()
-{
-    uint64_t tick = GetTick();
-    while (auto frame = m_router.PollFrame(tick))
-    {
-        TakeFrame(*frame);
     }
 }
 
@@ -93,6 +84,11 @@ RoutingProtocol::TakeFrame(const Frame& frame)
     {
         return;
     }
+    if (m_unicast.count(frame.GetReceiver()) > 0)
+    {
+        SendWhole(frame, neighbour->second);
+        return;
+    }
     Replace(m_due, frame);
     std::vector<uint8_t> lives = frame.GetLives();
     m_isUrgent |= !isHello || lives != neighbour->second.hello;
@@ -100,6 +96,19 @@ RoutingProtocol::TakeFrame(const Frame& frame)
     {
         neighbour->second.hello = lives;
     }
+}
+
+void
+RoutingProtocol::SendWhole(const Frame& frame, const Neighbour& to)
+{
+    Ptr<Packet> packet = Create<Packet>(frame.GetBytes().data(), frame.GetBytes().size());
+    Ptr<Ipv4Route> route = m_interfaces.GetRoute(to.address, to.address, to.heardOn);
+    ToraHeader header(m_number);
+    header.AddFrame(frame);
+    m_controlTrace(packet, header);
+    m_controlBytes += packet->GetSize() + IP_UDP_SIZE;
+    auto udp = m_ipv4->GetObject<UdpL4Protocol>();
+    udp->Send(packet, route->GetSource(), to.address, PORT, PORT, route);
 }
 
 void
@@ -128,9 +137,7 @@ void
 RoutingProtocol::SetNextHop(uint32_t destination, uint32_t neighbour)
 {
     NS_LOG_LOGIC("next hop to " << Ipv4Address(destination) << ": " << Ipv4Address(neighbour));
-    uint32_t& hop = m_hops[destination];
-    uint32_t before = hop;
-    hop = neighbour;
+    uint32_t before = std::exchange(m_hops[destination], neighbour);
     m_routeTrace(Ipv4Address(destination), Ipv4Address(before), Ipv4Address(neighbour));
     if (neighbour != 0 && m_queue.GetSize() > 0)
     {
@@ -190,7 +197,7 @@ RoutingProtocol::TakePacket()
     ToraHeader header(m_number);
     uint32_t size = IP_UDP_SIZE + header.GetSerializedSize();
     auto frame = m_due.begin();
-    while (frame != m_due.end() && size + frame->GetSize() < MAX_PACKET_SIZE)
+    while (frame != m_due.end() && size + frame->GetBytes().size() < MAX_PACKET_SIZE)
     {
         header.AddFrame(*frame);
         size = IP_UDP_SIZE + header.GetSerializedSize();
@@ -216,9 +223,15 @@ RoutingProtocol::Receive(Ptr<Socket> socket)
     Address from;
     while (Ptr<Packet> packet = socket->RecvFrom(from))
     {
-        ToraHeader header;
-        packet->RemoveHeader(header);
-        if (!header.IsValid() || packet->GetSize() > 0)
+        Ipv4Address address = InetSocketAddress::ConvertFrom(from).GetIpv4();
+        ToraHeader header(address.Get());
+        if (m_unicast.count(address.Get()) > 0 && packet->GetSize() >= Frame::HEADER_SIZE)
+        {
+            std::vector<uint8_t> bytes(packet->GetSize());
+            packet->CopyData(bytes.data(), bytes.size());
+            header.AddFrame(Frame(std::move(bytes)));
+        }
+        else if (packet->RemoveHeader(header) == 0 || packet->GetSize() > 0)
         {
             NS_LOG_LOGIC("a packet that is none of TORA");
             m_malformed++;
@@ -231,7 +244,6 @@ RoutingProtocol::Receive(Ptr<Socket> socket)
             continue;
         }
         int32_t interface = m_ipv4->GetInterfaceForDevice(socket->GetBoundNetDevice());
-        Ipv4Address address = InetSocketAddress::ConvertFrom(from).GetIpv4();
         Hear(header, address, interface, packet->GetUid());
         for (const auto& frame : header.GetFrames())
         {
@@ -246,9 +258,7 @@ RoutingProtocol::Receive(Ptr<Socket> socket)
 void
 RoutingProtocol::HandIn()
 {
-    std::map<uint32_t, std::vector<Frame>> arrived;
-    arrived.swap(m_arrived);
-    for (const auto& [sender, frames] : arrived)
+    for (const auto& [sender, frames] : std::exchange(m_arrived, {}))
     {
         for (const auto& frame : frames)
         {
@@ -291,9 +301,7 @@ RoutingProtocol::Hear(const ToraHeader& header,
     if (isNew)
     {
         NS_LOG_LOGIC("hears " << address);
-        std::vector<Frame> hellos;
-        m_hellos[number].swap(hellos);
-        for (const auto& hello : hellos)
+        for (const auto& hello : std::exchange(m_hellos[number], {}))
         {
             TakeFrame(hello);
         }
@@ -304,6 +312,8 @@ void
 RoutingProtocol::Cut(uint32_t neighbour)
 {
     NS_LOG_LOGIC("cuts the link to " << Ipv4Address(neighbour));
+    // A node that loses its last entry loses its height, and tells nobody; so all that came counts.
+    HandIn();
     m_router.Cut(neighbour, GetTick());
     TakeChanges();
 }
@@ -327,20 +337,10 @@ RoutingProtocol::ExpireNeighbours()
             continue;
         }
         NS_LOG_LOGIC("hears no more of " << neighbour.address);
-        DropFrames(number);
+        uint32_t gone = number;
+        m_due.remove_if([gone](const Frame& frame) { return frame.GetReceiver() == gone; });
         it = m_neighbours.erase(it);
     }
-}
-
-void
-RoutingProtocol::DropFrames(uint32_t neighbour)
-{
-    m_due.erase(std::remove_if(m_due.begin(),
-                               m_due.end(),
-                               [neighbour](const Frame& frame) {
-                                   return frame.GetReceiver() == neighbour;
-                               }),
-                m_due.end());
 }
 
 void

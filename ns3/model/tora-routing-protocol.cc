@@ -3,7 +3,6 @@
 
 #include "tora-routing-protocol.h"
 
-#include "ns3/fatal-error.h"
 #include "ns3/ipv4-l3-protocol.h"
 #include "ns3/ipv4-route.h"
 #include "ns3/log.h"
@@ -16,6 +15,7 @@
 #include <algorithm>
 #include <iomanip>
 #include <sstream>
+#include <utility>
 
 namespace ns3::tora
 {
@@ -39,31 +39,10 @@ NumbersIn(const std::string& names)
     return numbers;
 }
 
-/// Ends the simulation where there are more nodes than may be; `how` names fewer.
-void
-Limit(std::size_t count, std::size_t most, const char* what, const char* how)
-{
-    if (count > most)
-    {
-        NS_FATAL_ERROR("tora: a node has " << count << " " << what << ", and a router at most "
-                                           << most << ": name them by " << how);
-    }
-}
-
 } // namespace
 
-const uint16_t RoutingProtocol::PORT = 5047;
-const uint32_t RoutingProtocol::MAX_PACKET_SIZE = 1400;
-
 RoutingProtocol::RoutingProtocol()
-    : m_random(CreateObject<UniformRandomVariable>()),
-      m_controlBytes(0),
-      m_cameBack(0),
-      m_malformed(0)
-{
-}
-
-RoutingProtocol::~RoutingProtocol()
+    : m_random(CreateObject<UniformRandomVariable>())
 {
 }
 
@@ -72,7 +51,6 @@ RoutingProtocol::DoInitialize()
 {
     NS_LOG_FUNCTION(this);
     Time now = Simulator::Now();
-    m_isInitialized = true;
     m_lastBroadcast = now - m_random->GetValue(0, 1) * m_beaconInterval;
     Time next = m_tick * (GetTick() + 1);
     m_tickEvent = Simulator::Schedule(next - now, &RoutingProtocol::OnTick, this);
@@ -92,8 +70,12 @@ RoutingProtocol::DoDispose()
         node->UnregisterProtocolHandler(MakeCallback(&RoutingProtocol::NoteSender, this));
     }
     m_look.Nullify();
-    m_interfaces.CloseAll();
-    m_queue.Clear();
+    while (!m_interfaces.GetSockets().empty())
+    {
+        m_interfaces.Close(m_interfaces.GetSockets().begin()->first);
+    }
+    m_interfaces = Interfaces();
+    m_queue = {};
     m_ipv4 = nullptr;
     Ipv4RoutingProtocol::DoDispose();
 }
@@ -111,23 +93,18 @@ RoutingProtocol::AssignStreams(int64_t stream)
 void
 RoutingProtocol::Start()
 {
-    if (!m_isInitialized || m_router.IsMade() || m_interfaces.GetSockets().empty())
+    bool isInitialized = m_tickEvent.IsRunning();
+    if (!isInitialized || m_router.IsMade() || m_interfaces.GetSockets().empty())
     {
         return;
     }
     m_number = m_interfaces.GetNumber();
     Surroundings around = Look();
-    Limit(around.neighbours.size(),
-          Router::MOST_NEIGHBOURS,
-          "possible neighbours",
-          "ToraHelper::AddLink or the attribute Neighbours");
-    Limit(around.destinations.size(),
-          Router::MOST_DESTINATIONS,
-          "destinations",
-          "ToraHelper::AddDestinations or the attribute Destinations");
     NS_LOG_LOGIC("starts with " << around.neighbours.size() << " possible neighbours and "
                                 << around.destinations.size() << " destinations");
     m_peers = {around.neighbours.begin(), around.neighbours.end()};
+    std::vector<uint32_t> unicast = NumbersIn(m_unicastNames);
+    m_unicast = {unicast.begin(), unicast.end()};
     m_numbers.clear();
     std::set<uint32_t> destinations(around.destinations.begin(), around.destinations.end());
     for (const auto& [address, number] : around.numbers)
@@ -184,17 +161,15 @@ RoutingProtocol::Stop()
     m_nextLife = m_router.GetNextLife();
     m_router.Free();
     m_number = 0;
-    m_queue.Clear();
+    m_queue = {};
     m_due.clear();
     m_arrived.clear();
     m_hellos.clear();
     m_neighbours.clear();
-    m_history.Clear();
+    m_history = {};
     m_asked.clear();
     m_isUrgent = false;
-    std::map<uint32_t, uint32_t> hops;
-    m_hops.swap(hops);
-    for (const auto& [destination, hop] : hops)
+    for (const auto& [destination, hop] : std::exchange(m_hops, {}))
     {
         if (hop != 0)
         {
@@ -282,16 +257,13 @@ RoutingProtocol::SetIpv4(Ptr<Ipv4> ipv4)
     m_interfaces.SetIpv4(ipv4);
     // Handlers are called in the order of their registration, so this one is before those that IP
     // registers for each interface that is added from now on.
-    m_ipv4->GetObject<Node>()->RegisterProtocolHandler(MakeCallback(&RoutingProtocol::NoteSender,
-                                                                    this),
-                                                       Ipv4L3Protocol::PROT_NUMBER,
-                                                       nullptr);
+    m_ipv4->GetObject<Node>()->RegisterProtocolHandler(
+        MakeCallback(&RoutingProtocol::NoteSender, this),
+        Ipv4L3Protocol::PROT_NUMBER,
+        nullptr);
     for (uint32_t i = 1; i < m_ipv4->GetNInterfaces(); i++)
     {
-        if (m_ipv4->IsUp(i))
-        {
-            NotifyInterfaceUp(i);
-        }
+        NotifyInterfaceUp(i);
     }
 }
 
@@ -299,9 +271,11 @@ void
 RoutingProtocol::NotifyInterfaceUp(uint32_t interface)
 {
     NS_LOG_FUNCTION(this << interface);
-    if (interface > 0 && m_ipv4->GetNAddresses(interface) > 0 && !m_interfaces.IsOpen(interface))
+    if (interface > 0 && m_ipv4->IsUp(interface) && m_ipv4->GetNAddresses(interface) > 0 &&
+        !m_interfaces.IsOpen(interface))
     {
-        Open(interface);
+        m_interfaces.Open(interface, PORT, MakeCallback(&RoutingProtocol::Receive, this));
+        Watch(interface, true);
         Start();
     }
 }
@@ -310,39 +284,6 @@ void
 RoutingProtocol::NotifyInterfaceDown(uint32_t interface)
 {
     NS_LOG_FUNCTION(this << interface);
-    Close(interface);
-}
-
-void
-RoutingProtocol::NotifyAddAddress(uint32_t interface, Ipv4InterfaceAddress)
-{
-    NS_LOG_FUNCTION(this << interface);
-    if (m_ipv4->IsUp(interface))
-    {
-        NotifyInterfaceUp(interface);
-    }
-}
-
-void
-RoutingProtocol::NotifyRemoveAddress(uint32_t interface, Ipv4InterfaceAddress)
-{
-    NS_LOG_FUNCTION(this << interface);
-    if (m_ipv4->GetNAddresses(interface) == 0)
-    {
-        Close(interface);
-    }
-}
-
-void
-RoutingProtocol::Open(uint32_t interface)
-{
-    m_interfaces.Open(interface, PORT, MakeCallback(&RoutingProtocol::Receive, this));
-    Watch(interface, true);
-}
-
-void
-RoutingProtocol::Close(uint32_t interface)
-{
     if (!m_interfaces.IsOpen(interface))
     {
         return;
@@ -363,6 +304,21 @@ RoutingProtocol::Close(uint32_t interface)
 }
 
 void
+RoutingProtocol::NotifyAddAddress(uint32_t interface, Ipv4InterfaceAddress)
+{
+    NotifyInterfaceUp(interface);
+}
+
+void
+RoutingProtocol::NotifyRemoveAddress(uint32_t interface, Ipv4InterfaceAddress)
+{
+    if (m_ipv4->GetNAddresses(interface) == 0)
+    {
+        NotifyInterfaceDown(interface);
+    }
+}
+
+void
 RoutingProtocol::Watch(uint32_t interface, bool isWatched)
 {
     auto wifi = DynamicCast<WifiNetDevice>(m_ipv4->GetNetDevice(interface));
@@ -370,19 +326,16 @@ RoutingProtocol::Watch(uint32_t interface, bool isWatched)
     {
         return;
     }
+    auto connect = isWatched ? &ObjectBase::TraceConnectWithoutContext
+                             : &ObjectBase::TraceDisconnectWithoutContext;
     auto dropped = MakeCallback(&RoutingProtocol::OnDroppedMpdu, this);
     auto begin = MakeCallback(&RoutingProtocol::OnTxBegin, this);
+    (PeekPointer(wifi->GetMac())->*connect)("DroppedMpdu", dropped);
+    (PeekPointer(wifi->GetPhy())->*connect)("PhyTxBegin", begin);
+    m_radios.erase(interface);
     if (isWatched)
     {
-        wifi->GetMac()->TraceConnectWithoutContext("DroppedMpdu", dropped);
-        wifi->GetPhy()->TraceConnectWithoutContext("PhyTxBegin", begin);
         m_radios.insert(interface);
-    }
-    else
-    {
-        wifi->GetMac()->TraceDisconnectWithoutContext("DroppedMpdu", dropped);
-        wifi->GetPhy()->TraceDisconnectWithoutContext("PhyTxBegin", begin);
-        m_radios.erase(interface);
     }
 }
 

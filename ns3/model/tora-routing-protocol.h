@@ -20,6 +20,7 @@
 #include "ns3/traced-callback.h"
 #include "ns3/traced-value.h"
 
+#include <list>
 #include <map>
 #include <set>
 #include <string>
@@ -91,20 +92,23 @@ struct Surroundings
  * destinations of that moment. It is ended when the last interface goes down, and made anew when
  * one comes up: what it knew is lost then, and its life numbers go on.
  *
- * Frames that came are handed to the router in the next tick, neighbour by neighbour. Where it took
- * them as they came, sparse networks had more loops and up to ten times the control bytes.
+ * Frames that came are handed to the router in the next tick, or before a link is cut, neighbour by
+ * neighbour. Where it took them as they came, sparse networks had more loops and up to ten times
+ * the control bytes.
  *
  * Frames that are due in a tick go out in one broadcast packet, at a random moment within the tick,
  * and only to neighbours that were heard lately. At most one such packet of a node waits for the
  * radio. A data packet without a next hop waits, too. README.md tells the rest.
+ *
+ * A program `tora node` takes frames one by one, by unicast: UnicastNeighbours names such.
  */
 class RoutingProtocol : public Ipv4RoutingProtocol
 {
   public:
     /// The UDP port of the broadcast packets.
-    static const uint16_t PORT;
+    static constexpr uint16_t PORT = 5047;
     /// The most bytes of a broadcast packet, with its IPv4 and UDP headers.
-    static const uint32_t MAX_PACKET_SIZE;
+    static constexpr uint32_t MAX_PACKET_SIZE = 1400;
 
     /// The parameters of RouteInput().
     using Input = InputOf<decltype(&Ipv4RoutingProtocol::RouteInput)>;
@@ -149,7 +153,6 @@ class RoutingProtocol : public Ipv4RoutingProtocol
     static TypeId GetTypeId();
 
     RoutingProtocol();
-    ~RoutingProtocol() override;
 
     // Inherited from Ipv4RoutingProtocol
     Ptr<Ipv4Route> RouteOutput(Ptr<Packet> p,
@@ -180,18 +183,6 @@ class RoutingProtocol : public Ipv4RoutingProtocol
     void SetSurroundings(Callback<Surroundings, Ptr<const Node>> look)
     {
         m_look = look;
-    }
-
-    /// \param length the most packets that wait for a route
-    void SetMaxQueueLen(uint32_t length)
-    {
-        m_queue.SetMaxLength(length);
-    }
-
-    /// \returns the most packets that wait for a route
-    uint32_t GetMaxQueueLen() const
-    {
-        return m_queue.GetMaxLength();
     }
 
     /// The node begins anew, as after a loss of power: its routes and the packets that wait are
@@ -245,10 +236,6 @@ class RoutingProtocol : public Ipv4RoutingProtocol
     static void AddLinks(TypeId& tid);
     /// Adds the trace sources to the type.
     static void AddTraces(TypeId& tid);
-    /// Opens the socket of an interface.
-    void Open(uint32_t interface);
-    /// Closes the socket of an interface.
-    void Close(uint32_t interface);
     /// Begins or ends to look at what a radio reports.
     void Watch(uint32_t interface, bool isWatched);
     /// Makes the router, where the node is initialized and an interface is up.
@@ -263,10 +250,10 @@ class RoutingProtocol : public Ipv4RoutingProtocol
     uint64_t GetTick() const;
     /// A tick: a turn of the router, and of all that waits.
     void OnTick();
-    /// Takes the frames that are due out of the router.
-    void TakeFrames();
     /// A frame is due.
     void TakeFrame(const Frame& frame);
+    /// Sends a frame alone and whole to a neighbour that is no simulated node.
+    void SendWhole(const Frame& frame, const Neighbour& to);
     /// Tells what changed at the router.
     void TakeChanges();
     /// A next hop changed; neighbour 0 is none.
@@ -278,8 +265,6 @@ class RoutingProtocol : public Ipv4RoutingProtocol
                     const Address& from,
                     const Address& to,
                     NetDevice::PacketType type);
-    /// \returns the number of the neighbour that a packet came from, or 0
-    uint32_t FindSender(Ptr<const Packet> packet) const;
     /// \returns the number of the neighbour with a hardware address, or 0
     uint32_t FindDevice(const Address& device) const;
     /// A broadcast packet came.
@@ -296,12 +281,8 @@ class RoutingProtocol : public Ipv4RoutingProtocol
     void OnDroppedMpdu(WifiMacDropReason reason, Ptr<const WifiMpdu> mpdu);
     /// A data packet that the radio gave up waits for a route once more.
     void Salvage(Ptr<const Packet> packet);
-    /// Sends a packet that was given up before.
-    void SendSalvaged(Ptr<Ipv4Route> route, Ptr<const Packet> packet, const Ipv4Header& header);
     /// Lets go of neighbours that were not heard lately.
     void ExpireNeighbours();
-    /// Lets go of the frames to a neighbour that are due.
-    void DropFrames(uint32_t neighbour);
     /// Schedules the next broadcast.
     void ScheduleBroadcast(Time within);
     /// Broadcasts what is due, or a beacon.
@@ -314,8 +295,6 @@ class RoutingProtocol : public Ipv4RoutingProtocol
     uint32_t HopTo(Ipv4Address destination) const;
     /// \returns the route to an address, or nothing where there is none
     Ptr<Ipv4Route> RouteTo(Ipv4Address destination) const;
-    /// Takes a packet of this node that had no route.
-    void TakeDeferred(QueueEntry entry);
     /// Takes a packet for another node, and tells whether it did.
     bool Pass(const QueueEntry& entry, uint32_t interface);
     /// Forwards a packet, or lets it wait for a route.
@@ -346,30 +325,32 @@ class RoutingProtocol : public Ipv4RoutingProtocol
     Erasure m_erasure;              //!< what the router does with erased reference levels
     std::string m_neighbourNames;   //!< the nodes that this one may meet, where they are named
     std::string m_destinationNames; //!< the destinations, where they are named
+    std::string m_unicastNames;     //!< the neighbours that are no simulated nodes
     bool m_isSalvaging;             //!< whether packets that the radio gives up wait
     bool m_isNoticing;              //!< whether links are cut whose neighbour is gone
     bool m_isReturnWaiting;         //!< whether packets that come back wait
     Time m_beaconInterval;          //!< how long the node is silent at most
     Time m_heardTimeout;            //!< how long a neighbour counts as heard
+    uint32_t m_maxQueueLen;         //!< how many packets wait at most
     Time m_maxQueueTime;            //!< how long a packet waits at most
 
     Ptr<Ipv4> m_ipv4;                                 //!< IP of the node
     Callback<Surroundings, Ptr<const Node>> m_look;   //!< what tells the nodes around this one
     Ptr<UniformRandomVariable> m_random;              //!< the moments of broadcasts
     EventId m_tickEvent;                              //!< the next tick
-    bool m_isInitialized{false};                      //!< whether the node is initialized
     uint32_t m_number{0};                             //!< the node's number, or 0
     uint64_t m_nextLife{1};                           //!< where life numbers go on
     Router m_router;                                  //!< the router
     std::set<uint32_t> m_peers;                       //!< the numbers of the nodes that it may meet
+    std::set<uint32_t> m_unicast;                     //!< those of them that are no simulated nodes
     std::map<Ipv4Address, uint32_t> m_numbers;        //!< destinations by their addresses
     Interfaces m_interfaces;                          //!< the interfaces that are up
     std::map<uint32_t, Neighbour> m_neighbours;       //!< neighbours that are heard
-    std::map<uint32_t, std::vector<Frame>> m_hellos;  //!< the last HELLOs to nodes not heard
+    std::map<uint32_t, std::list<Frame>> m_hellos;    //!< the last HELLOs to nodes not heard
     std::map<uint32_t, uint32_t> m_hops;              //!< next hops by destination
     RequestQueue m_queue;                             //!< packets that wait for a route
     std::map<uint32_t, std::vector<Frame>> m_arrived; //!< frames since the last tick, by sender
-    std::vector<Frame> m_due;                         //!< frames that wait to be broadcast
+    std::list<Frame> m_due;                           //!< frames that wait to be broadcast
     uint64_t m_cameWith{0};         //!< the number in ns-3 of the packet of IPv4 that came last
     Address m_cameFrom;             //!< the hardware address that it came from
     bool m_isUrgent{false};         //!< whether a frame that is due is more than an old HELLO

@@ -12,12 +12,12 @@
 #include "ns3/simple-channel.h"
 #include "ns3/simple-net-device-helper.h"
 #include "ns3/simple-net-device.h"
+#include "ns3/string.h"
 #include "ns3/test.h"
 
 #include <csignal>
 #include <fstream>
 #include <iterator>
-#include <sstream>
 #include <sys/wait.h>
 #include <unistd.h>
 
@@ -246,6 +246,52 @@ class ToraGarbageTestCase : public TestCase
 
 /**
  * \ingroup tora
+ * \brief A neighbour that takes frames as a program `tora node` does.
+ */
+class ToraUnicastTestCase : public TestCase
+{
+  public:
+    ToraUnicastTestCase()
+        : TestCase("Frames to and from UnicastNeighbours go alone, whole and by unicast")
+    {
+    }
+
+  private:
+    void DoRun() override
+    {
+        ToraNet net({0, 200, 400}, ToraHelper());
+        uint32_t whole = 0;
+        uint32_t others = 0;
+        // The first two are programs to each other; the third is a simulated node to all.
+        net.RoutingOf(0)->SetAttribute("UnicastNeighbours", StringValue("10.1.1.2"));
+        net.RoutingOf(1)->SetAttribute("UnicastNeighbours", StringValue("10.1.1.1"));
+        net.RoutingOf(0)->TraceConnectWithoutContext(
+            "Control",
+            Callback<void, Ptr<const Packet>, const tora::ToraHeader&>(
+                [&](Ptr<const Packet> packet, const tora::ToraHeader& header) {
+                    bool isWhole = header.GetSerializedSize() != packet->GetSize();
+                    (isWhole ? whole : others) += header.GetFrames().size();
+                }));
+        net.Flow(0, 2, 5, 20);
+        net.Run(20);
+        NS_TEST_EXPECT_MSG_EQ(net.m_received, 20, "packets over two hops");
+        NS_TEST_EXPECT_MSG_GT(whole, 15, "a HELLO a second, at least");
+        NS_TEST_EXPECT_MSG_EQ(others, 0, "no frame of the first node is broadcast");
+        NS_TEST_EXPECT_MSG_EQ(net.RoutingOf(1)->GetMalformed(), 0, "frames that are the link's");
+        Ptr<Socket> socket =
+            Socket::CreateSocket(net.m_nodes.Get(0), UdpSocketFactory::GetTypeId());
+        socket->Connect(InetSocketAddress(net.AddressOf(1), tora::RoutingProtocol::PORT));
+        std::vector<uint8_t> bytes{9, 9, 0, 0, 10, 1, 1, 1, 10, 1, 1, 2};
+        bytes.resize(40);
+        socket->Send(Create<Packet>(bytes.data(), 40));
+        socket->Send(Create<Packet>(bytes.data(), 20));
+        net.Run(22);
+        NS_TEST_EXPECT_MSG_EQ(net.RoutingOf(1)->GetMalformed(), 2, "bytes that are no frame");
+    }
+};
+
+/**
+ * \ingroup tora
  * \brief A node with the most neighbours.
  */
 class ToraManyTestCase : public TestCase
@@ -288,9 +334,9 @@ class ToraManyTestCase : public TestCase
         tora.AddDestinations(NodeContainer(nodes.Get(2)));
         tora.AssignStreams(nodes, 100);
         auto routing = nodes.Get(0)->GetObject<tora::RoutingProtocol>();
-        routing->TraceConnectWithoutContext("LinkUp",
-                                            Callback<void, Ipv4Address>(
-                                                [&links](Ipv4Address) { links++; }));
+        routing->TraceConnectWithoutContext(
+            "LinkUp",
+            Callback<void, Ipv4Address>([&links](Ipv4Address) { links++; }));
         Ptr<Socket> socket = Socket::CreateSocket(nodes.Get(1), UdpSocketFactory::GetTypeId());
         socket->Connect(InetSocketAddress(interfaces.GetAddress(2), 9));
         Simulator::Schedule(Seconds(3), [socket]() { socket->Send(Create<Packet>(64)); });
@@ -345,6 +391,7 @@ class ToraNetworkTestSuite : public TestSuite
         AddTestCase(new ToraTwoNetworksTestCase);
         AddTestCase(new ToraTwoInterfacesTestCase);
         AddTestCase(new ToraGarbageTestCase);
+        AddTestCase(new ToraUnicastTestCase);
         AddTestCase(new ToraManyTestCase);
     }
 };

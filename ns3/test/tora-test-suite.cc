@@ -45,12 +45,11 @@ class ToraQueueTestCase : public TestCase
     void DoRun() override
     {
         tora::RequestQueue queue;
-        queue.SetMaxLength(3);
         tora::QueueEntry first = Entry("10.1.1.1", 30);
-        NS_TEST_EXPECT_MSG_EQ(queue.Enqueue(first).has_value(), false, "there is room");
-        queue.Enqueue(Entry("10.1.1.2", 31));
-        queue.Enqueue(Entry("10.1.1.1", 32));
-        auto gone = queue.Enqueue(Entry("10.1.1.3", 33));
+        NS_TEST_EXPECT_MSG_EQ(queue.Enqueue(first, 3).has_value(), false, "there is room");
+        queue.Enqueue(Entry("10.1.1.2", 31), 3);
+        queue.Enqueue(Entry("10.1.1.1", 32), 3);
+        auto gone = queue.Enqueue(Entry("10.1.1.3", 33), 3);
         NS_TEST_ASSERT_MSG_EQ(gone.has_value(), true, "the queue is full");
         NS_TEST_EXPECT_MSG_EQ((gone->packet == first.packet), true, "the first one goes");
         NS_TEST_EXPECT_MSG_EQ(queue.GetDestinations().size(), 3, "destinations");
@@ -63,17 +62,16 @@ class ToraQueueTestCase : public TestCase
         tora::QueueEntry returned = Entry("10.1.1.1", 30);
         returned.from = 7;
         returned.avoided = 8;
-        queue.Enqueue(returned);
+        queue.Enqueue(returned, 3);
         Ipv4Address to("10.1.1.1");
         NS_TEST_EXPECT_MSG_EQ(queue.Has(to, 7), false, "not where it came from");
         NS_TEST_EXPECT_MSG_EQ(queue.Take(to, 8).size(), 0, "nor where it was before");
         NS_TEST_EXPECT_MSG_EQ(queue.Has(Ipv4Address("10.1.1.2"), 9), false, "elsewhere");
         NS_TEST_EXPECT_MSG_EQ(queue.Has(to, 9), true, "to another");
-        queue.Enqueue(first);
+        queue.Enqueue(first, 3);
         NS_TEST_EXPECT_MSG_EQ(queue.Take(to, 7).size(), 1, "the other may go there");
         NS_TEST_EXPECT_MSG_EQ(queue.Take(to, 9).size(), 1, "and it to another");
-        queue.SetMaxLength(0);
-        NS_TEST_EXPECT_MSG_EQ(queue.Enqueue(first).has_value(), true, "no room at all");
+        NS_TEST_EXPECT_MSG_EQ(queue.Enqueue(first, 0).has_value(), true, "no room at all");
     }
 };
 

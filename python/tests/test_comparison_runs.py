@@ -63,6 +63,10 @@ def test_workflow(tmp_path: Path, capsys: pytest.CaptureFixture[str]) -> None:
         (protocol, speed, seed, "790") for protocol in ("AODV", "TORA:notice=1;waits=1") for speed in "05" for seed in "12"]
     told = json.loads((tmp_path / "cmp" / "manifest.json").read_text())
     assert told["program"]["sha256"]["tora-compare"] == hashlib.sha256(STUB.encode()).hexdigest() and len(told["runs"]) == 8
+    with open(tmp_path / "cmp" / "times.csv", encoding="utf-8", newline="") as source:
+        times = list(csv.DictReader(source))
+    assert [[row[it] for it in ("protocol", "speed", "seed")] for row in times] == [[row[it] for it in ("protocol", "speed", "seed")] for row in rows]
+    assert list(times[0])[-2:] == ["seconds", "megabytes"]
     before = {path: path.stat().st_mtime_ns for path in (tmp_path / "cmp" / "rows").iterdir()}
     assert subprocess.run(words, capture_output=True).returncode == 0
     assert before == {path: path.stat().st_mtime_ns for path in (tmp_path / "cmp" / "rows").iterdir()}

@@ -146,6 +146,18 @@ def test_examples(words: list[str]) -> None:
     assert ran.stdout == (EXAMPLES / "embed" / f"{pathlib.Path(words[0]).stem}.expected").read_text()
 
 
+@pytest.mark.parametrize("erasure", ["plain", "remembered"])
+def test_an_order_that_goes_on_for_ever(erasure: str) -> None:
+    environment = {**os.environ, "TORA_LIBRARY": lib.library()._name}
+    words = ["--erasure", erasure, "--order", EXAMPLES / "embed" / "storm.order", "4", "1-2,2-3,3-1,1-4", "4"]
+    command = [sys.executable, EXAMPLES / "embed" / "explore.py", *words]
+    ran = subprocess.run(command, capture_output=True, text=True, env=environment)
+    if erasure == "plain":
+        assert ran.stdout.splitlines()[1] == "an order goes on for ever: after 50 steps, 18 that repeat"
+    else:  # the update of the erased level is ignored, so that the packets of the order are not sent
+        assert "nothing is under way for `deliver" in ran.stderr and ran.returncode == 1
+
+
 def replay_file(draw: random.Random) -> list[str]:
     """The lines of a random replay file."""
     nodes = range(1, draw.randint(3, 7))

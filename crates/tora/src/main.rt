@@ -23,7 +23,7 @@ pub use tora_script::{
 };
 pub use tora_simulate::{simulate, simulate_with};
 
-/// Replays standard input, for a node that makes what a word says of erased levels.
+/// Replays standard input, for a node that treats erased levels as a word says.
 fn replay_input(rt: &HostRuntime, erasure: Option<&str>, is_verbose: bool) -> ExitCode {
     let Ok(mut writer) = BufWriter::new(rt.alloc(), io::writer(rt)) else {
         return stop(rt, MEMORY, "memory");
@@ -31,7 +31,7 @@ fn replay_input(rt: &HostRuntime, erasure: Option<&str>, is_verbose: bool) -> Ex
     replay_command::run(rt, erasure, rt.stdin(), is_verbose, &mut writer)
 }
 
-/// The words of `tora sim` that say what a simulation is made with.
+/// The options of `tora sim` that a simulation starts with.
 fn setup_words<'a>(sim: &'a ArgMatches<'_>) -> SetupWords<'a> {
     SetupWords {
         times: sim.get_str("times"),
@@ -45,7 +45,7 @@ fn setup_words<'a>(sim: &'a ArgMatches<'_>) -> SetupWords<'a> {
     }
 }
 
-/// Simulates the lines of a file, to standard output.
+/// Simulates the lines of a file, and writes to standard output.
 fn simulate_to_output(rt: &HostRuntime, sim: &ArgMatches<'_>, is_verbose: bool) -> ExitCode {
     let path = sim.get_str("FILE").unwrap_or("");
     let has_bar = sim.get_flag("progress") && rt.stderr().is_terminal();
@@ -56,7 +56,7 @@ fn simulate_to_output(rt: &HostRuntime, sim: &ArgMatches<'_>, is_verbose: bool) 
     simulate_file(rt, setup_words(sim), path, trace, shown, &mut writer)
 }
 
-/// Drives a world by the lines of standard input, and records it where a path is given for that.
+/// Drives a world by the lines of standard input, and records it if a path for the record is given.
 fn drive_input(rt: &HostRuntime, drive: &ArgMatches<'_>) -> ExitCode {
     let mut writer = io::writer(rt);
     let (times, erasure) = (drive.get_str("times"), drive.get_str("erasure"));
@@ -69,7 +69,8 @@ fn drive_input(rt: &HostRuntime, drive: &ArgMatches<'_>) -> ExitCode {
     }
 }
 
-/// The runtime with the log of a node: up to which level, and whether with the time, its options say. It has no sockets.
+/// The runtime with the log of a node, without sockets. The options give the level of the log, and whether lines have
+/// the time.
 fn logging<R: Copy>(rt: R, node: &ArgMatches<'_>) -> Logged<R, LogLines<R>> {
     let level = node
         .get_one::<LevelFilter>("log")
@@ -77,7 +78,8 @@ fn logging<R: Copy>(rt: R, node: &ArgMatches<'_>) -> Logged<R, LogLines<R>> {
     Logged::new(rt, level, LogLines::new(rt, node.get_flag("log-time")))
 }
 
-/// The words of the command line, or the status where they can't be had, after its line on standard error.
+/// The words of the command line. If they can't be read, a line goes to standard error and the result is the exit
+/// status.
 fn words_of(rt: &HostRuntime) -> Result<Vec<String>, ExitCode> {
     let words = match std::env::args(rt) {
         Ok(words) => words,

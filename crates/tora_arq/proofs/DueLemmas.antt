@@ -26,7 +26,7 @@ begins_earlier a b tick = grind (arith, nat_tests)
 
 -- ---- packets
 
--- one of the first packets is, so many
+-- one of the first packets, up to a number, is due
 abbrev pub is_queue_due : Times → ℕ → ℕ → List QueuedPacket → Bool
 is_queue_due times tick zero queue = false
 is_queue_due times tick (suc count) [] = false
@@ -55,7 +55,7 @@ is_some_behind : (q : QueuedPacket) (due : Option DueBatch) → is_some (due_beh
 is_some_behind q None = refl
 is_some_behind q (Some due) = refl
 
--- a packet, those behind it, and what is said of all of them
+-- a packet, the ones after it, and a property of all of them
 one_of_all : (q : QueuedPacket) (ready given rest gone : Bool) (here : DueBatch) (behind : Option DueBatch) → rest ≡ is_some behind || gone →
     (ready || given) || rest ≡ is_some (if ready then Some here else due_behind q behind) || (given || gone)
 one_of_all q true given rest gone here behind e = refl
@@ -99,7 +99,7 @@ no_hello_if : (owes : Bool) (frame : FrameParts) (e left : EndState) → is_hell
 no_hello_if true frame e left h = h
 no_hello_if false frame e left h = refl
 
--- what is due behind the HELLOs is none
+-- nothing is due after the HELLOs
 pub no_hello_behind : (s : Settings) (e : EndState) (life : Life) (due : Option DueBatch) → is_hello (on_transmit_due s e life due).0 ≡ false
 no_hello_behind s e life (Some due) = refl
 no_hello_behind s e life None = no_hello_if e.owes_ack _ _ _ refl

@@ -31,11 +31,11 @@ pub if_none : {A : Type 0} (o : Option A) (P : Type 0) → (o ≡ None → P) �
 if_none None P h = h refl
 if_none (Some x) P h = tt
 
--- nothing is said of packets
+-- no statement about packets
 abbrev pub Any : ℕ → Packet → Type 0
 Any place packet = Unit {0}
 
--- ---- phases are told apart
+-- ---- phases are distinct
 
 closed_or_unbound : (ph : Phase) (own : ℕ) → ph ≡ Closed → ph ≡ Unbound own → ⊥
 closed_or_unbound ph own a b = cc
@@ -80,7 +80,7 @@ module _ (Is : ℕ → Packet → Type 0) (s : Settings) (call : LinkCall) (e e'
   step-unbound (binds l i v p g) own k = absurd (unbound_or_bound e'.phase own l k g.phase)
   step-unbound (goes_on l i v p g) own k = absurd (unbound_or_bound e'.phase own l k (g.phase ∙ i))
 
-  -- ---- what every call keeps
+  -- ---- invariants of every call
 
   end_from : (ph : Phase) → e'.phase ≡ ph → IsEndIn s e' ph → IsEnd s e'
   end_from ph q h = subst (IsEndIn s e') (sym q) h
@@ -347,7 +347,7 @@ call-sends s e (Cut life) f q = absurd (cc)
 
 -- ---- packets submitted, and lives cut
 
--- an answer and a state of `submit`: a packet that is taken is appended
+-- a result and a state of `submit`: a packet that is taken is appended
 abbrev Appends : EndState → Life → Packet → Result (Unit {0}) SubmitError × EndState → Type 0
 Appends e life packet r = r.0 ≡ Ok tt → (e.phase ≡ Bound life) × (r.1 ≡ record e { queue = e.queue ++ untried packet ∷ [] })
 
@@ -479,7 +479,7 @@ call-gives e PollEvent = first_and_rest e.events
 call-gives e (Transmit now) = refl
 call-gives e (Cut life) = refl
 
--- ---- what holds of each call
+-- ---- properties of each call
 
 module _ (s : Settings) (e : EndState) (call : LinkCall) where
   abbrev After : EndState

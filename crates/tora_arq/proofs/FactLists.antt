@@ -107,7 +107,7 @@ rising_map : (n : ℕ) (life : Life) (packets : List Packet) → AreRising n (ma
 rising_map n life [] = tt
 rising_map n life (packet ∷ packets) = rising_map n life packets
 
--- packets of a life come behind, or its end
+-- packets of a life follow, or its end
 pub rising_packets : (n : ℕ) (events : List LinkEvent) (life : Life) (packets : List Packet) → AreRising n events → AreRising n (events ++ map (Deliver life) packets)
 rising_packets n [] life packets h = rising_map n life packets
 rising_packets n (Up other ∷ events) life packets h = (h.0, rising_packets other.own events life packets h.1)
@@ -179,7 +179,7 @@ IsPacketAt-append [] ys place packet h = absurd (cc)
 IsPacketAt-append (x ∷ xs) ys zero packet h = h
 IsPacketAt-append (x ∷ xs) ys (suc place) packet h = IsPacketAt-append xs ys place packet h
 
--- ---- frames that were handed in
+-- ---- frames that were passed in
 
 module _ (s : Settings) (frames more : List FrameHandedIn) where
   was_more : (life : Life) (handed : FrameHandedIn) → WasHandedIn s frames life handed → WasHandedIn s (frames ++ more) life handed

@@ -73,7 +73,7 @@ no_submissions e PollEvent p = refl
 no_submissions e (Transmit now) p = refl
 no_submissions e (Cut life) p = refl
 
--- a frame of the life that is handed in while the end has its number
+-- a frame of the life that is passed in while the end has its number
 abbrev handed_in : EndState → FrameParts → FrameHandedIn
 handed_in e frame = record { own = own_number_in e.phase; frame = frame }
 
@@ -415,7 +415,7 @@ all-runs s (call ∷ calls) run ok h = all-runs s calls (run_after s run call) o
 pub every-run : (s : Settings) (calls : List LinkCall) → AreAllPossible s first_run calls → IsRun s (run_of s calls)
 every-run s calls ok = all-runs s calls first_run ok (first-run s)
 
--- ---- what follows for frames sent
+-- ---- consequences for frames sent
 
 -- what a frame carries with a number is the packet submitted with it
 carried : (run : LinkRun) (life : Life) (body : Body) (number : ℕ) (packet : Packet) → IsBodyOfRun run life body → Carries body number packet → (place : ℕ) × (number ≡ suc place) × IsPacketAt (packets_submitted life run.submitted) place packet

@@ -1,4 +1,4 @@
--- What a call makes of an end: it stays, opens, binds, goes on in its life, takes a packet, or ends its life.
+-- The effect of a call on an end: it stays, opens, binds, continues its life, takes a packet, or ends its life.
 use Rattle.std.proofs.Common.{◌≡◌, ℕ, zero, suc, ◌+◌, ◌-◌, ◌^◌, ◌<◌, ◌≤◌, Bool, true, false, not, ◌⊎◌, inl, inr, List, [], ◌∷◌, ◌++◌, map, length, drop, min, max, Option, Some, None, Result, nat_lt, nat_le, ◌==◌, refl, sym, ap, ◌∙◌, subst, arith, append_assoc, append-nil, length-append, eqb-true, eq-eqb, ltb-false, leb-true, leb-false}
 use Rattle.std.proofs.lemmas.Bool.{cond_both, and_parts, and_from, or_parts, not-false}
 use Rattle.std.proofs.lemmas.List.{map-append}
@@ -43,7 +43,7 @@ is_same_life-true a b e =
 
 -- ---- what is delivered and held
 
--- an end goes on by these packets, and all else stays
+-- an end takes these packets, and the rest of it stays
 pub record Releases (Is : ℕ → Packet → Type 0) (life : Life) (e e' : EndState) : Type 0 where
   pub phase : e'.phase ≡ e.phase
   pub heard : e'.heard ≡ e.heard
@@ -101,7 +101,7 @@ hold_keeps Is a (suc place) packet [] t h = hold_keeps Is (suc a) place packet [
 hold_keeps Is a (suc place) packet (None ∷ held) t h = hold_keeps Is (suc a) place packet held (let z : a + suc place ≡ suc a + place = omega arith in subst (λ m. Is m packet) z t) h
 hold_keeps Is a (suc place) packet (Some first ∷ held) t h = (h.0, hold_keeps Is (suc a) place packet held (let z : a + suc place ≡ suc a + place = omega arith in subst (λ m. Is m packet) z t) h.1)
 
--- an end goes on by packets of a DATA frame, where `Tells` is what the frame tells of them
+-- an end continues with packets of a DATA frame, where `Tells` is what the frame says about them
 pub record Takes (Is : ℕ → Packet → Type 0) (window furthest : ℕ) (life : Life) (Tells : Type 0) (e e' : EndState) : Type 0 where
   pub phase : e'.phase ≡ e.phase
   pub heard : e'.heard ≡ e.heard
@@ -196,7 +196,7 @@ packets_take Is window furthest life (packet ∷ packets) number e =
     (λ t. (λ place n. t place packet (0, omega (arith, n), refl), λ place other h. t place other (suc h.0, omega (arith, h.1), h.2)))
     (packet_takes Is window furthest life number packet e) (packets_take Is window furthest life packets (suc number) (after_packet life furthest e number packet))
 
--- ---- what a call makes of an end
+-- ---- the effect of a call on an end
 
 -- the layer above sees nothing but that more may have been transmitted
 pub record Stays (s : Settings) (call : LinkCall) (e e' : EndState) : Type 0 where
@@ -491,7 +491,7 @@ cut_step Is s e life = go e.phase refl
         (λ _. ends current Because.Cut (life_ends current Because.Cut (Cut life) e j refl refl))
         (λ _. stays (no_change s (Cut life) e refl refl))
 
--- what a call of `submit` makes of an end, by its answer
+-- the effect of a call of `submit` on an end, by its result
 abbrev SubmitStep : (ℕ → Packet → Type 0) → Settings → EndState → Life → Packet → Result (Unit {0}) SubmitError × EndState → Type 0
 SubmitStep Is s e life packet r = packet_submitted e (Submit life packet) ≡ packet_where_ok packet r.0 → Step Is s (Submit life packet) e r.1
 
@@ -531,7 +531,7 @@ AreFrom-behind : (packet : Packet) (all : List Packet) (place : ℕ) (packets : 
 AreFrom-behind packet all place [] h = tt
 AreFrom-behind packet all place (x ∷ packets) h = (h.0, AreFrom-behind packet all (suc place) packets h.1)
 
--- packets that are due one after another stand at the front of the queue, and stay there
+-- packets that are due one after another are at the front of the queue, and stay there
 record IsRun (most : ℕ) (queue : List QueuedPacket) (run : ReadyRun) : Type 0 where
   few : length run.packets ≤ most
   packets_are : AreFrom (IsPacketAt (packets_in queue)) 0 run.packets
@@ -552,7 +552,7 @@ run_keeps times now (suc most) (q ∷ queue) =
     })
     (λ _. record { few = omega arith; packets_are = tt; here = omega arith; same = refl })
 
--- packets that are due stand in the queue from their place on, and stay there
+-- packets that are due are in the queue from their place on, and stay there
 pub record IsDue (number window : ℕ) (queue : List QueuedPacket) (due : DueBatch) : Type 0 where
   pub place : ℕ
   pub within : place + length due.packets ≤ window
@@ -590,7 +590,7 @@ due_keeps times now most number (suc window) (q ∷ queue) due =
           same = ap (λ ps. q.packet ∷ ps) i.same;
         })
 
--- what a call of `poll_transmit` gives and makes of an end
+-- the result of a call of `poll_transmit`, and its effect on an end
 pub record Sends (s : Settings) (now : ℕ) (e : EndState) (r : Option FrameParts × EndState) : Type 0 where
   pub end : Stays s (Transmit now) e r.1
   pub frame : (f : FrameParts) → r.0 ≡ Some f → IsFrameSentIn s e f e.phase
@@ -626,7 +626,7 @@ module _ (s : Settings) (now : ℕ) (e : EndState) where
   in_phase : (ph : Phase) (f : FrameParts) → e.phase ≡ ph → IsFrameSentIn s e f ph → IsFrameSentIn s e f e.phase
   in_phase ph f j h = subst (IsFrameSentIn s e f) (sym j) h
 
-  -- a HELLO where one is due, and otherwise another frame
+  -- a HELLO if one is due, and otherwise another frame
   hello_sends : (own heard : ℕ) (other : Option FrameParts × EndState) → ((version : Version) → IsFrameSentIn s e (frame_sent s version own heard Hello) e.phase) → Sends s now e other → Sends s now e (on_hello s e own heard now other)
   hello_sends own heard other h k =
       cond_both (is_old_hello_due e) _ _ (Sends s now e)

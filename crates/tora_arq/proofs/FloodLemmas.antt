@@ -1,4 +1,4 @@
--- Packets that are submitted at one tick are due in one frame, and none is due behind it.
+-- Packets that are submitted at one tick are due in one frame, and none is due after it.
 use Rattle.std.proofs.Common.{◌≡◌, ℕ, zero, suc, ◌+◌, ◌-◌, ◌^◌, ◌<◌, ◌≤◌, min, max, false, List, [], ◌∷◌, ◌++◌, map, length, Option, Some, None, Result, Ok, refl, sym, ap, ◌∙◌, arith, append_assoc, append-nil, length-append}
 use Rattle.std.proofs.lemmas.Bool.{and_right, lt-leb}
 use Rattle.tora_packet.specs.declared.Packet.{Packet}

@@ -105,7 +105,7 @@ module _ (places : ℕ) where
       (subst (λ n. AreNext places furthest n (length ps) (after_packet life furthest e number p)) one (subst (λ n. AreNext places furthest (number + 1) n (after_packet life furthest e number p)) rest (next_room places furthest life e number (suc (length ps)) p (omega arith) r)))
 
 module _ (places : ℕ) where
-  -- so many places but one
+  -- one place less
   abbrev fewer : ℕ
   fewer = places - 1
 
@@ -160,7 +160,7 @@ module _ (places : ℕ) where
       cond_both (is_busy e) _ _ (λ (x : Verdict × EndState). HasEventPlace places x.1) (λ _. here) (λ _.
       in_phase s e f now e.phase w r.place r.body))
 
--- ---- the place is kept, whatever room there is beside it
+-- ---- the place is kept, whatever other room there is
 
 whole_in : (places last heard : ℕ) (e : EndState) (phase : Phase) → EVENT_PLACES ≤ places → IsPhase last heard e.events phase → HasEventPlaceIn places e phase
 whole_in places last heard e Closed le h = tt

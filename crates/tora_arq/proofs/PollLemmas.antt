@@ -81,7 +81,7 @@ due_counts times now most number (suc window) (q ∷ queue) due h m =
         let y : record r { queue = q ∷ r.queue } ≡ due = cc in
         subst (λ (d : DueBatch). suc (count_ready times now (suc window) d.queue) ≤ count_ready times now (suc window) (q ∷ queue)) y (omega (arith, k r refl))
 
--- whether a HELLO of version 1 will be due behind one of the newest version
+-- whether a HELLO of version 1 will be due after one of the newest version
 abbrev is_old_next : Settings → EndState → Bool
 is_old_next s e = is_two s.version && not e.speaks_two
 
@@ -93,7 +93,7 @@ count_hellos_most : (s : Settings) (now : ℕ) (e : EndState) → count_hellos s
 count_hellos_most s now e =
     cond_both (is_hello_due s e now) _ _ (λ n. one_where (is_old_hello_due e) + n ≤ 3) (λ _. omega (arith, one_where_most (is_old_next s e), one_where_most (is_old_hello_due e))) (λ _. omega (arith, one_where_most (is_old_hello_due e)))
 
--- at most so many frames are due
+-- at most this many frames are due
 abbrev count_due : Settings → ℕ → EndState → ℕ
 count_due s now e = count_hellos s now e + count_ready s.times now s.window e.queue + one_where e.owes_ack
 

@@ -19,7 +19,7 @@ none_of_untried times now (q ∷ queue) h u =
     let first : is_given_up times now q ≡ false = grind (arith, nat_tests) in
     rw (first, none_of_untried times now queue h u.1)
 
--- none of the first packets, so many, is given up
+-- none of the first packets, up to a number, is given up
 abbrev pub AreKept : Times → ℕ → ℕ → List QueuedPacket → Type 0
 AreKept times now count queue = (k : ℕ) (q : QueuedPacket) → k < count → slice_get queue k ≡ Some q → is_given_up times now q ≡ false
 

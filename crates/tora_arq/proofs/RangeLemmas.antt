@@ -113,7 +113,7 @@ grown events event n h = omega (arith, length-append events (event ∷ []))
 grown_below : (events : List LinkEvent) (event : LinkEvent) (n : ℕ) → length events + 1 < n → length (events ++ event ∷ []) < n
 grown_below events event n h = omega (arith, length-append events (event ∷ []))
 
--- behind one event more there is room for the packets of a window
+-- after one more event there is room for the packets of a window
 grown_window : (events : List LinkEvent) (event : LinkEvent) → length events + PLACES_OF_A_FRAME ≤ EVENT_PLACES → length (events ++ event ∷ []) + WINDOW < EVENT_PLACES
 grown_window events event h = omega (arith, length-append events (event ∷ []))
 

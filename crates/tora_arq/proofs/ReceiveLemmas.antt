@@ -1,4 +1,4 @@
--- What a packet of a DATA frame makes of an end, by its number.
+-- The effect of a packet of a DATA frame on an end, by its number.
 use Rattle.std.proofs.Common.{◌≡◌, ℕ, suc, ◌+◌, ◌-◌, ◌<◌, ◌≤◌, nat_le, List, [], ◌∷◌, length, drop, get_or, refl, sym, ap, ◌∙◌, arith, length-drop}
 use Rattle.std.proofs.lemmas.Bool.{cond_both, le-leb, lt-leb}
 use Rattle.std.proofs.lemmas.List.{drop_more, nil_from_length}
@@ -34,7 +34,7 @@ held_packet life furthest e number place packet n h =
     let at : number - suc e.accepted ≡ place = omega arith in
     rw (lt-leb number e.accepted (omega arith), le-leb number furthest h, at) refl
 
--- where nothing is held the next packet is delivered alone
+-- if no packet is held, only the next packet is delivered
 pub next_packet : (life : Life) (furthest : ℕ) (e : EndState) (number : ℕ) (packet : Packet) → e.held ≡ [] → number ≡ suc e.accepted → number ≤ furthest → after_packet life furthest e number packet ≡ after_delivery e life packet []
 unfolding after_packet after_release
 next_packet life furthest e number packet empty n h =

@@ -1,4 +1,4 @@
--- A frame that is foreign, stale, or not looked at changes nothing.
+-- A frame with the verdict `Foreign`, `Stale` or `Busy` changes nothing.
 use Rattle.std.proofs.Common.{◌≡◌, ℕ, suc, ◌+◌, true, false, nat_lt, nat_le, ◌==◌, ◌||◌, ◌-◌, List, length, refl, Bool}
 use Rattle.std.proofs.lemmas.Bool.{cond_both}
 use Rattle.tora_packet.specs.declared.Packet.{Packet}

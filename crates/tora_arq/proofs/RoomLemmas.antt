@@ -39,7 +39,7 @@ packet_room places window furthest life e number packet r =
     (hold_room places window furthest e number packet (leb-false number e.accepted late) (leb-true number furthest soon) r))
     (λ _. r))
 
--- a packet that was accepted before, or the next one, leaves those behind it the next ones
+-- after a packet that was accepted before, or the next one, the following packets are the next ones
 pub next_room : (places furthest : ℕ) (life : Life) (e : EndState) (number count : ℕ) (packet : Packet) → 0 < count → AreNext places furthest number count e → AreNext places furthest (number + 1) (count - 1) (after_packet life furthest e number packet)
 next_room places furthest life e number count packet some r = go (cases_Bool (leb number e.accepted))
   where
@@ -68,14 +68,14 @@ pub room_first : (places early furthest : ℕ) (e : EndState) (number count : �
 room_first places early furthest e number count some (inl r) = inl r
 room_first places early furthest e number count some (inr r) = inr (record { room = omega (arith, r.room, some); next = r.next; within = omega (arith, r.within, some); none = r.none; ahead = r.ahead })
 
--- and behind it that for the others
+-- and then the room for the others
 pub room_next : (places early furthest : ℕ) (life : Life) (e : EndState) (number all index : ℕ) (packet : Packet) → index < all → HasRoomFor places early furthest number (all - index) e → HasRoomFor places early furthest (number + 1) (all - (index + 1)) (after_packet life furthest e number packet)
 room_next places early furthest life e number all index packet lt (inl r) = inl (r.0, packet_room places WINDOW furthest life e number packet r.1)
 room_next places early furthest life e number all index packet lt (inr r) =
     let left : all - index - 1 ≡ all - (index + 1) = omega arith in
     inr (subst (λ n. AreNext places furthest (number + 1) n (after_packet life furthest e number packet)) left (next_room places furthest life e number (all - index) packet (omega (arith, lt)) r))
 
--- none of some packets is behind the window
+-- none of some packets is beyond the window
 pub room_ahead : (places early furthest : ℕ) (e : EndState) (number count : ℕ) → HasRoomFor places early furthest number count e → e.accepted ≤ furthest
 room_ahead places early furthest e number count (inl r) = omega (arith, r.1.held)
 room_ahead places early furthest e number count (inr r) = r.ahead

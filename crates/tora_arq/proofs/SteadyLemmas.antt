@@ -19,7 +19,7 @@ use Rattle.tora_arq.specs.NextDue.{is_any_due}
 use Rattle.tora_arq.specs.Still.{last_tick, IsStillUntil}
 use Rattle.tora_arq.specs.Steady.{IsSteady, phase_in, resumed, header_of, owes_old, has_hello, on_send, is_told, told_by, behind, until_of}
 
--- what is kept stays so whatever is said and heard
+-- the fields stay valid whatever HELLOs are sent and received
 pub still_steady : (h : Steady) (s : Settings) (e : EndState) (said heard : ℕ) (owes : Bool) → IsSteady h s e → IsSteady (record h { said = said; heard = heard; owes_old_hello = owes }) s e
 still_steady h s e said heard owes is = record {
   version = is.version;
@@ -100,7 +100,7 @@ module _ (h : Steady) (s : Settings) (e : EndState) (is : IsSteady h s e) where
 
   -- ---- heard
 
-  -- a version that the end doesn't speak is none that the peer is known to speak
+  -- the peer is not known to speak a version that the end doesn't speak
   known : (v w : Version) (two : Bool) → (is_two v ≡ false → two ≡ false) → (two || not (is_two w)) ≡ true → is_unknown v w ≡ false
   known One One two k told = refl
   known One Two two k told = absurd (cc (k refl, told))
@@ -131,7 +131,7 @@ module _ (h : Steady) (s : Settings) (e : EndState) (is : IsSteady h s e) where
 
   -- ---- ticked
 
-  -- no tick changes an end that is not bound, nor a bound one before it was not heard for long enough
+  -- no tick changes an end that is not bound, nor a bound one before it has timed out
   in_silence : (now : ℕ) (b : Bool) → (b && nat_le h.silent (ticks_passed h.heard now)) ≡ false → after_tick_in s (resumed h e) now (phase_in b h.own h.peer_life) ≡ resumed h e
   in_silence now false calm = refl
   in_silence now true calm = rw (is.queue, is.silent, calm) refl
@@ -150,7 +150,7 @@ module _ (h : Steady) (s : Settings) (e : EndState) (is : IsSteady h s e) where
   pub due : (now : ℕ) → is_some (frame_due s (resumed h e) now) ≡ owes_old h || has_hello h now
   due now = ap (λ (r : Option FrameParts × EndState). is_some r.0) (sends now) ∙ some_due (owes_old h) (has_hello h now) now
 
-  -- the life of a bound one ends once it was not heard for long enough
+  -- the life of a bound end ends once it has timed out
   ended_in : (now : ℕ) (b silent : Bool) → nat_le h.silent (ticks_passed h.heard now) ≡ silent →
       (not (is_closed_in (phase_in b h.own h.peer_life)) && is_closed_in (after_tick_in s (record (resumed h e) { phase = phase_in b h.own h.peer_life }) now (phase_in b h.own h.peer_life)).phase) ≡ b && silent
   ended_in now false silent k = refl

@@ -1,4 +1,4 @@
--- The rows of what a link end does and tells are what its calls make of it.
+-- The rows of the calls of a link end agree with the calls.
 use Rattle.std.proofs.Common.{◌≡◌, ◌≢◌, ◌⊎◌, inl, inr, ℕ, zero, suc, ◌+◌, ◌-◌, ◌^◌, ◌<◌, ◌≤◌, min, max, Bool, true, false, List, [], ◌∷◌, ◌++◌, map, length, drop, slice_get, Option, Some, None, Result, refl, sym, ap, ◌∙◌, subst, arith}
 use Rattle.std.specs.List.{AllByRecursion}
 use Rattle.std.proofs.lemmas.Bool.{cases_Bool, le-leb, lt-leb, cases_lt}
@@ -26,7 +26,7 @@ use Rattle.tora_arq.proofs.TableHears.{from_row, parts_of, pair}
 
 -- ---- calls
 
--- a state with a row of its own stands in no other
+-- a state with its own row is in no other row
 from_state : (R : EndState → Type 0) (r e : EndState) → r ≡ e → R e → (f : EndState) → f ≡ r → R f
 from_state R r e q row f p = subst R (sym q ∙ sym p) row
 
@@ -195,7 +195,7 @@ module _ (times : Times) (now : ℕ) where
       }
 
   module _ (most : ℕ) where
-    -- one packet more in front, and one place more in the window
+    -- one more packet in front, and one more place in the window
     all-behind : {window many reached : ℕ} {behind : List QueuedPacket} → AreAll times now most window many reached behind → AreAll times now most (suc window) many (suc reached) behind
     all-behind (frame_is_full e) = frame_is_full e
     all-behind (window_ends e) = window_ends (ap suc e)

@@ -1,4 +1,4 @@
--- The rows of what a link end hears are what it makes of a frame.
+-- The rows of received frames agree with the definition.
 use Rattle.std.proofs.Common.{◌≡◌, ◌≢◌, ◌⊎◌, inl, inr, ℕ, suc, ◌+◌, ◌-◌, ◌<◌, ◌≤◌, max, true, false, true≢false, nat_lt, List, [], ◌∷◌, ◌++◌, map, length, drop, Option, Some, None, refl, sym, ap, ◌∙◌, subst, arith, append_assoc, append-nil}
 use Rattle.std.proofs.lemmas.Bool.{cases_Bool, le-leb, lt-leb, le-ltb, lt-ltb, eq-eqb, ne_eqb, cases_lt, cases_eq, cases_order}
 use Rattle.std.proofs.Math.Bool.{or-false, or-true}
@@ -23,7 +23,7 @@ use Rattle.tora_arq.proofs.TableWords.{not_foreign, from_peer, foreign, not_busy
 
 -- ---- results
 
--- a result with a row of its own stands in no other
+-- a result with its own row is in no other row
 pub from_row : {A : Type 0} (R : A → EndState → Type 0) (r : A × EndState) (a : A) (e : EndState) → r ≡ (a, e) → R a e → (b : A) (f : EndState) → (b ≡ r.0) × (f ≡ r.1) → R b f
 from_row {A} R r a e q row b f p =
     let x : a ≡ b = sym (ap (λ (y : A × EndState). y.0) q) ∙ sym p.0 in

@@ -1,4 +1,4 @@
--- What every link end keeps, whatever comes in.
+-- The invariants of every link end.
 use Rattle.std.specs.Prelude.{◌≡◌, ℕ, ◌+◌, ◌^◌, ◌<◌, ◌≤◌, List, [], ◌∷◌, length, drop, Option}
 use Rattle.tora_packet.specs.declared.Packet.{Packet}
 use Rattle.tora_frame.specs.declared.parts.Body.{Body}
@@ -13,7 +13,7 @@ use Rattle.tora_arq.specs.declared.queued_packet.QueuedPacket.{QueuedPacket}
 use Rattle.tora_arq.specs.Settings.{Settings, IsLink, IsTimes}
 use Rattle.tora_arq.specs.LinkEnd.{EndState}
 
--- a link end: what it is made with, and its state
+-- a link end: its settings and its state
 pub record LinkEndView : Type 0 where
   pub settings : Settings
   pub state : EndState
@@ -27,7 +27,8 @@ IsNumbered Hello = Unit {0}
 IsNumbered (Data number count packets) = (0 < length packets.items) × (number + length packets.items ≤ 2 ^ 62 + 1)
 IsNumbered (Ack count) = Unit {0}
 
--- so many places for events have room for the packets up to the last number of the window, and none further ahead is held
+-- this many places for events suffice for the packets up to the last number of the window, and no packet beyond it is
+-- held
 pub record HasRoom (places window furthest : ℕ) (e : EndState) : Type 0 where
   pub room : length e.events + furthest < places + e.accepted
   pub near : furthest ≤ e.accepted + window
@@ -43,7 +44,7 @@ pub record IsOwnNumber (last own : ℕ) : Type 0 where
   pub number : IsLifeNumber own
   pub latest : own ≡ last
 
--- a life that is bound: its peer's number is the one heard, and there is a place for the event that it ended
+-- a bound life: the peer's number is the one heard, and there is a place for the event that the life ended
 pub record IsBoundLife (last heard : ℕ) (events : List LinkEvent) (life : Life) : Type 0 where
   pub own : IsOwnNumber last life.own
   pub peer : IsLifeNumber life.peer
@@ -55,12 +56,13 @@ IsPhase last heard events Closed = Unit {0}
 IsPhase last heard events (Unbound own) = IsOwnNumber last own
 IsPhase last heard events (Bound life) = IsBoundLife last heard events life
 
--- no more than 2^62 packets in a life; those behind the window were never transmitted
+-- no more than 2^62 packets in a life; those after the window were never transmitted
 pub record IsQueue (window acknowledged : ℕ) (queue : List QueuedPacket) : Type 0 where
   pub submitted : acknowledged + length queue ≤ 2 ^ 62
   pub untried : AreUntried (drop window queue)
 
-pub record IsRange (s : Settings) (phase : Phase) (heard last acknowledged accepted : ℕ) (queue : List QueuedPacket) (held : List (Option Packet)) (events : List LinkEvent) : Type 0 where
+pub record IsRange (s : Settings) (phase : Phase) (heard last acknowledged accepted : ℕ) (queue : List QueuedPacket)
+    (held : List (Option Packet)) (events : List LinkEvent) : Type 0 where
   pub link : IsLink s.me s.peer
   pub times : IsTimes s.times
   pub window : s.window ≡ WINDOW

@@ -9,7 +9,7 @@ use Rattle.tora_arq.specs.declared.phase.Phase.TheVariants.{Bound}
 use Rattle.tora_arq.specs.Settings.{Settings}
 use Rattle.tora_arq.specs.LinkEnd.{EndState, after_submit, is_hello_due, frame_sent}
 
--- the end once these packets were submitted in a life
+-- the end after these packets were submitted in a life
 abbrev pub after_submits : EndState → Life → List Packet → EndState
 after_submits e life [] = e
 after_submits e life (packet ∷ packets) = after_submits (after_submit e life packet) life packets
@@ -23,4 +23,5 @@ pub record IsIdle (s : Settings) (e : EndState) (life : Life) (now : ℕ) : Type
 
 -- the DATA frame of version 2 with these packets, the next ones of the life
 abbrev pub flood_frame : Settings → EndState → Life → List Packet → FrameParts
-flood_frame s e life packets = frame_sent s Two life.own life.peer (Data (suc e.acknowledged) e.accepted (batch packets))
+flood_frame s e life packets =
+    frame_sent s Two life.own life.peer (Data (suc e.acknowledged) e.accepted (batch packets))

@@ -1,8 +1,8 @@
--- Packets that came before the next one, by place: the first place is that of the next packet.
+-- Packets that arrived out of order, by place. The first place is that of the next packet.
 use Rattle.std.specs.Prelude.{ℕ, zero, suc, List, [], ◌∷◌, Option, Some, None}
 use Rattle.tora_packet.specs.declared.Packet.{Packet}
 
--- a packet is put at a place; one that is held there stays
+-- puts a packet at a place, unless one is held there
 abbrev pub hold_at : ℕ → Packet → List (Option Packet) → List (Option Packet)
 hold_at zero packet [] = Some packet ∷ []
 hold_at zero packet (None ∷ held) = Some packet ∷ held

@@ -1,4 +1,4 @@
--- The end of a neighbour link: what each call makes of it.
+-- The end of a neighbour link: the effect of each call.
 use Rattle.std.specs.Prelude.{ℕ, suc, ◌+◌, ◌-◌, ◌^◌, max, Bool, true, false, not, nat_lt, nat_le, ◌==◌, ◌||◌, ◌&&◌, if◌then◌else◌, List, [], ◌∷◌, ◌++◌, length, drop, slice_get, Option, Some, None, Result, Ok, Err}
 use Rattle.std.specs.List.{list_any}
 use Rattle.tora_packet.specs.declared.Packet.{Packet}
@@ -28,20 +28,20 @@ use Rattle.tora_arq.specs.SendQueue.{untried, has_given_up, DueBatch, first_due}
 
 pub record EndState : Type 0 where
   pub phase : Phase  -- closed, or open with an own number: unbound, or bound to a life
-  pub heard : ℕ  -- the greatest life of the peer that was noted in this life, 0 for none
+  pub heard : ℕ  -- the greatest life number of the peer noted in this life, 0 for none
   pub last_life : ℕ  -- the own number of the last life, 0 before the first
   pub queue : List QueuedPacket  -- the packets submitted and not acknowledged
-  pub acknowledged : ℕ  -- how many packets of this life the peer has accepted, as far as it told
+  pub acknowledged : ℕ  -- how many packets of this life the peer has acknowledged
   pub transmitted : ℕ  -- the greatest number of a packet that was transmitted in this life
   pub accepted : ℕ  -- how many packets of the peer were delivered in this life
-  pub held : List (Option Packet)  -- the packets that came early, by place: the first place is that of the next number
+  pub held : List (Option Packet)  -- the out-of-order packets, by place; the first place is that of the next number
   pub events : List LinkEvent  -- the events that were not polled, of all lives
   pub speaks_two : Bool  -- the mark that the peer speaks version 2
   pub owes_hello : Bool
-  pub owes_old_hello : Bool  -- the last HELLO was one of version 2 that none of version 1 has followed
+  pub owes_old_hello : Bool  -- the last HELLO was of version 2 and none of version 1 has followed it
   pub owes_ack : Bool
-  pub last_hello : Option ℕ  -- the tick of the last HELLO in this life, those of version 1 that follow one of version 2 apart
-  pub last_hearing : ℕ  -- the tick at which the peer was last heard in this life
+  pub last_hello : Option ℕ  -- the tick of the last HELLO, not counting those of version 1 after version 2
+  pub last_hearing : ℕ  -- the tick of the peer's last frame in this life
 
 abbrev pub first_end : EndState
 first_end = record {
@@ -62,7 +62,7 @@ first_end = record {
   last_hearing = 0;
 }
 
--- ---- what is asked of an end
+-- ---- questions about an end
 
 abbrev pub is_closed_in : Phase → Bool
 is_closed_in Closed = true
@@ -117,7 +117,7 @@ after_end e life reason = record (with_event e (Down life reason)) {
   owes_ack = false;
 }
 
--- a life is bound, in which nothing was transmitted or accepted yet; the mark is of the life that was heard
+-- a life is bound, in which nothing was transmitted or accepted yet; the mark stays if this life was noted
 abbrev pub after_bind : EndState → Life → EndState
 after_bind e life = record (with_event e (Up life)) {
   phase = Bound life;
@@ -137,7 +137,7 @@ abbrev pub is_two : Version → Bool
 is_two One = false
 is_two Two = true
 
--- a frame of this version has passed: one of version 2 sets the mark
+-- a frame of this version is accepted; version 2 sets the mark
 abbrev pub passed : EndState → Version → EndState
 passed e version = record e { speaks_two = is_two version || e.speaks_two }
 
@@ -158,7 +158,7 @@ count_of Hello = 0
 count_of (Data number count packets) = count
 count_of (Ack count) = count
 
--- an update that tells the height of another node than the sender
+-- an update with the height of a node other than the sender
 abbrev pub is_update_of_another : ℕ → Packet → Bool
 is_update_of_another sender (Qry q) = false
 is_update_of_another sender (Upd u) = not (u.height.id == sender)
@@ -169,7 +169,7 @@ has_update_of_another sender Hello = false
 has_update_of_another sender (Data number count packets) = list_any (is_update_of_another sender) packets.items
 has_update_of_another sender (Ack count) = false
 
--- version 2, where the end speaks version 1
+-- the frame is of version 2 and the end speaks only version 1
 abbrev pub is_unknown : Version → Version → Bool
 is_unknown One version = is_two version
 is_unknown Two version = false
@@ -184,8 +184,7 @@ is_foreign s f =
 abbrev pub is_busy : EndState → Bool
 is_busy e = nat_lt (EVENT_PLACES - length e.events) PLACES_OF_A_FRAME
 
--- case 5, at an end that is not bound: only a HELLO counts, a greater life is noted, and an equal one changes no more than the
--- mark
+-- case 5, at an unbound end: only a HELLO counts, a greater life is noted, and an equal one changes at most the mark
 abbrev pub on_life_told : EndState → Version → ℕ → Body → Verdict × EndState
 on_life_told e version life Hello =
     if nat_lt life e.heard then (Stale, e)
@@ -202,11 +201,14 @@ after_acknowledgement e count now = record e {
   last_hearing = now;
 }
 
--- the next packet is delivered; `held` is what is held behind it
+-- the next packet is delivered; `held` has the packets held after it
 abbrev pub after_delivery : EndState → Life → Packet → List (Option Packet) → EndState
-after_delivery e life packet held = record (with_event e (Deliver life packet)) { accepted = suc e.accepted; held = held }
+after_delivery e life packet held = record (with_event e (Deliver life packet)) {
+  accepted = suc e.accepted;
+  held = held;
+}
 
--- what is held is delivered up to the first gap
+-- the held packets up to the first gap are delivered
 unfoldable pub after_release : Life → EndState → List (Option Packet) → EndState
 after_release life e [] = e
 after_release life e (None ∷ held) = e
@@ -215,20 +217,23 @@ after_release life e (Some packet ∷ held) = after_release life (after_delivery
 abbrev pub after_hold : EndState → ℕ → Packet → EndState
 after_hold e number packet = record e { held = hold_at (number - suc e.accepted) packet e.held }
 
--- case 7, each packet of a DATA frame: one that was accepted is passed over, one within the window is held, and then what is
--- held is delivered, and one too far ahead is dropped; `furthest` is the last number of the window as the frame came
+-- case 7, each packet of a DATA frame: an accepted one is skipped, one within the window is held and then delivered in
+-- order, and one beyond it is dropped; `furthest` is the last number of the window when the frame came
 unfoldable pub after_packet : Life → ℕ → EndState → ℕ → Packet → EndState
 after_packet life furthest e number packet =
     if nat_le number e.accepted then e
-    else if nat_le number furthest then after_release life (after_hold e number packet) (after_hold e number packet).held
+    else if nat_le number furthest then after_release life (after_hold e number packet)
+    (after_hold e number packet).held
     else e
 
--- packets numbered on from the first
+-- packets numbered in sequence from the first
 unfoldable pub after_packets : Life → ℕ → EndState → ℕ → List Packet → EndState
 after_packets life furthest e number [] = e
-after_packets life furthest e number (packet ∷ packets) = after_packets life furthest (after_packet life furthest e number packet) (suc number) packets
+after_packets life furthest e number (packet ∷ packets) = after_packets life furthest
+    (after_packet life furthest e number packet) (suc number) packets
 
--- the verdict by the first and the last number: all were accepted, the next one is among them, or all are further ahead
+-- the verdict by the first and the last number: all were accepted before, the next one is among them, or all are beyond
+-- it
 abbrev pub verdict_of_numbers : ℕ → ℕ → ℕ → Verdict
 verdict_of_numbers accepted first last =
     if nat_le last accepted then Repeated
@@ -257,7 +262,8 @@ on_frame_in window e f now (Unbound own) =
     if f.header.heard == own then
     if nat_lt 0 (count_of f.body) then (Foreign, e)
     else if nat_lt f.header.life e.heard then (Stale, e)
-    else on_matched window (passed (after_bind e (life_of own f.header.life)) f.header.version) (life_of own f.header.life) true now f.body
+    else on_matched window (passed (after_bind e (life_of own f.header.life)) f.header.version)
+    (life_of own f.header.life) true now f.body
     else on_life_told e f.header.version f.header.life f.body
 on_frame_in window e f now (Bound life) =
     if nat_lt life.peer f.header.life then (Accepted, after_end e life Because.NewPeer)
@@ -294,13 +300,17 @@ after_tick s e now = after_tick_in s e now e.phase
 
 -- ---- a packet is submitted, a life is cut
 
--- another life than the bound one, 2^62 packets submitted in this life, no place for one that is not acknowledged, or room for it
+-- the life is not the bound one, 2^62 packets were submitted in this life, the queue is full, or there is room
 abbrev pub on_submit_in : EndState → Life → Packet → Phase → Result (Unit {0}) SubmitError × EndState
 on_submit_in e life packet Closed = (Err (Refusal.WrongLife packet), e)
 on_submit_in e life packet (Unbound own) = (Err (Refusal.WrongLife packet), e)
 on_submit_in e life packet (Bound current) =
     if not (is_same_life life current) then (Err (Refusal.WrongLife packet), e)
-    else if nat_le (2 ^ 62) (e.acknowledged + length e.queue) then (Err Refusal.Spent, after_end e current Because.Spent)
+    else if nat_le (2 ^ 62) (e.acknowledged + length e.queue) then (
+      Err Refusal.Spent,
+      after_end e current
+          Because.Spent,
+    )
     else if nat_le QUEUE_PLACES (length e.queue) then (Err Refusal.Full, after_end e current Because.Full)
     else (Ok tt, record e { queue = e.queue ++ untried packet ∷ [] })
 
@@ -333,17 +343,18 @@ abbrev pub has_hello_passed : Settings → Option ℕ → ℕ → Bool
 has_hello_passed s None now = false
 has_hello_passed s (Some last) now = nat_le s.times.hello (ticks_passed last now)
 
--- a HELLO is owed, or it is long enough since the last one
+-- a HELLO is owed, or `hello` ticks have passed since the last one
 abbrev pub is_hello_due : Settings → EndState → ℕ → Bool
 is_hello_due s e now = e.owes_hello || has_hello_passed s e.last_hello now
 
--- one of version 2 was given, and the peer isn't known to speak it
+-- one of version 2 was sent, and the peer isn't known to speak it
 abbrev pub is_old_hello_due : EndState → Bool
 is_old_hello_due e = e.owes_old_hello && not e.speaks_two
 
 -- a frame of this end
 abbrev pub frame_sent : Settings → Version → ℕ → ℕ → Body → FrameParts
-frame_sent s version life heard body = frame_of (record { version = version; sender = s.me; receiver = s.peer; life = life; heard = heard }) body
+frame_sent s version life heard body =
+    frame_of (record { version = version; sender = s.me; receiver = s.peer; life = life; heard = heard }) body
 
 abbrev pub is_hello_body : Body → Bool
 is_hello_body Hello = true
@@ -355,25 +366,29 @@ abbrev pub is_hello : Option FrameParts → Bool
 is_hello None = false
 is_hello (Some frame) = is_hello_body frame.body
 
--- a HELLO of the newest version is given, behind which one of version 1 may be due
+-- a HELLO of the newest version is sent, after which one of version 1 may be due
 abbrev pub after_hello : Settings → EndState → ℕ → EndState
 after_hello s e now = record e { owes_hello = false; owes_old_hello = is_two s.version; last_hello = Some now }
 
 abbrev pub after_old_hello : EndState → EndState
 after_old_hello e = record e { owes_old_hello = false }
 
--- a HELLO of version 1 behind one of version 2, or one of the newest version, where one is due, before the other frames
+-- the first HELLO due: of version 1 after one of version 2, or of the newest version; it comes before other frames
 abbrev pub on_hello : Settings → EndState → ℕ → ℕ → ℕ → Option FrameParts × EndState → Option FrameParts × EndState
 on_hello s e own heard now other =
     if is_old_hello_due e then (Some (frame_sent s One own heard Hello), after_old_hello e)
     else if is_hello_due s e now then (Some (frame_sent s s.version own heard Hello), after_hello s e now)
     else other
 
--- no HELLO is due: the first packets due, or an ACK where one is owed
+-- no HELLO is due: the first packets due, or an owed ACK
 abbrev pub on_transmit_due : Settings → EndState → Life → Option DueBatch → Option FrameParts × EndState
 on_transmit_due s e life (Some due) = (
   Some (frame_sent s (data_version e) life.own life.peer (Data due.number e.accepted (batch due.packets))),
-  record e { queue = due.queue; transmitted = max e.transmitted (due.number + length due.packets - 1); owes_ack = false },
+  record e {
+    queue = due.queue;
+    transmitted = max e.transmitted (due.number + length due.packets - 1);
+    owes_ack = false;
+  },
 )
 on_transmit_due s e life None =
     if e.owes_ack

@@ -1,4 +1,4 @@
--- What holds of every call of a link end.
+-- What holds for every call of a link end.
 use Rattle.std.specs.Prelude.{◌≡◌, ◌≢◌, ℕ, suc, ◌+◌, ◌<◌, ◌≤◌, ◌⊎◌, if◌then◌else◌, List, [], ◌∷◌, ◌++◌, map, length, drop, slice_get, Option, Some, None, Result, Ok, Err}
 use Rattle.tora_packet.specs.declared.Packet.{Packet}
 use Rattle.tora_frame.specs.declared.parts.Body.{Body}
@@ -36,35 +36,37 @@ after_call s e PollEvent = after_poll_event e
 after_call s e (Transmit now) = after_transmit s e now
 after_call s e (Cut life) = after_cut e life
 
--- a call that may be made: only a closed end is opened, with a number above its last one
+-- a call that is allowed: only a closed end is opened, with a number above its last one
 abbrev pub IsPossible : EndState → LinkCall → Type 0
 IsPossible e (Open life now) = (e.phase ≡ Closed) × (e.last_life < life)
 IsPossible e call = Unit {0}
 
--- this holds of every call that may be made, at any state: of the settings, the state before it, the call, and the state after it
+-- this holds for every allowed call in any state: of the settings, the state before it, the call, and the state after
+-- it
 abbrev pub EveryCall : (Settings → EndState → LinkCall → EndState → Type 0) → Type 0
-EveryCall Holds = (s : Settings) (e : EndState) (call : LinkCall) → IsPossible e call → Holds s e call (after_call s e call)
+EveryCall Holds =
+    (s : Settings) (e : EndState) (call : LinkCall) → IsPossible e call → Holds s e call (after_call s e call)
 
--- the frame that a call gives
+-- the frame that a call returns
 abbrev pub frame_sent_by : Settings → EndState → LinkCall → Option FrameParts
 frame_sent_by s e (Transmit now) = frame_due s e now
 frame_sent_by s e call = None
 
--- the event that a call gives
+-- the event that a call returns
 abbrev pub event_given_by : EndState → LinkCall → Option LinkEvent
 event_given_by e PollEvent = first_event e
 event_given_by e call = None
 
--- the events that are left once a call has given its event
+-- the events that are left after a call has returned its event
 abbrev pub events_left : EndState → LinkCall → List LinkEvent
 events_left e PollEvent = drop 1 e.events
 events_left e call = e.events
 
--- the events that a call queues behind those
+-- the events that a call appends to those
 abbrev pub events_queued : Settings → EndState → LinkCall → List LinkEvent
 events_queued s e call = drop (length (events_left e call)) (after_call s e call).events
 
--- the packet, where it is taken
+-- the packet, if it is taken
 abbrev pub packet_where_ok : Packet → Result (Unit {0}) SubmitError → List Packet
 packet_where_ok packet (Ok done) = packet ∷ []
 packet_where_ok packet (Err error) = []
@@ -74,9 +76,9 @@ abbrev pub packet_submitted : EndState → LinkCall → List Packet
 packet_submitted e (Submit life packet) = packet_where_ok packet (submit_answer e life packet)
 packet_submitted e call = []
 
--- ---- what every call keeps of an end
+-- ---- invariants of every call of an end
 
--- an end with an own number that no frame of the peer has told back yet: nothing was transmitted or accepted
+-- an end with an own number that no frame of the peer has carried yet: nothing was transmitted or accepted
 pub record IsUnboundEnd (e : EndState) (own : ℕ) : Type 0 where
   pub number : own ≡ e.last_life
   pub queue : e.queue ≡ []
@@ -110,7 +112,7 @@ pub record IsFrameOf (s : Settings) (life : Life) (f : FrameParts) : Type 0 wher
   pub peer : f.header.life ≡ life.peer
   pub own : f.header.heard ≡ life.own
 
--- the call hands in a frame of this life
+-- the call passes in a frame of this life
 abbrev pub HandsInFrameOf : Settings → Life → LinkCall → Type 0
 HandsInFrameOf s life (Frame frame now) = IsFrameOf s life frame
 HandsInFrameOf s life call = ⊥
@@ -124,7 +126,7 @@ OpensWith own call = ⊥
 abbrev pub StaysOrCloses : Life → Phase → Type 0
 StaysOrCloses life after = (after ≡ Bound life) ⊎ (after ≡ Closed)
 
--- an end that is bound was bound before, or had the own number of the life, which a frame of the peer now told back
+-- an end that is bound was bound before, or had the own number of the life, which a frame of the peer now carries
 abbrev pub WasBoundOrBinds : Settings → Life → LinkCall → Phase → Type 0
 WasBoundOrBinds s life call before = (before ≡ Bound life) ⊎ ((before ≡ Unbound life.own) × HandsInFrameOf s life call)
 
@@ -134,7 +136,7 @@ WasUnboundOrOpens own call before = (before ≡ Unbound own) ⊎ ((before ≡ Cl
 
 -- ---- frames sent, and packets submitted
 
--- these packets are those from a place on, in order and without a gap
+-- these packets are those from a number on, in order and without a gap
 abbrev pub AreFrom : (ℕ → Packet → Type 0) → ℕ → List Packet → Type 0
 AreFrom Is place [] = Unit {0}
 AreFrom Is place (packet ∷ packets) = Is place packet × AreFrom Is (suc place) packets
@@ -143,7 +145,8 @@ AreFrom Is place (packet ∷ packets) = Is place packet × AreFrom Is (suc place
 abbrev pub IsPacketAt : List Packet → ℕ → Packet → Type 0
 IsPacketAt packets place packet = slice_get packets place ≡ Some packet
 
--- a DATA frame carries packets of the queue within the window, the number of the first, and the count of packets accepted
+-- a DATA frame carries packets of the queue within the window, the number of the first, and the count of packets
+-- accepted
 pub record IsDataSent (s : Settings) (e : EndState) (number count : ℕ) (packets : List Packet) : Type 0 where
   pub place : ℕ
   pub within : place + length packets ≤ s.window
@@ -171,7 +174,7 @@ pub record IsQueueOf (submitted : List Packet) (e : EndState) : Type 0 where
   pub transmitted : e.transmitted ≤ length submitted
   pub waiting : packets_in e.queue ≡ drop e.acknowledged submitted
 
--- packets that are numbered on from the first have this one with this number
+-- among packets numbered in sequence from a first number, this one has this number
 abbrev pub HasNumber : ℕ → List Packet → ℕ → Packet → Type 0
 HasNumber first packets number packet = (place : ℕ) × (number ≡ first + place) × (slice_get packets place ≡ Some packet)
 
@@ -184,7 +187,8 @@ Carries (Ack count) number packet = ⊥
 -- a DATA frame carries the packets of its numbers, and this count
 pub record IsDataOf (submitted : List Packet) (accepted number count : ℕ) (packets : List Packet) : Type 0 where
   pub first : 0 < number
-  pub packets_are : (place : ℕ) (packet : Packet) → HasNumber number packets (suc place) packet → IsPacketAt submitted place packet
+  pub packets_are : (place : ℕ) (packet : Packet) → HasNumber number packets (suc place) packet
+      → IsPacketAt submitted place packet
   pub count_is : count ≡ accepted
 
 -- the same for any frame
@@ -205,7 +209,7 @@ AreHeld Is place (Some packet ∷ held) = Is place packet × AreHeld Is (suc pla
 abbrev pub BodyTells : (ℕ → Packet → Type 0) → Body → Type 0
 BodyTells Is body = (place : ℕ) (packet : Packet) → Carries body (suc place) packet → Is place packet
 
--- where the call hands in a DATA frame of this life, each packet is that of its number
+-- if the call passes in a DATA frame of this life, each packet is that of its number
 abbrev pub CallTells : (ℕ → Packet → Type 0) → Settings → Life → LinkCall → Type 0
 CallTells Is s life (Frame frame now) = IsFrameOf s life frame → BodyTells Is frame.body
 CallTells Is s life call = Unit {0}
@@ -214,7 +218,8 @@ CallTells Is s life call = Unit {0}
 abbrev pub packets_delivered : Life → List LinkEvent → List Packet
 packets_delivered life [] = []
 packets_delivered life (Up other ∷ events) = packets_delivered life events
-packets_delivered life (Deliver other packet ∷ events) = (if is_same_life life other then packet ∷ [] else []) ++ packets_delivered life events
+packets_delivered life (Deliver other packet ∷ events) = (if is_same_life life other then packet ∷ []
+    else []) ++ packets_delivered life events
 packets_delivered life (Down other reason ∷ events) = packets_delivered life events
 
 -- the next packets are delivered, each once; those that are held are still those of their places
@@ -225,7 +230,7 @@ pub record DeliversNext (Is : ℕ → Packet → Type 0) (before after : EndStat
 
 -- ---- events
 
--- the list of what there is
+-- an option as a list of at most one item
 abbrev pub list_of : {A : Type 0} → Option A → List A
 list_of None = []
 list_of (Some x) = x ∷ []
@@ -235,7 +240,8 @@ abbrev pub AreEventsBetween : Option Life → Option Life → List LinkEvent →
 AreEventsBetween None None events = events ≡ []
 AreEventsBetween None (Some life) events = (packets : List Packet) × (events ≡ Up life ∷ map (Deliver life) packets)
 AreEventsBetween (Some life) None events = (reason : Reason) × (events ≡ Down life reason ∷ [])
-AreEventsBetween (Some life) (Some next) events = (life ≡ next) × (packets : List Packet) × (events ≡ map (Deliver life) packets)
+AreEventsBetween (Some life) (Some next) events = (life ≡ next) × (packets : List Packet)
+    × (events ≡ map (Deliver life) packets)
 
 -- the events lead from one bound life to another: Up comes first, then only packets of that life, and Down last
 abbrev pub Leads : Option Life → List LinkEvent → Option Life → Type 0
@@ -254,7 +260,7 @@ AreOfOthers life (Up other ∷ events) = (life ≢ other) × AreOfOthers life ev
 AreOfOthers life (Deliver other packet ∷ events) = (life ≢ other) × AreOfOthers life events
 AreOfOthers life (Down other reason ∷ events) = (life ≢ other) × AreOfOthers life events
 
--- no event of a life comes behind its Down
+-- no event of a life comes after its Down
 abbrev pub AreOverByDown : List LinkEvent → Type 0
 AreOverByDown [] = Unit {0}
 AreOverByDown (Up life ∷ events) = AreOverByDown events
@@ -270,12 +276,13 @@ AreRising number (Down life reason ∷ events) = AreRising number events
 
 -- ---- counts
 
--- the call hands in a frame of this life with this count
+-- the call passes in a frame of this life with this count
 abbrev pub IsCountOfCall : Settings → Life → ℕ → LinkCall → Type 0
 IsCountOfCall s life count (Frame frame now) = IsFrameOf s life frame × (count_of frame.body ≡ count)
 IsCountOfCall s life count call = ⊥
 
--- the count of packets acknowledged stays, or becomes that of a frame of the life; it is at most that of those transmitted
+-- the count of acknowledged packets stays, or becomes that of a frame of the life; it is at most the count of
+-- transmitted ones
 pub record Acknowledges (s : Settings) (life : Life) (call : LinkCall) (before after : EndState) : Type 0 where
   pub stays : before.acknowledged ≤ after.acknowledged
   pub transmitted : after.acknowledged ≤ after.transmitted

@@ -1,4 +1,4 @@
--- What holds of every run of a link end: a list of calls from the first state on.
+-- What holds for every run of a link end: a list of calls from the first state on.
 use Rattle.std.specs.Prelude.{◌≡◌, ℕ, suc, ◌+◌, ◌<◌, ◌≤◌, ◌==◌, if◌then◌else◌, List, [], ◌∷◌, ◌++◌, map, length, Option, Some, None, Contains}
 use Rattle.tora_packet.specs.declared.Packet.{Packet}
 use Rattle.tora_frame.specs.declared.parts.Body.{Body}
@@ -17,7 +17,7 @@ use Rattle.tora_arq.specs.LinkFacts.LinkCall.{Frame, Submit}
 
 -- ---- runs
 
--- a frame that was handed in, with the own number that the end had then, if it was open
+-- a frame that was passed in, with the own number that the end had then, if it was open
 pub record FrameHandedIn : Type 0 where
   pub own : Option ℕ
   pub frame : FrameParts
@@ -77,7 +77,7 @@ abbrev pub run_after_all : Settings → LinkRun → List LinkCall → LinkRun
 run_after_all s run [] = run
 run_after_all s run (call ∷ calls) = run_after_all s (run_after s run call) calls
 
--- each call may be made when it is made
+-- each call is allowed when it is made
 abbrev pub AreAllPossible : Settings → LinkRun → List LinkCall → Type 0
 AreAllPossible s run [] = Unit {0}
 AreAllPossible s run (call ∷ calls) = IsPossible run.state call × AreAllPossible s (run_after s run call) calls
@@ -86,11 +86,11 @@ AreAllPossible s run (call ∷ calls) = IsPossible run.state call × AreAllPossi
 abbrev pub run_of : Settings → List LinkCall → LinkRun
 run_of s calls = run_after_all s first_run calls
 
--- this holds of every run of calls that may be made, from a new end on
+-- this holds for every run of allowed calls from a new end on
 abbrev pub EveryRun : (Settings → LinkRun → Type 0) → Type 0
 EveryRun Holds = (s : Settings) (calls : List LinkCall) → AreAllPossible s first_run calls → Holds s (run_of s calls)
 
--- and where the end is bound to a life after it
+-- the same for runs after which the end is bound to a life
 abbrev pub EveryBoundRun : (Settings → LinkRun → Life → Type 0) → Type 0
 EveryBoundRun Holds = EveryRun (λ s run. (life : Life) → run.state.phase ≡ Bound life → Holds s run life)
 
@@ -100,17 +100,19 @@ abbrev pub packets_submitted : Life → List Submission → List Packet
 packets_submitted life [] = []
 packets_submitted life (x ∷ xs) = (if is_same_life life x.life then x.packet ∷ [] else []) ++ packets_submitted life xs
 
--- a frame of this life was handed in while the end had its number
-pub record WasHandedIn (s : Settings) (frames : List FrameHandedIn) (life : Life) (handed : FrameHandedIn) : Type 0 where
-  pub among : Contains frames handed
-  pub own : handed.own ≡ Some life.own
-  pub of_life : IsFrameOf s life handed.frame
+-- a frame of this life was passed in while the end had its number
+pub record WasHandedIn (s : Settings) (frames : List FrameHandedIn) (life : Life) (handed : FrameHandedIn) : Type 0
+  where
+    pub among : Contains frames handed
+    pub own : handed.own ≡ Some life.own
+    pub of_life : IsFrameOf s life handed.frame
 
 -- the packet at this place came in a DATA frame of the life, with its number
-pub record CameAt (s : Settings) (frames : List FrameHandedIn) (life : Life) (place : ℕ) (packet : Packet) : Type 0 where
-  pub handed : FrameHandedIn
-  pub was : WasHandedIn s frames life handed
-  pub carries : Carries handed.frame.body (suc place) packet
+pub record CameAt (s : Settings) (frames : List FrameHandedIn) (life : Life) (place : ℕ) (packet : Packet) : Type 0
+  where
+    pub handed : FrameHandedIn
+    pub was : WasHandedIn s frames life handed
+    pub carries : Carries handed.frame.body (suc place) packet
 
 -- these packets are the first ones, in order and without a gap
 abbrev pub AreFromFirst : (ℕ → Packet → Type 0) → List Packet → Type 0
@@ -122,10 +124,11 @@ pub record CountCame (s : Settings) (frames : List FrameHandedIn) (life : Life) 
   pub was : WasHandedIn s frames life handed
   pub count_is : count_of handed.frame.body ≡ count
 
--- each life that is bound was told by a frame of the life
+-- for each bound life a frame of that life arrived
 abbrev pub AreAllTold : Settings → List FrameHandedIn → List LinkEvent → Type 0
 AreAllTold s frames [] = Unit {0}
-AreAllTold s frames (Up life ∷ events) = ((handed : FrameHandedIn) × WasHandedIn s frames life handed) × AreAllTold s frames events
+AreAllTold s frames (Up life ∷ events) = ((handed : FrameHandedIn) × WasHandedIn s frames life handed)
+    × AreAllTold s frames events
 AreAllTold s frames (Deliver life packet ∷ events) = AreAllTold s frames events
 AreAllTold s frames (Down life reason ∷ events) = AreAllTold s frames events
 
@@ -136,10 +139,12 @@ times_bound own (Up life ∷ events) = (if life.own == own then 1 else 0) + time
 times_bound own (Deliver life packet ∷ events) = times_bound own events
 times_bound own (Down life reason ∷ events) = times_bound own events
 
--- a DATA frame carries the packets of its numbers of those submitted in the life, and a count that is not above the packets delivered in it
+-- a DATA frame carries the packets of its numbers of those submitted in the life, and a count that is not above the
+-- packets delivered in it
 pub record IsDataOfRun (run : LinkRun) (life : Life) (number count : ℕ) (packets : List Packet) : Type 0 where
   pub first : 0 < number
-  pub packets_are : (place : ℕ) (packet : Packet) → HasNumber number packets (suc place) packet → IsPacketAt (packets_submitted life run.submitted) place packet
+  pub packets_are : (place : ℕ) (packet : Packet) → HasNumber number packets (suc place) packet
+      → IsPacketAt (packets_submitted life run.submitted) place packet
   pub count_is : count ≤ length (packets_delivered life run.events)
 
 -- the same for any frame
@@ -160,5 +165,6 @@ pub record IsOfOneLife (f g : FrameParts) : Type 0 where
 -- every try of a number in a life carries the same packet
 abbrev pub IsSameAtEachTry : List FrameParts → Type 0
 IsSameAtEachTry sent =
-    (f g : FrameParts) (number : ℕ) (packet other : Packet) → Contains sent f → Contains sent g → IsOfOneLife f g → Carries f.body number packet → Carries g.body number other
+    (f g : FrameParts) (number : ℕ) (packet other : Packet) → Contains sent f → Contains sent g → IsOfOneLife f g
+    → Carries f.body number packet → Carries g.body number other
     → packet ≡ other

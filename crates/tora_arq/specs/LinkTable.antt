@@ -1,5 +1,4 @@
--- The end of a neighbour link as a table: the state of the end, what comes, on which condition, and what follows. Each case of a
--- `data` is a row.
+-- The end of a neighbour link as a table: state, input, condition, and result. Each case of a `data` is a row.
 use Rattle.std.specs.Prelude.{◌≡◌, ◌≢◌, ◌⊎◌, ℕ, suc, ◌+◌, ◌-◌, ◌^◌, ◌<◌, ◌≤◌, max, true, false, ◌||◌, List, [], ◌∷◌, ◌++◌, map, take, length, slice_get, Option, Some, None, Result, Ok, Err, Contains, drop}
 use Rattle.std.specs.List.{AllByRecursion}
 use Rattle.tora_packet.specs.PacketParts.{UpdateParts}
@@ -39,22 +38,23 @@ HasPacket Hello packet = ⊥
 HasPacket (Data number count packets) packet = Contains packets.items packet
 HasPacket (Ack count) packet = ⊥
 
--- the peer sends it to this node, in a version that the end speaks, and each update that it carries tells the sender's own height
+-- the peer sends it to this node, in a version that the end speaks, and each update that it carries has the sender's
+-- own height
 pub record IsFromPeer (s : Settings) (h : Header) (body : Body) : Type 0 where
   pub sender : h.sender ≡ s.peer
   pub receiver : h.receiver ≡ s.me
   pub version : h.version ≡ Two → s.version ≡ Two
   pub updates : (u : UpdateParts) → HasPacket body (Upd u) → u.height.id ≡ h.sender
 
--- so many places for events are free as a frame may need
+-- as many places for events are free as a frame may need
 abbrev pub HasPlaces : EndState → Type 0
 HasPlaces e = length e.events + PLACES_OF_A_FRAME ≤ EVENT_PLACES
 
--- the peer was heard at this tick, by a frame of this version
+-- a frame of the peer came at this tick, in this version
 abbrev pub heard_now : EndState → Version → ℕ → EndState
 heard_now e version now = record e { speaks_two = is_two version || e.speaks_two; last_hearing = now }
 
--- a DATA frame was heard, with this count
+-- a DATA frame came, with this count
 abbrev pub heard_data : EndState → Version → ℕ → ℕ → EndState
 heard_data e version count now = record (heard_now e version now) {
   queue = drop (count - e.acknowledged) e.queue;
@@ -87,30 +87,35 @@ begun e life = record e {
   events = e.events ++ Up life ∷ [];
 }
 
--- ---- what an end hears
+-- ---- what an end receives
 
 -- an unbound end binds the life that it had noted, or a newer one
 pub data Binds (e : EndState) (own : ℕ) (h : Header) (now : ℕ) : EndState → Type 0 where
   noted_life_begins : h.life ≡ e.heard → Binds e own h now (heard_now (begun e (life_of own h.life)) h.version now)
   newer_life_begins : e.heard < h.life
-      → Binds e own h now (record (begun e (life_of own h.life)) { speaks_two = is_two h.version; owes_hello = true; last_hearing = now })
+      → Binds e own h now (record (begun e (life_of own h.life)) {
+        speaks_two = is_two h.version;
+        owes_hello = true;
+        last_hearing = now;
+      })
 
--- a DATA frame by the number of the next packet, that of its first one, and the one behind its last
+-- the verdict on a DATA frame, by the next number, its first number, and the one after its last
 pub data IsJudged (next first behind : ℕ) : Verdict → Type 0 where
   all_were_accepted : behind ≤ next → IsJudged next first behind Repeated
   next_is_among_them : first ≤ next → next < behind → IsJudged next first behind Accepted
   all_are_ahead : next < first → IsJudged next first behind Ahead
 
--- the packets that are held up to the first gap, and what is held from there on
+-- the packets held up to the first gap, and those held from there on
 pub record IsRun (held : List (Option Packet)) (packets : List Packet) (rest : List (Option Packet)) : Type 0 where
   pub held_is : held ≡ map Some packets ++ rest
   pub gap : first_held rest ≡ None
 
--- one packet of a DATA frame, by its number; `furthest` is the last one of the window as the frame came
-pub data TakesPacket (life : Life) (furthest : ℕ) (e : EndState) (number : ℕ) (packet : Packet) : EndState → Type 0 where
+-- one packet of a DATA frame, by its number; `furthest` is the last one of the window when the frame came
+pub data TakesPacket (life : Life) (furthest : ℕ) (e : EndState) (number : ℕ) (packet : Packet) : EndState
+    → Type 0 where
   was_accepted : number ≤ e.accepted → TakesPacket life furthest e number packet e
   is_too_far : e.accepted < number → furthest < number → TakesPacket life furthest e number packet e
-  -- it is held at its place, and what is held up to the first gap is delivered
+  -- it is held at its place, and the packets up to the first gap are delivered
   is_taken : {packets : List Packet} {rest : List (Option Packet)} → e.accepted < number → number ≤ furthest
       → IsRun (hold_at (number - suc e.accepted) packet e.held) packets rest
       → TakesPacket life furthest e number packet (record e {
@@ -119,48 +124,64 @@ pub data TakesPacket (life : Life) (furthest : ℕ) (e : EndState) (number : ℕ
         held = rest;
       })
 
--- packets numbered on from the first, one after another
+-- packets numbered in sequence from the first, one after another
 pub data TakesPackets (life : Life) (furthest : ℕ) : EndState → ℕ → List Packet → EndState → Type 0 where
   no_packet : {e : EndState} {number : ℕ} → TakesPackets life furthest e number [] e
   first_packet : {e between after : EndState} {number : ℕ} {packet : Packet} {packets : List Packet}
-      → TakesPacket life furthest e number packet between → TakesPackets life furthest between (suc number) packets after
+      → TakesPacket life furthest e number packet between → TakesPackets life furthest between (suc number) packets
+      after
       → TakesPackets life furthest e number (packet ∷ packets) after
 
 -- a frame that is looked at
 pub data HearsIn (s : Settings) (e : EndState) (h : Header) (now : ℕ) : Phase → Body → Verdict → EndState → Type 0 where
   closed : {body : Body} → HearsIn s e h now Closed body Stale e
-  -- an unbound end, and another number than its own comes back
-  no_hello_unechoed : {own : ℕ} {body : Body} → h.heard ≢ own → body ≢ Hello → HearsIn s e h now (Unbound own) body Stale e
+  -- an unbound end, and the frame carries a number that is not its own
+  no_hello_unechoed : {own : ℕ} {body : Body} → h.heard ≢ own → body ≢ Hello
+      → HearsIn s e h now (Unbound own) body Stale e
   hello_of_older_life : {own : ℕ} → h.heard ≢ own → h.life < e.heard → HearsIn s e h now (Unbound own) Hello Stale e
   hello_of_noted_life : {own : ℕ} → h.heard ≢ own → h.life ≡ e.heard
       → HearsIn s e h now (Unbound own) Hello Accepted (record e { speaks_two = is_two h.version || e.speaks_two })
   hello_of_newer_life : {own : ℕ} → h.heard ≢ own → e.heard < h.life
-      → HearsIn s e h now (Unbound own) Hello Accepted (record e { heard = h.life; speaks_two = is_two h.version; owes_hello = true })
-  -- its own number comes back
-  counts_before_binding : {own : ℕ} {body : Body} → h.heard ≡ own → 0 < count_of body → HearsIn s e h now (Unbound own) body Foreign e
+      → HearsIn s e h now (Unbound own) Hello Accepted (record e {
+        heard = h.life;
+        speaks_two = is_two h.version;
+        owes_hello = true;
+      })
+  -- the frame carries its own number
+  counts_before_binding : {own : ℕ} {body : Body} → h.heard ≡ own → 0 < count_of body
+      → HearsIn s e h now (Unbound own) body Foreign e
   echo_of_older_life : {own : ℕ} {body : Body} → h.heard ≡ own → count_of body ≡ 0 → h.life < e.heard
       → HearsIn s e h now (Unbound own) body Stale e
-  hello_binds : {own : ℕ} {bound : EndState} → h.heard ≡ own → Binds e own h now bound → HearsIn s e h now (Unbound own) Hello Accepted bound
-  ack_binds : {own : ℕ} {bound : EndState} → h.heard ≡ own → Binds e own h now bound → HearsIn s e h now (Unbound own) (Ack 0) Accepted bound
-  data_binds : {own number : ℕ} {packets : List Packet} {verdict : Verdict} {bound after : EndState} → h.heard ≡ own → Binds e own h now bound
+  hello_binds : {own : ℕ} {bound : EndState} → h.heard ≡ own → Binds e own h now bound
+      → HearsIn s e h now (Unbound own) Hello Accepted bound
+  ack_binds : {own : ℕ} {bound : EndState} → h.heard ≡ own → Binds e own h now bound
+      → HearsIn s e h now (Unbound own) (Ack 0) Accepted bound
+  data_binds : {own number : ℕ} {packets : List Packet} {verdict : Verdict} {bound after : EndState} → h.heard ≡ own
+      → Binds e own h now bound
       → IsJudged 1 number (number + length packets) verdict
       → TakesPackets (life_of own h.life) s.window (record bound { owes_ack = true }) number packets after
       → HearsIn s e h now (Unbound own) (Data number 0 (batch packets)) verdict after
   -- a bound end, and the life of the peer is another one
-  newer_life : {life : Life} {body : Body} → life.peer < h.life → HearsIn s e h now (Bound life) body Accepted (ended e life Because.NewPeer)
+  newer_life : {life : Life} {body : Body} → life.peer < h.life →
+      HearsIn s e h now (Bound life) body Accepted (ended e life Because.NewPeer)
   older_life : {life : Life} {body : Body} → h.life < life.peer → HearsIn s e h now (Bound life) body Stale e
-  -- it is the bound one, and another number than the own one comes back
-  unechoed : {life : Life} {body : Body} → h.life ≡ life.peer → h.heard ≢ life.own → HearsIn s e h now (Bound life) body Stale e
+  -- it is the bound one, and the frame carries a number that is not the own one
+  unechoed : {life : Life} {body : Body} → h.life ≡ life.peer → h.heard ≢ life.own
+      → HearsIn s e h now (Bound life) body Stale e
   -- both numbers match
-  counts_too_many : {life : Life} {body : Body} → h.life ≡ life.peer → h.heard ≡ life.own → e.transmitted < count_of body
+  counts_too_many : {life : Life} {body : Body} → h.life ≡ life.peer → h.heard ≡ life.own
+      → e.transmitted < count_of body
       → HearsIn s e h now (Bound life) body Foreign e
-  hello : {life : Life} → h.life ≡ life.peer → h.heard ≡ life.own → HearsIn s e h now (Bound life) Hello Accepted (heard_now e h.version now)
-  ack_of_more : {life : Life} {count : ℕ} → h.life ≡ life.peer → h.heard ≡ life.own → e.acknowledged < count → count ≤ e.transmitted
+  hello : {life : Life} → h.life ≡ life.peer → h.heard ≡ life.own
+      → HearsIn s e h now (Bound life) Hello Accepted (heard_now e h.version now)
+  ack_of_more : {life : Life} {count : ℕ} → h.life ≡ life.peer → h.heard ≡ life.own → e.acknowledged < count
+      → count ≤ e.transmitted
       → HearsIn s e h now (Bound life) (Ack count) Accepted (record (heard_now e h.version now) {
         queue = drop (count - e.acknowledged) e.queue;
         acknowledged = count;
       })
-  ack_of_no_more : {life : Life} {count : ℕ} → h.life ≡ life.peer → h.heard ≡ life.own → count ≤ e.acknowledged → count ≤ e.transmitted
+  ack_of_no_more : {life : Life} {count : ℕ} → h.life ≡ life.peer → h.heard ≡ life.own → count ≤ e.acknowledged
+      → count ≤ e.transmitted
       → HearsIn s e h now (Bound life) (Ack count) Repeated (heard_now e h.version now)
   data_comes : {life : Life} {number count : ℕ} {packets : List Packet} {verdict : Verdict} {after : EndState}
       → h.life ≡ life.peer → h.heard ≡ life.own → count ≤ e.transmitted
@@ -172,12 +193,13 @@ pub data HearsIn (s : Settings) (e : EndState) (h : Header) (now : ℕ) : Phase 
 pub data Hears (s : Settings) (e : EndState) (h : Header) (body : Body) (now : ℕ) : Verdict → EndState → Type 0 where
   not_from_peer : ¬ IsFromPeer s h body → Hears s e h body now Foreign e
   no_places : IsFromPeer s h body → ¬ HasPlaces e → Hears s e h body now Busy e
-  looked_at : {verdict : Verdict} {after : EndState} → IsFromPeer s h body → HasPlaces e → HearsIn s e h now e.phase body verdict after
+  looked_at : {verdict : Verdict} {after : EndState} → IsFromPeer s h body → HasPlaces e
+      → HearsIn s e h now e.phase body verdict after
       → Hears s e h body now verdict after
 
 -- ---- what an end does
 
--- it is opened with a number, and the events that were not polled stay
+-- the end is opened with a number, and the events that were not polled stay
 pub data Opens (e : EndState) (life now : ℕ) : EndState → Type 0 where
   opened : e.phase ≡ Closed → e.last_life < life → Opens e life now (record e {
     phase = Unbound life;
@@ -196,7 +218,7 @@ pub data Opens (e : EndState) (life now : ℕ) : EndState → Type 0 where
     last_hearing = now;
   })
 
--- the packet was tried as often as it may be, and the last try is long enough ago
+-- the packet was tried `tries` times, and the last try was `retry` ticks ago
 pub record IsGivenUp (times : Times) (now : ℕ) (q : QueuedPacket) : Type 0 where
   pub tried : times.tries ≤ q.tries
   pub long_ago : times.retry ≤ ticks_passed q.last_try now
@@ -204,7 +226,7 @@ pub record IsGivenUp (times : Times) (now : ℕ) (q : QueuedPacket) : Type 0 whe
 abbrev pub HasGivenUp : Settings → EndState → ℕ → Type 0
 HasGivenUp s e now = (q : QueuedPacket) × Contains e.queue q × IsGivenUp s.times now q
 
--- the peer was not heard for long enough, or has not acknowledged a packet
+-- no frame of the peer came for `silent` ticks, or a packet is given up
 abbrev pub IsSilent : Settings → EndState → ℕ → Type 0
 IsSilent s e now = (s.times.silent ≤ ticks_passed e.last_hearing now) ⊎ HasGivenUp s e now
 
@@ -219,9 +241,11 @@ abbrev pub submitted : EndState → ℕ
 submitted e = e.acknowledged + length e.queue
 
 -- a packet is submitted for a life
-pub data Submits (e : EndState) (life : Life) (packet : Packet) : Result (Unit {0}) SubmitError → EndState → Type 0 where
+pub data Submits (e : EndState) (life : Life) (packet : Packet) : Result (Unit {0}) SubmitError → EndState
+    → Type 0 where
   of_another_life : e.phase ≢ Bound life → Submits e life packet (Err (Refusal.WrongLife packet)) e
-  numbers_are_spent : e.phase ≡ Bound life → 2 ^ 62 ≤ submitted e → Submits e life packet (Err Refusal.Spent) (ended e life Because.Spent)
+  numbers_are_spent : e.phase ≡ Bound life → 2 ^ 62 ≤ submitted e
+      → Submits e life packet (Err Refusal.Spent) (ended e life Because.Spent)
   queue_is_full : e.phase ≡ Bound life → submitted e < 2 ^ 62 → QUEUE_PLACES ≤ length e.queue
       → Submits e life packet (Err Refusal.Full) (ended e life Because.Full)
   packet_waits : e.phase ≡ Bound life → submitted e < 2 ^ 62 → length e.queue < QUEUE_PLACES
@@ -232,30 +256,32 @@ pub data Cuts (e : EndState) (life : Life) : EndState → Type 0 where
   cut_another_life : e.phase ≢ Bound life → Cuts e life e
   cut_bound_life : e.phase ≡ Bound life → Cuts e life (ended e life Because.Cut)
 
--- ---- what an end tells
+-- ---- what an end reports
 
--- a HELLO of version 2 was given, none of version 1 has followed, and the peer is not known to speak version 2
+-- a HELLO of version 2 was sent, none of version 1 has followed, and the peer is not known to speak version 2
 abbrev pub IsOldHelloDue : EndState → Type 0
 IsOldHelloDue e = (e.owes_old_hello ≡ true) × (e.speaks_two ≡ false)
 
--- a HELLO is owed, or it is long enough since the last one
+-- a HELLO is owed, or `hello` ticks have passed since the last one
 abbrev pub IsHelloDue : Settings → EndState → ℕ → Type 0
-IsHelloDue s e now = (e.owes_hello ≡ true) ⊎ ((last : ℕ) × (e.last_hello ≡ Some last) × (s.times.hello ≤ ticks_passed last now))
+IsHelloDue s e now =
+    (e.owes_hello ≡ true) ⊎ ((last : ℕ) × (e.last_hello ≡ Some last) × (s.times.hello ≤ ticks_passed last now))
 
--- it was never transmitted, or not as often as it may be, and the last try is long enough ago
+-- it was never transmitted, or fewer than `tries` times with the last try `retry` ticks ago
 abbrev pub IsDue : Times → ℕ → QueuedPacket → Type 0
 IsDue times now q = (q.tries ≡ 0) ⊎ ((q.tries < times.tries) × (times.retry ≤ ticks_passed q.last_try now))
 
 abbrev pub IsNotDue : Times → ℕ → QueuedPacket → Type 0
 IsNotDue times now q = ¬ IsDue times now q
 
--- no more of them go into the frame: it is full, the window ends, or the next one is not due
+-- no more packets go into the frame: it is full, the window ends, or the next one is not due
 pub data AreAll (times : Times) (now most window many reached : ℕ) (behind : List QueuedPacket) : Type 0 where
   frame_is_full : many ≡ most → AreAll times now most window many reached behind
   window_ends : reached ≡ window → AreAll times now most window many reached behind
-  next_is_not_due : ((q : QueuedPacket) → slice_get behind 0 ≡ Some q → IsNotDue times now q) → AreAll times now most window many reached behind
+  next_is_not_due : ((q : QueuedPacket) → slice_get behind 0 ≡ Some q → IsNotDue times now q)
+      → AreAll times now most window many reached behind
 
--- the first packet due within the window, and those that follow it and are due, as many as a frame carries
+-- the first packet due within the window, and the due ones that follow it, as many as a frame carries
 pub record AreDue (times : Times) (now most window : ℕ) (queue before due behind : List QueuedPacket) : Type 0 where
   pub queue_is : queue ≡ before ++ due ++ behind
   pub before_are_not : AllByRecursion (IsNotDue times now) before
@@ -290,10 +316,12 @@ pub data TellsIn (s : Settings) (e : EndState) (now : ℕ) : Phase → Option Fr
       (record e { owes_hello = false; owes_old_hello = is_two s.version; last_hello = Some now })
   -- no HELLO is due
   unbound_tells_nothing : {own : ℕ} → ¬ IsOldHelloDue e → ¬ IsHelloDue s e now → TellsIn s e now (Unbound own) None e
-  data_is_due : {life : Life} {version : Version} {most : ℕ} {before due behind : List QueuedPacket} → ¬ IsOldHelloDue e → ¬ IsHelloDue s e now
+  data_is_due : {life : Life} {version : Version} {most : ℕ} {before due behind : List QueuedPacket} → ¬ IsOldHelloDue e
+      → ¬ IsHelloDue s e now
       → Speaks e version most → AreDue s.times now most s.window e.queue before due behind
       → TellsIn s e now (Bound life)
-      (Some (frame_sent s version life.own life.peer (Data (suc (e.acknowledged + length before)) e.accepted (batch (packets_in due)))))
+      (Some (frame_sent s version life.own life.peer (Data (suc (e.acknowledged + length before)) e.accepted
+      (batch (packets_in due)))))
       (record e {
         queue = before ++ map (λ q. retried q now) due ++ behind;
         transmitted = max e.transmitted (e.acknowledged + (length before + length due));
@@ -301,15 +329,17 @@ pub data TellsIn (s : Settings) (e : EndState) (now : ℕ) : Phase → Option Fr
       })
   ack_is_due : {life : Life} {version : Version} {most : ℕ} → ¬ IsOldHelloDue e → ¬ IsHelloDue s e now
       → NoneIsDue s.times now s.window e.queue → e.owes_ack ≡ true → Speaks e version most
-      → TellsIn s e now (Bound life) (Some (frame_sent s version life.own life.peer (Ack e.accepted))) (record e { owes_ack = false })
+      → TellsIn s e now (Bound life) (Some (frame_sent s version life.own life.peer (Ack e.accepted)))
+      (record e { owes_ack = false })
   bound_tells_nothing : {life : Life} → ¬ IsOldHelloDue e → ¬ IsHelloDue s e now
       → NoneIsDue s.times now s.window e.queue → e.owes_ack ≡ false → TellsIn s e now (Bound life) None e
 
--- the frame due at this tick, and the end once it is given
+-- the frame due at this tick, and the end after it is sent
 abbrev pub Tells : Settings → EndState → ℕ → Option FrameParts → EndState → Type 0
 Tells s e now frame after = TellsIn s e now e.phase frame after
 
--- the event that is polled, and the end once it is given
+-- the event that is polled, and the end after that
 pub data Gives (e : EndState) : Option LinkEvent → EndState → Type 0 where
   no_event_waits : e.events ≡ [] → Gives e None e
-  oldest_event : {event : LinkEvent} {events : List LinkEvent} → e.events ≡ event ∷ events → Gives e (Some event) (record e { events = events })
+  oldest_event : {event : LinkEvent} {events : List LinkEvent} → e.events ≡ event ∷ events
+      → Gives e (Some event) (record e { events = events })

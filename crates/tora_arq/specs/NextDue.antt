@@ -1,4 +1,4 @@
--- When something is next due at a link end, if nothing comes.
+-- When something is next due at a link end, if there is no other call.
 use Rattle.std.specs.Prelude.{◌≡◌, ℕ, ◌^◌, ◌<◌, ◌≤◌, Bool, true, false, not, nat_le, ◌||◌, ◌&&◌, Option, Some, None, is_some}
 use Rattle.tora_arq.specs.declared.life.Life.{Life}
 use Rattle.tora_arq.specs.declared.times.Times.{Times}
@@ -11,7 +11,7 @@ use Rattle.tora_arq.specs.LinkEnd.{EndState, is_closed, is_silent, is_hello_due,
 abbrev pub is_any_due : Settings → EndState → ℕ → Bool
 is_any_due s e tick = is_some (frame_due s e tick) || (not (is_closed e) && is_closed (after_tick s e tick))
 
--- the first such tick from `now` on, of those below 2^64
+-- the first such tick from `now` on that is below 2^64
 abbrev pub IsNextDue : Settings → EndState → ℕ → Option ℕ → Type 0
 IsNextDue s e now None = (tick : ℕ) → tick < 2 ^ 64 → now ≤ tick → is_any_due s e tick ≡ false
 IsNextDue s e now (Some next) =
@@ -26,7 +26,8 @@ has_begun (Some first) tick = nat_le first tick
 abbrev pub is_packet_due : Times → ℕ → QueuedPacket → Bool
 is_packet_due times tick q = is_ready times tick q || is_given_up times tick q
 
--- at this tick a frame of a life is due, or the life ends for want of hearing
+-- at this tick a frame of a life is due, or the life times out
 abbrev pub is_due_in : Settings → EndState → Life → ℕ → Bool
 is_due_in s e life tick =
-    ((is_hello_due s e tick || is_old_hello_due e) || is_some (on_transmit_due s e life (due_of s e tick)).0) || is_silent s e tick
+    ((is_hello_due s e tick || is_old_hello_due e) || is_some (on_transmit_due s e life (due_of s e tick)).0) ||
+    is_silent s e tick

@@ -1,4 +1,4 @@
--- Whose heights an end delivers: no packet is an update of another node than the peer.
+-- The heights that an end delivers: no packet is an update of a node other than the peer.
 use Rattle.std.specs.Prelude.{◌≡◌, ℕ, false, List, Option, Some, None}
 use Rattle.std.specs.List.{AllByRecursion}
 use Rattle.tora_packet.specs.declared.Packet.{Packet}
@@ -21,7 +21,7 @@ IsEventOfPeer peer (Down life reason) = Unit {0}
 abbrev pub AreEventsOfPeer : ℕ → List LinkEvent → Type 0
 AreEventsOfPeer peer events = AllByRecursion (IsEventOfPeer peer) events
 
--- an end holds no update of another node than the peer, and none waits to be polled
+-- an end holds no update of a node other than the peer, and none waits to be polled
 pub record IsOfPeer (s : Settings) (e : EndState) : Type 0 where
   pub held : AllByRecursion (IsSlotOfPeer s.peer) e.held
   pub events : AreEventsOfPeer s.peer e.events

@@ -1,4 +1,4 @@
--- What room a link end needs for events and for packets that came early.
+-- The room that a link end needs for events and for out-of-order packets.
 use Rattle.std.specs.Prelude.{◌≡◌, ℕ, ◌+◌, ◌<◌, ◌≤◌, ◌⊎◌, [], length}
 use Rattle.tora_frame.specs.declared.parts.Body.{Body}
 use Rattle.tora_frame.specs.declared.parts.Body.TheVariants.{Hello, Data, Ack}
@@ -9,13 +9,13 @@ use Rattle.tora_arq.specs.declared.phase.Phase.TheVariants.{Closed, Unbound, Bou
 use Rattle.tora_arq.specs.LinkEnd.{EndState}
 use Rattle.tora_arq.specs.EndRange.{HasRoom}
 
--- there is room for all that may come
+-- there is room for everything that may come
 pub record HasLists (places early : ℕ) : Type 0 where
   pub events : EVENT_PLACES ≤ places
   pub held : WINDOW ≤ early
 
--- so many packets from a number on are within the window; the next one is among them or behind them, none came early, and the events have room
--- for each
+-- this many packets from a number on are within the window, the next number is among them or after them, no packet is
+-- held, and there is room for an event for each
 pub record AreNext (places furthest number count : ℕ) (e : EndState) : Type 0 where
   pub room : length e.events + count ≤ places
   pub next : number ≤ e.accepted + 1
@@ -23,29 +23,32 @@ pub record AreNext (places furthest number count : ℕ) (e : EndState) : Type 0 
   pub none : e.held ≡ []
   pub ahead : e.accepted ≤ furthest
 
--- the one or the other
+-- one of the two
 abbrev pub HasRoomFor : (places early furthest number count : ℕ) → EndState → Type 0
-HasRoomFor places early furthest number count e = ((WINDOW ≤ early) × HasRoom places WINDOW furthest e) ⊎ AreNext places furthest number count e
+HasRoomFor places early furthest number count e =
+    ((WINDOW ≤ early) × HasRoom places WINDOW furthest e) ⊎ AreNext places furthest number count e
 
--- the room for what a frame has in a bound life
+-- the room for the contents of a frame in a bound life
 abbrev pub HasBodyRoom : (places early : ℕ) → Body → EndState → Type 0
 HasBodyRoom places early Hello e = Unit {0}
-HasBodyRoom places early (Data number count packets) e = HasRoomFor places early (e.accepted + WINDOW) number (length packets.items) e
+HasBodyRoom places early (Data number count packets) e = HasRoomFor places early (e.accepted + WINDOW) number
+    (length packets.items) e
 HasBodyRoom places early (Ack count) e = Unit {0}
 
--- and for what one has that may bind a life
+-- the same for a frame that may bind a life
 abbrev pub HasFirstRoom : (places early : ℕ) → Body → EndState → Type 0
 HasFirstRoom places early Hello e = Unit {0}
 HasFirstRoom places early (Data number count packets) e = (length e.events + 1 + WINDOW < places) × (WINDOW ≤ early)
 HasFirstRoom places early (Ack count) e = Unit {0}
 
--- the room for what a frame has, where none of its packets may have to be held
+-- the room for the contents of a frame if none of its packets may have to be held
 abbrev pub HasNextRoom : (places : ℕ) → Body → EndState → Phase → Type 0
 HasNextRoom places Hello e phase = Unit {0}
 HasNextRoom places (Ack count) e phase = Unit {0}
 HasNextRoom places (Data number count packets) e Closed = Unit {0}
 HasNextRoom places (Data number count packets) e (Unbound own) = ⊥
-HasNextRoom places (Data number count packets) e (Bound life) = AreNext places (e.accepted + WINDOW) number (length packets.items) e
+HasNextRoom places (Data number count packets) e (Bound life) = AreNext places (e.accepted + WINDOW) number
+    (length packets.items) e
 
 pub record HasFrameRoom (places : ℕ) (f : FrameParts) (e : EndState) : Type 0 where
   pub place : length e.events < places

@@ -21,11 +21,11 @@ retried q now = record q { tries = suc q.tries; last_try = now }
 abbrev pub is_retry_time : Times → ℕ → QueuedPacket → Bool
 is_retry_time times now q = nat_le times.retry (ticks_passed q.last_try now)
 
--- never transmitted, or long enough ago and not as often as it may be
+-- never transmitted, or fewer than `tries` times and `retry` ticks ago
 abbrev pub is_ready : Times → ℕ → QueuedPacket → Bool
 is_ready times now q = (q.tries == 0) || (nat_lt q.tries times.tries && is_retry_time times now q)
 
--- transmitted as often as it may be, and long enough ago
+-- transmitted `tries` times, and `retry` ticks ago
 abbrev pub is_given_up : Times → ℕ → QueuedPacket → Bool
 is_given_up times now q = nat_le times.tries q.tries && is_retry_time times now q
 
@@ -33,7 +33,7 @@ abbrev pub has_given_up : Times → ℕ → List QueuedPacket → Bool
 has_given_up times now [] = false
 has_given_up times now (q ∷ queue) = is_given_up times now q || has_given_up times now queue
 
--- packets that are due one after another, and the queue once they are transmitted
+-- packets that are due one after another, and the queue after they are transmitted
 pub record ReadyRun : Type 0 where
   pub packets : List Packet
   pub queue : List QueuedPacket
@@ -44,13 +44,14 @@ no_run queue = record { packets = []; queue = queue }
 abbrev pub with_ready : QueuedPacket → ℕ → ReadyRun → ReadyRun
 with_ready q now run = record { packets = q.packet ∷ run.packets; queue = retried q now ∷ run.queue }
 
--- the first packets of a queue as far as each is due, at most so many
+-- the first packets of a queue up to one that is not due, and up to a number
 unfoldable pub ready_run : Times → ℕ → ℕ → List QueuedPacket → ReadyRun
 ready_run times now zero queue = no_run queue
 ready_run times now (suc most) [] = no_run []
-ready_run times now (suc most) (q ∷ queue) = if is_ready times now q then with_ready q now (ready_run times now most queue) else no_run (q ∷ queue)
+ready_run times now (suc most) (q ∷ queue) = if is_ready times now q then with_ready q now
+    (ready_run times now most queue) else no_run (q ∷ queue)
 
--- packets that are due in one frame: the number of the first, and the queue once they are transmitted
+-- packets that are due in one frame, the number of the first, and the queue after they are transmitted
 pub record DueBatch : Type 0 where
   pub number : ℕ
   pub packets : List Packet
@@ -63,8 +64,8 @@ abbrev pub due_behind : QueuedPacket → Option DueBatch → Option DueBatch
 due_behind q None = None
 due_behind q (Some due) = Some (record due { queue = q ∷ due.queue })
 
--- the first packet due within the window, and those that follow it and are due too, at most so many in all; `number` is that
--- of the first of the queue
+-- the first packet due within the window, and the due ones that follow it, up to a number in all; `number` is that of
+-- the first one in the queue
 unfoldable pub first_due : Times → ℕ → ℕ → ℕ → ℕ → List QueuedPacket → Option DueBatch
 first_due times now most number zero queue = None
 first_due times now most number (suc window) [] = None
@@ -73,12 +74,14 @@ first_due times now most number (suc window) (q ∷ queue) =
     then Some (due_batch number (ready_run times now (min most (suc window)) (q ∷ queue)))
     else due_behind q (first_due times now most (suc number) window queue)
 
--- none of the first packets, so many, is due
+-- none of the first packets of a queue, up to a number, is due
 abbrev pub AreLate : Times → ℕ → ℕ → List QueuedPacket → Type 0
-AreLate times now count queue = (k : ℕ) (q : QueuedPacket) → k < count → slice_get queue k ≡ Some q → is_ready times now q ≡ false
+AreLate times now count queue =
+    (k : ℕ) (q : QueuedPacket) → k < count → slice_get queue k ≡ Some q → is_ready times now q ≡ false
 
 -- the packet at this place is the first one due within the window
-pub record IsFirstReady (times : Times) (now window : ℕ) (queue : List QueuedPacket) (place : ℕ) (packet : QueuedPacket) : Type 0 where
+pub record IsFirstReady (times : Times) (now window : ℕ) (queue : List QueuedPacket) (place : ℕ) (packet : QueuedPacket)
+    : Type 0 where
   pub within : place < window
   pub before : AreLate times now place queue
   pub packet_is : slice_get queue place ≡ Some packet

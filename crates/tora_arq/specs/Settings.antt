@@ -1,11 +1,11 @@
--- What a link end is made with.
+-- The settings of a link end.
 use Rattle.std.specs.Prelude.{◌≢◌, ℕ, ◌-◌, ◌<◌}
 use Rattle.tora_packet.specs.PacketParts.{IsId}
 use Rattle.tora_frame.specs.declared.parts.Version.{Version}
 use Rattle.tora_arq.specs.declared.times.Times.{Times}
 use Rattle.tora_arq.specs.declared.TheConstants.{WINDOW}
 
--- the newest version that it speaks, its node, the node at the other end, its times, and how many packets may be under way
+-- the newest version that it speaks, its node, the node at the other end, its times, and its window
 pub record Settings : Type 0 where
   pub version : Version
   pub me : ℕ
@@ -29,6 +29,6 @@ pub record IsLink (node neighbour : ℕ) : Type 0 where
   pub peer : IsId neighbour
   pub other : node ≢ neighbour
 
--- how many ticks have passed since an earlier tick, and 0 where the clock went back
+-- how many ticks have passed since an earlier tick; 0 if the clock went back
 abbrev pub ticks_passed : ℕ → ℕ → ℕ
 ticks_passed earlier now = now - earlier

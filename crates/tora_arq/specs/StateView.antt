@@ -1,4 +1,4 @@
--- The settings and the state that the code keeps.
+-- The settings and the state as the code stores them.
 use Rattle.std.specs.Prelude.{ℕ}
 use Rattle.tora_arq.specs.declared.TheConstants.{EVENT_PLACES, QUEUE_PLACES, HELD_PLACES}
 use Rattle.tora_arq.specs.declared.settings.Settings.{Settings as CodeSettings}
@@ -28,7 +28,7 @@ state_in s = record {
   last_hearing = s.last_hearing;
 }
 
--- for how many events, packets that wait, and packets that came early there is room
+-- the room for events, for unacknowledged packets, and for out-of-order packets
 pub record Rooms : Type 0 where
   pub events : ℕ
   pub packets : ℕ

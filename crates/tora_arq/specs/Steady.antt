@@ -1,4 +1,4 @@
--- A link end at which nothing is to be done but to say and hear HELLOs.
+-- An idle link end, which only sends and receives HELLOs.
 use Rattle.std.specs.Prelude.{◌≡◌, ℕ, ◌+◌, min, Bool, true, false, not, nat_le, ◌==◌, ◌||◌, ◌&&◌, [], length, Option, Some, None, if◌then◌else◌}
 use Rattle.tora_frame.specs.declared.parts.Header.{Header}
 use Rattle.tora_frame.specs.declared.parts.Version.{Version}
@@ -22,12 +22,12 @@ phase_in false own peer = Unbound own
 abbrev pub steady_phase : Steady → Phase
 steady_phase h = phase_in h.is_bound h.own h.peer_life
 
--- a state after what a steady end said and heard
+-- a state with the fields of an idle end written back
 abbrev pub resumed : Steady → EndState → EndState
 resumed h e = record e { last_hello = Some h.said; last_hearing = h.heard; owes_old_hello = h.owes_old_hello }
 
--- what is kept of an end beside it: the end is open, it owes neither a HELLO at once nor an ACK, no packet of it waits for its acknowledgement,
--- and it has no event to give. When it said and heard the last HELLO is kept here alone.
+-- the fields of an idle end: it is open, owes neither a HELLO at once nor an ACK, and has no unacknowledged packet and
+-- no event. Only these fields have the ticks of its last HELLO and of the peer's last frame.
 pub record IsSteady (h : Steady) (s : Settings) (e : EndState) : Type 0 where
   pub version : s.version ≡ h.version
   pub me : s.me ≡ h.me
@@ -44,12 +44,13 @@ pub record IsSteady (h : Steady) (s : Settings) (e : EndState) : Type 0 where
   pub owes_ack : e.owes_ack ≡ false
   pub kept : IsEndState s e
 
--- nothing is owed but HELLOs in their time, no packet waits, and no event does
+-- the end owes no frame except the regular HELLOs, and no packet and no event waits
 abbrev pub is_at_ease : Settings → EndState → Bool
 is_at_ease s e =
-    not e.owes_hello && (not e.owes_ack && ((length e.queue == 0) && ((length e.events == 0) && (is_two s.version || not e.speaks_two))))
+    not e.owes_hello && (not e.owes_ack && ((length e.queue == 0) &&
+    ((length e.events == 0) && (is_two s.version || not e.speaks_two))))
 
--- what is kept of an end that said its last HELLO at a tick
+-- the fields of an end that sent its last HELLO at a tick
 abbrev pub kept_of : Settings → EndState → ℕ → ℕ → Bool → Steady
 kept_of s e said own is_bound = record {
   said = said;
@@ -75,7 +76,7 @@ abbrev pub steady_since : Settings → EndState → Option ℕ → Option Steady
 steady_since s e None = None
 steady_since s e (Some said) = if is_at_ease s e then kept_in s e said e.phase else None
 
--- what is kept of an end: something just where it is open, said a HELLO in this life, and is at ease
+-- the fields of an end, if it is open, has sent a HELLO in this life, and is idle
 abbrev pub steady_of : Settings → EndState → Option Steady
 steady_of s e = steady_since s e e.last_hello
 
@@ -83,40 +84,47 @@ steady_of s e = steady_since s e e.last_hello
 abbrev pub header_of : Steady → Version → Header
 header_of h version = record { version = version; sender = h.me; receiver = h.peer; life = h.own; heard = h.peer_life }
 
--- a HELLO of version 1 is due behind one of version 2
+-- a HELLO of version 1 is due after one of version 2
 abbrev pub owes_old : Steady → Bool
 owes_old h = h.owes_old_hello && not h.speaks_two
 
--- it is long enough since the last HELLO
+-- `hello` ticks have passed since the last HELLO
 abbrev pub has_hello : Steady → ℕ → Bool
 has_hello h now = nat_le h.hello (ticks_passed h.said now)
 
--- the peer of a bound life was not heard for long enough
+-- no frame of the peer of a bound life came for `silent` ticks
 abbrev pub is_over : Steady → ℕ → Bool
 is_over h now = h.is_bound && nat_le h.silent (ticks_passed h.heard now)
 
--- what such an end sends at a tick, and what is kept of it then
+-- what such an end sends at a tick, and its fields after that
 abbrev pub on_send : Steady → ℕ → Option Header × Steady
 on_send h now =
     if owes_old h then (Some (header_of h One), record h { owes_old_hello = false })
-    else if has_hello h now then (Some (header_of h h.version), record h { said = now; owes_old_hello = is_two h.version })
+    else if has_hello h now then (
+      Some (header_of h h.version),
+      record h {
+        said = now;
+        owes_old_hello = is_two h.version;
+      },
+    )
     else (None, h)
 
--- what is told by a header, if anything is
+-- the HELLO with a header, if there is one
 abbrev pub told_by : Option Header → Option FrameParts
 told_by None = None
 told_by (Some header) = Some (frame_of header Hello)
 
--- a HELLO that says nothing but that the peer of the bound life is there
+-- a HELLO of the bound life that says nothing new
 abbrev pub is_told : Steady → Header → Bool
 is_told h header =
-    h.is_bound && ((header.sender == h.peer) && ((header.receiver == h.me) && ((header.life == h.peer_life) && ((header.heard == h.own) && (h.speaks_two || not (is_two header.version))))))
+    h.is_bound && ((header.sender == h.peer) && ((header.receiver == h.me) &&
+    ((header.life == h.peer_life) && ((header.heard == h.own) && (h.speaks_two || not (is_two header.version))))))
 
--- so many ticks behind another one; the last one at most
+-- the tick that is a number of ticks after another one, at most the last tick
 abbrev pub behind : ℕ → ℕ → ℕ
 behind earlier ticks = min (earlier + ticks) last_tick
 
--- before this tick nothing is due at such an end, and from it on a HELLO is, or the life ends
+-- the tick from which on a HELLO is due at such an end, or its life ends
 abbrev pub until_of : Steady → ℕ
 until_of h =
     if owes_old h then 0

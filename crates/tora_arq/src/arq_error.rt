@@ -1,11 +1,11 @@
-//! Why a link end is not made.
+//! Why a link end can't be made.
 use std::fmt;
 use thiserror::Error;
 
-/// Why a link end is not made.
+/// Why a link end can't be made.
 #[derive(Clone, Copy, Debug, PartialEq, Eq, Hash, Error)]
 pub enum ArqError {
-    /// There is no memory for its rings.
+    /// There is not enough memory for its queues.
     Memory,
 }
 

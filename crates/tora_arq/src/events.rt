@@ -1,5 +1,6 @@
-//! The events of a link end that wait to be polled.
-ghost use Rattle.std.specs.Prelude.{◌≡◌, ◌<◌, ◌≤◌, ◌-◌, ◌^◌, [], ◌∷◌, ◌++◌, length, drop, slice_get, is_some, nat_lt, IfOk, OnErr, OnOk};
+//! The queue of a link end's events.
+ghost use Rattle.std.specs.Prelude.{◌≡◌, ◌<◌, ◌≤◌, ◌-◌, ◌^◌, [], ◌∷◌, ◌++◌, length, drop, slice_get, is_some, nat_lt};
+ghost use Rattle.std.specs.Prelude.{IfOk, OnErr, OnOk};
 ghost use Rattle.circular_buffer.specs.Buffer.{buffer};
 
 use crate::rings::{make_room, push};
@@ -33,7 +34,7 @@ impl EventQueue {
         Ok(EventQueue { ring })
     }
 
-    /// How many wait.
+    /// How many events wait.
     #[inline(always)]
     pub fn len(&self) -> usize
         ensures length { result ≡ length self.now.items }
@@ -42,7 +43,7 @@ impl EventQueue {
         self.ring.len()
     }
 
-    /// Whether one waits.
+    /// Whether an event waits.
     #[inline(always)]
     pub fn has_first(&self) -> bool
         ensures { result ≡ is_some (slice_get self.now.items 0) }
@@ -50,7 +51,7 @@ impl EventQueue {
         self.len() > 0
     }
 
-    /// Whether there is too little room for what a frame may give.
+    /// Whether there is less room than the events of one frame may need.
     #[inline(always)]
     pub fn is_busy(&self) -> bool
         ensures { result ≡ nat_lt (EVENT_PLACES - length self.now.items) PLACES_OF_A_FRAME }
@@ -61,7 +62,7 @@ impl EventQueue {
     /// Makes room for this many events in all.
     ///
     /// # Errors
-    /// Want of memory, which changes nothing.
+    /// Out of memory; nothing changes then.
     #[inline(always)]
     pub fn make_room(&mut self, places: usize) -> Result<(), AllocError>
         ensures items { self.new.items ≡ self.old.items }
@@ -77,7 +78,7 @@ impl EventQueue {
         requires { length self.old.items < self.old.capacity }
         ensures { self.new ≡ buffer (self.old.items ++ event ∷ []) self.old.capacity }
     {
-        // The check has to meet the type of packets where an event is passed on.
+        // For the proof: the checker must see the type of packets here.
         let _none: Option<Packet> = None;
         push(&mut self.ring, event);
     }

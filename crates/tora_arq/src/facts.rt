@@ -1,8 +1,9 @@
-//! What holds of every link end, whatever is handed in: the facts that the layer above rests on.
+//! What holds for every link end, whatever its inputs: facts for the crates above.
 //!
-//! Each is said of one call, at any state, and of whole runs of calls from a new end on. They hold for a window of any
+//! Each fact speaks of one call in any state, or of a whole run of calls of a new end. They hold for a window of any
 //! size.
-ghost use Rattle.std.specs.Prelude.{◌≡◌, ◌≢◌, ◌↔◌, ℕ, ◌+◌, ◌^◌, ◌<◌, ◌≤◌, ◌⊎◌, true, false, List, [], ◌∷◌, ◌++◌, map, length, Contains, Option, Result, Some};
+ghost use Rattle.std.specs.Prelude.{◌≡◌, ◌≢◌, ◌↔◌, ℕ, ◌+◌, ◌^◌, ◌<◌, ◌≤◌, ◌⊎◌, true, false, List, [], ◌∷◌, ◌++◌, map};
+ghost use Rattle.std.specs.Prelude.{length, Contains, Option, Result, Some};
 ghost use Rattle.std.specs.List.{AllByRecursion};
 ghost use Rattle.tora_packet.specs.declared.Packet.{Packet};
 ghost use Rattle.tora_frame.specs.declared.parts.Body.TheVariants.{Hello};
@@ -20,51 +21,63 @@ ghost use Rattle.tora_arq.specs.declared.submit_error.SubmitError.TheVariants as
 ghost use Rattle.tora_arq.specs.declared.phase.Phase.TheVariants.{Closed, Unbound, Bound};
 ghost use Rattle.tora_arq.specs.Settings.{Settings, IsTimes};
 ghost use Rattle.tora_arq.specs.SendQueue.{untried};
-ghost use Rattle.tora_arq.specs.LinkEnd.{EndState, first_end, bound_life, after_open, after_end, after_tick, submit_answer, after_submit, after_cut, first_event, after_poll_event, frame_due, frame_sent, after_transmit, is_update_of_another, verdict_of, after_frame};
-ghost use Rattle.tora_arq.specs.LinkFacts.{LinkCall, EveryCall, frame_sent_by, event_given_by, events_left, events_queued, packet_submitted, IsEnd, OpensWith, StaysOrCloses, WasBoundOrBinds, WasUnboundOrOpens, IsFrameSent, IsQueueOf, IsBodyOf, IsPacketAt, AreHeld, CallTells, packets_delivered, DeliversNext, list_of, AreEventsBetween, Leads, AreOverByDown, AreRising, Acknowledges};
-ghost use Rattle.tora_arq.specs.LinkRuns.{EveryRun, EveryBoundRun, CameAt, CountCame, AreAllTold, times_bound, AreFromFirst, IsFrameOfRun, IsSameAtEachTry};
+ghost use Rattle.tora_arq.specs.LinkEnd.{EndState, first_end, bound_life, after_open, after_end, after_tick};
+ghost use Rattle.tora_arq.specs.LinkEnd.{submit_answer, after_submit, after_cut, first_event, after_poll_event};
+ghost use Rattle.tora_arq.specs.LinkEnd.{frame_due, frame_sent, after_transmit, is_update_of_another, verdict_of};
+ghost use Rattle.tora_arq.specs.LinkEnd.{after_frame};
+ghost use Rattle.tora_arq.specs.LinkFacts.{LinkCall, EveryCall, frame_sent_by, event_given_by, events_left};
+ghost use Rattle.tora_arq.specs.LinkFacts.{events_queued, packet_submitted, IsEnd, OpensWith, StaysOrCloses};
+ghost use Rattle.tora_arq.specs.LinkFacts.{WasBoundOrBinds, WasUnboundOrOpens, IsFrameSent, IsQueueOf, IsBodyOf};
+ghost use Rattle.tora_arq.specs.LinkFacts.{IsPacketAt, AreHeld, CallTells, packets_delivered, DeliversNext, list_of};
+ghost use Rattle.tora_arq.specs.LinkFacts.{AreEventsBetween, Leads, AreOverByDown, AreRising, Acknowledges};
+ghost use Rattle.tora_arq.specs.LinkRuns.{EveryRun, EveryBoundRun, CameAt, CountCame, AreAllTold, times_bound};
+ghost use Rattle.tora_arq.specs.LinkRuns.{AreFromFirst, IsFrameOfRun, IsSameAtEachTry};
 ghost use Rattle.tora_arq.specs.PeerUpdates.{AreEventsOfPeer, IsOfPeer};
 ghost use Rattle.tora_arq.specs.Polls.{after_polls, frames_polled};
 ghost use Rattle.tora_arq.specs.Floods.{after_submits, IsIdle, flood_frame};
 ghost use Rattle.tora_arq.specs.WorkedHellos.{worked_settings, given_hello, behind_hello};
 ghost use Rattle.tora_arq.specs.LinkTable.{Cuts, Gives, Hears, Opens, Submits, Tells, Ticks};
 
-/// Every call keeps of an end that what was transmitted was submitted, that no more is held than the window, and that
-/// nothing is left of a life that is over.
+/// Every call keeps these invariants: transmitted packets were submitted, at most a window of packets is held, and
+/// nothing is left of a life that has ended.
 pub fn calls_keep_an_end()
     ensures first { (s : Settings) → IsEnd s first_end }
     ensures next { EveryCall (λ s e call after. IsEnd s e → IsEnd s after) }
     ensures run { EveryRun (λ s run. IsEnd s run.state) }
-    // A tick of 0 ends nothing.
+    // The tick 0 ends no life.
     ensures tick_zero { (s : Settings) (e : EndState) → IsTimes s.times → after_tick s e 0 ≡ e }
-    // Where no frame is due nothing changes.
+    // If no frame is due, nothing changes.
     ensures none_due { (s : Settings) (e : EndState) (now : ℕ) → frame_due s e now ≡ None → after_transmit s e now ≡ e }
 {}
 
-/// A pair of life numbers is fixed once it is bound, until the life ends. An end binds at most once an `open`, and only
-/// on a frame of the peer that tells its own number back.
+/// A bound pair of life numbers does not change until the life ends. After each `open` an end binds at most one life,
+/// and only on a frame of the peer that carries the end's own number.
 pub fn lives_are_bound_once()
-    ensures fixed { EveryCall (λ s e call after. (life : Life) → e.phase ≡ Bound life → StaysOrCloses life after.phase) }
-    ensures binds { EveryCall (λ s e call after. (life : Life) → after.phase ≡ Bound life → WasBoundOrBinds s life call e.phase) }
-    ensures opens { EveryCall (λ s e call after. (own : ℕ) → after.phase ≡ Unbound own → WasUnboundOrOpens own call e.phase) }
-    // The own number rises where the end is opened, and stays with every other call.
+    ensures fixed { EveryCall (λ s e call after. (life : Life) → e.phase ≡ Bound life
+        → StaysOrCloses life after.phase) }
+    ensures binds { EveryCall (λ s e call after. (life : Life) → after.phase ≡ Bound life
+        → WasBoundOrBinds s life call e.phase) }
+    ensures opens { EveryCall (λ s e call after. (own : ℕ) → after.phase ≡ Unbound own
+        → WasUnboundOrOpens own call e.phase) }
+    // The own number rises when the end is opened, and no other call changes it.
     ensures number { EveryCall (λ s e call after.
         (after.last_life ≡ e.last_life) ⊎ (OpensWith after.last_life call × (e.last_life < after.last_life))) }
     ensures rising { EveryRun (λ s run. AreRising 0 run.events) }
     ensures once { EveryRun (λ s run. (own : ℕ) → times_bound own run.events ≤ 1) }
-    // Each life that was bound was told by a frame with both its numbers, which came while the end had its own number.
+    // For each bound life, a frame with both its numbers arrived while the end had the own number of that life.
     ensures told { EveryRun (λ s run. AreAllTold s run.frames run.events) }
 {}
 
-/// DATA frames come only from a bound end, with both numbers of the life, and carry the packets of their numbers of those
-/// submitted in it, each the same at each try. The count that a frame carries is that of the packets accepted.
+/// Only a bound end sends DATA frames, with both numbers of the life. They carry the submitted packets with the frame's
+/// packet numbers, the same at each try. The count that a frame carries is the count of accepted packets.
 pub fn data_frames_are_what_was_submitted()
     ensures frame { (s : Settings) (e : EndState) (call : LinkCall) (f : FrameParts)
         → frame_sent_by s e call ≡ Some f → IsFrameSent s e f }
     ensures content { (s : Settings) (e : EndState) (f : FrameParts) (life : Life) (submitted : List Packet)
         → e.phase ≡ Bound life → IsFrameSent s e f → IsQueueOf submitted e → IsBodyOf submitted e.accepted f.body }
-    // Nothing is submitted yet where a life is bound.
-    ensures first { EveryCall (λ s e call after. (own : ℕ) (life : Life) → e.phase ≡ Unbound own → after.phase ≡ Bound life
+    // When a life is bound, nothing has been submitted in it.
+    ensures first { EveryCall (λ s e call after. (own : ℕ) (life : Life) → e.phase ≡ Unbound own
+        → after.phase ≡ Bound life
         → IsQueueOf [] after × (packet_submitted e call ≡ [])) }
     ensures queue { EveryCall (λ s e call after. (life : Life) (submitted : List Packet) → IsEnd s e
         → e.phase ≡ Bound life → after.phase ≡ Bound life
@@ -73,52 +86,60 @@ pub fn data_frames_are_what_was_submitted()
     ensures tries { EveryRun (λ s run. IsSameAtEachTry run.sent) }
 {}
 
-/// A packet is submitted for the bound life alone, and a call for another life changes nothing.
+/// A packet can be submitted only for the bound life; a call for another life changes nothing.
 pub fn packets_are_submitted_in_the_bound_life()
     ensures appends { (e : EndState) (life : Life) (packet : Packet) → submit_answer e life packet ≡ Ok tt
         → (e.phase ≡ Bound life) × (after_submit e life packet ≡ record e { queue = e.queue ++ untried packet ∷ [] }) }
-    // An end that is still bound to the life took the packet.
+    // If the end is still bound to the life, it took the packet.
     ensures own { (e : EndState) (life : Life) (packet : Packet)
         → (after_submit e life packet).phase ≡ Bound life → submit_answer e life packet ≡ Ok tt }
     ensures other { (e : EndState) (life : Life) (packet : Packet) → e.phase ≢ Bound life
         → (submit_answer e life packet ≡ Err (Refusal.WrongLife packet)) × (after_submit e life packet ≡ e) }
-    ensures cut_own { (e : EndState) (life : Life) → e.phase ≡ Bound life → after_cut e life ≡ after_end e life Because.Cut }
+    ensures cut_own { (e : EndState) (life : Life) → e.phase ≡ Bound life
+        → after_cut e life ≡ after_end e life Because.Cut }
     ensures cut_other { (e : EndState) (life : Life) → e.phase ≢ Bound life → after_cut e life ≡ e }
 {}
 
-/// The packets delivered in a life are those with the numbers 1, 2, .. of its DATA frames, in order and each once. A
-/// held packet is the one with the number of its place.
+/// The packets delivered in a life are those numbered 1, 2, .. in its DATA frames, in order and each once. The place of
+/// a held packet fits its number.
 pub fn deliveries_are_in_order()
-    // Whatever packets the peer has numbered, where those held are of them, and that of a frame of the life, then so
-    // are those delivered next, and those held then.
-    ensures next { EveryCall (λ s e call after. (life : Life) (packets : List Packet) → IsEnd s e → after.phase ≡ Bound life
+    // If the held packets and those of a frame of the life are from some numbering of packets by the peer, then so are
+    // the packets delivered and held afterwards.
+    ensures next { EveryCall (λ s e call after. (life : Life) (packets : List Packet) → IsEnd s e
+        → after.phase ≡ Bound life
         → (e.phase ≡ Bound life → AreHeld (IsPacketAt packets) e.accepted e.held)
         → CallTells (IsPacketAt packets) s life call
         → DeliversNext (IsPacketAt packets) e after (packets_delivered life (events_queued s e call))) }
-    ensures came { EveryRun (λ s run. (life : Life) → AreFromFirst (CameAt s run.frames life) (packets_delivered life run.events)) }
+    ensures came { EveryRun (λ s run. (life : Life) → AreFromFirst (CameAt s run.frames life)
+        (packets_delivered life run.events)) }
     ensures accepted { EveryBoundRun (λ s run life. length (packets_delivered life run.events) ≡ run.state.accepted) }
     ensures held { EveryBoundRun (λ s run life. AreHeld (CameAt s run.frames life) run.state.accepted run.state.held) }
     // The packets of a life among events that deliver packets of it.
-    ensures packets { (life : Life) (packets : List Packet) → packets_delivered life (map (Deliver life) packets) ≡ packets }
+    ensures packets { (life : Life) (packets : List Packet) → packets_delivered life (map (Deliver life) packets)
+        ≡ packets }
 {}
 
-/// The events of a life are `Up`, its packets, and `Down` last, after which the end is closed and no event of the life
-/// comes. Events leave in the order in which they were queued.
+/// The events of a life are `Up`, its packets, and last `Down`; after that the end is closed and reports no event of
+/// the life. Events are polled in the order in which they were queued.
 pub fn events_of_a_life_are_in_order()
     ensures behind { EveryCall (λ s e call after. after.events ≡ events_left e call ++ events_queued s e call) }
-    ensures given { (e : EndState) (call : LinkCall) → list_of (event_given_by e call) ++ events_left e call ≡ e.events }
-    ensures between { EveryCall (λ s e call after. AreEventsBetween (bound_life e) (bound_life after) (events_queued s e call)) }
+    ensures given { (e : EndState) (call : LinkCall) → list_of (event_given_by e call) ++ events_left e call
+        ≡ e.events }
+    ensures between { EveryCall (λ s e call after. AreEventsBetween (bound_life e) (bound_life after)
+        (events_queued s e call)) }
     ensures polled { EveryRun (λ s run. run.given ++ run.state.events ≡ run.events) }
     ensures leads { EveryRun (λ s run. Leads None run.events (bound_life run.state)) }
     ensures over { EveryRun (λ s run. AreOverByDown run.events) }
 {}
 
-/// The count of packets acknowledged begins with 0, and changes only to the count of a frame with both numbers of the
-/// life. It is never above the packets transmitted.
+/// The count of acknowledged packets begins with 0, and changes only to the count in a frame with both numbers of the
+/// life. It never exceeds the count of transmitted packets.
 pub fn acknowledged_counts_come_from_the_peer()
-    ensures first { EveryCall (λ s e call after. (own : ℕ) (life : Life) → e.phase ≡ Unbound own → after.phase ≡ Bound life
+    ensures first { EveryCall (λ s e call after. (own : ℕ) (life : Life) → e.phase ≡ Unbound own
+        → after.phase ≡ Bound life
         → after.acknowledged ≡ 0) }
-    ensures next { EveryCall (λ s e call after. (life : Life) → IsEnd s e → e.phase ≡ Bound life → after.phase ≡ Bound life
+    ensures next { EveryCall (λ s e call after. (life : Life) → IsEnd s e → e.phase ≡ Bound life
+        → after.phase ≡ Bound life
         → Acknowledges s life call e after) }
     ensures came { EveryBoundRun (λ s run life.
         (run.state.acknowledged ≡ 0) ⊎ CountCame s run.frames life run.state.acknowledged) }
@@ -136,7 +157,7 @@ pub fn updates_are_of_the_peer()
     ensures events { EveryRun (λ s run. AreEventsOfPeer s.peer run.events) }
 {}
 
-/// A frame that is foreign, stale, or not looked at changes nothing.
+/// A frame with the verdict `Foreign`, `Stale` or `Busy` changes nothing.
 pub fn refused_frames_change_nothing()
     ensures foreign { (s : Settings) (e : EndState) (frame : FrameParts) (now : ℕ)
         → verdict_of s e frame now ≡ Is.Foreign → after_frame s e frame now ≡ e }
@@ -146,41 +167,49 @@ pub fn refused_frames_change_nothing()
         → verdict_of s e frame now ≡ Is.Stale → after_frame s e frame now ≡ e }
 {}
 
-/// At one tick an end gives at most four frames more than its window, and then none: a HELLO of version 1 that was due behind an
-/// earlier one of version 2, a HELLO of each version, at most a DATA frame for each packet within the window, and an ACK.
+/// At one tick an end sends at most its window and four frames: a HELLO of version 1 that an earlier HELLO of version 2
+/// left due, a HELLO of each version, a DATA frame for each packet within the window, and an ACK.
 pub fn polls_of_a_tick_end()
-    // However often it is polled.
+    // This holds however often the end is polled.
     ensures most { (s : Settings) (e : EndState) (now polls : ℕ) → IsTimes s.times
         → length (frames_polled s e now polls) ≤ s.window + 4 }
     ensures none { (s : Settings) (e : EndState) (now polls : ℕ) → IsTimes s.times → s.window + 4 ≤ polls
         → frame_due s (after_polls s e now polls) now ≡ None }
-    // Once none is due, none is due at that tick.
-    ensures settled { (s : Settings) (e : EndState) (now polls : ℕ) → frame_due s e now ≡ None → after_polls s e now polls ≡ e }
+    // Once no frame is due, none becomes due at that tick.
+    ensures settled { (s : Settings) (e : EndState) (now polls : ℕ) → frame_due s e now ≡ None
+        → after_polls s e now polls ≡ e }
 {}
 
-/// Behind a HELLO of version 2 the next frame is the HELLO of version 1, while the peer is not known to speak version 2: also where
-/// another HELLO of version 2 is owed by then.
+/// While the peer is not known to speak version 2, the next frame after a HELLO of version 2 is a HELLO of version 1,
+/// even if another HELLO of version 2 is owed by then.
 pub fn old_hello_comes_right_after()
-    ensures unbound { (s : Settings) (e : EndState) (own now : ℕ) → e.phase ≡ Unbound own → e.owes_old_hello ≡ true → e.speaks_two ≡ false
+    ensures unbound { (s : Settings) (e : EndState) (own now : ℕ) → e.phase ≡ Unbound own → e.owes_old_hello ≡ true
+        → e.speaks_two ≡ false
         → frame_due s e now ≡ Some (frame_sent s One own e.heard Hello) }
-    ensures bound { (s : Settings) (e : EndState) (life : Life) (now : ℕ) → e.phase ≡ Bound life → e.owes_old_hello ≡ true → e.speaks_two ≡ false
+    ensures bound { (s : Settings) (e : EndState) (life : Life) (now : ℕ) → e.phase ≡ Bound life
+        → e.owes_old_hello ≡ true → e.speaks_two ≡ false
         → frame_due s e now ≡ Some (frame_sent s One life.own life.peer Hello) }
-    // An end gives its first HELLO, of version 2, and a HELLO of version 1 comes, so that another HELLO is owed: then it gives one of
-    // version 1, and one of each version.
-    ensures worked { map (λ f. f.header.version) (frames_polled worked_settings behind_hello 0 6) ≡ One ∷ Two ∷ One ∷ [] }
-    // Ten ticks after a HELLO behind which none of version 1 was given, likewise.
-    ensures worked_later { map (λ f. f.header.version) (frames_polled worked_settings given_hello 10 6) ≡ One ∷ Two ∷ One ∷ [] }
+    // A new end sends a HELLO of version 2. A HELLO of version 1 arrives, so that another HELLO is owed. Then the end
+    // sends one of version 1, and one of each version.
+    ensures worked { map (λ f. f.header.version) (frames_polled worked_settings behind_hello 0 6)
+        ≡ One ∷ Two ∷ One ∷ [] }
+    // Ten ticks after a HELLO that none of version 1 followed, the same frames are sent.
+    ensures worked_later { map (λ f. f.header.version) (frames_polled worked_settings given_hello 10 6)
+        ≡ One ∷ Two ∷ One ∷ [] }
 {}
 
-/// Packets that are submitted at one tick, sixteen at most, go in one frame to a peer that is known to speak version 2, where
-/// none waited before and no HELLO is due, and no frame is due behind it at that tick. So a query for each of sixteen
-/// destinations is one datagram for each neighbour.
+/// Up to sixteen packets that are submitted at one tick go in one frame to a peer that is known to speak version 2, if
+/// none waited before and no HELLO is due; no other frame is due at that tick. So queries for sixteen destinations are
+/// one datagram for each neighbour.
 pub fn flood_is_one_frame()
     ensures one { (s : Settings) (e : EndState) (life : Life) (packets : List Packet) (now : ℕ) → IsIdle s e life now
-        → 0 < length packets → length packets ≤ 16 → length packets ≤ s.window → e.acknowledged + length packets ≤ 2 ^ 62
+        → 0 < length packets → length packets ≤ 16 → length packets ≤ s.window
+        → e.acknowledged + length packets ≤ 2 ^ 62
         → frame_due s (after_submits e life packets) now ≡ Some (flood_frame s e life packets) }
-    ensures only { (s : Settings) (e : EndState) (life : Life) (packets : List Packet) (now : ℕ) → IsTimes s.times → IsIdle s e life now
-        → 0 < length packets → length packets ≤ 16 → length packets ≤ s.window → e.acknowledged + length packets ≤ 2 ^ 62
+    ensures only { (s : Settings) (e : EndState) (life : Life) (packets : List Packet) (now : ℕ) → IsTimes s.times
+        → IsIdle s e life now
+        → 0 < length packets → length packets ≤ 16 → length packets ≤ s.window
+        → e.acknowledged + length packets ≤ 2 ^ 62
         → frame_due s (after_transmit s (after_submits e life packets) now) now ≡ None }
 {}
 
@@ -190,16 +219,20 @@ pub fn standard_times()
     ensures valid { IsTimes STANDARD }
 {}
 
-/// The table of a link end is complete and exact: for each input in each state there is a row, and the answer and the
-/// new state are those of the row.
+/// The table of a link end is complete and exact: each input in each state has a row, and the result and the new state
+/// are those of the row.
 pub fn link_ends_follow_the_table()
     ensures frame { (s : Settings) (e : EndState) (f : FrameParts) (now : ℕ) (verdict : Verdict) (after : EndState)
-        → Hears s e f.header f.body now verdict after ↔ ((verdict ≡ verdict_of s e f now) × (after ≡ after_frame s e f now)) }
+        → Hears s e f.header f.body now verdict after ↔ ((verdict ≡ verdict_of s e f now)
+        × (after ≡ after_frame s e f now)) }
     ensures open { (e : EndState) (life now : ℕ) (after : EndState) → e.phase ≡ Closed → e.last_life < life
         → Opens e life now after ↔ (after ≡ after_open e life now) }
-    ensures tick { (s : Settings) (e : EndState) (now : ℕ) (after : EndState) → Ticks s e now after ↔ (after ≡ after_tick s e now) }
-    ensures submit { (e : EndState) (life : Life) (packet : Packet) (answer : Result (Unit {0}) SubmitError) (after : EndState)
-        → Submits e life packet answer after ↔ ((answer ≡ submit_answer e life packet) × (after ≡ after_submit e life packet)) }
+    ensures tick { (s : Settings) (e : EndState) (now : ℕ) (after : EndState) → Ticks s e now after
+        ↔ (after ≡ after_tick s e now) }
+    ensures submit { (e : EndState) (life : Life) (packet : Packet) (answer : Result (Unit {0}) SubmitError)
+        (after : EndState)
+        → Submits e life packet answer after ↔ ((answer ≡ submit_answer e life packet)
+        × (after ≡ after_submit e life packet)) }
     ensures cut { (e : EndState) (life : Life) (after : EndState) → Cuts e life after ↔ (after ≡ after_cut e life) }
     ensures transmit { (s : Settings) (e : EndState) (now : ℕ) (frame : Option FrameParts) (after : EndState)
         → Tells s e now frame after ↔ ((frame ≡ frame_due s e now) × (after ≡ after_transmit s e now)) }

@@ -1,7 +1,10 @@
-//! A link end that takes memory only where much waits at it.
-ghost use Rattle.std.specs.Prelude.{◌≡◌, ◌≢◌, ◌<◌, ◌≤◌, ◌^◌, ℕ, false, IfErr, IfNone, IfOk, IfSome, IsTrue, OnErr, is_some, length};
+//! A link end that takes memory only as packets and events wait.
+ghost use Rattle.std.specs.Prelude.{◌≡◌, ◌≢◌, ◌<◌, ◌≤◌, ◌^◌, ℕ, false, IfErr, IfNone, IfOk, IfSome, IsTrue, OnErr};
+ghost use Rattle.std.specs.Prelude.{is_some, length};
 ghost use Rattle.tora_arq.specs.Settings.{IsTimes, settings_of};
-ghost use Rattle.tora_arq.specs.LinkEnd.{first_end, is_closed, bound_life, after_open, verdict_of, after_frame, after_tick, submit_answer, after_submit, after_cut, first_event, after_poll_event, is_hello, frame_due, after_transmit};
+ghost use Rattle.tora_arq.specs.LinkEnd.{first_end, is_closed, bound_life, after_open, verdict_of, after_frame};
+ghost use Rattle.tora_arq.specs.LinkEnd.{after_tick, submit_answer, after_submit, after_cut, first_event};
+ghost use Rattle.tora_arq.specs.LinkEnd.{after_poll_event, is_hello, frame_due, after_transmit};
 ghost use Rattle.tora_arq.specs.EndRange.{IsEndState, link_end_of};
 ghost use Rattle.tora_arq.specs.Still.{IsStillUntil};
 ghost use Rattle.tora_arq.specs.Steady.{IsSteady, resumed, steady_of};
@@ -17,11 +20,11 @@ use tora_frame::{BorrowedFrame, Header, Packets, Version};
 use tora_height::Id;
 use tora_packet::Packet;
 
-/// A link end as `LinkEnd`, which takes memory only as packets and events wait at it: a call that may put some makes
-/// room first. So very many ends can be kept of which most have little to do, as in a simulator.
+/// A link end as `LinkEnd`, which takes memory only as packets and events wait: a call that may queue some makes room
+/// first. So a simulator can hold very many ends that have little to do.
 ///
-/// Its calls do what those of `LinkEnd` do; those that may take memory may fail, and change nothing then. A bound end
-/// always has a place for the event that its life ended, so that a tick and a cut cannot fail.
+/// Its calls do what those of `LinkEnd` do. Those that may take memory may fail, and change nothing then. A bound end
+/// always has a place for the event that its life ended, so a tick and a cut cannot fail.
 #[derive(Debug, Drop)]
 pub struct GrowingEnd {
     settings: Settings,
@@ -37,18 +40,12 @@ impl Model for GrowingEnd {
 
     ghost view = { λ e. link_end_of (settings_in e.settings) (state_in e.state) };
 
-    ghost invariant = { λ e. IsEndState (settings_in e.settings) (state_in e.state) × HasEventPlace e.state.events.capacity (state_in e.state) };
+    ghost invariant = { λ e. IsEndState (settings_in e.settings) (state_in e.state)
+        × HasEventPlace e.state.events.capacity (state_in e.state) };
 }
 
 impl GrowingEnd {
-    /// Reads what the other calls read first, so that it is at hand by then: for callers who have many ends in turn.
-    /// The number says nothing. It is to be kept, since a read of which nothing is kept is left out.
-    #[inline(always)]
-    pub fn prefetch(&self) -> u64 {
-        self.state.prefetch() ^ u64::from(self.settings.peer)
-    }
-
-    /// A closed end that speaks versions up to this one, of the link between node `me` and its neighbour `peer`, two
+    /// A closed end that speaks versions up to this one, for the link between node `me` and its neighbour `peer`, two
     /// different nodes.
     ///
     /// Every time of `times` is at least 1.
@@ -138,7 +135,7 @@ impl GrowingEnd {
         self.state.events.has_first()
     }
 
-    /// The next event, if one waits. It stays.
+    /// The next event, if one waits. It stays in the queue.
     pub fn next_event(&self) -> Option<LinkEvent>
         ensures { result ≡ first_event self.now.state }
     {
@@ -156,7 +153,8 @@ impl GrowingEnd {
     #[inline(always)]
     pub fn still_until(&self) -> u64
         ensures exact { IsStillUntil self.now.settings self.now.state result }
-        ensures frames { (tick : ℕ) → tick < result → is_some (frame_due self.now.settings self.now.state tick) ≡ false }
+        ensures frames { (tick : ℕ) → tick < result → is_some (frame_due self.now.settings self.now.state tick)
+            ≡ false }
         ensures ticks { (tick : ℕ) → tick < result → after_tick self.now.settings self.now.state tick ≡ self.now.state }
     {
         self.state.still_until(&self.settings)
@@ -196,7 +194,7 @@ impl GrowingEnd {
         self.state.on_tick(&self.settings, now);
     }
 
-    /// Takes the next event, if one waits.
+    /// Removes and returns the next event, if one waits.
     pub fn poll_event(&mut self) -> Option<LinkEvent>
         ensures event { result ≡ first_event self.old.state }
         ensures state { self.new ≡ record self.old { state = after_poll_event self.old.state } }
@@ -204,7 +202,7 @@ impl GrowingEnd {
         self.state.events.pop()
     }
 
-    /// Ends a life where it is the bound one, and otherwise changes nothing.
+    /// Ends a life if it is the bound one; otherwise nothing changes.
     pub fn cut(&mut self, life: Life)
         ensures { self.new ≡ record self.old { state = after_cut self.old.state life } }
     {
@@ -226,8 +224,12 @@ impl GrowingEnd {
 
     /// As `LinkEnd::poll_hello`.
     pub fn poll_hello(&mut self, now: u64) -> Option<Header>
-        ensures frame { IfSome result (λ header. frame_due self.old.settings self.old.state now ≡ Some (frame_of header Body.Hello)) }
-        ensures state { IfSome result (λ _. self.new ≡ record self.old { state = after_transmit self.old.settings self.old.state now }) }
+        ensures frame { IfSome result (λ header. frame_due self.old.settings self.old.state now
+            ≡ Some (frame_of header Body.Hello)) }
+        ensures state { IfSome result (λ _. self.new ≡ record self.old {
+          state =
+              after_transmit self.old.settings self.old.state now;
+        }) }
         ensures valid { IfSome result (λ header. IsHeader header) }
         ensures given { is_some result ≡ is_hello (frame_due self.old.settings self.old.state now) }
         ensures none { IfNone result (self.new ≡ self.old) }
@@ -238,14 +240,17 @@ impl GrowingEnd {
     /// As `LinkEnd::on_borrowed_frame`.
     ///
     /// # Errors
-    /// `Memory`, which changes nothing.
+    /// `Memory`; nothing changes then.
     pub fn on_borrowed_frame(
         &mut self,
         frame: &BorrowedFrame<'_>,
         now: u64,
     ) -> Result<Verdict, ArqError>
         ensures verdict { IfOk result (λ verdict. verdict ≡ verdict_of self.old.settings self.old.state frame.now now) }
-        ensures state { IfOk result (λ _. self.new ≡ record self.old { state = after_frame self.old.settings self.old.state frame.now now }) }
+        ensures state { IfOk result (λ _. self.new ≡ record self.old {
+          state =
+              after_frame self.old.settings self.old.state frame.now now;
+        }) }
         ensures same { OnErr result (self.new ≡ self.old) }
     {
         match self.state.make_frame_room(frame) {
@@ -257,12 +262,16 @@ impl GrowingEnd {
     /// As `LinkEnd::on_hello`.
     ///
     /// # Errors
-    /// `Memory`, which changes nothing.
+    /// `Memory`; nothing changes then.
     #[inline(always)]
     pub fn on_hello(&mut self, header: &Header, now: u64) -> Result<Verdict, ArqError>
         requires { IsHeader header.now }
-        ensures verdict { IfOk result (λ verdict. verdict ≡ verdict_of self.old.settings self.old.state (frame_of header.now Body.Hello) now) }
-        ensures state { IfOk result (λ _. self.new ≡ record self.old { state = after_frame self.old.settings self.old.state (frame_of header.now Body.Hello) now }) }
+        ensures verdict { IfOk result (λ verdict. verdict ≡ verdict_of self.old.settings self.old.state
+            (frame_of header.now Body.Hello) now) }
+        ensures state { IfOk result (λ _. self.new ≡ record self.old {
+          state =
+              after_frame self.old.settings self.old.state (frame_of header.now Body.Hello) now;
+        }) }
         ensures same { OnErr result (self.new ≡ self.old) }
     {
         match self.state.make_event_room(0) {
@@ -274,14 +283,17 @@ impl GrowingEnd {
     /// As `LinkEnd::submit`.
     ///
     /// # Errors
-    /// `Memory`, which changes nothing.
+    /// `Memory`; nothing changes then.
     pub fn submit(
         &mut self,
         life: Life,
         packet: Packet,
     ) -> Result<Result<(), SubmitError>, ArqError>
         ensures answer { IfOk result (λ answer. answer ≡ submit_answer self.old.state life packet) }
-        ensures state { IfOk result (λ _. self.new ≡ record self.old { state = after_submit self.old.state life packet }) }
+        ensures state { IfOk result (λ _. self.new ≡ record self.old {
+          state =
+              after_submit self.old.state life packet;
+        }) }
         ensures same { OnErr result (self.new ≡ self.old) }
     {
         match self.state.make_packet_room() {

@@ -1,4 +1,4 @@
-//! The packets of the peer that came early.
+//! Packets of the peer that arrived out of order.
 ghost use Rattle.std.specs.Prelude.{◌≡◌, ◌<◌, ◌≤◌, ◌==◌, [], length, drop, IfOk, IfNone, OnErr, OnOk, OnSome};
 ghost use Rattle.circular_buffer.specs.Buffer.{buffer};
 ghost use Rattle.tora_arq.specs.Held.{hold_at, padded, first_held};
@@ -10,7 +10,8 @@ use std::alloc::{AllocError, Global};
 use std::marker::Model;
 use tora_packet::Packet;
 
-/// The packets that came early, by place, and the room for them: the first place is that of the next packet.
+/// Packets that arrived out of order, by place, and the room for them. The first place is that of the next packet to
+/// deliver.
 #[derive(Debug, Drop)]
 pub struct HeldPackets {
     ring: HeapCircularBuffer<Option<Packet>>,
@@ -47,10 +48,10 @@ impl HeldPackets {
         self.ring.clear();
     }
 
-    /// Makes this many places in all.
+    /// Makes room for this many places in all.
     ///
     /// # Errors
-    /// Want of memory, which changes nothing.
+    /// Out of memory; nothing changes then.
     pub fn make_room(&mut self, places: usize) -> Result<(), AllocError>
         ensures items { self.new.items ≡ self.old.items }
         ensures more { self.old.capacity ≤ self.new.capacity }
@@ -71,7 +72,7 @@ impl HeldPackets {
         }
     }
 
-    /// Holds a packet at a place; one that is held there stays.
+    /// Holds a packet at a place, unless one is held there already.
     #[tactic(auto, using(crate::proofs::HeldLemmas::hold_empty, crate::proofs::HeldLemmas::hold_taken, crate::proofs::HeldLemmas::padded_within))]
     pub fn hold(&mut self, place: usize, packet: Packet)
         requires room { place < self.old.capacity }
@@ -87,7 +88,7 @@ impl HeldPackets {
         }
     }
 
-    /// Takes the packet of the first place, if one is held there.
+    /// Removes and returns the packet of the first place, if one is held there.
     pub fn take_first(&mut self) -> Option<Packet>
         ensures packet { result ≡ first_held self.old.items }
         ensures some { OnSome result (self.new ≡ buffer (drop 1 self.old.items) self.old.capacity) }

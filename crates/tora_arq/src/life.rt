@@ -4,7 +4,7 @@ ghost use Rattle.tora_arq.specs.Lives.{is_same_life, reversed};
 
 use std::fmt;
 
-/// A life of a link: the numbers that its two ends drew for it, each 1 to 2^62.
+/// A life (session) of a link: the numbers that its two ends drew for it, each 1 to 2^62.
 ///
 /// The other end writes the same life with the two numbers exchanged.
 #[derive(Clone, Copy, Debug, PartialEq, Eq, Hash)]

@@ -1,7 +1,10 @@
 //! A link end, as its node sees it.
-ghost use Rattle.std.specs.Prelude.{◌≡◌, ◌≢◌, ◌<◌, ◌≤◌, ◌^◌, ℕ, IfOk, IfNone, IfSome, IsTrue, OnSome, Some, false, is_some, length};
+ghost use Rattle.std.specs.Prelude.{◌≡◌, ◌≢◌, ◌<◌, ◌≤◌, ◌^◌, ℕ, IfOk, IfNone, IfSome, IsTrue, OnSome, Some, false};
+ghost use Rattle.std.specs.Prelude.{is_some, length};
 ghost use Rattle.tora_arq.specs.Settings.{IsTimes, settings_of};
-ghost use Rattle.tora_arq.specs.LinkEnd.{first_end, is_closed, bound_life, after_open, verdict_of, after_frame, after_tick, submit_answer, after_submit, after_cut, first_event, after_poll_event, is_hello, frame_due, after_transmit};
+ghost use Rattle.tora_arq.specs.LinkEnd.{first_end, is_closed, bound_life, after_open, verdict_of, after_frame};
+ghost use Rattle.tora_arq.specs.LinkEnd.{after_tick, submit_answer, after_submit, after_cut, first_event};
+ghost use Rattle.tora_arq.specs.LinkEnd.{after_poll_event, is_hello, frame_due, after_transmit};
 ghost use Rattle.tora_arq.specs.EndRange.{IsEndState, link_end_of};
 ghost use Rattle.tora_arq.specs.NextDue.{IsNextDue};
 ghost use Rattle.tora_arq.specs.Still.{IsStillUntil};
@@ -24,20 +27,20 @@ use tora_packet::Packet;
 
 /// The end of a link to one neighbour.
 ///
-/// It is closed at first. A caller draws a number that it never drew before and opens the end with it; by HELLOs the
-/// two ends then bind a life, in which each sends packets that the other delivers once and in order. A life that ends
-/// closes the end, and the caller opens it with the next number.
+/// It is closed at first. A caller draws a number that it never drew before and opens the end with it. By HELLOs the
+/// two ends then bind a life, in which each sends packets that the other delivers once and in order. The end of a life
+/// closes the link end, and the caller opens it with the next number.
 ///
 /// In each turn a caller with the tick `now` does this, in this order:
-/// 1. where `is_closed`, `open` with a new number;
+/// 1. if `is_closed`, `open` with a new number;
 /// 2. `on_tick`;
 /// 3. `submit` the packets to be sent, or `cut` a life;
 /// 4. `poll_transmit` until it gives `None`, and send each frame;
-/// 5. `on_frame` with a frame that came;
+/// 5. `on_frame` with a frame that arrived;
 /// 6. `poll_event` until it gives `None`.
 ///
-/// Any other order is safe. Ticks are of 100 ms, and a tick that goes back counts as no time passed. Only `new` takes
-/// memory. A bound end always has a place for the event that its life ended.
+/// Any other order is safe. A tick is 100 ms. If a tick is less than an earlier one, no time has passed. Only `new`
+/// takes memory. A bound end always has a place for the event that its life ended.
 #[derive(Debug, Drop)]
 pub struct LinkEnd {
     settings: Settings,
@@ -57,11 +60,11 @@ impl Model for LinkEnd {
 }
 
 impl LinkEnd {
-    /// A closed end of the link between node `me` and its neighbour `peer`, two different nodes. It speaks version 2, and
-    /// version 1 to a peer that isn't known to speak version 2.
+    /// A closed end of the link between node `me` and its neighbour `peer`, two different nodes. It speaks version 2,
+    /// and version 1 to a peer that isn't known to speak version 2.
     ///
-    /// Every time of `times` is at least 1. It makes room for `QUEUE_PLACES` packets that wait for their acknowledgement and
-    /// for `EVENT_PLACES` events.
+    /// Every time of `times` is at least 1. It makes room for `QUEUE_PLACES` packets that wait for their
+    /// acknowledgement and for `EVENT_PLACES` events.
     ///
     /// # Errors
     /// `Memory`.
@@ -75,7 +78,7 @@ impl LinkEnd {
         LinkEnd::of(alloc, Version::Two, me, peer, times)
     }
 
-    /// As `new`, but an end of version 1, to which a frame of version 2 is `Foreign`.
+    /// As `new`, but an end of version 1. Its verdict on a frame of version 2 is `Foreign`.
     ///
     /// # Errors
     /// `Memory`.
@@ -159,7 +162,7 @@ impl LinkEnd {
         self.state.queue.len()
     }
 
-    /// The own number of the last life, 1 to 2^62, and 0 before the first.
+    /// The own number of the last life, 1 to 2^62; 0 before the first.
     pub fn last_life(&self) -> u64
         ensures last { result ≡ self.now.state.last_life }
         ensures within { result ≤ 2 ^ 62 }
@@ -170,7 +173,7 @@ impl LinkEnd {
     /// The bound life.
     pub fn life(&self) -> Option<Life>
         ensures life { result ≡ bound_life self.now.state }
-        // The event that it ended has a place.
+        // There is a place for the event that the life ended.
         ensures room { OnSome result (length self.now.state.events < EVENT_PLACES) }
     {
         self.state.life()
@@ -187,16 +190,20 @@ impl LinkEnd {
     }
 
     /// Takes a frame that came in at the tick `now`. The first of these that applies decides:
-    /// 1. It is not from the peer or not for this node, or it is of version 2 and the end of version 1, or it has an update
+    /// 1. It is not from the peer or not for this node, or it is of version 2 and the end of version 1, or it has an
+    ///    update
     ///    of another node than the peer: `Foreign`.
     /// 2. Fewer than `PLACES_OF_A_FRAME` of the `EVENT_PLACES` places for events are free: `Busy`.
     /// 3. The end is closed: `Stale`.
-    /// 4. At a bound end, a life of the sender above the bound one ends the bound life (`NewPeer`): `Accepted`. One below
+    /// 4. At a bound end, a life of the sender above the bound one ends the bound life (`NewPeer`): `Accepted`. One
+    ///    below
     ///    it: `Stale`.
-    /// 5. The life that the sender heard is not the own number. A HELLO at an unbound end: `Stale` where its life is below
+    /// 5. The life that the sender heard is not the own number. A HELLO at an unbound end: `Stale` where its life is
+    ///    below
     ///    the one noted, otherwise it is noted, and a HELLO is owed where it is a greater one: `Accepted`. Any other:
     ///    `Stale`.
-    /// 6. The count is above the packets transmitted in this life: `Foreign`. At an unbound end, a life below the one noted:
+    /// 6. The count is above the packets transmitted in this life: `Foreign`. At an unbound end, a life below the one
+    ///    noted:
     ///    `Stale`. Otherwise an unbound end binds the life (`Up`), and a HELLO is owed where the life was not noted before.
     /// 7. The peer is heard, and packets up to the count leave the queue. HELLO: `Accepted`. ACK: `Accepted` where the
     ///    count grew or the frame bound the life, otherwise `Repeated`. DATA, for which an ACK is owed: `Repeated` where
@@ -204,37 +211,45 @@ impl LinkEnd {
     ///    packet by itself is passed over where it was accepted before, held within the window and then delivered in
     ///    order (`Deliver`), or dropped.
     ///
-    /// A frame that changes the life noted sets the mark that the peer speaks version 2 where it is of version 2, and unsets
-    /// it otherwise. Another frame of version 2 sets it in the cases 5 to 7, where it is neither `Stale` nor `Foreign`.
+    /// A frame that changes the life noted sets the mark that the peer speaks version 2 where it is of version 2, and
+    /// unsets it otherwise. Another frame of version 2 sets it in the cases 5 to 7, where it is neither `Stale` nor
+    /// `Foreign`.
     ///
     /// `Foreign`, `Busy` and `Stale` change nothing.
     pub fn on_frame(&mut self, frame: &Frame, now: u64) -> Verdict
         ensures verdict { result ≡ verdict_of self.old.settings self.old.state frame.now now }
-        ensures state { self.new ≡ record self.old { state = after_frame self.old.settings self.old.state frame.now now } }
+        ensures state { self.new ≡ record self.old {
+          state = after_frame self.old.settings self.old.state frame.now now;
+        } }
     {
         self.on_borrowed_frame(&frame.borrowed(), now)
     }
 
-    /// As `on_frame`, for a frame whose packets stand in a list elsewhere.
+    /// As `on_frame`, for a frame that borrows its packets.
     pub fn on_borrowed_frame(&mut self, frame: &BorrowedFrame<'_>, now: u64) -> Verdict
         ensures verdict { result ≡ verdict_of self.old.settings self.old.state frame.now now }
-        ensures state { self.new ≡ record self.old { state = after_frame self.old.settings self.old.state frame.now now } }
+        ensures state { self.new ≡ record self.old {
+          state = after_frame self.old.settings self.old.state frame.now now;
+        } }
     {
         self.state.on_frame(&self.settings, frame, now)
     }
 
-    /// As `on_frame`, for a HELLO, which is told by its header.
+    /// As `on_frame`, for a HELLO, given by its header.
     #[inline(always)]
     pub fn on_hello(&mut self, header: &Header, now: u64) -> Verdict
         requires { IsHeader header.now }
         ensures verdict { result ≡ verdict_of self.old.settings self.old.state (frame_of header.now Body.Hello) now }
-        ensures state { self.new ≡ record self.old { state = after_frame self.old.settings self.old.state (frame_of header.now Body.Hello) now } }
+        ensures state { self.new ≡ record self.old {
+          state = after_frame self.old.settings self.old.state
+              (frame_of header.now Body.Hello) now;
+        } }
     {
         self.state.on_hello(&self.settings, header, now)
     }
 
-    /// Ends the bound life (`Silent`) where the peer was not heard for `silent` ticks, or did not acknowledge a packet
-    /// `retry` ticks after the last of its `tries` tries.
+    /// Ends the bound life (`Silent`) if no frame of the peer came for `silent` ticks, or if a packet is not
+    /// acknowledged `retry` ticks after the last of its `tries` tries.
     pub fn on_tick(&mut self, now: u64)
         ensures { self.new ≡ record self.old { state = after_tick self.old.settings self.old.state now } }
     {
@@ -244,8 +259,8 @@ impl LinkEnd {
     /// Takes a packet to be sent in a life.
     ///
     /// # Errors
-    /// In this order: `WrongLife` where the life is not the bound one, which changes nothing and hands the packet back;
-    /// `Spent` where 2^62 packets were submitted in this life, which ends it; `Full` where `QUEUE_PLACES` packets wait for
+    /// In this order: `WrongLife` if the life is not the bound one, which changes nothing and returns the packet;
+    /// `Spent` if 2^62 packets were submitted in this life, which ends it; `Full` if `QUEUE_PLACES` packets wait for
     /// their acknowledgement, which ends it.
     pub fn submit(&mut self, life: Life, packet: Packet) -> Result<(), SubmitError>
         ensures answer { result ≡ submit_answer self.old.state life packet }
@@ -254,14 +269,14 @@ impl LinkEnd {
         self.state.submit(life, packet)
     }
 
-    /// The next event, if one waits. It stays.
+    /// The next event, if one waits. It stays in the queue.
     pub fn next_event(&self) -> Option<LinkEvent>
         ensures { result ≡ first_event self.now.state }
     {
         self.state.events.first()
     }
 
-    /// Takes the next event, if one waits.
+    /// Removes and returns the next event, if one waits.
     pub fn poll_event(&mut self) -> Option<LinkEvent>
         ensures event { result ≡ first_event self.old.state }
         ensures state { self.new ≡ record self.old { state = after_poll_event self.old.state } }
@@ -276,21 +291,22 @@ impl LinkEnd {
         self.state.is_frame_due(&self.settings, now)
     }
 
-    /// The first tick from `now` on at which a frame is due, or the bound life ends in silence, if nothing is handed in until then: before
-    /// it neither is, and at it one is. `None` where there is none below 2^64. It looks at no more packets than the window.
+    /// The first tick from `now` on at which a frame is due or the bound life ends in silence, if there is no other
+    /// call until then. `None` if there is no such tick below 2^64. It looks at no more packets than the window.
     pub fn next_due(&self, now: u64) -> Option<u64>
         ensures { IsNextDue self.now.settings self.now.state now result }
     {
         self.state.next_due(&self.settings, now)
     }
 
-    /// The tick before which no frame is due and a tick changes nothing, unless something else happens at the end, and from which on a frame is
-    /// due or a tick ends the life; 0 where a frame is due at once. It is 2^64 - 1 where none ever is, as at a closed end. It looks at no more
-    /// packets than the window, and at none where all are acknowledged.
+    /// The tick from which on a frame is due or a tick ends the life; before it, no frame is due and a tick changes
+    /// nothing. It holds until another call; 0 if a frame is due at once, 2^64 - 1 if never, as at a closed end. It
+    /// looks at no more packets than the window.
     #[inline(always)]
     pub fn still_until(&self) -> u64
         ensures exact { IsStillUntil self.now.settings self.now.state result }
-        ensures frames { (tick : ℕ) → tick < result → is_some (frame_due self.now.settings self.now.state tick) ≡ false }
+        ensures frames { (tick : ℕ) → tick < result → is_some (frame_due self.now.settings self.now.state tick)
+            ≡ false }
         ensures ticks { (tick : ℕ) → tick < result → after_tick self.now.settings self.now.state tick ≡ self.now.state }
     {
         self.state.still_until(&self.settings)
@@ -315,14 +331,14 @@ impl LinkEnd {
         self.state.resume(steady);
     }
 
-    /// Takes the first frame due, which counts as sent; `None` only where none is due.
+    /// Returns the first frame due, which counts as sent; `None` only if none is due.
     ///
-    /// In this order: a HELLO of the newest version that the end speaks, where one is owed or `hello` ticks have passed
-    /// since the last one; a HELLO of version 1 behind one of version 2, while the peer isn't known to speak version 2; a
-    /// DATA frame with the first packet within the window that was never transmitted, or was `retry` ticks ago and fewer
-    /// than `tries` times; an ACK, where one is owed. A DATA frame settles an owed ACK. DATA and ACK are of version 2 where
-    /// the peer is known to speak it, and a DATA frame of version 2 carries with the first packet those that follow it,
-    /// sixteen in all at most, as long as they are within the window and due.
+    /// In this order: a HELLO of the newest version that the end speaks, if one is owed or `hello` ticks have passed
+    /// since the last one; a HELLO of version 1 after one of version 2, while the peer isn't known to speak version 2;
+    /// a DATA frame with the first packet within the window that was never transmitted, or was `retry` ticks ago and
+    /// fewer than `tries` times; an ACK, if one is owed. A DATA frame counts as an owed ACK. DATA and ACK are of
+    /// version 2 if the peer is known to speak it. A DATA frame of version 2 carries the first packet and those that
+    /// follow it, at most sixteen in all, as long as they are within the window and due.
     pub fn poll_transmit(&mut self, now: u64) -> Option<Frame>
         ensures frame { result ≡ frame_due self.old.settings self.old.state now }
         ensures state { self.new ≡ record self.old { state = after_transmit self.old.settings self.old.state now } }
@@ -333,8 +349,8 @@ impl LinkEnd {
         Some(frame.to_frame())
     }
 
-    /// As `poll_transmit`: the packets of a DATA frame are put into `packets` in place of what was there, and the frame
-    /// borrows them. Where the frame is no DATA frame, or none is due, `packets` may have any packets.
+    /// As `poll_transmit`, but a DATA frame borrows its packets from `packets`, which is overwritten. If the frame is
+    /// no DATA frame, or none is due, `packets` may have any packets.
     pub fn poll_transmit_into<'a>(
         &mut self,
         now: u64,
@@ -350,8 +366,12 @@ impl LinkEnd {
     /// Like `poll_transmit`, but only for a HELLO, of which it returns the header. `None` if another frame or none is
     /// due; nothing changes then.
     pub fn poll_hello(&mut self, now: u64) -> Option<Header>
-        ensures frame { IfSome result (λ header. frame_due self.old.settings self.old.state now ≡ Some (frame_of header Body.Hello)) }
-        ensures state { IfSome result (λ _. self.new ≡ record self.old { state = after_transmit self.old.settings self.old.state now }) }
+        ensures frame { IfSome result (λ header. frame_due self.old.settings self.old.state now
+            ≡ Some (frame_of header Body.Hello)) }
+        ensures state { IfSome result (λ _. self.new ≡ record self.old {
+          state =
+              after_transmit self.old.settings self.old.state now;
+        }) }
         ensures valid { IfSome result (λ header. IsHeader header) }
         ensures given { is_some result ≡ is_hello (frame_due self.old.settings self.old.state now) }
         ensures none { IfNone result (self.new ≡ self.old) }

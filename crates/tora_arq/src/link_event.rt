@@ -1,4 +1,4 @@
-//! What a link end tells its node.
+//! The events that a link end reports.
 ghost use Rattle.std.specs.Prelude.{◌≡◌};
 ghost use Rattle.tora_arq.specs.Lives.{event_life};
 

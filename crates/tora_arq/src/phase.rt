@@ -6,8 +6,8 @@ use crate::Life;
 pub enum Phase {
     /// Closed.
     Closed,
-    /// Open with an own number, 1 to 2^62, and not bound.
+    /// Open with an own number, 1 to 2^62, and not bound to a life.
     Unbound(u64),
-    /// Open and bound.
+    /// Open and bound to a life.
     Bound(Life),
 }

@@ -1,8 +1,11 @@
 //! The send queue of a link end.
-ghost use Rattle.std.specs.Prelude.{◌≡◌, ◌<◌, ◌≤◌, ◌+◌, ◌^◌, ℕ, [], ◌∷◌, ◌++◌, ◌-◌, length, take, drop, min, slice_get, slice_set, Some, IfOk, IfNone, IfSome, IsTrue, MatchOption, OnErr, OnOk, is_some, option_map, ◌||◌};
+ghost use Rattle.std.specs.Prelude.{◌≡◌, ◌<◌, ◌≤◌, ◌+◌, ◌^◌, ℕ, [], ◌∷◌, ◌++◌, ◌-◌, length, take, drop, min, slice_get};
+ghost use Rattle.std.specs.Prelude.{slice_set, Some, IfOk, IfNone, IfSome, IsTrue, MatchOption, OnErr, OnOk, is_some};
+ghost use Rattle.std.specs.Prelude.{option_map, ◌||◌};
 ghost use Rattle.circular_buffer.specs.Buffer.{buffer};
 ghost use Rattle.tora_arq.specs.Settings.{ticks_passed};
-ghost use Rattle.tora_arq.specs.SendQueue.{untried, retried, is_retry_time, is_ready, is_given_up, has_given_up, ready_run, first_due, AreLate, IsFirstReady};
+ghost use Rattle.tora_arq.specs.SendQueue.{untried, retried, is_retry_time, is_ready, is_given_up, has_given_up};
+ghost use Rattle.tora_arq.specs.SendQueue.{ready_run, first_due, AreLate, IsFirstReady};
 ghost use Rattle.tora_arq.specs.EndRange.{AreUntried};
 ghost use Rattle.tora_arq.specs.NextDue.{has_begun, is_packet_due};
 
@@ -15,7 +18,7 @@ use std::marker::Model;
 use tora_frame::{MOST_PACKETS, Packets};
 use tora_packet::Packet;
 
-/// The packets that were submitted and are not acknowledged, in order, and the room for them.
+/// The submitted packets that are not acknowledged, in order, and the room for them.
 #[derive(Debug, Drop)]
 pub struct SendQueue {
     ring: HeapCircularBuffer<QueuedPacket>,
@@ -50,7 +53,7 @@ impl SendQueue {
     /// Makes room for this many packets in all.
     ///
     /// # Errors
-    /// Want of memory, which changes nothing.
+    /// Out of memory; nothing changes then.
     #[inline(always)]
     pub fn make_room(&mut self, places: usize) -> Result<(), AllocError>
         ensures items { self.new.items ≡ self.old.items }
@@ -69,7 +72,7 @@ impl SendQueue {
         rings::push(&mut self.ring, QueuedPacket::untried(packet));
     }
 
-    /// Removes the first packets, as many as there are.
+    /// Removes the first `count` packets, or all if there are fewer.
     pub fn remove_first(&mut self, count: u64)
         ensures { self.new ≡ buffer (drop count self.old.items) self.old.capacity }
     {
@@ -84,7 +87,7 @@ impl SendQueue {
         self.ring.clear();
     }
 
-    /// How many packets may be under way: those behind them were never transmitted.
+    /// How many packets are within the window. Those after them were never transmitted.
     fn within_window(&self) -> usize
         ensures { result ≡ min WINDOW (length self.now.items) }
     {
@@ -104,12 +107,13 @@ impl SendQueue {
         requires { place < length self.old.items }
         ensures { self.new ≡ buffer (slice_set self.old.items place packet) self.old.capacity }
     {
-        // The check has to meet the type of packets where a queued one is passed on.
+        // For the proof: the checker must see the type of packets here.
         let _none: Option<Packet> = None;
         rings::set(&mut self.ring, place, packet);
     }
 
-    /// Whether a packet was transmitted as often as it may be, and long enough ago. It looks at no more than the window.
+    /// Whether a packet was transmitted `tries` times and the last time is `retry` ticks ago. It looks at no more than
+    /// the window.
     #[tactic(auto, using(crate::proofs::QueueLemmas::given_up_at, crate::proofs::QueueLemmas::none_given_up_here))]
     pub fn has_given_up(&self, times: &Times, now: u64) -> bool
         requires tries { 0 < times.now.tries }
@@ -124,9 +128,10 @@ impl SendQueue {
         false
     }
 
-    /// The first packet due within the window, and how many stand before it. It looks at no more than the window.
+    /// The first packet due within the window, and how many are before it. It looks at no more than the window.
     fn first_ready(&self, times: &Times, now: u64) -> Option<(usize, QueuedPacket)>
-        ensures first { MatchOption result (AreLate times.now now WINDOW self.now.items) (λ r. IsFirstReady times.now now WINDOW self.now.items r.0 r.1) }
+        ensures first { MatchOption result (AreLate times.now now WINDOW self.now.items) (λ r.
+            IsFirstReady times.now now WINDOW self.now.items r.0 r.1) }
         ensures room { IfSome result (λ r. r.1.tries + 1 < 2 ^ 64) }
     {
         for place in 0..self.within_window() {
@@ -148,13 +153,15 @@ impl SendQueue {
         }
     }
 
-    /// The tick from which on a packet is due within the window, or given up. It looks at no more than the window.
+    /// The first tick at which a packet within the window is due or is given up. It looks at no more than the window.
     #[inline(never)]
     pub fn due_tick(&self, times: &Times) -> Option<u64>
         requires retry { 0 < times.now.retry }
         requires tries { 0 < times.now.tries }
         requires untried { AreUntried (drop WINDOW self.now.items) }
-        ensures { (most number tick : ℕ) → tick < 2 ^ 64 → has_begun result tick ≡ is_some (first_due times.now tick most number WINDOW self.now.items) || has_given_up times.now tick self.now.items }
+        ensures { (most number tick : ℕ) → tick < 2 ^ 64 → has_begun result tick
+            ≡ is_some (first_due times.now tick most number WINDOW self.now.items) || has_given_up times.now tick
+            self.now.items }
     {
         let mut first = None;
         for place in 0..self.within_window() {
@@ -163,13 +170,16 @@ impl SendQueue {
         first
     }
 
-    /// Appends the packets from a place up to another, as far as each is due; they count as transmitted now.
+    /// Appends the packets from a place up to another, stopping at the first that is not due. They count as transmitted
+    /// now.
     fn take_run(&mut self, times: &Times, now: u64, place: usize, end: usize, packets: &mut Packets)
         requires within { end ≤ length self.old.items }
         requires most { end ≤ place + MOST_PACKETS }
         requires empty { packets.old.items ≡ [] }
-        ensures packets { packets.new.items ≡ (ready_run times.now now (end - place) (drop place self.old.items)).packets }
-        ensures queue { self.new.items ≡ take place self.old.items ++ (ready_run times.now now (end - place) (drop place self.old.items)).queue }
+        ensures packets { packets.new.items ≡ (ready_run times.now now (end - place)
+            (drop place self.old.items)).packets }
+        ensures queue { self.new.items ≡ take place self.old.items
+            ++ (ready_run times.now now (end - place) (drop place self.old.items)).queue }
         ensures room { self.new.capacity ≡ self.old.capacity }
     {
         for at in place..end {
@@ -194,10 +204,16 @@ impl SendQueue {
         packets: &mut Packets,
     ) -> Option<usize>
         requires { (0 < most) × (most ≤ MOST_PACKETS) }
-        ensures due { (number : ℕ) → first_due times.now now most number WINDOW self.old.items ≡ option_map (λ place. record { number = number + place; packets = packets.new.items; queue = self.new.items }) result }
+        ensures due { (number : ℕ) → first_due times.now now most number WINDOW self.old.items
+            ≡ option_map (λ place. record {
+              number = number + place;
+              packets = packets.new.items;
+              queue = self.new.items;
+            }) result }
         ensures room { self.new.capacity ≡ self.old.capacity }
         ensures none { IfNone result (self.new ≡ self.old) }
-        ensures some { IfSome result (λ place. (0 < length packets.new.items) × (length packets.new.items ≤ most) × (place + length packets.new.items ≤ length self.old.items)) }
+        ensures some { IfSome result (λ place. (0 < length packets.new.items) × (length packets.new.items ≤ most)
+            × (place + length packets.new.items ≤ length self.old.items)) }
     {
         let Some((place, _)) = self.first_ready(times, now) else {
             return None;

@@ -1,5 +1,6 @@
 //! A packet of the send queue.
-ghost use Rattle.std.specs.Prelude.{◌≡◌, ◌<◌, ◌≤◌, ◌+◌, ◌^◌, IsTrue, MatchOption, is_some, option_map, ◌||◌, ℕ, Some, IfSome};
+ghost use Rattle.std.specs.Prelude.{◌≡◌, ◌<◌, ◌≤◌, ◌+◌, ◌^◌, IsTrue, MatchOption, is_some, option_map, ◌||◌, ℕ, Some};
+ghost use Rattle.std.specs.Prelude.{IfSome};
 ghost use Rattle.tora_arq.specs.SendQueue.{untried, retried, is_retry_time, is_ready, is_given_up};
 ghost use Rattle.tora_arq.specs.NextDue.{has_begun, is_packet_due};
 
@@ -29,7 +30,7 @@ impl QueuedPacket {
         }
     }
 
-    /// The packet once it is transmitted again.
+    /// The packet after it was transmitted once more.
     pub fn retried(self, now: u64) -> QueuedPacket
         requires { self.tries + 1 < 2 ^ 64 }
         ensures { result ≡ retried self now }
@@ -41,7 +42,7 @@ impl QueuedPacket {
         }
     }
 
-    /// Whether the time since its last try is over, so that it may be tried again.
+    /// Whether `retry` ticks have passed since the last try.
     pub fn is_retry_time(&self, times: &Times, now: u64) -> bool
         ensures { result ≡ is_retry_time times.now now self.now }
     {
@@ -56,14 +57,14 @@ impl QueuedPacket {
         self.tries == 0 || (self.tries < times.tries && self.is_retry_time(times, now))
     }
 
-    /// Whether it was tried as often as it may be, and the time since the last try is over.
+    /// Whether it was tried `tries` times, and `retry` ticks have passed since the last try.
     pub fn is_given_up(&self, times: &Times, now: u64) -> bool
         ensures { result ≡ is_given_up times.now now self.now }
     {
         self.tries >= times.tries && self.is_retry_time(times, now)
     }
 
-    /// The tick from which on the packet is due, or given up.
+    /// The first tick at which the packet is due or is given up.
     pub fn due_tick(&self, times: &Times) -> Option<u64>
         requires retry { 0 < times.now.retry }
         requires tries { 0 < times.now.tries }

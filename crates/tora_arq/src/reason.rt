@@ -7,7 +7,7 @@ use std::fmt;
 /// Why a life ended.
 #[derive(Clone, Copy, Debug, PartialEq, Eq, Hash)]
 pub enum Reason {
-    /// The peer was not heard, or did not acknowledge a packet.
+    /// No frame of the peer came, or the peer did not acknowledge a packet.
     Silent,
     /// The peer began a newer life.
     NewPeer,

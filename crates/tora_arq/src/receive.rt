@@ -1,10 +1,11 @@
-//! What a link end makes of a frame.
+//! How a link end receives a frame.
 ghost use Rattle.std.specs.Prelude.{◌≡◌, ◌<◌, ◌≤◌, ◌+◌, ◌^◌, ◌⊎◌, length};
 ghost use Rattle.tora_frame.specs.FrameParts.{IsFrame, batch, frame_of};
 ghost use Rattle.tora_frame.specs.declared.parts.Body.{Body};
 ghost use Rattle.tora_frame.specs.BorrowedFrames.{body_of};
 ghost use Rattle.tora_arq.specs.Held.{hold_at};
-ghost use Rattle.tora_arq.specs.LinkEnd.{count_of, passed, on_life_told, after_release, after_packet, after_packets, on_data, on_matched, on_frame_in, on_frame};
+ghost use Rattle.tora_arq.specs.LinkEnd.{count_of, passed, on_life_told, after_release, after_packet, after_packets};
+ghost use Rattle.tora_arq.specs.LinkEnd.{on_data, on_matched, on_frame_in, on_frame};
 ghost use Rattle.tora_arq.specs.EndRange.{IsNumbered};
 ghost use Rattle.tora_arq.specs.Rooms.{HasLists, HasRoomFor, HasBodyRoom, HasFirstRoom, HasFrameRoom};
 ghost use Rattle.tora_arq.specs.StateView.{rooms_in, settings_in, state_in};
@@ -29,7 +30,7 @@ fn count_of(body: BorrowedBody<'_>) -> u64
 }
 
 impl State {
-    /// A frame of a version has passed: one of version 2 sets the mark.
+    /// Notes the version of an accepted frame: version 2 sets the mark.
     fn pass(&mut self, version: Version)
         ensures state { state_in self.new ≡ passed (state_in self.old) version }
         ensures rooms { rooms_in self.new ≡ rooms_in self.old }
@@ -37,7 +38,7 @@ impl State {
         self.speaks_two = is_two(version) || self.speaks_two;
     }
 
-    /// A frame that does not tell the own number, at an end that is not bound.
+    /// Receives a frame that does not carry the own number, at an end that is not bound.
     fn on_life_told(&mut self, version: Version, life: u64, body: BorrowedBody<'_>) -> Verdict
         ensures verdict { result ≡ (on_life_told (state_in self.old) version life (body_of body.entry)).0 }
         ensures state { state_in self.new ≡ (on_life_told (state_in self.old) version life (body_of body.entry)).1 }
@@ -62,7 +63,7 @@ impl State {
         }
     }
 
-    /// Holds a packet at a place, and delivers what is held up to the first gap.
+    /// Holds a packet at a place, and delivers the held packets up to the first gap.
     fn hold(&mut self, life: Life, place: usize, packet: Packet)
         requires place { place < self.old.held.capacity }
         requires near { place < WINDOW }
@@ -70,14 +71,17 @@ impl State {
         requires room { length self.old.events.items + length self.old.held.items < self.old.events.capacity }
         requires place_room { length self.old.events.items + place + 1 < self.old.events.capacity }
         requires accepted { self.old.accepted ≤ 2 ^ 63 }
-        ensures state { state_in self.new ≡ after_release life (record (state_in self.old) { held = hold_at place packet self.old.held.items }) (hold_at place packet self.old.held.items) }
+        ensures state { state_in self.new ≡ after_release life (record (state_in self.old) {
+          held =
+              hold_at place packet self.old.held.items;
+        }) (hold_at place packet self.old.held.items) }
         ensures rooms { rooms_in self.new ≡ rooms_in self.old }
     {
         self.held.hold(place, packet);
         self.release(life);
     }
 
-    /// A packet of the bound life, where `furthest` is the last number of the window.
+    /// Receives a packet of the bound life. `furthest` is the last number of the window.
     #[tactic(auto, using(crate::proofs::ReceiveLemmas::passed_over, crate::proofs::ReceiveLemmas::dropped))]
     fn on_packet(&mut self, life: Life, furthest: u64, number: u64, packet: Packet)
         requires room { HasRoomFor self.old.events.capacity self.old.held.capacity furthest number 1 (state_in self.old) }
@@ -96,12 +100,14 @@ impl State {
         }
     }
 
-    /// Packets of the bound life, numbered on from the first.
+    /// Receives packets of the bound life, numbered in sequence from `number` on.
     fn on_packets(&mut self, life: Life, number: u64, packets: &[Packet])
-        requires room { HasRoomFor self.old.events.capacity self.old.held.capacity (self.old.accepted + WINDOW) number (length packets.now) (state_in self.old) }
+        requires room { HasRoomFor self.old.events.capacity self.old.held.capacity (self.old.accepted + WINDOW) number
+            (length packets.now) (state_in self.old) }
         requires accepted { self.old.accepted ≤ 2 ^ 62 }
         requires number { number + length packets.now ≤ 2 ^ 62 + 1 }
-        ensures state { state_in self.new ≡ after_packets life (self.old.accepted + WINDOW) (state_in self.old) number packets.now }
+        ensures state { state_in self.new ≡ after_packets life (self.old.accepted + WINDOW) (state_in self.old) number
+            packets.now }
         ensures rooms { rooms_in self.new ≡ rooms_in self.old }
     {
         let furthest = self.accepted + WINDOW;
@@ -112,10 +118,11 @@ impl State {
         }
     }
 
-    /// A DATA frame of the bound life.
+    /// Receives a DATA frame of the bound life.
     #[tactic(auto, unfolding(crate::specs::LinkEnd::on_data))]
     fn on_data(&mut self, life: Life, number: u64, packets: &[Packet]) -> Verdict
-        requires room { HasRoomFor self.old.events.capacity self.old.held.capacity (self.old.accepted + WINDOW) number (length packets.now) (state_in self.old) }
+        requires room { HasRoomFor self.old.events.capacity self.old.held.capacity (self.old.accepted + WINDOW) number
+            (length packets.now) (state_in self.old) }
         requires accepted { self.old.accepted ≤ 2 ^ 62 }
         requires some { 0 < length packets.now }
         requires number { number + length packets.now ≤ 2 ^ 62 + 1 }
@@ -135,14 +142,15 @@ impl State {
         Verdict::Ahead
     }
 
-    /// A frame of the bound life; `binds` says that it bound it.
+    /// Receives a frame of the bound life. `binds` says whether this frame bound it.
     #[tactic(auto, unfolding(crate::specs::LinkEnd::on_matched))]
     fn on_matched(&mut self, life: Life, binds: bool, now: u64, body: BorrowedBody<'_>) -> Verdict
         requires numbered { IsNumbered (body_of body) }
         requires room { HasBodyRoom self.old.events.capacity self.old.held.capacity (body_of body) (state_in self.old) }
         requires accepted { self.old.accepted ≤ 2 ^ 62 }
         ensures verdict { result ≡ (on_matched WINDOW (state_in self.old) life binds now (body_of body.entry)).0 }
-        ensures state { state_in self.new ≡ (on_matched WINDOW (state_in self.old) life binds now (body_of body.entry)).1 }
+        ensures state { state_in self.new ≡ (on_matched WINDOW (state_in self.old) life binds now
+            (body_of body.entry)).1 }
         ensures rooms { rooms_in self.new ≡ rooms_in self.old }
     {
         match body {
@@ -218,13 +226,15 @@ impl State {
         self.on_matched(life, false, now, body)
     }
 
-    /// A HELLO at an end that is not bound, by its header.
+    /// Receives a HELLO, given by its header, at an end that is not bound.
     #[inline(never)]
     #[tactic(auto, unfolding(crate::specs::LinkEnd::on_frame_in, crate::specs::LinkEnd::on_matched))]
     fn on_unbound_hello(&mut self, own: u64, header: &Header, now: u64) -> Verdict
         requires place { length self.old.events.items < self.old.events.capacity }
-        ensures verdict { result ≡ (on_frame_in WINDOW (state_in self.old) (frame_of header.now Body.Hello) now (Phase.Unbound own)).0 }
-        ensures state { state_in self.new ≡ (on_frame_in WINDOW (state_in self.old) (frame_of header.now Body.Hello) now (Phase.Unbound own)).1 }
+        ensures verdict { result ≡ (on_frame_in WINDOW (state_in self.old) (frame_of header.now Body.Hello) now
+            (Phase.Unbound own)).0 }
+        ensures state { state_in self.new ≡ (on_frame_in WINDOW (state_in self.old) (frame_of header.now Body.Hello) now
+            (Phase.Unbound own)).1 }
         ensures rooms { rooms_in self.new ≡ rooms_in self.old }
     {
         if own != header.heard {
@@ -243,13 +253,15 @@ impl State {
         Verdict::Accepted
     }
 
-    /// A HELLO at a bound end, by its header.
+    /// Receives a HELLO, given by its header, at a bound end.
     #[inline(always)]
     #[tactic(auto, unfolding(crate::specs::LinkEnd::on_frame_in, crate::specs::LinkEnd::on_matched))]
     fn on_bound_hello(&mut self, life: Life, header: &Header, now: u64) -> Verdict
         requires place { length self.old.events.items < self.old.events.capacity }
-        ensures verdict { result ≡ (on_frame_in WINDOW (state_in self.old) (frame_of header.now Body.Hello) now (Phase.Bound life)).0 }
-        ensures state { state_in self.new ≡ (on_frame_in WINDOW (state_in self.old) (frame_of header.now Body.Hello) now (Phase.Bound life)).1 }
+        ensures verdict { result ≡ (on_frame_in WINDOW (state_in self.old) (frame_of header.now Body.Hello) now
+            (Phase.Bound life)).0 }
+        ensures state { state_in self.new ≡ (on_frame_in WINDOW (state_in self.old) (frame_of header.now Body.Hello) now
+            (Phase.Bound life)).1 }
         ensures rooms { rooms_in self.new ≡ rooms_in self.old }
     {
         if life.peer < header.life {
@@ -264,13 +276,16 @@ impl State {
         Verdict::Accepted
     }
 
-    /// A HELLO that came, by its header: most frames are HELLOs.
+    /// Receives a HELLO, given by its header. It has a separate path because most frames are HELLOs.
     #[inline(always)]
     #[tactic(auto, unfolding(crate::specs::LinkEnd::on_frame, crate::specs::LinkEnd::on_frame_in))]
     pub fn on_hello(&mut self, settings: &Settings, header: &Header, now: u64) -> Verdict
-        requires { HasLists self.old.events.capacity self.old.held.capacity ⊎ length self.old.events.items < self.old.events.capacity }
-        ensures verdict { result ≡ (on_frame (settings_in settings.now) (state_in self.old) (frame_of header.now Body.Hello) now).0 }
-        ensures state { state_in self.new ≡ (on_frame (settings_in settings.now) (state_in self.old) (frame_of header.now Body.Hello) now).1 }
+        requires { HasLists self.old.events.capacity self.old.held.capacity
+            ⊎ length self.old.events.items < self.old.events.capacity }
+        ensures verdict { result ≡ (on_frame (settings_in settings.now) (state_in self.old)
+            (frame_of header.now Body.Hello) now).0 }
+        ensures state { state_in self.new ≡ (on_frame (settings_in settings.now) (state_in self.old)
+            (frame_of header.now Body.Hello) now).1 }
         ensures rooms { rooms_in self.new ≡ rooms_in self.old }
     {
         if settings.is_foreign_hello(header) {
@@ -286,12 +301,13 @@ impl State {
         }
     }
 
-    /// A frame that came.
+    /// Receives a frame.
     #[tactic(auto, unfolding(crate::specs::LinkEnd::on_frame, crate::specs::LinkEnd::on_frame_in))]
     pub fn on_frame(&mut self, settings: &Settings, frame: &BorrowedFrame<'_>, now: u64) -> Verdict
         requires accepted { self.old.accepted ≤ 2 ^ 62 }
         requires held { length self.old.held.items ≤ WINDOW }
-        requires room { HasLists self.old.events.capacity self.old.held.capacity ⊎ HasFrameRoom self.old.events.capacity frame.now (state_in self.old) }
+        requires room { HasLists self.old.events.capacity self.old.held.capacity
+            ⊎ HasFrameRoom self.old.events.capacity frame.now (state_in self.old) }
         ensures verdict { result ≡ (on_frame (settings_in settings.now) (state_in self.old) frame.now now).0 }
         ensures state { state_in self.new ≡ (on_frame (settings_in settings.now) (state_in self.old) frame.now now).1 }
         ensures rooms { rooms_in self.new ≡ rooms_in self.old }

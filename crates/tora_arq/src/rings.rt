@@ -1,11 +1,12 @@
-//! Rings of items whose room can be made larger.
-ghost use Rattle.std.specs.Prelude.{◌≡◌, ◌<◌, ◌≤◌, ◌∷◌, ◌++◌, [], length, drop, slice_get, slice_set, Some, OnErr, OnOk};
+//! Ring buffers that can grow.
+ghost use Rattle.std.specs.Prelude.{◌≡◌, ◌<◌, ◌≤◌, ◌∷◌, ◌++◌, [], length, drop, slice_get, slice_set, Some, OnErr};
+ghost use Rattle.std.specs.Prelude.{OnOk};
 ghost use Rattle.circular_buffer.specs.Buffer.{buffer};
 
 use circular_buffer::HeapCircularBuffer;
 use std::alloc::AllocError;
 
-/// How many places a ring has at least that has any: it grows from there by doubling.
+/// The fewest places of a ring that has any. From there a ring grows by doubling.
 const FEWEST_PLACES: usize = 4;
 
 /// The item at a place.
@@ -51,10 +52,11 @@ pub fn remove_first<T: Drop>(ring: &mut HeapCircularBuffer<T>, count: usize)
     ring.truncate_front(left);
 }
 
-/// Makes room for this many items in all. A ring that has less room gets twice its places, or as many as are asked for.
+/// Makes room for this many items in all. A ring with less room doubles its places, or gets exactly this many if that
+/// is more.
 ///
 /// # Errors
-/// Want of memory, which changes nothing.
+/// Out of memory; nothing changes then.
 #[inline(always)]
 pub fn make_room<T: Drop>(ring: &mut HeapCircularBuffer<T>, places: usize) -> Result<(), AllocError>
     ensures items { ring.new.items ≡ ring.old.items }
@@ -68,7 +70,7 @@ pub fn make_room<T: Drop>(ring: &mut HeapCircularBuffer<T>, places: usize) -> Re
     grow(ring, places)
 }
 
-/// The same where the room has to grow. It is a call of its own, since it is seldom made.
+/// As `make_room`, if the room has to grow. It is a separate function because that is rare.
 #[inline(never)]
 fn grow<T: Drop>(ring: &mut HeapCircularBuffer<T>, places: usize) -> Result<(), AllocError>
     requires { ring.old.capacity < places }

@@ -1,4 +1,4 @@
-//! The room that a link end makes before a call that puts something.
+//! The room that a link end makes before a call that queues something.
 ghost use Rattle.std.specs.Prelude.{◌≡◌, ◌<◌, ◌≤◌, ◌+◌, ◌-◌, ◌⊎◌, length, IfSome, OnOk};
 ghost use Rattle.tora_frame.specs.BorrowedFrames.{body_of};
 ghost use Rattle.tora_arq.specs.Rooms.{HasFrameRoom, HasLists, HasNextRoom};
@@ -11,10 +11,11 @@ use std::alloc::AllocError;
 use tora_frame::{BorrowedBody, BorrowedFrame};
 
 impl State {
-    /// How many packets a frame delivers at most, where none of them may have to be held.
+    /// How many packets a frame delivers at most; `None` if one of them may have to be held.
     fn next_packets(&self, body: BorrowedBody<'_>) -> Option<usize>
         ensures most { IfSome result (λ count. count ≤ HELD_PLACES) }
-        ensures next { IfSome result (λ count. HasNextRoom (length self.now.events.items + count) (body_of body.entry) (state_in self.now) self.now.phase) }
+        ensures next { IfSome result (λ count. HasNextRoom (length self.now.events.items + count) (body_of body.entry)
+            (state_in self.now) self.now.phase) }
     {
         let BorrowedBody::Data(number, _, packets) = body else {
             return Some(0);
@@ -35,10 +36,10 @@ impl State {
         }
     }
 
-    /// Makes room for one event and for this many more, and keeps a place for the event that the life ended.
+    /// Makes room for this many events and one more, and keeps a place for the event that the life ended.
     ///
     /// # Errors
-    /// Want of memory, which changes nothing.
+    /// Out of memory; nothing changes then.
     #[inline(always)]
     pub fn make_event_room(&mut self, count: usize) -> Result<(), AllocError>
         requires { count ≤ HELD_PLACES }
@@ -50,14 +51,15 @@ impl State {
         Ok(())
     }
 
-    /// Makes room for all that a frame may put, and for the event that the life ended.
+    /// Makes room for all that a frame may queue, and for the event that the life ended.
     ///
     /// # Errors
-    /// Want of memory, which changes nothing but the room.
+    /// Out of memory; nothing changes then except the room.
     pub fn make_frame_room(&mut self, frame: &BorrowedFrame<'_>) -> Result<(), AllocError>
         ensures state { state_in self.new ≡ state_in self.old }
         ensures more { self.old.events.capacity ≤ self.new.events.capacity }
-        ensures room { OnOk result (HasLists self.new.events.capacity self.new.held.capacity ⊎ HasFrameRoom (self.new.events.capacity - 1) frame.now (state_in self.old)) }
+        ensures room { OnOk result (HasLists self.new.events.capacity self.new.held.capacity
+            ⊎ HasFrameRoom (self.new.events.capacity - 1) frame.now (state_in self.old)) }
     {
         match self.next_packets(frame.body()) {
             Some(count) => self.make_event_room(count)?,
@@ -66,10 +68,10 @@ impl State {
         Ok(())
     }
 
-    /// Makes room for all events and all packets that may come early.
+    /// Makes room for the most events and the most out-of-order packets.
     ///
     /// # Errors
-    /// Want of memory, which changes nothing but the room.
+    /// Out of memory; nothing changes then except the room.
     #[inline(never)]
     fn make_whole_room(&mut self) -> Result<(), AllocError>
         ensures state { state_in self.new ≡ state_in self.old }
@@ -81,14 +83,15 @@ impl State {
         Ok(())
     }
 
-    /// Makes room for another packet that waits, unless as many wait as may.
+    /// Makes room for another packet to wait, unless the queue has its most packets.
     ///
     /// # Errors
-    /// Want of memory, which changes nothing.
+    /// Out of memory; nothing changes then.
     pub fn make_packet_room(&mut self) -> Result<(), AllocError>
         ensures state { state_in self.new ≡ state_in self.old }
         ensures more { self.old.events.capacity ≤ self.new.events.capacity }
-        ensures room { OnOk result (length self.new.queue.items < QUEUE_PLACES → length self.new.queue.items < self.new.queue.capacity) }
+        ensures room { OnOk result (length self.new.queue.items < QUEUE_PLACES
+            → length self.new.queue.items < self.new.queue.capacity) }
     {
         let places = (self.queue.len() + 1).min(QUEUE_PLACES);
         self.queue.make_room(places)?;

@@ -1,4 +1,4 @@
-//! What a link end is made with, and its clock.
+//! The settings of a link end, and arithmetic with ticks.
 ghost use Rattle.std.specs.Prelude.{◌≡◌, ℕ, ◌^◌, ◌<◌, ◌||◌, nat_le};
 ghost use Rattle.std.specs.List.{list_any};
 ghost use Rattle.tora_frame.specs.FrameParts.{IsFrame, frame_of};
@@ -23,7 +23,7 @@ pub struct Settings {
     pub times: Times,
 }
 
-/// How many ticks have passed since an earlier tick, and 0 where the clock went back.
+/// How many ticks have passed since an earlier tick; 0 if the clock went back.
 pub fn ticks_passed(earlier: u64, now: u64) -> u64
     ensures { result ≡ ticks_passed earlier now }
 {
@@ -38,7 +38,7 @@ pub fn tick_behind(earlier: u64, ticks: u64) -> Option<u64>
     earlier.checked_add(ticks)
 }
 
-/// The earlier one of two ticks, of which each may be none.
+/// The earlier one of two ticks, each of which may be `None`.
 pub fn earlier(first: Option<u64>, second: Option<u64>) -> Option<u64>
     ensures { (tick : ℕ) → has_begun result tick ≡ has_begun first tick || has_begun second tick }
 {
@@ -49,7 +49,7 @@ pub fn earlier(first: Option<u64>, second: Option<u64>) -> Option<u64>
     }
 }
 
-/// Whether the packet tells the height of another node than the sender.
+/// Whether the packet is an update with the height of a node other than the sender.
 fn is_update_of_another(sender: Id, packet: &Packet) -> bool
     ensures { result ≡ is_update_of_another sender packet.now }
 {
@@ -81,7 +81,7 @@ fn has_update_of_another(sender: Id, body: BorrowedBody<'_>) -> bool
     }
 }
 
-/// Whether a frame is of version 2 where the end speaks version 1.
+/// Whether a frame is of version 2 and the end speaks only version 1.
 fn is_unknown(newest: Version, version: Version) -> bool
     ensures { result ≡ is_unknown newest version }
 {
@@ -95,7 +95,7 @@ fn is_unknown(newest: Version, version: Version) -> bool
 }
 
 impl Settings {
-    /// Whether a HELLO of this header is not one that the peer sends to this node.
+    /// Whether a HELLO with this header is not from the peer to this node, or is of an unknown version.
     pub fn is_foreign_hello(&self, header: &Header) -> bool
         ensures { result ≡ is_foreign (settings_in self.now) (frame_of header.now Body.Hello) }
     {
@@ -104,7 +104,8 @@ impl Settings {
             || is_unknown(self.version, header.version)
     }
 
-    /// Whether the frame is not one that the peer sends to this node.
+    /// Whether the frame is not from the peer to this node, is of an unknown version, or has an update of another node
+    /// than the peer.
     pub fn is_foreign(&self, frame: &BorrowedFrame<'_>) -> bool
         ensures value { result ≡ is_foreign (settings_in self.now) frame.now }
         ensures valid { IsFrame frame.now }

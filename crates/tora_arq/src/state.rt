@@ -1,6 +1,8 @@
-//! The state of a link end, and what each call makes of it.
+//! The state of a link end, and the effect of each call.
 ghost use Rattle.std.specs.Prelude.{◌≡◌, ◌<◌, ◌≤◌, ◌+◌, ◌^◌, length, IfOk, IsOk, MatchOption};
-ghost use Rattle.tora_arq.specs.LinkEnd.{after_open, after_end, after_bind, after_acknowledgement, after_delivery, after_release, bound_life, first_end, is_closed, is_silent, after_tick, on_submit, after_cut};
+ghost use Rattle.tora_arq.specs.LinkEnd.{after_open, after_end, after_bind, after_acknowledgement, after_delivery};
+ghost use Rattle.tora_arq.specs.LinkEnd.{after_release, bound_life, first_end, is_closed, is_silent, after_tick};
+ghost use Rattle.tora_arq.specs.LinkEnd.{on_submit, after_cut};
 ghost use Rattle.tora_arq.specs.Steady.{resumed};
 ghost use Rattle.tora_arq.specs.EndRange.{IsEndState};
 ghost use Rattle.tora_arq.specs.Rooms.{HasEventPlace};
@@ -16,25 +18,25 @@ use std::alloc::{AllocError, Global};
 use tora_frame::GREATEST_NUMBER;
 use tora_packet::Packet;
 
-/// The state of a link end, with the room that its queues have. What a HELLO and a tick look at comes first.
+/// The state of a link end, with the room of its queues. The fields that a HELLO and a tick read come first.
 #[derive(Debug, Drop)]
 pub struct State {
     pub phase: Phase,
-    /// The mark that the peer speaks version 2.
+    /// Whether the peer is known to speak version 2.
     pub speaks_two: bool,
     pub owes_hello: bool,
-    /// The last HELLO was one of version 2 that none of version 1 has followed.
+    /// Whether the last HELLO was of version 2 and no HELLO of version 1 has followed it.
     pub owes_old_hello: bool,
     pub owes_ack: bool,
     /// The tick of the last HELLO of this life.
     pub last_hello: Option<u64>,
-    /// The tick at which the peer was last heard.
+    /// The tick of the last frame of the peer.
     pub last_hearing: u64,
-    /// The greatest life of the peer that was noted, 0 for none.
+    /// The greatest life number of the peer that was noted, 0 for none.
     pub heard: u64,
-    /// The greatest number of a packet that was transmitted.
+    /// The greatest number of a transmitted packet.
     pub transmitted: u64,
-    /// How many packets the peer has accepted, as far as it told.
+    /// How many packets the peer has acknowledged.
     pub acknowledged: u64,
     /// How many packets of the peer were delivered.
     pub accepted: u64,
@@ -42,14 +44,14 @@ pub struct State {
     pub last_life: u64,
     /// The packets submitted and not acknowledged.
     pub queue: SendQueue,
-    /// The events that were not polled.
+    /// The events that were not polled yet.
     pub events: EventQueue,
-    /// The packets of the peer that came early.
+    /// Packets of the peer that arrived out of order.
     pub held: HeldPackets,
 }
 
 impl State {
-    /// A closed end that had no life, with room for this many events, packets that wait, and packets that came early.
+    /// A closed end that had no life, with room for this many events, unacknowledged packets, and out-of-order packets.
     pub fn new(
         alloc: Global,
         events: usize,
@@ -81,12 +83,6 @@ impl State {
         })
     }
 
-    /// Reads what the other calls read first, as `GrowingEnd::prefetch` has it.
-    #[inline(always)]
-    pub fn prefetch(&self) -> u64 {
-        (self.queue.len() ^ self.events.len()) as u64 ^ self.last_hearing ^ self.last_life
-    }
-
     /// Whether it has to be opened.
     pub fn is_closed(&self) -> bool
         ensures { result ≡ is_closed (state_in self.now) }
@@ -109,7 +105,7 @@ impl State {
         }
     }
 
-    /// Takes back what was said, heard and ticked at what was kept.
+    /// Writes the idle fields back.
     pub fn resume(&mut self, steady: &Steady)
         ensures state { state_in self.new ≡ resumed steady.now (state_in self.old) }
         ensures rooms { rooms_in self.new ≡ rooms_in self.old }
@@ -119,7 +115,7 @@ impl State {
         self.owes_old_hello = steady.owes_old_hello;
     }
 
-    /// Ends the bound life. It stands apart, since it is seldom done where it is asked for.
+    /// Ends the bound life. It is a separate function because its callers seldom reach it.
     #[inline(never)]
     pub fn end(&mut self, life: Life, reason: Reason)
         requires { length self.old.events.items < self.old.events.capacity }
@@ -154,7 +150,7 @@ impl State {
         self.owes_hello = self.owes_hello || is_changed;
     }
 
-    /// The peer has accepted this many packets.
+    /// Notes that the peer has accepted this many packets.
     pub fn acknowledge(&mut self, count: u64, now: u64)
         ensures state { state_in self.new ≡ after_acknowledgement (state_in self.old) count now }
         ensures rooms { rooms_in self.new ≡ rooms_in self.old }
@@ -188,7 +184,7 @@ impl State {
         }
     }
 
-    /// Begins a life with an own number.
+    /// Opens the end with an own number.
     pub fn open(&mut self, life: u64, now: u64)
         ensures state { state_in self.new ≡ after_open (state_in self.old) life now }
         ensures rooms { rooms_in self.new ≡ rooms_in self.old }
@@ -209,7 +205,7 @@ impl State {
         self.last_hearing = now;
     }
 
-    /// Whether the peer was not heard for long enough, or did not acknowledge a packet.
+    /// Whether no frame of the peer came for `silent` ticks, or a packet is given up.
     fn is_silent(&self, settings: &Settings, now: u64) -> bool
         requires { IsEndState (settings_in settings.now) (state_in self.now) }
         ensures { result ≡ is_silent (settings_in settings.now) (state_in self.now) now }
@@ -218,7 +214,7 @@ impl State {
         ticks_passed(self.last_hearing, now) >= times.silent || self.queue.has_given_up(times, now)
     }
 
-    /// Time has passed.
+    /// Ends the bound life if it has timed out.
     #[tactic(auto, unfolding(crate::specs::LinkEnd::after_tick))]
     pub fn on_tick(&mut self, settings: &Settings, now: u64)
         requires end { IsEndState (settings_in settings.now) (state_in self.old) }
@@ -233,12 +229,13 @@ impl State {
         }
     }
 
-    /// Takes a packet to the peer.
+    /// Submits a packet for the peer.
     #[tactic(auto, unfolding(crate::specs::LinkEnd::on_submit))]
     pub fn submit(&mut self, life: Life, packet: Packet) -> Result<(), SubmitError>
         requires submitted { self.old.acknowledged + length self.old.queue.items ≤ 2 ^ 62 }
         requires room { HasEventPlace self.old.events.capacity (state_in self.old) }
-        requires place { length self.old.queue.items < QUEUE_PLACES → length self.old.queue.items < self.old.queue.capacity }
+        requires place { length self.old.queue.items < QUEUE_PLACES
+            → length self.old.queue.items < self.old.queue.capacity }
         ensures answer { result ≡ (on_submit (state_in self.old) life packet).0 }
         ensures state { state_in self.new ≡ (on_submit (state_in self.old) life packet).1 }
         ensures rooms { rooms_in self.new ≡ rooms_in self.old }
@@ -262,7 +259,7 @@ impl State {
         Ok(())
     }
 
-    /// Ends a life, where it is the bound one.
+    /// Ends a life if it is the bound one.
     #[tactic(auto, unfolding(crate::specs::LinkEnd::after_cut))]
     pub fn cut(&mut self, life: Life)
         requires { HasEventPlace self.old.events.capacity (state_in self.old) }

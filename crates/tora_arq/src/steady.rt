@@ -1,4 +1,4 @@
-//! What HELLOs look at, of a link end at which nothing else is to be done.
+//! The fields that HELLOs read, for a link end that is idle.
 ghost use Rattle.std.specs.Prelude.{◌≡◌, ◌<◌, ◌≤◌, ◌==◌, ◌||◌, ℕ, true, false, not, is_some, IfSome, IfNone};
 ghost use Rattle.tora_frame.specs.FrameParts.{IsHeader, frame_of};
 ghost use Rattle.tora_frame.specs.declared.parts.Body.TheVariants.{Hello};
@@ -6,7 +6,8 @@ ghost use Rattle.tora_arq.specs.Settings.{Settings as EndSettings};
 ghost use Rattle.tora_arq.specs.StateView.{settings_in, state_in};
 ghost use Rattle.tora_arq.specs.LinkEnd.{EndState, after_frame, after_tick, after_transmit, frame_due};
 ghost use Rattle.tora_arq.specs.Still.{IsStillUntil};
-ghost use Rattle.tora_arq.specs.Steady.{IsSteady, resumed, header_of, owes_old, has_hello, is_at_ease, is_over, kept_of, on_send, is_told, steady_of, told_by, until_of};
+ghost use Rattle.tora_arq.specs.Steady.{IsSteady, resumed, header_of, owes_old, has_hello, is_at_ease, is_over};
+ghost use Rattle.tora_arq.specs.Steady.{kept_of, on_send, is_told, steady_of, told_by, until_of};
 
 use crate::phase::Phase;
 use crate::settings::{Settings, ticks_passed};
@@ -16,20 +17,20 @@ use tora_frame::{Header, Version};
 use tora_height::Id;
 
 /// The fields of an idle link end that a HELLO reads. An end is idle if it is open, owes no HELLO at once and no ACK,
-/// has no unacknowledged packet, and has no event to give. It has 64 bytes.
+/// has no unacknowledged packet, and has no event to report. It has 64 bytes.
 ///
 /// A caller with many link ends can store these fields close together and the ends elsewhere. `LinkEnd::steady` returns
 /// the fields, the calls here do what the same calls of the end would do, and `LinkEnd::resume` writes the fields back
 /// before any other call.
 #[derive(Clone, Copy, Debug, PartialEq, Eq)]
 pub struct Steady {
-    /// The tick of the last HELLO, those of version 1 that follow one of version 2 apart.
+    /// The tick of the last HELLO, not counting HELLOs of version 1 that follow one of version 2.
     pub said: u64,
-    /// The tick at which the peer was last heard.
+    /// The tick of the last frame of the peer.
     pub heard: u64,
-    /// The own number of the life; 0 stands for no end.
+    /// The own number of the life; 0 means no end.
     pub own: u64,
-    /// The number of the peer: that of the bound life, or the greatest that was noted, 0 for none.
+    /// The life number of the peer: that of the bound life, or the greatest that was noted; 0 for none.
     pub peer_life: u64,
     /// How many ticks after a HELLO the next one is due.
     pub hello: u64,
@@ -43,14 +44,14 @@ pub struct Steady {
     pub version: Version,
     /// Whether a life is bound.
     pub is_bound: bool,
-    /// The mark that the peer speaks version 2.
+    /// Whether the peer is known to speak version 2.
     pub speaks_two: bool,
-    /// The last HELLO was one of version 2 that none of version 1 has followed.
+    /// Whether the last HELLO was of version 2 and no HELLO of version 1 has followed it.
     pub owes_old_hello: bool,
 }
 
 impl Steady {
-    /// The same of no end.
+    /// The value for no end.
     pub fn none() -> Steady
         ensures { result.own ≡ 0 }
     {
@@ -70,7 +71,7 @@ impl Steady {
         }
     }
 
-    /// Whether it is that of no end.
+    /// Whether it is the value for no end.
     #[inline(always)]
     pub fn is_none(&self) -> bool
         ensures { result ≡ (self.now.own == 0) }
@@ -92,7 +93,7 @@ impl Steady {
         }
     }
 
-    /// Whether a HELLO of version 1 follows one of version 2.
+    /// Whether a HELLO of version 1 is due after one of version 2.
     #[inline(always)]
     fn owes_old(&self) -> bool
         ensures { result ≡ owes_old self.now }
@@ -100,7 +101,7 @@ impl Steady {
         self.owes_old_hello && !self.speaks_two
     }
 
-    /// Whether it is long enough since the last HELLO.
+    /// Whether `hello` ticks have passed since the last HELLO.
     #[inline(always)]
     fn has_hello(&self, now: u64) -> bool
         ensures { result ≡ has_hello self.now now }
@@ -108,7 +109,7 @@ impl Steady {
         ticks_passed(self.said, now) >= self.hello
     }
 
-    /// Takes the first HELLO that is due: its header.
+    /// Returns the header of the first HELLO due, which counts as sent.
     #[inline(always)]
     fn take_hello(&mut self, now: u64) -> Option<Header>
         ensures header { result ≡ (on_send self.old now).0 }
@@ -126,11 +127,14 @@ impl Steady {
         None
     }
 
-    /// Takes the first frame due, which is a HELLO: its header; `None` where none is due, as nothing else is due at a steady end.
+    /// Returns the header of the first frame due, which counts as sent; `None` if none is due. At an idle end only a
+    /// HELLO can be due.
     #[inline(always)]
     pub fn send_hello(&mut self, now: u64) -> Option<Header>
-        ensures frame { (s : EndSettings) (e : EndState) → IsSteady self.old s e → frame_due s (resumed self.old e) now ≡ told_by result }
-        ensures state { (s : EndSettings) (e : EndState) → IsSteady self.old s e → after_transmit s (resumed self.old e) now ≡ resumed self.new e }
+        ensures frame { (s : EndSettings) (e : EndState) → IsSteady self.old s e
+            → frame_due s (resumed self.old e) now ≡ told_by result }
+        ensures state { (s : EndSettings) (e : EndState) → IsSteady self.old s e
+            → after_transmit s (resumed self.old e) now ≡ resumed self.new e }
         ensures valid { (s : EndSettings) (e : EndState) → IsSteady self.old s e → IfSome result IsHeader }
         ensures steady { (s : EndSettings) (e : EndState) → IsSteady self.old s e → IsSteady self.new s e }
         ensures own { self.new.own ≡ self.old.own }
@@ -139,11 +143,12 @@ impl Steady {
         self.take_hello(now)
     }
 
-    /// Takes a HELLO in where it is one of the bound life that changes nothing but when the peer was heard, and answers whether it is; else
-    /// nothing is changed, and the end itself has to take it.
+    /// Receives a HELLO of the bound life that changes only the tick of the last frame of the peer, and returns `true`.
+    /// For any other HELLO it returns `false` and changes nothing; the end itself has to receive it.
     #[inline(always)]
     pub fn on_hello(&mut self, header: &Header, now: u64) -> bool
-        ensures taken { (s : EndSettings) (e : EndState) → IsSteady self.old s e → result ≡ true → after_frame s (resumed self.old e) (frame_of header.now Hello) now ≡ resumed self.new e }
+        ensures taken { (s : EndSettings) (e : EndState) → IsSteady self.old s e → result ≡ true
+            → after_frame s (resumed self.old e) (frame_of header.now Hello) now ≡ resumed self.new e }
         ensures steady { (s : EndSettings) (e : EndState) → IsSteady self.old s e → IsSteady self.new s e }
         ensures own { self.new.own ≡ self.old.own }
         ensures same { result ≡ false → self.new ≡ self.old }
@@ -156,7 +161,7 @@ impl Steady {
         true
     }
 
-    /// Whether a HELLO of this header says nothing but that the peer of the bound life is there.
+    /// Whether a HELLO with this header is of the bound life and says nothing new.
     #[inline(always)]
     fn is_told(&self, header: &Header) -> bool
         ensures { result ≡ is_told self.now header.now }
@@ -172,21 +177,23 @@ impl Steady {
     /// Whether a frame is due.
     #[inline(always)]
     pub fn has_frame_due(&self, now: u64) -> bool
-        ensures { (s : EndSettings) (e : EndState) → IsSteady self.now s e → result ≡ is_some (frame_due s (resumed self.now e) now) }
+        ensures { (s : EndSettings) (e : EndState) → IsSteady self.now s e
+            → result ≡ is_some (frame_due s (resumed self.now e) now) }
     {
         self.owes_old() || self.has_hello(now)
     }
 
-    /// Whether this tick ends no life, so that it changes nothing.
+    /// Whether this tick changes nothing, because it ends no life.
     #[inline(always)]
     pub fn is_calm(&self, now: u64) -> bool
-        ensures same { (s : EndSettings) (e : EndState) → IsSteady self.now s e → result ≡ true → after_tick s (resumed self.now e) now ≡ resumed self.now e }
+        ensures same { (s : EndSettings) (e : EndState) → IsSteady self.now s e → result ≡ true
+            → after_tick s (resumed self.now e) now ≡ resumed self.now e }
         ensures exact { result ≡ not (is_over self.now now) }
     {
         !self.is_over(now)
     }
 
-    /// Whether the peer of a bound life was not heard for long enough.
+    /// Whether no frame of the peer of the bound life came for `silent` ticks.
     #[inline(always)]
     fn is_over(&self, now: u64) -> bool
         ensures { result ≡ is_over self.now now }
@@ -194,18 +201,21 @@ impl Steady {
         self.is_bound && ticks_passed(self.heard, now) >= self.silent
     }
 
-    /// The tick before which no frame is due and a tick changes nothing, unless something else happens at the end, and from which on a HELLO is
-    /// due or a tick ends the life; 0 where a HELLO is due at once.
+    /// The tick from which on a HELLO is due or a tick ends the life; before it, no frame is due and a tick changes
+    /// nothing. It holds until another call; 0 if a HELLO is due at once.
     #[inline(always)]
     pub fn still_until(&self) -> u64
-        ensures exact { (s : EndSettings) (e : EndState) → IsSteady self.now s e → IsStillUntil s (resumed self.now e) result }
-        ensures frames { (s : EndSettings) (e : EndState) (tick : ℕ) → IsSteady self.now s e → tick < result → is_some (frame_due s (resumed self.now e) tick) ≡ false }
-        ensures ticks { (s : EndSettings) (e : EndState) (tick : ℕ) → IsSteady self.now s e → tick < result → after_tick s (resumed self.now e) tick ≡ resumed self.now e }
+        ensures exact { (s : EndSettings) (e : EndState) → IsSteady self.now s e
+            → IsStillUntil s (resumed self.now e) result }
+        ensures frames { (s : EndSettings) (e : EndState) (tick : ℕ) → IsSteady self.now s e → tick < result
+            → is_some (frame_due s (resumed self.now e) tick) ≡ false }
+        ensures ticks { (s : EndSettings) (e : EndState) (tick : ℕ) → IsSteady self.now s e → tick < result
+            → after_tick s (resumed self.now e) tick ≡ resumed self.now e }
     {
         self.until()
     }
 
-    /// The same, as a number alone.
+    /// Computes `still_until` from the fields.
     #[inline(always)]
     fn until(&self) -> u64
         ensures { result ≡ until_of self.now }
@@ -222,7 +232,7 @@ impl Steady {
 }
 
 impl State {
-    /// Whether nothing is owed but HELLOs in their time, no packet waits and no event does.
+    /// Whether the end is idle: it owes no frame except the regular HELLOs, and no packet and no event waits.
     fn is_at_ease(&self, settings: &Settings) -> bool
         ensures { result ≡ is_at_ease (settings_in settings.now) (state_in self.now) }
     {
@@ -233,7 +243,7 @@ impl State {
             && (is_two(settings.version) || !self.speaks_two)
     }
 
-    /// What is kept of an end that said its last HELLO at this tick.
+    /// The fields of an end that sent its last HELLO at this tick.
     fn kept(&self, settings: &Settings, said: u64, own: u64, is_bound: bool) -> Steady
         ensures { result ≡ kept_of (settings_in settings.now) (state_in self.now) said own is_bound }
     {
@@ -253,7 +263,7 @@ impl State {
         }
     }
 
-    /// What HELLOs look at, where the end is steady.
+    /// The fields that HELLOs read, if the end is idle.
     pub fn steady(&self, settings: &Settings) -> Option<Steady>
         ensures { result ≡ steady_of (settings_in settings.now) (state_in self.now) }
     {

@@ -1,4 +1,4 @@
-//! Until which tick a link end is still.
+//! The tick until which a link end has nothing to do.
 ghost use Rattle.std.specs.Prelude.{◌≡◌, ◌<◌, ◌≤◌, ℕ, false, nat_le, ◌||◌, is_some, drop};
 ghost use Rattle.tora_arq.specs.EndRange.{AreUntried, IsEndState};
 ghost use Rattle.tora_arq.specs.LinkEnd.{after_tick, frame_due, is_hello_due, is_old_hello_due};
@@ -23,7 +23,7 @@ fn tick_behind(earlier: u64, ticks: u64) -> u64
     earlier.saturating_add(ticks)
 }
 
-/// The earlier one of two ticks, of which the other may be none.
+/// The earlier one of two ticks, the second of which may be `None`.
 fn earliest(first: u64, other: Option<u64>) -> u64
     ensures { (tick : ℕ) → nat_le result tick ≡ nat_le first tick || has_begun other tick }
 {
@@ -34,14 +34,16 @@ fn earliest(first: u64, other: Option<u64>) -> u64
 }
 
 impl SendQueue {
-    /// A tick, or that from which on a packet is due within the window, or given up, where that is earlier. It looks at no more than the
-    /// window.
+    /// A tick, or the first tick at which a packet within the window is due or is given up, whichever is earlier. It
+    /// looks at no more than the window.
     #[inline(always)]
     fn still_until(&self, times: &Times, first: u64) -> u64
         requires retry { 0 < times.now.retry }
         requires tries { 0 < times.now.tries }
         requires untried { AreUntried (drop WINDOW self.now.items) }
-        ensures { (most number tick : ℕ) → tick < last_tick → nat_le result tick ≡ nat_le first tick || (is_some (first_due times.now tick most number WINDOW self.now.items) || has_given_up times.now tick self.now.items) }
+        ensures { (most number tick : ℕ) → tick < last_tick → nat_le result tick
+            ≡ nat_le first tick || (is_some (first_due times.now tick most number WINDOW self.now.items) || has_given_up
+            times.now tick self.now.items) }
     {
         if self.len() == 0 {
             return first;
@@ -51,18 +53,19 @@ impl SendQueue {
 }
 
 impl State {
-    /// Whether a HELLO is due, whatever the tick.
+    /// Whether a HELLO is due at any tick.
     fn owes_any_hello(&self) -> bool
         ensures { result ≡ self.now.owes_hello || is_old_hello_due (state_in self.now) }
     {
         self.owes_hello || (self.owes_old_hello && !self.speaks_two)
     }
 
-    /// From which tick on a HELLO is due.
+    /// The first tick at which a HELLO is due.
     #[inline(always)]
     fn next_hello(&self, settings: &Settings) -> u64
         requires { 0 < settings.now.times.hello }
-        ensures { (tick : ℕ) → tick < last_tick → nat_le result tick ≡ is_hello_due (settings_in settings.now) (state_in self.now) tick || is_old_hello_due (state_in self.now) }
+        ensures { (tick : ℕ) → tick < last_tick → nat_le result tick
+            ≡ is_hello_due (settings_in settings.now) (state_in self.now) tick || is_old_hello_due (state_in self.now) }
     {
         if self.owes_any_hello() {
             return 0;
@@ -73,11 +76,12 @@ impl State {
         }
     }
 
-    /// From which tick on a frame of a bound end is due, or its life ends.
+    /// The first tick at which a frame of a bound end is due, or its life ends.
     #[inline(always)]
     fn still_in_life(&self, settings: &Settings) -> u64
         requires { IsEndState (settings_in settings.now) (state_in self.now) }
-        ensures { (life : Life) (tick : ℕ) → tick < last_tick → nat_le result tick ≡ is_due_in (settings_in settings.now) (state_in self.now) life tick }
+        ensures { (life : Life) (tick : ℕ) → tick < last_tick → nat_le result tick
+            ≡ is_due_in (settings_in settings.now) (state_in self.now) life tick }
     {
         if self.owes_ack {
             return 0;
@@ -88,7 +92,7 @@ impl State {
         self.queue.still_until(times, first)
     }
 
-    /// From which tick on a frame is due, or a life ends.
+    /// The first tick at which a frame is due, or a life ends.
     #[tactic(auto, unfolding(crate::specs::LinkEnd::on_transmit, crate::specs::LinkEnd::on_transmit_in, crate::specs::LinkEnd::after_tick))]
     #[inline(always)]
     fn due_from(&self, settings: &Settings) -> u64
@@ -102,13 +106,15 @@ impl State {
         }
     }
 
-    /// The tick before which no frame is due and no tick changes the end, and from which on a frame is due or a life ends.
+    /// The first tick at which a frame is due or a life ends; before it, no tick changes the end.
     #[inline(always)]
     pub fn still_until(&self, settings: &Settings) -> u64
         requires { IsEndState (settings_in settings.now) (state_in self.now) }
         ensures exact { IsStillUntil (settings_in settings.now) (state_in self.now) result }
-        ensures frames { (tick : ℕ) → tick < result → is_some (frame_due (settings_in settings.now) (state_in self.now) tick) ≡ false }
-        ensures ticks { (tick : ℕ) → tick < result → after_tick (settings_in settings.now) (state_in self.now) tick ≡ state_in self.now }
+        ensures frames { (tick : ℕ) → tick < result → is_some (frame_due (settings_in settings.now) (state_in self.now)
+            tick) ≡ false }
+        ensures ticks { (tick : ℕ) → tick < result → after_tick (settings_in settings.now) (state_in self.now) tick
+            ≡ state_in self.now }
     {
         self.due_from(settings)
     }

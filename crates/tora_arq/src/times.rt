@@ -5,16 +5,17 @@
 pub struct Times {
     /// How many ticks of 100 ms after a HELLO the next one is due.
     pub hello: u64,
-    /// After how many ticks of 100 ms without hearing the peer a life ends.
+    /// After how many ticks of 100 ms without a frame of the peer a life ends.
     pub silent: u64,
-    /// How many ticks of 100 ms after its last try a packet is due again, or is given up.
+    /// After how many ticks of 100 ms a transmitted packet is due again, or is given up after its last try.
     pub retry: u64,
     /// How many times a packet is transmitted before it is given up.
     pub tries: u64,
 }
 
 impl Times {
-    /// The times that the program uses: 1 s between HELLOs, 5 s of silence, 0.5 s between tries, 8 tries.
+    /// The times that the program uses: a HELLO each second, the end of a life after 5 s without a frame, 0.5 s between
+    /// tries, 8 tries.
     pub const STANDARD: Times = Times {
         hello: 10,
         silent: 50,

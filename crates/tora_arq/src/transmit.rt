@@ -1,9 +1,12 @@
-//! The frames that a link end has to send.
-ghost use Rattle.std.specs.Prelude.{◌≡◌, ℕ, ◌<◌, ◌≤◌, ◌+◌, ◌^◌, ◌||◌, false, Option, Some, IfNone, IfSome, is_some, length};
+//! How a link end sends frames.
+ghost use Rattle.std.specs.Prelude.{◌≡◌, ℕ, ◌<◌, ◌≤◌, ◌+◌, ◌^◌, ◌||◌, false, Option, Some, IfNone, IfSome, is_some};
+ghost use Rattle.std.specs.Prelude.{length};
 ghost use Rattle.tora_frame.specs.FrameParts.{FrameParts, frame_of, IsHeader, IsLifeNumber};
 ghost use Rattle.tora_frame.specs.declared.parts.Body.{Body};
 ghost use Rattle.tora_arq.specs.Settings.{IsLink};
-ghost use Rattle.tora_arq.specs.LinkEnd.{EndState, is_two, data_version, most_packets, is_hello, is_hello_due, is_old_hello_due, frame_sent, after_hello, after_old_hello, on_hello, due_of, on_transmit_due, on_transmit};
+ghost use Rattle.tora_arq.specs.LinkEnd.{EndState, is_two, data_version, most_packets, is_hello, is_hello_due};
+ghost use Rattle.tora_arq.specs.LinkEnd.{is_old_hello_due, frame_sent, after_hello, after_old_hello, on_hello, due_of};
+ghost use Rattle.tora_arq.specs.LinkEnd.{on_transmit_due, on_transmit};
 ghost use Rattle.tora_arq.specs.EndRange.{IsEndState};
 ghost use Rattle.tora_arq.specs.NextDue.{is_any_due, is_due_in, IsNextDue, has_begun};
 ghost use Rattle.tora_arq.specs.StateView.{rooms_in, settings_in, state_in};
@@ -20,7 +23,13 @@ impl Settings {
         requires link { IsLink self.now.me self.now.peer }
         requires life { IsLifeNumber life }
         requires heard { heard ≤ 2 ^ 62 }
-        ensures value { result ≡ record { version = version; sender = self.now.me; receiver = self.now.peer; life = life; heard = heard } }
+        ensures value { result ≡ record {
+          version = version;
+          sender = self.now.me;
+          receiver = self.now.peer;
+          life = life;
+          heard = heard;
+        } }
         ensures valid { IsHeader result }
     {
         Header {
@@ -34,7 +43,7 @@ impl Settings {
 }
 
 impl State {
-    /// Whether a HELLO is owed, or it is long enough since the last one.
+    /// Whether a HELLO is owed, or `hello` ticks have passed since the last one.
     fn is_hello_due(&self, settings: &Settings, now: u64) -> bool
         ensures { result ≡ is_hello_due (settings_in settings.now) (state_in self.now) now }
     {
@@ -44,7 +53,7 @@ impl State {
         }
     }
 
-    /// Whether a HELLO of version 1 follows one of version 2.
+    /// Whether a HELLO of version 1 is due after one of version 2.
     fn is_old_hello_due(&self) -> bool
         ensures { result ≡ is_old_hello_due (state_in self.now) }
     {
@@ -62,12 +71,13 @@ impl State {
         }
     }
 
-    /// Sends a HELLO of the newest version, which is told by its header.
+    /// Sends a HELLO of the newest version, and returns its header.
     fn take_hello(&mut self, settings: &Settings, life: u64, heard: u64, now: u64) -> Header
         requires link { IsLink settings.now.me settings.now.peer }
         requires life { IsLifeNumber life }
         requires heard { heard ≤ 2 ^ 62 }
-        ensures frame { frame_of result Body.Hello ≡ frame_sent (settings_in settings.now) settings.now.version life heard Body.Hello }
+        ensures frame { frame_of result Body.Hello ≡ frame_sent (settings_in settings.now) settings.now.version life
+            heard Body.Hello }
         ensures valid { IsHeader result }
         ensures state { state_in self.new ≡ after_hello (settings_in settings.now) (state_in self.old) now }
         ensures rooms { rooms_in self.new ≡ rooms_in self.old }
@@ -78,12 +88,13 @@ impl State {
         settings.header(settings.version, life, heard)
     }
 
-    /// Sends a HELLO of version 1 behind one of version 2, which is told by its header.
+    /// Sends the HELLO of version 1 after one of version 2, and returns its header.
     fn take_old_hello(&mut self, settings: &Settings, life: u64, heard: u64) -> Header
         requires link { IsLink settings.now.me settings.now.peer }
         requires life { IsLifeNumber life }
         requires heard { heard ≤ 2 ^ 62 }
-        ensures frame { frame_of result Body.Hello ≡ frame_sent (settings_in settings.now) Version.One life heard Body.Hello }
+        ensures frame { frame_of result Body.Hello ≡ frame_sent (settings_in settings.now) Version.One life heard
+            Body.Hello }
         ensures valid { IsHeader result }
         ensures state { state_in self.new ≡ after_old_hello (state_in self.old) }
         ensures rooms { rooms_in self.new ≡ rooms_in self.old }
@@ -92,7 +103,7 @@ impl State {
         settings.header(Version::One, life, heard)
     }
 
-    /// Sends the first packets due, which are put into `packets`, or an ACK where one is owed.
+    /// Sends the first packets due, which are put into `packets`, or an ACK if one is owed.
     fn take_due<'a>(
         &mut self,
         settings: &Settings,
@@ -105,8 +116,10 @@ impl State {
         requires peer { IsLifeNumber life.peer }
         requires accepted { self.old.accepted ≤ 2 ^ 62 }
         requires submitted { self.old.acknowledged + length self.old.queue.items ≤ 2 ^ 62 }
-        ensures frame { result ≡ (on_transmit_due (settings_in settings.now) (state_in self.old) life (due_of (settings_in settings.now) (state_in self.old) now)).0 }
-        ensures state { state_in self.new ≡ (on_transmit_due (settings_in settings.now) (state_in self.old) life (due_of (settings_in settings.now) (state_in self.old) now)).1 }
+        ensures frame { result ≡ (on_transmit_due (settings_in settings.now) (state_in self.old) life
+            (due_of (settings_in settings.now) (state_in self.old) now)).0 }
+        ensures state { state_in self.new ≡ (on_transmit_due (settings_in settings.now) (state_in self.old) life
+            (due_of (settings_in settings.now) (state_in self.old) now)).1 }
         ensures rooms { rooms_in self.new ≡ rooms_in self.old }
     {
         let version = self.data_version();
@@ -130,14 +143,16 @@ impl State {
 
     /// Whether a packet is due, or an ACK is owed.
     fn is_body_due(&self, settings: &Settings, now: u64) -> bool
-        ensures { (life : Life) → result ≡ is_some (on_transmit_due (settings_in settings.now) (state_in self.now) life (due_of (settings_in settings.now) (state_in self.now) now)).0 }
+        ensures { (life : Life) → result ≡ is_some (on_transmit_due (settings_in settings.now) (state_in self.now) life
+            (due_of (settings_in settings.now) (state_in self.now) now)).0 }
     {
         self.queue.is_due(&settings.times, now) || self.owes_ack
     }
 
     /// Whether a HELLO is due.
     fn is_any_hello_due(&self, settings: &Settings, now: u64) -> bool
-        ensures { result ≡ is_hello_due (settings_in settings.now) (state_in self.now) now || is_old_hello_due (state_in self.now) }
+        ensures { result ≡ is_hello_due (settings_in settings.now) (state_in self.now) now || is_old_hello_due
+            (state_in self.now) }
     {
         self.is_hello_due(settings, now) || self.is_old_hello_due()
     }
@@ -156,10 +171,11 @@ impl State {
         }
     }
 
-    /// The tick from which on a HELLO is due.
+    /// The first tick at which a HELLO is due.
     fn hello_tick(&self, settings: &Settings) -> Option<u64>
         requires { 0 < settings.now.times.hello }
-        ensures { (tick : ℕ) → tick < 2 ^ 64 → has_begun result tick ≡ is_hello_due (settings_in settings.now) (state_in self.now) tick || is_old_hello_due (state_in self.now) }
+        ensures { (tick : ℕ) → tick < 2 ^ 64 → has_begun result tick
+            ≡ is_hello_due (settings_in settings.now) (state_in self.now) tick || is_old_hello_due (state_in self.now) }
     {
         if self.owes_hello || self.is_old_hello_due() {
             return Some(0);
@@ -167,10 +183,11 @@ impl State {
         tick_behind(self.last_hello?, settings.times.hello)
     }
 
-    /// The tick from which on a frame of a bound end is due, or its life ends.
+    /// The first tick at which a frame of a bound end is due, or its life ends.
     fn bound_tick(&self, settings: &Settings) -> Option<u64>
         requires { IsEndState (settings_in settings.now) (state_in self.now) }
-        ensures { (life : Life) (tick : ℕ) → tick < 2 ^ 64 → has_begun result tick ≡ is_due_in (settings_in settings.now) (state_in self.now) life tick }
+        ensures { (life : Life) (tick : ℕ) → tick < 2 ^ 64 → has_begun result tick
+            ≡ is_due_in (settings_in settings.now) (state_in self.now) life tick }
     {
         if self.owes_ack {
             return Some(0);
@@ -181,11 +198,12 @@ impl State {
         earlier(self.hello_tick(settings), earlier(packets, silent))
     }
 
-    /// The tick from which on a frame is due, or a life ends.
+    /// The first tick at which a frame is due, or a life ends.
     #[tactic(auto, unfolding(crate::specs::LinkEnd::on_transmit, crate::specs::LinkEnd::on_transmit_in, crate::specs::LinkEnd::after_tick))]
     fn due_tick(&self, settings: &Settings) -> Option<u64>
         requires { IsEndState (settings_in settings.now) (state_in self.now) }
-        ensures { (tick : ℕ) → tick < 2 ^ 64 → has_begun result tick ≡ is_any_due (settings_in settings.now) (state_in self.now) tick }
+        ensures { (tick : ℕ) → tick < 2 ^ 64 → has_begun result tick
+            ≡ is_any_due (settings_in settings.now) (state_in self.now) tick }
     {
         match self.phase {
             Phase::Closed => None,
@@ -205,16 +223,20 @@ impl State {
         }
     }
 
-    /// A HELLO of version 1 behind one of version 2, or one of the newest version, where one is due: its header.
+    /// Sends the first HELLO due, and returns its header.
     fn poll_hello(&mut self, settings: &Settings, life: u64, heard: u64, now: u64) -> Option<Header>
         requires link { IsLink settings.now.me settings.now.peer }
         requires life { IsLifeNumber life }
         requires heard { heard ≤ 2 ^ 62 }
-        ensures frame { IfSome result (λ header. (other : Option FrameParts × EndState) → (on_hello (settings_in settings.now) (state_in self.old) life heard now other).0 ≡ Some (frame_of header Body.Hello)) }
-        ensures state { IfSome result (λ _. (other : Option FrameParts × EndState) → state_in self.new ≡ (on_hello (settings_in settings.now) (state_in self.old) life heard now other).1) }
+        ensures frame { IfSome result (λ header. (other : Option FrameParts × EndState)
+            → (on_hello (settings_in settings.now) (state_in self.old) life heard now other).0
+            ≡ Some (frame_of header Body.Hello)) }
+        ensures state { IfSome result (λ _. (other : Option FrameParts × EndState)
+            → state_in self.new ≡ (on_hello (settings_in settings.now) (state_in self.old) life heard now other).1) }
         ensures rooms { rooms_in self.new ≡ rooms_in self.old }
         ensures valid { IfSome result (λ header. IsHeader header) }
-        ensures none { IfNone result ((is_hello_due (settings_in settings.now) (state_in self.old) now ≡ false) × (is_old_hello_due (state_in self.old) ≡ false)) }
+        ensures none { IfNone result ((is_hello_due (settings_in settings.now) (state_in self.old) now ≡ false)
+            × (is_old_hello_due (state_in self.old) ≡ false)) }
         ensures same { IfNone result (self.new ≡ self.old) }
     {
         if self.is_old_hello_due() {
@@ -226,12 +248,15 @@ impl State {
         None
     }
 
-    /// The first frame due, where it is a HELLO: its header. `None` where it is another, or none is due.
+    /// Sends the first frame due if it is a HELLO, and returns its header. `None` if it is another frame, or none is
+    /// due.
     #[tactic(auto, unfolding(crate::specs::LinkEnd::on_transmit, crate::specs::LinkEnd::on_transmit_in), using(crate::proofs::DueLemmas::no_hello_behind))]
     pub fn poll_first_hello(&mut self, settings: &Settings, now: u64) -> Option<Header>
         requires { IsEndState (settings_in settings.now) (state_in self.old) }
-        ensures frame { IfSome result (λ header. (on_transmit (settings_in settings.now) (state_in self.old) now).0 ≡ Some (frame_of header Body.Hello)) }
-        ensures state { IfSome result (λ _. state_in self.new ≡ (on_transmit (settings_in settings.now) (state_in self.old) now).1) }
+        ensures frame { IfSome result (λ header. (on_transmit (settings_in settings.now) (state_in self.old) now).0
+            ≡ Some (frame_of header Body.Hello)) }
+        ensures state { IfSome result (λ _. state_in self.new ≡ (on_transmit (settings_in settings.now)
+            (state_in self.old) now).1) }
         ensures rooms { rooms_in self.new ≡ rooms_in self.old }
         ensures valid { IfSome result (λ header. IsHeader header) }
         ensures given { is_some result ≡ is_hello (on_transmit (settings_in settings.now) (state_in self.old) now).0 }
@@ -244,7 +269,7 @@ impl State {
         }
     }
 
-    /// The first frame due. Its packets are put into `packets`.
+    /// Sends the first frame due. Its packets are put into `packets`.
     #[tactic(auto, unfolding(crate::specs::LinkEnd::on_transmit, crate::specs::LinkEnd::on_transmit_in))]
     pub fn poll_transmit<'a>(
         &mut self,
@@ -273,7 +298,7 @@ impl State {
     }
 }
 
-/// Whether the version is version 2.
+/// Whether this is version 2.
 pub fn is_two(version: Version) -> bool
     ensures { result ≡ is_two version }
 {

@@ -1,20 +1,20 @@
-//! What a link end makes of a frame.
+//! How a link end receives a frame.
 use std::fmt;
 
-/// The answer of a link end to a frame.
+/// The verdict of a link end on a frame.
 #[derive(Clone, Copy, Debug, PartialEq, Eq, Hash)]
 pub enum Verdict {
-    /// The frame told something new, or was a HELLO of the life.
+    /// The frame brought something new, or was a HELLO of the life.
     Accepted,
-    /// The frame told nothing new: a packet that was accepted before, or a count that did not grow.
+    /// The frame brought nothing new: a packet that was accepted before, or a count that did not grow.
     Repeated,
-    /// A packet that came before one with a lesser number.
+    /// A packet that arrived before one with a smaller number.
     Ahead,
-    /// A frame of another life, or one that came to a closed end.
+    /// A frame of another life, or a frame at a closed end.
     Stale,
-    /// A frame that no peer sends to this end.
+    /// A frame that the peer would not send to this end.
     Foreign,
-    /// The frame was not looked at, since too many events wait.
+    /// The frame was not looked at, because too many events wait.
     Busy,
 }
 

@@ -4,7 +4,7 @@ use tora_frame::{Frame, Header, MOST_PACKETS, Packets, Version, decode_into, enc
 use tora_height::Height;
 use tora_packet::{Packet, Update};
 
-/// How many values are encoded before they are decoded, so that no value can be passed on in a register.
+/// How many values are encoded before they are decoded, so that no value stays in a register.
 const BATCH: u32 = 256;
 
 /// The `i`th update.
@@ -37,7 +37,7 @@ impl Coded {
         }
     }
 
-    /// Encodes and decodes until the steps are done; a number that depends on every result.
+    /// Encodes and decodes until the steps are done. Returns a number that depends on every result.
     pub fn run(self, alloc: Global, steps: u32) -> Option<u64> {
         match self {
             Coded::Packet => run_packets(alloc, steps),
@@ -90,7 +90,7 @@ fn told(packet: &Packet) -> u64 {
     }
 }
 
-/// The updates encoded and then decoded again, until `steps` are done.
+/// The updates, encoded and decoded until `steps` are done.
 fn run_packets(alloc: Global, steps: u32) -> Option<u64> {
     let packets = updates(alloc)?;
     let mut wires = Vec::new(alloc);
@@ -111,8 +111,8 @@ fn run_packets(alloc: Global, steps: u32) -> Option<u64> {
     Some(sum)
 }
 
-/// DATA frames with the updates, encoded and then decoded again, until `steps` are done, by the calls that a neighbour's
-/// thread makes: the bytes go into buffers that are kept, and the packets into one list that is kept.
+/// DATA frames with the updates, encoded and decoded until `steps` are done, by the calls that a link's thread makes:
+/// the buffers for the bytes and the list for the packets are reused.
 fn run_frames(alloc: Global, steps: u32, coded: Coded) -> Option<u64> {
     let mut frames = Vec::new(alloc);
     let mut wires = Vec::new(alloc);

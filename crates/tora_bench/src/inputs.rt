@@ -11,7 +11,7 @@ const NEIGHBOURS: [Id; 8] = [1, 2, 3, 4, 5, 6, 7, 8];
 
 const DESTINATIONS: [Id; 16] = [5, 6, 7, 8, 9, 10, 11, 12, 13, 14, 15, 16, 17, 18, 19, 20];
 
-/// As many neighbours and destinations as there may be.
+/// The most neighbours that a core may have.
 const MOST_NEIGHBOURS: [Id; 32] = [
     1, 2, 3, 4, 5, 6, 7, 8, 9, 10, 11, 12, 13, 14, 15, 16, 17, 18, 19, 20, 21, 22, 23, 24, 25, 26,
     27, 28, 29, 30, 31, 32,
@@ -115,7 +115,7 @@ pub fn fresh_core(alloc: Global, size: Size) -> Option<Core> {
     }
 }
 
-/// A core with one destination and all links up, which needs a route.
+/// A core with one destination and all links up that needs a route.
 pub fn small_core(alloc: Global) -> Option<Core> {
     let mut core = Core::new(alloc, 100, &NEIGHBOURS, &[20]).ok()?;
     for k in NEIGHBOURS {
@@ -130,7 +130,7 @@ fn update(k: Id, destination: Id, height: Option<Height>) -> Option<Input> {
     Some(Input::Packet(k, Packet::Upd(Update::new(destination, height?).ok()?)))
 }
 
-/// A core with all links up, whose destinations that are no neighbours have a route by neighbour 1.
+/// A core with all links up. Its destinations that are not neighbours have a route by neighbour 1.
 pub fn routed_core(alloc: Global, size: Size) -> Option<Core> {
     let mut core = fresh_core(alloc, size)?;
     let last = u32::from(size.last_neighbour());
@@ -156,7 +156,7 @@ pub fn quiet_update(size: Size, i: u32) -> Option<Input> {
     update(k, d, Height::new(0, 0, 0, delta, k).ok())
 }
 
-/// An update of one of two neighbours that overtake each other: every second one takes the last downstream link away.
+/// An update of one of two neighbours whose heights alternate: every second update removes the last downstream link.
 pub fn reacting_update(i: u32) -> Option<Input> {
     let k = 1 + i % 2;
     let height = Height::new(1 + u64::from(i), 1 + i % 3, 0, 0, k).ok();
@@ -183,7 +183,8 @@ fn mixed_packet(random: &mut Random, now: u64, k: Id, d: Id, choice: u32) -> Opt
     update(k, d, height.ok())
 }
 
-/// Mixed inputs for a core of a size: about one in twenty a link, one in twenty a need, the others packets of up neighbours.
+/// Mixed inputs for a core of a size: about one in twenty is a change of a link, one in twenty a need, and the others
+/// are packets of neighbours whose links are up.
 pub fn mixed_inputs(
     alloc: Global,
     size: Size,

@@ -6,16 +6,16 @@ use tora_frame::{BorrowedFrame, LONGEST_FRAME, Packets, Version, decode_into, en
 use tora_height::Height;
 use tora_packet::{Packet, Update};
 
-/// How a frame goes from one end to the other.
+/// How a frame is passed from one end to the other.
 #[derive(Clone, Copy, PartialEq, Eq)]
 pub enum Passed {
-    /// As it is.
+    /// As a value.
     Frame,
-    /// As its bytes, which are read again.
+    /// As bytes, encoded and decoded.
     Bytes,
 }
 
-/// What is kept from one frame to the next.
+/// The buffers that are reused for each frame.
 #[derive(Drop)]
 struct Kept {
     bytes: ArrayVec<u8, LONGEST_FRAME>,
@@ -30,7 +30,7 @@ impl Kept {
         }
     }
 
-    /// Hands a frame to an end.
+    /// Passes a frame to an end.
     fn pass(&mut self, frame: &BorrowedFrame<'_>, to: &mut LinkEnd, passed: Passed) {
         if passed == Passed::Frame {
             let _verdict = to.on_borrowed_frame(frame, 0);
@@ -43,7 +43,7 @@ impl Kept {
     }
 }
 
-/// Hands the frames due at one end to the other.
+/// Passes the frames due at one end to the other.
 fn exchange(from: &mut LinkEnd, to: &mut LinkEnd, packets: &mut Packets) -> u64 {
     let mut count = 0u64;
     for _ in 0..4 {
@@ -56,7 +56,7 @@ fn exchange(from: &mut LinkEnd, to: &mut LinkEnd, packets: &mut Packets) -> u64 
     count
 }
 
-/// How many events wait, of 64 at most; they are polled.
+/// Polls the events, at most 64, and returns their count.
 fn count_events(end: &mut LinkEnd) -> u64 {
     let mut count = 0u64;
     for _ in 0..64 {
@@ -68,7 +68,7 @@ fn count_events(end: &mut LinkEnd) -> u64 {
     count
 }
 
-/// Hands the frames due at one end to the other, which tells its events after each, as in the turns of a node.
+/// Passes the frames due at one end to the other, and polls the events of the other after each, as a node does.
 fn exchange_all(from: &mut LinkEnd, to: &mut LinkEnd, kept: &mut Kept, passed: Passed) -> u64 {
     let mut packets = Packets::new();
     let mut count = 0u64;
@@ -82,7 +82,7 @@ fn exchange_all(from: &mut LinkEnd, to: &mut LinkEnd, kept: &mut Kept, passed: P
     count
 }
 
-/// Two ends that are bound, and the life as the first one writes it.
+/// Two bound ends, and the life as the first one writes it.
 struct Link {
     one: LinkEnd,
     two: LinkEnd,
@@ -111,8 +111,8 @@ fn bound_link(alloc: Global, version: Version) -> Option<Link> {
     Some(Link { one, two, life })
 }
 
-/// Queries from one end to the other, each delivered and acknowledged before the next; how many events and frames there
-/// were.
+/// Sends queries from one end to the other, each delivered and acknowledged before the next. Returns the count of
+/// events and frames.
 pub fn run_link(alloc: Global, packets: u32) -> Option<u64> {
     let Link {
         mut one,
@@ -134,7 +134,7 @@ pub fn run_link(alloc: Global, packets: u32) -> Option<u64> {
     Some(sum)
 }
 
-/// As many updates of node 1 as a window holds, in memory, as packets come out of a lane.
+/// Updates of node 1 in memory, as many as a window holds.
 fn window_of_updates(alloc: Global) -> Option<Vec<Packet>> {
     let height = Height::new(0, 0, 0, 1, 1).ok()?;
     let mut updates = Vec::new(alloc);
@@ -146,8 +146,8 @@ fn window_of_updates(alloc: Global) -> Option<Vec<Packet>> {
     Some(updates)
 }
 
-/// Updates of 32 bytes from one end to the other, a window at a time: in version 1 as many frames, in version 2 two of
-/// sixteen, and one ACK; how many events and frames there were.
+/// Sends updates of 32 bytes from one end to the other, a window at a time: in version 1 as that many frames, in
+/// version 2 as two frames of sixteen, with one ACK. Returns the count of events and frames.
 pub fn run_window(alloc: Global, packets: u32, version: Version, passed: Passed) -> Option<u64> {
     let Link {
         mut one,

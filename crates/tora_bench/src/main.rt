@@ -1,11 +1,11 @@
 //! Times the calls of the lower crates, for the scripts under `bench/`. With no words it prints nothing.
 //!
-//! `tora_bench hold-least N`, `hold-small N` and `hold-large N` hold N cores at once. `tora_bench core N` times N steps of a
-//! core on mixes of inputs, four with 8 neighbours and 16 destinations, three with 32 and 64, `tora_bench link N` N packets
-//! that go from one link end to another and are acknowledged, one at a time and a window at a time: in frames of one and in
-//! batches, and each of them as frames and as bytes. `tora_bench codec N` encodes and decodes N updates, then N DATA frames
-//! of version 1 with an update each, and then N DATA frames of version 2 with sixteen updates each. Each line is a name,
-//! nanoseconds an operation (the best of seven runs), and a number that depends on every result.
+//! `tora_bench hold-least N`, `hold-small N` and `hold-large N` hold N cores at once. `tora_bench core N` times N steps
+//! of a core on mixes of inputs, four with 8 neighbours and 16 destinations, three with 32 and 64, `tora_bench link N`
+//! N packets that go from one link end to another and are acknowledged, one at a time and a window at a time: in frames
+//! of one and in batches, and each of them as frames and as bytes. `tora_bench codec N` encodes and decodes N updates,
+//! then N DATA frames of version 1 with an update each, and then N DATA frames of version 2 with sixteen updates each.
+//! Each line is a name, nanoseconds an operation (the best of seven runs), and a number that depends on every result.
 #![tactic(auto)]
 
 mod codec;
@@ -24,18 +24,18 @@ use tora_core::{Core, Input, Sends};
 use tora_frame::Version;
 use tora_packet::Packet;
 
-/// How often each mix is run; the best run counts.
+/// How many times each mix is run; the best run counts.
 const RUNS: u32 = 7;
 
-/// The steps of one run where no number is given.
+/// The steps of one run if no number is given.
 const STEPS: u32 = 200_000;
 
-/// Adds what a result says to a running number.
+/// Folds a result into a running number.
 fn folded(sum: u64, value: u64) -> u64 {
     (sum ^ value).wrapping_mul(0x100000001b3)
 }
 
-/// A number that depends on what a packet says.
+/// A number that depends on every part of a packet.
 fn told(packet: &Packet) -> u64 {
     let parts = match packet {
         Packet::Qry(_) => 1,
@@ -63,8 +63,8 @@ fn run_mixed(core: &mut Core, inputs: &[(u64, Input)]) -> u64 {
     sum
 }
 
-/// One step, and one more than the packets that it broadcasts, or 0 where it is refused: a run in which steps are refused
-/// shows it in its number.
+/// Makes one step. Returns one more than the number of packets that it broadcasts, or 0 if it is refused, so that
+/// refused steps change the number of a run.
 fn sent(core: &mut Core, input: &Option<Input>, now: u64, sends: &mut Sends) -> u64 {
     let Some(input) = input else {
         return 0;
@@ -135,7 +135,7 @@ impl Mix {
         }
     }
 
-    /// A new core for a run, where the mix wants one.
+    /// A new core for a run, if the mix needs one.
     fn core(self, alloc: Global) -> Option<Core> {
         match self {
             Mix::Mixed(size) => fresh_core(alloc, size),
@@ -200,7 +200,7 @@ fn size_named(word: &str) -> Option<Size> {
     }
 }
 
-/// Makes so many cores and holds them all at once, for a script that looks at the memory of the process.
+/// Makes `count` cores and holds them all at once, for a script that measures the memory of the process.
 fn hold(rt: &HostRuntime, size: Size, count: u32) -> io::Result<()> {
     let mut cores = Vec::new(rt.alloc());
     for _ in 0..count {

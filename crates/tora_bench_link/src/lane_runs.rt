@@ -6,7 +6,7 @@ use std::thread::{Threads, join};
 use tora_arq::Life;
 use tora_lane::{Cargo, CorePort, InPort, Lanes, OutPut, OutTake, What, lanes};
 
-/// Puts items of one seat, and answers how many were put.
+/// Puts items of one seat, and returns how many were put.
 fn put_all<R: Wait>(rt: &R, port: InPort, count: u32) -> u64 {
     let mut port = port;
     let mut put = 0u64;
@@ -23,7 +23,7 @@ fn put_all<R: Wait>(rt: &R, port: InPort, count: u32) -> u64 {
     put
 }
 
-/// Takes items until all ports of seats have ended, and answers how many were taken.
+/// Takes items until the ports of all seats have ended, and returns how many were taken.
 fn take_all<R: Wait>(rt: &R, core: CorePort) -> u64 {
     let mut core = core;
     let mut taken = 0u64;
@@ -36,7 +36,7 @@ fn take_all<R: Wait>(rt: &R, core: CorePort) -> u64 {
     taken
 }
 
-/// Three threads put, and one takes; how many items were taken.
+/// Three threads put items, and one takes them. Returns how many were taken.
 pub fn run_core_lane<R: Threads + Wait + Sync>(rt: &R, alloc: Global, count: u32) -> u64 {
     let Ok(made) = lanes(rt, alloc, 2) else {
         return 0;
@@ -69,7 +69,7 @@ pub fn run_core_lane<R: Threads + Wait + Sync>(rt: &R, alloc: Global, count: u32
     taken
 }
 
-/// Sends cargoes, again and again where one is handed back.
+/// Sends cargoes, and tries again if the lane returns one.
 fn send_all<R: Wait>(rt: &R, put: OutPut, count: u32) {
     let mut put = put;
     let mut number = 0u32;
@@ -88,7 +88,7 @@ fn send_all<R: Wait>(rt: &R, put: OutPut, count: u32) {
     }
 }
 
-/// Receives so many cargoes.
+/// Receives `count` cargoes.
 fn receive_all<R: Wait>(rt: &R, take: OutTake, count: u32) -> u64 {
     let mut take = take;
     let mut taken = 0u32;
@@ -104,7 +104,7 @@ fn receive_all<R: Wait>(rt: &R, take: OutTake, count: u32) -> u64 {
     u64::from(taken)
 }
 
-/// One thread sends, and another receives; how many cargoes were received.
+/// One thread sends cargoes, and another receives them. Returns how many were received.
 pub fn run_out_lane<R: Threads + Wait + Sync>(rt: &R, alloc: Global, count: u32) -> u64 {
     let Ok(made) = lanes(rt, alloc, 1) else {
         return 0;

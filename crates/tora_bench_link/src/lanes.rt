@@ -7,7 +7,7 @@ use std::sync::Wait;
 use std::thread::Threads;
 use std::time::{Duration, Instant};
 
-/// How often each run is made; the best one counts.
+/// How many times each run is made; the best one counts.
 const RUNS: u32 = 7;
 
 /// Prints the line of a run: its name, the least time that it took, and how many operations it had.
@@ -60,7 +60,7 @@ fn time<R: Clock + Print + Threads + Wait + Sync>(
     line(rt, lane.name(), best, taken)
 }
 
-/// Times both lanes, with so many items of each thread and so many cargoes.
+/// Times both lanes, with `count` items of each thread and `count` cargoes.
 pub fn time_lanes<R: Clock + Print + Threads + Wait + Sync>(
     rt: &R,
     alloc: Global,

@@ -2,6 +2,7 @@
 ghost use Rattle.std.specs.Prelude.{◌≢◌, ◌<◌};
 
 use crate::paced_hub::{Course, PacedHub};
+use log::Log;
 use std::alloc::Global;
 use std::net::{IpAddr, Ipv4Addr, Net, SocketAddr};
 use std::sync::Wait;
@@ -11,16 +12,16 @@ use std::time::{Clock, Instant};
 use std::{io, thread};
 use tora_arq::{Life, LinkEnd, Times};
 use tora_height::{Height, Id};
-use tora_keyed::{Key, KeyedWire};
+use tora_keyed::{Key, LinkWire};
 use tora_lane::Cargo;
 use tora_life::{LifeFile, MemDisk};
 use tora_neighbour::{Link, ListHub, NodeClock, UnixClock, WakingWire, Wire, run_neighbour};
 use tora_packet::{Packet, Update};
 
-/// Places for the life that begins and for the beats of a run.
+/// Places for the item that a life begins and for the beats of a run.
 const OTHER_PUTS: usize = 10_000;
 
-/// Two wires to each other, on two ports of the loopback that are free.
+/// Two wires to each other, on two free ports of the loopback.
 fn pair<'a, R: Clock + Net>(
     rt: &'a R,
     alloc: Global,
@@ -41,7 +42,7 @@ fn pair<'a, R: Clock + Net>(
     None
 }
 
-/// So many updates, in the life of two ends that drew their first numbers.
+/// A list of `count` updates, in the life of two ends that drew their first numbers.
 fn cargoes(alloc: Global, count: u32) -> Option<Vec<Cargo>> {
     let height = Height::new(0, 0, 0, 1, 1).ok()?;
     let packet = Packet::Upd(Update::new(4, height).ok()?);
@@ -106,13 +107,13 @@ fn run_ends<R: Clock + Threads + Wait + Sync, W: Wire + Send + Drop>(
     Some(())
 }
 
-/// The wire under a key of its own making.
-fn keyed<W: Wire>(wire: W) -> KeyedWire<W> {
-    KeyedWire::new(wire, Key::new(&[7; 32]))
+/// The wire of a link to `peer` with a new key.
+fn keyed<R: Clock + Log, W: Wire>(rt: &R, peer: Id, wire: W) -> LinkWire<'_, W, UnixClock<&R>, R> {
+    LinkWire::new(wire, Some(Key::new(&[7; 32])), peer, UnixClock::new(rt), rt)
 }
 
 /// Runs a link, with a key or without one.
-fn run_link<R: Clock + Net + Threads + Wait + Sync>(
+fn run_link<R: Clock + Log + Net + Threads + Wait + Sync>(
     rt: &R,
     alloc: Global,
     count: u32,
@@ -123,14 +124,14 @@ fn run_link<R: Clock + Net + Threads + Wait + Sync>(
     let (first, second) = pair(rt, alloc, &clock)?;
     let list = cargoes(alloc, count)?;
     if is_keyed {
-        let wires = (keyed(first), keyed(second));
+        let wires = (keyed(rt, 2, first), keyed(rt, 1, second));
         return run_ends(rt, alloc, wires, list, course);
     }
     run_ends(rt, alloc, (first, second), list, course)
 }
 
-/// Times the link, with so many packets, with a key or without one.
-pub fn time_link<R: Clock + Net + Print + Threads + Wait + Sync>(
+/// Times the link with `count` packets, with a key or without one.
+pub fn time_link<R: Clock + Log + Net + Print + Threads + Wait + Sync>(
     rt: &R,
     alloc: Global,
     count: u32,

@@ -7,7 +7,7 @@ use std::time::{Clock, Instant};
 use tora_lane::{Cargo, Gone, What};
 use tora_neighbour::{Hub, ListHub};
 
-/// How many packets may be given to the sender beyond those that were delivered; its queue has 256 places.
+/// How many packets the sender may be ahead of the delivered ones; its queue has 256 places.
 const MOST_AHEAD: u64 = 200;
 
 /// What the two ends share.
@@ -40,11 +40,11 @@ impl Course {
     }
 }
 
-/// A hub that gives its cargoes once its life has begun, so many ahead of those delivered at most, and answers `Gone` once
-/// all were delivered.
+/// A hub that gives its cargoes once its life has begun, at most `MOST_AHEAD` more than were delivered, and returns
+/// `Gone` once all were delivered.
 #[derive(Drop)]
 pub struct PacedHub<'a, C> {
-    /// The cargoes, and what was put.
+    /// The cargoes, and the items that were put.
     pub list: ListHub,
     /// What both ends share.
     pub course: &'a Course,
@@ -54,12 +54,12 @@ pub struct PacedHub<'a, C> {
     pub is_up: bool,
     /// How many cargoes were given.
     pub given: u64,
-    /// Whether `Gone` was answered.
+    /// Whether `Gone` was returned.
     pub over: bool,
 }
 
 impl<C: Clock> PacedHub<'_, C> {
-    /// Notes what is put.
+    /// Notes an item that is put.
     fn note(&mut self, what: &What)
         ensures list { self.new.list ≡ self.old.list }
         ensures over { self.new.over ≡ self.old.over }

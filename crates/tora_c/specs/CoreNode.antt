@@ -32,16 +32,21 @@ abbrev pub new_refusal : ℕ → List ℕ → List ℕ → ℕ → Option ℕ
 new_refusal me neighbours destinations choice =
     if is_none (erasure_of choice) then Some CHOICE
     else if has_zero me neighbours destinations then Some ZERO
-    else option_map core_code (core_refusal_within (most_neighbours greatest_core_limits) (most_destinations greatest_core_limits) me neighbours destinations)
+    else option_map core_code (core_refusal_within (most_neighbours greatest_core_limits)
+    (most_destinations greatest_core_limits) me neighbours destinations)
 
 abbrev pub first_node : Erasure → ℕ → List ℕ → List ℕ → NodeView
-first_node erasure me neighbours destinations = record { core = first_core_of erasure me neighbours destinations; sent = [] }
+first_node erasure me neighbours destinations = record {
+  core = first_core_of erasure me neighbours destinations;
+  sent = [];
+}
 
 -- ---- a step
 
 -- an input that is refused changes nothing, and what was sent before stays
 abbrev pub node_after : NodeView → Input → ℕ → NodeView
-node_after n input now = if is_some (refusal_of n.core input) then n else record { core = core_after n.core input now; sent = sends_of n.core input now }
+node_after n input now = if is_some (refusal_of n.core input) then n
+    else record { core = core_after n.core input now; sent = sends_of n.core input now }
 
 abbrev pub step_code : NodeView → Input → ℕ
 step_code n input = code_or_ok (option_map refused_code (refusal_of n.core input))

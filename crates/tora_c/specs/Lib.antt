@@ -4,3 +4,4 @@ pub mod Readers
 pub mod RouterHeld
 pub mod RouterParts
 pub mod Version
+pub mod WorldHeld

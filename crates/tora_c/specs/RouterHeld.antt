@@ -31,7 +31,12 @@ of_held value held old = option_map_or (λ r. value (router_of r)) held old
 -- ---- a new one
 
 abbrev pub config_of : ℕ → TimesParts → Erasure → Config
-config_of me times erasure = record { me = me; times = times_of times; erasure = erasure; limits = greatest_core_limits }
+config_of me times erasure = record {
+  me = me;
+  times = times_of times;
+  erasure = erasure;
+  limits = greatest_core_limits;
+}
 
 -- why there is none, but for want of memory: the first cause that holds, whatever the erasure is
 abbrev pub new_router_refusal : ℕ → List ℕ → List ℕ → ℕ → TimesParts → ℕ → Option ℕ
@@ -71,18 +76,21 @@ after_poll now buffer r = if is_short buffer then r else after_poll_datagram now
 
 abbrev pub polled_peer : ℕ → List ℕ → ℕ → RouterState → ℕ
 polled_peer now buffer old r =
-    if is_short buffer then old else option_map_or (λ (found : ℕ × FrameParts). peer_at found.0 r.links) (frame_in now r) old
+    if is_short buffer then old else option_map_or (λ (found : ℕ × FrameParts).
+    peer_at found.0 r.links) (frame_in now r) old
 
 abbrev pub polled_length : ℕ → List ℕ → ℕ → RouterState → ℕ
 polled_length now buffer old r =
-    if is_short buffer then LONGEST_FRAME else option_map_or (λ (found : ℕ × FrameParts). length (frame_spelling found.1)) (frame_in now r) old
+    if is_short buffer then LONGEST_FRAME else option_map_or (λ (found : ℕ × FrameParts).
+    length (frame_spelling found.1)) (frame_in now r) old
 
 abbrev pub over : List ℕ → List ℕ → List ℕ
 over bytes buffer = bytes ++ drop (length bytes) buffer
 
 abbrev pub polled_bytes : ℕ → List ℕ → RouterState → List ℕ
 polled_bytes now buffer r =
-    if is_short buffer then buffer else option_map_or (λ (found : ℕ × FrameParts). over (frame_spelling found.1) buffer) (frame_in now r) buffer
+    if is_short buffer then buffer else option_map_or (λ (found : ℕ × FrameParts). over (frame_spelling found.1) buffer)
+    (frame_in now r) buffer
 
 abbrev pub polled_change : ChangeParts → RouterState → ChangeParts
 polled_change old r = option_map_or change_parts (change_in r) old

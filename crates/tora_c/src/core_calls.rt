@@ -1,7 +1,8 @@
 //! The calls that make a core, let it go, and step it.
 ghost use Rattle.std.specs.Prelude.{◌≡◌, ◌⊎◌, IfErr, IfOk, MatchOption, None, OnOk, Some};
 ghost use Rattle.tora_core.specs.declared.Input.{Input};
-ghost use Rattle.tora_c.specs.CoreNode.{bytes_after, bytes_code, erasure_of, first_node, held_after, held_code, new_refusal};
+ghost use Rattle.tora_c.specs.CoreNode.{bytes_after, bytes_code, erasure_of, first_node, held_after, held_code};
+ghost use Rattle.tora_c.specs.CoreNode.{new_refusal};
 
 use crate::boxes::boxed;
 use crate::codes::{MEMORY, NULL, OK, packet_code};
@@ -21,9 +22,11 @@ pub extern "C" fn tora_core_new(
     destinations: &[u32],
     erasure: u32,
 ) -> u32
-    ensures made { result ≡ OK → MatchOption (erasure_of erasure) ⊥ (λ e. core.new.held ≡ Some (first_node e me neighbours.now destinations.now)) }
+    ensures made { result ≡ OK → MatchOption (erasure_of erasure) ⊥ (λ e.
+        core.new.held ≡ Some (first_node e me neighbours.now destinations.now)) }
     ensures kept { ¬ (result ≡ OK) → core.new.held ≡ core.old.held }
-    ensures code { MatchOption (new_refusal me neighbours.now destinations.now erasure) ((result ≡ OK) ⊎ (result ≡ MEMORY)) (λ code. result ≡ code) }
+    ensures code { MatchOption (new_refusal me neighbours.now destinations.now erasure) ((result ≡ OK)
+        ⊎ (result ≡ MEMORY)) (λ code. result ≡ code) }
 {
     let node = match CoreNode::new(alloc, me, neighbours, destinations, erasure) {
         Ok(node) => node,

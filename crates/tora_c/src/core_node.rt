@@ -10,19 +10,24 @@ use std::marker::Model;
 use tora_core::numbers::has_number;
 use tora_core::{Core, CoreLimits, Erasure, Input, Sends};
 
-/// A core, and the packets that its last step broadcast which was not refused.
+/// A core, and the packets that its last accepted step broadcast. Two lists take turns, so that a refused step leaves
+/// these packets, and none is moved.
 #[derive(Drop)]
 pub struct CoreNode {
     pub core: Core,
-    pub sends: Sends,
+    first: Sends,
+    second: Sends,
+    /// Whether the second list has the packets of the last step.
+    is_second: bool,
 }
 
 impl Model for CoreNode {
+    ghost use Rattle.std.specs.Prelude.{if◌then◌else◌};
     ghost use Rattle.tora_c.specs.CoreNode.{NodeView};
 
     ghost Value = { NodeView };
 
-    ghost view = { λ n. record { core = n.core; sent = n.sends.items } };
+    ghost view = { λ n. record { core = n.core; sent = if n.is_second then n.second.items else n.first.items } };
 }
 
 /// The choice of what becomes of erased levels: 0 is `Plain`, 1 is `Remembered`.
@@ -47,9 +52,11 @@ impl CoreNode {
         destinations: &[u32],
         choice: u32,
     ) -> Result<CoreNode, u32>
-        ensures made { IfOk result (λ n. MatchOption (erasure_of choice) ⊥ (λ erasure. n ≡ first_node erasure me neighbours.now destinations.now)) }
+        ensures made { IfOk result (λ n. MatchOption (erasure_of choice) ⊥ (λ erasure.
+            n ≡ first_node erasure me neighbours.now destinations.now)) }
         ensures accepted { OnOk result (new_refusal me neighbours.now destinations.now choice ≡ None) }
-        ensures refused { MatchOption (new_refusal me neighbours.now destinations.now choice) (IfErr result (λ code. code ≡ MEMORY)) (λ code. result ≡ Err code) }
+        ensures refused { MatchOption (new_refusal me neighbours.now destinations.now choice)
+            (IfErr result (λ code. code ≡ MEMORY)) (λ code. result ≡ Err code) }
     {
         let Some(erasure) = erasure_of(choice) else {
             return Err(CHOICE);
@@ -67,7 +74,9 @@ impl CoreNode {
         ) {
             Ok(core) => Ok(CoreNode {
                 core,
-                sends: ArrayVec::new(),
+                first: ArrayVec::new(),
+                second: ArrayVec::new(),
+                is_second: false,
             }),
             Err(error) => Err(core_code(error)),
         }
@@ -81,10 +90,26 @@ impl CoreNode {
         let Ok(core) = self.core.try_clone(alloc) else {
             return Err(MEMORY);
         };
-        let Ok(sends) = self.sends.clone() else {
+        let Ok(first) = self.sent().clone() else {
             return Err(MEMORY);
         };
-        Ok(CoreNode { core, sends })
+        Ok(CoreNode {
+            core,
+            first,
+            second: ArrayVec::new(),
+            is_second: false,
+        })
+    }
+
+    /// The packets that the last accepted step broadcast.
+    pub fn sent(&self) -> &Sends
+        ensures { result.now.items ≡ self.now.sent }
+    {
+        if self.is_second {
+            &self.second
+        } else {
+            &self.first
+        }
     }
 
     /// Takes an input in at a tick, and answers its code. One that is refused changes nothing.
@@ -92,12 +117,22 @@ impl CoreNode {
         ensures code { result ≡ step_code self.old input }
         ensures node { self.new ≡ node_after self.old input now }
     {
-        match self.core.step(input, now) {
-            Ok(sends) => {
-                self.sends = sends;
-                OK
+        if self.is_second {
+            match self.core.step_into(&input, now, &mut self.first) {
+                Ok(()) => {
+                    self.is_second = false;
+                    OK
+                }
+                Err(error) => refused_code(error),
             }
-            Err(error) => refused_code(error),
+        } else {
+            match self.core.step_into(&input, now, &mut self.second) {
+                Ok(()) => {
+                    self.is_second = true;
+                    OK
+                }
+                Err(error) => refused_code(error),
+            }
         }
     }
 }

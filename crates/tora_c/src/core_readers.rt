@@ -4,7 +4,8 @@ ghost use Rattle.tora_packet.specs.PacketGrammar.{packet_spelling};
 ghost use Rattle.tora_core.specs.CoreRun.{entry_of, flag_of, height_of, hop_of};
 ghost use Rattle.tora_core.specs.Numbers.{has_number};
 ghost use Rattle.tora_core.specs.ShowText.{show_text};
-ghost use Rattle.tora_c.specs.Readers.{bit, held_entry_code, held_number, held_number_code, held_parts, room_code, sent_at, written};
+ghost use Rattle.tora_c.specs.Readers.{bit, held_entry_code, held_number, held_number_code, held_parts, room_code};
+ghost use Rattle.tora_c.specs.Readers.{sent_at, written};
 
 use crate::buffers::write;
 use crate::codes::{ABSENT, MEMORY, NULL, OK};
@@ -129,7 +130,7 @@ pub extern "C" fn tora_core_sent_count(
     let Some(node) = core.take(alloc) else {
         return NULL;
     };
-    *count = node.sends.len();
+    *count = node.sent().len();
     core.put(alloc, node);
     OK
 }
@@ -145,14 +146,16 @@ pub extern "C" fn tora_core_sent(
 ) -> u32
     ensures same { core.new.held ≡ core.old.held }
     ensures null { core.old.held ≡ None → result ≡ NULL }
-    ensures sent { MatchOption (option_map (λ n. sent_at n place) core.old.held) ((bytes.new ≡ bytes.old) × (len.new ≡ len.old)) (λ sent.
+    ensures sent { MatchOption (option_map (λ n. sent_at n place) core.old.held) ((bytes.new ≡ bytes.old)
+        × (len.new ≡ len.old)) (λ sent.
         MatchOption sent ((result ≡ ABSENT) × (bytes.new ≡ bytes.old) × (len.new ≡ len.old)) (λ packet.
-        (result ≡ room_code (packet_spelling packet) bytes.old) × (bytes.new ≡ written (packet_spelling packet) bytes.old) × (len.new ≡ length (packet_spelling packet)))) }
+        (result ≡ room_code (packet_spelling packet) bytes.old) × (bytes.new
+        ≡ written (packet_spelling packet) bytes.old) × (len.new ≡ length (packet_spelling packet)))) }
 {
     let Some(node) = core.take(alloc) else {
         return NULL;
     };
-    let packet = node.sends.get(place).copied();
+    let packet = node.sent().get(place).copied();
     core.put(alloc, node);
     match packet {
         Some(packet) => write(encode(&packet).as_slice(), bytes, len),
@@ -171,7 +174,8 @@ pub extern "C" fn tora_core_show(
     ensures same { core.new.held ≡ core.old.held }
     ensures null { core.old.held ≡ None → result ≡ NULL }
     ensures kept { (result ≡ NULL) ⊎ (result ≡ MEMORY) → (text.new ≡ text.old) × (len.new ≡ len.old) }
-    ensures text { MatchOption core.old.held (Unit {0}) (λ n. (result ≡ MEMORY) ⊎ ((result ≡ room_code (show_text n.core) text.old)
+    ensures text { MatchOption core.old.held (Unit {0}) (λ n. (result ≡ MEMORY)
+        ⊎ ((result ≡ room_code (show_text n.core) text.old)
         × (text.new ≡ written (show_text n.core) text.old) × (len.new ≡ length (show_text n.core)))) }
 {
     let Some(node) = core.take(alloc) else {

@@ -1,8 +1,9 @@
 //! TORA for C and other languages. `include/tora.h` is the header.
 //!
-//! C holds a core or a router by a handle: a struct with one pointer, which is null at first. Each call checks its
-//! arguments, returns a code, and changes nothing unless the code is `OK`. C must ensure two things only: each pointer
-//! leads to what its type says, and no two calls use one handle at once.
+//! C holds a core, a router or a world by a handle: a struct with one pointer, which is null at first. Each call checks
+//! its arguments, returns a code, and changes nothing unless the code is `OK`; but a line of a world for which memory
+//! is refused makes the world new. C must ensure two things only: each pointer leads to what its type says, and no two
+//! calls use one handle at once.
 #![tactic(auto)]
 
 ghost use Rattle.std.specs.Prelude.{◌≡◌, length};
@@ -22,6 +23,9 @@ mod router_handle;
 mod router_parts;
 mod router_polls;
 mod router_readers;
+mod world_calls;
+mod world_handle;
+mod world_node;
 
 use buffers::write;
 
@@ -51,7 +55,7 @@ pub extern "C" fn tora_version(text: &mut [u8], len: &mut usize) -> u32
 
 #[cfg(test)]
 mod tests {
-    use crate::codes::{ABSENT, NULL, OK, ROOM};
+    use crate::codes::{ABSENT, CHOICE, NULL, OK, ROOM};
     use crate::core_calls::{
         tora_core_clone, tora_core_free, tora_core_link_up, tora_core_need, tora_core_new,
     };
@@ -64,6 +68,8 @@ mod tests {
     use crate::router_parts::{ChangeParts, TimesParts};
     use crate::router_polls::{tora_router_poll_change, tora_router_poll_datagram};
     use crate::router_readers::{tora_router_next_hop, tora_router_next_life};
+    use crate::world_calls::{tora_world_answer, tora_world_free, tora_world_line, tora_world_new};
+    use crate::world_handle::WorldHandle;
     use std::alloc::Global;
     use tora_frame::LONGEST_FRAME;
 
@@ -76,6 +82,13 @@ mod tests {
 
     // The same of a router.
     fn let_router_go(alloc: Global, handle: RouterHandle) {
+        if let Some(raw) = handle.into_raw(alloc) {
+            drop(raw.into_box());
+        }
+    }
+
+    // The same of a world.
+    fn let_world_go(alloc: Global, handle: WorldHandle) {
         if let Some(raw) = handle.into_raw(alloc) {
             drop(raw.into_box());
         }
@@ -165,5 +178,36 @@ mod tests {
         assert_eq!(rt; (told, again, all, late), (OK, OK, ABSENT, NULL));
         assert_eq!(rt; (first, second), ((1, 2, 0, 0), (3, 2, 2, 0)));
         assert!(rt; is_still);
+    }
+
+    #[test]
+    fn a_world_answers_lines(rt: HostRuntime) {
+        let alloc = rt.alloc();
+        let mut world = WorldHandle::null();
+        let times = TimesParts {
+            hello: 0,
+            silent: 0,
+            retry: 0,
+            tries: 0,
+        };
+        let (mut len, mut text) = (0, [0; 64]);
+        let early = tora_world_line(alloc, &mut world, b"dests 2", &mut len);
+        let none = tora_world_new(alloc, &mut world, 2, 0, &times);
+        let made = tora_world_new(alloc, &mut world, 1, 1, &times);
+        let first = tora_world_line(alloc, &mut world, b"dests 2", &mut len);
+        let second = tora_world_line(alloc, &mut world, b"link 1 2", &mut len);
+        let fault = tora_world_line(alloc, &mut world, b"link 1 3\n", &mut len);
+        let step = tora_world_line(alloc, &mut world, b"step", &mut len);
+        let short = tora_world_answer(alloc, &mut world, &mut [], &mut len);
+        let told = tora_world_answer(alloc, &mut world, &mut text, &mut len);
+        tora_world_free(alloc, &mut world);
+        let late = tora_world_answer(alloc, &mut world, &mut text, &mut len);
+        let_world_go(alloc, world);
+        assert_eq!(rt; (early, none, made, late), (NULL, CHOICE, OK, NULL));
+        assert_eq!(rt; (first, second, fault, step), (OK, OK, OK, OK));
+        assert_eq!(rt; (short, told, len), (ROOM, OK, 59));
+        assert!(rt;
+            text.starts_with(b"sent 1 2 1 28\nsent 1 2 2 28\nsent 2 1 3 28\nsent 2 1 4 28\nok\n")
+        );
     }
 }

@@ -3,7 +3,8 @@ ghost use Rattle.std.specs.Prelude.{◌≡◌, ◌⊎◌, ◌<◌, IfErr, IfOk, 
 ghost use Rattle.tora_frame.specs.FrameGrammar.{frame_reading};
 ghost use Rattle.tora_router.specs.Router.{after_cut, after_datagram, after_need, after_tick, first_router, router_of};
 ghost use Rattle.tora_c.specs.CoreNode.{erasure_of};
-ghost use Rattle.tora_c.specs.RouterHeld.{config_of, cut_code, datagram_intake, held_router, need_code, new_router_refusal, of_held};
+ghost use Rattle.tora_c.specs.RouterHeld.{config_of, cut_code, datagram_intake, held_router, need_code};
+ghost use Rattle.tora_c.specs.RouterHeld.{new_router_refusal, of_held};
 
 use crate::boxes::boxed;
 use crate::codes::{
@@ -26,9 +27,12 @@ fn made(
     times: &TimesParts,
     first_life: u64,
 ) -> Result<Router, u32>
-    ensures made { IfOk result (λ r. MatchOption (erasure_of choice) ⊥ (λ e. router_of r ≡ first_router (config_of me times.now e) neighbours.now destinations.now first_life)) }
-    ensures accepted { OnOk result (new_router_refusal me neighbours.now destinations.now choice times.now first_life ≡ None) }
-    ensures refused { MatchOption (new_router_refusal me neighbours.now destinations.now choice times.now first_life) (IfErr result (λ code. code ≡ MEMORY)) (λ code. result ≡ Err code) }
+    ensures made { IfOk result (λ r. MatchOption (erasure_of choice) ⊥ (λ e.
+        router_of r ≡ first_router (config_of me times.now e) neighbours.now destinations.now first_life)) }
+    ensures accepted { OnOk result (new_router_refusal me neighbours.now destinations.now choice times.now first_life
+        ≡ None) }
+    ensures refused { MatchOption (new_router_refusal me neighbours.now destinations.now choice times.now first_life)
+        (IfErr result (λ code. code ≡ MEMORY)) (λ code. result ≡ Err code) }
     ensures above { IfErr result (λ code. OK < code) }
 {
     let Some(erasure) = erasure_of(choice) else {
@@ -58,9 +62,12 @@ pub extern "C" fn tora_router_new(
     times: &TimesParts,
     first_life: u64,
 ) -> u32
-    ensures made { result ≡ OK → MatchOption (erasure_of erasure) ⊥ (λ e. held_router router.new.held ≡ Some (first_router (config_of me times.now e) neighbours.now destinations.now first_life)) }
+    ensures made { result ≡ OK → MatchOption (erasure_of erasure) ⊥ (λ e.
+        held_router router.new.held ≡ Some (first_router (config_of me times.now e) neighbours.now destinations.now
+        first_life)) }
     ensures kept { ¬ (result ≡ OK) → router.new.held ≡ router.old.held }
-    ensures code { MatchOption (new_router_refusal me neighbours.now destinations.now erasure times.now first_life) ((result ≡ OK) ⊎ (result ≡ MEMORY)) (λ code. result ≡ code) }
+    ensures code { MatchOption (new_router_refusal me neighbours.now destinations.now erasure times.now first_life)
+        ((result ≡ OK) ⊎ (result ≡ MEMORY)) (λ code. result ≡ code) }
 {
     let node = match made(
         alloc,
@@ -104,7 +111,8 @@ pub extern "C" fn tora_router_datagram(
     intake: &mut u32,
 ) -> u32
     ensures code { result ≡ of_held (λ r. OK) router.old.held NULL }
-    ensures router { held_router router.new.held ≡ option_map (after_datagram peer now (frame_reading bytes.now)) (held_router router.old.held) }
+    ensures router { held_router router.new.held ≡ option_map (after_datagram peer now (frame_reading bytes.now))
+        (held_router router.old.held) }
     ensures intake { intake.new ≡ of_held (datagram_intake peer bytes.now now) router.old.held intake.old }
 {
     let Some(mut node) = router.take(alloc) else {

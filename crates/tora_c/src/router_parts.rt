@@ -1,5 +1,6 @@
 //! The times, changes and tallies of a router as C reads them.
-ghost use Rattle.std.specs.Prelude.{◌≡◌};
+ghost use Rattle.std.specs.Prelude.{◌≡◌, ◌<◌};
+ghost use Rattle.tora_arq.specs.Settings.{IsTimes};
 ghost use Rattle.tora_c.specs.RouterParts.{change_parts, next_hop_parts, or_standard, tally_parts, times_of};
 
 use tora_arq::Times;
@@ -44,14 +45,17 @@ pub struct TallyParts {
 
 /// A part, or the standard one where it is 0.
 fn or_standard(part: u64, standard: u64) -> u64
-    ensures { result ≡ or_standard part standard }
+    requires { 0 < standard }
+    ensures value { result ≡ or_standard part standard }
+    ensures above { 0 < result }
 {
     if part == 0 { standard } else { part }
 }
 
-/// The times that these parts give.
+/// The times that these parts give, none of which is 0.
 pub fn times_of(parts: &TimesParts) -> Times
-    ensures { result ≡ times_of parts.now }
+    ensures value { result ≡ times_of parts.now }
+    ensures above { IsTimes result }
 {
     Times {
         hello: or_standard(parts.hello, Times::STANDARD.hello),

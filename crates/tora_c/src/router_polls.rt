@@ -1,7 +1,8 @@
 //! What a router gives out: datagrams and changes.
 ghost use Rattle.std.specs.Prelude.{◌≡◌, option_map};
 ghost use Rattle.tora_router.specs.Router.{after_poll_change, change_in, router_of};
-ghost use Rattle.tora_c.specs.RouterHeld.{after_poll, code_of_some, held_router, of_held, poll_code, polled_bytes, polled_change, polled_length, polled_peer};
+ghost use Rattle.tora_c.specs.RouterHeld.{after_poll, code_of_some, held_router, of_held, poll_code, polled_bytes};
+ghost use Rattle.tora_c.specs.RouterHeld.{polled_change, polled_length, polled_peer};
 
 use crate::codes::{ABSENT, NULL, OK, ROOM};
 use crate::router_handle::RouterHandle;

@@ -4,7 +4,8 @@ ghost use Rattle.tora_core.specs.CoreRun.{entry_of, flag_of, height_of, hop_of};
 ghost use Rattle.tora_core.specs.Numbers.{has_number};
 ghost use Rattle.tora_core.specs.ShowText.{show_text};
 ghost use Rattle.tora_router.specs.Router.{IsNextDue, router_of};
-ghost use Rattle.tora_c.specs.Readers.{bit, held_entry_code, held_number, held_number_code, held_parts, room_code, written};
+ghost use Rattle.tora_c.specs.Readers.{bit, held_entry_code, held_number, held_number_code, held_parts, room_code};
+ghost use Rattle.tora_c.specs.Readers.{written};
 ghost use Rattle.tora_c.specs.RouterHeld.{of_held, tally_after, tally_code};
 
 use crate::buffers::write;
@@ -196,7 +197,8 @@ pub extern "C" fn tora_router_show(
     ensures same { router.new.held ≡ router.old.held }
     ensures null { router.old.held ≡ None → result ≡ NULL }
     ensures kept { (result ≡ NULL) ⊎ (result ≡ MEMORY) → (text.new ≡ text.old) × (len.new ≡ len.old) }
-    ensures text { MatchOption router.old.held (Unit {0}) (λ r. (result ≡ MEMORY) ⊎ ((result ≡ room_code (show_text r.seat.core) text.old)
+    ensures text { MatchOption router.old.held (Unit {0}) (λ r. (result ≡ MEMORY)
+        ⊎ ((result ≡ room_code (show_text r.seat.core) text.old)
         × (text.new ≡ written (show_text r.seat.core) text.old) × (len.new ≡ length (show_text r.seat.core)))) }
 {
     let Some(node) = router.take(alloc) else {

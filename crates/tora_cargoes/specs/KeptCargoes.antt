@@ -1,4 +1,5 @@
--- Cargoes as a simulator keeps them: their lives, and the nodes whose heights they tell, stand once, and cargoes whose numbers are great stand apart.
+-- Cargoes as a simulator keeps them: their lives, and the nodes whose heights they tell, stand once, and cargoes whose
+-- numbers are great stand apart.
 use Rattle.std.specs.Prelude.{◌≡◌, ℕ, suc, ◌+◌, ◌*◌, ◌<◌, Bool, List, Option, None, Some, length, slice_get, if◌then◌else◌}
 use Rattle.tora_height.specs.Height.{quintuple}
 use Rattle.tora_packet.specs.PacketParts.{IsId, IsUpdate, update_of}
@@ -52,7 +53,8 @@ abbrev pub cargo_in : List Origin → List Cargo → KeptCargo → Cargo
 cargo_in origins apart (Keeps.Cut origin) = Gives.Cut (origin_at origins origin).life
 cargo_in origins apart (Keeps.Qry origin destination) = Gives.Packet (origin_at origins origin).life (Qry destination)
 cargo_in origins apart (Keeps.Upd r origin destination oid low high delta) =
-    Gives.Packet (origin_at origins origin).life (Upd (update_of destination (quintuple (tau_of low high) oid r delta (origin_at origins origin).id)))
+    Gives.Packet (origin_at origins origin).life (Upd (update_of destination
+    (quintuple (tau_of low high) oid r delta (origin_at origins origin).id)))
 cargo_in origins apart (Keeps.Apart place) = apart_in (slice_get apart place)
 
 -- its origin or its place is among those that are kept, and its packet is in its ranges
@@ -60,13 +62,16 @@ abbrev pub IsKeptCargo : List Origin → List Cargo → KeptCargo → Type 0
 IsKeptCargo origins apart (Keeps.Cut origin) = origin < length origins
 IsKeptCargo origins apart (Keeps.Qry origin destination) = (origin < length origins) × IsId destination
 IsKeptCargo origins apart (Keeps.Upd r origin destination oid low high delta) =
-    (origin < length origins) × IsUpdate (update_of destination (quintuple (tau_of low high) oid r delta (origin_at origins origin).id))
+    (origin < length origins) × IsUpdate (update_of destination (quintuple (tau_of low high) oid r delta
+    (origin_at origins origin).id))
 IsKeptCargo origins apart (Keeps.Apart place) = place < length apart
 
 -- how a cargo is kept whose origin has this number, wherever origins and cargoes apart are kept
 pub record IsShort (number : ℕ) (cargo : Cargo) (kept : KeptCargo) : Type 0 where
-  pub value : (origins : List Origin) (apart : List Cargo) → HasOrigin origins number cargo → cargo_in origins apart kept ≡ cargo
-  pub within : (origins : List Origin) (apart : List Cargo) → HasOrigin origins number cargo → IsKeptCargo origins apart kept
+  pub value : (origins : List Origin) (apart : List Cargo) → HasOrigin origins number cargo
+      → cargo_in origins apart kept ≡ cargo
+  pub within : (origins : List Origin) (apart : List Cargo) → HasOrigin origins number cargo
+      → IsKeptCargo origins apart kept
 
 -- the last origin is this one, where there is one
 abbrev pub IsLastOrigin : Origin → List Origin → Type 0

@@ -11,7 +11,11 @@ pub record CargoesView : Type 0 where
 
 -- they stand in the list, or else so many of them in the places near
 abbrev pub cargoes_in : Bool → ℕ → List Cargo → List Cargo → ℕ → CargoesView
-cargoes_in wide count cells list capacity = record { items = if wide then list else take count cells; places = if wide then capacity else 0 }
+cargoes_in wide count cells list capacity = record {
+  items = if wide then list
+      else take count cells;
+  places = if wide then capacity else 0;
+}
 
 pub record LaneView : Type 0 where
   pub put : List Cargo  -- all cargoes that were ever put into the lane
@@ -23,13 +27,18 @@ room_in past places = if places == 0 then 0 else past + places
 
 -- those that are kept in less, and the others, of which so many left the lane
 abbrev pub lane_of : List Cargo → CargoesView → ℕ → LaneView
-lane_of past cargoes taken = record { put = past ++ cargoes.items; pulled = length past + taken; room = room_in (length past) cargoes.places }
+lane_of past cargoes taken = record {
+  put = past ++ cargoes.items;
+  pulled = length past + taken;
+  room = room_in (length past) cargoes.places;
+}
 
 -- fewer cargoes wait than a lane holds
 abbrev pub has_place_in : LaneView → Bool
 has_place_in lane = nat_lt (length (drop lane.pulled lane.put)) MOST_CARGOES
 
--- by how many places spare lists have, the one of a place has memory for all that a lane holds, and for those that stand near
+-- by how many places spare lists have, the one of a place has memory for all that a lane holds, and for those that
+-- stand near
 abbrev pub IsWhole : List ℕ → ℕ → Type 0
 IsWhole spares place = MOST_CARGOES + NEAR ≤ slice_index spares place
 
@@ -39,9 +48,10 @@ AreWhole spares count = (place : ℕ) → place < count → IsWhole spares place
 
 -- each but the one of a place is as it was
 abbrev pub AreOthersAsWhole : List ℕ → List ℕ → ℕ → Type 0
-AreOthersAsWhole before after place = (other : ℕ) → (other ≡ place → ⊥) → slice_index after other ≡ slice_index before other
+AreOthersAsWhole before after place =
+    (other : ℕ) → (other ≡ place → ⊥) → slice_index after other ≡ slice_index before other
 
--- in a lane with so many cargoes that left it, and with this room, there is memory for all that it holds, or it has no list, and the spare one
--- of a place is whole
+-- in a lane with so many cargoes that left it, and with this room, there is memory for all that it holds, or it has no
+-- list, and the spare one of a place is whole
 abbrev pub Fits : ℕ → ℕ → List ℕ → ℕ → Type 0
 Fits pulled room spares place = ((room ≡ 0) × IsWhole spares place) ⊎ (pulled + MOST_CARGOES ≤ room)

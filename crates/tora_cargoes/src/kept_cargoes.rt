@@ -1,10 +1,12 @@
 //! Cargoes as a simulator keeps them.
-ghost use Rattle.std.specs.Prelude.{◌≡◌, ◌<◌, ◌-◌, ◌^◌, ◌∷◌, ◌++◌, [], List, slice_get, length, vec_len, vec_capacity, IfOk, IfSome, OnOk, IsTrue, ◌↔◌};
+ghost use Rattle.std.specs.Prelude.{◌≡◌, ◌<◌, ◌-◌, ◌^◌, ◌∷◌, ◌++◌, [], List, slice_get, length, vec_len, vec_capacity};
+ghost use Rattle.std.specs.Prelude.{IfOk, IfSome, OnOk, IsTrue, ◌↔◌};
 ghost use Rattle.tora_arq.specs.declared.life.Life.{Life as AnyLife};
 ghost use Rattle.tora_cargoes.specs.declared.kept_cargoes.Origin.{Origin as AnyOrigin};
 ghost use Rattle.tora_height.specs.Height.{IsHeight, quintuple};
 ghost use Rattle.tora_datagrams.specs.Datagrams.{IsMore};
-ghost use Rattle.tora_cargoes.specs.KeptCargoes.{HasOrigin, IsKeptCargo, IsLastOrigin, IsOrigin, IsShort, apart_in, cargo_in, origin_at, tau_of};
+ghost use Rattle.tora_cargoes.specs.KeptCargoes.{HasOrigin, IsKeptCargo, IsLastOrigin, IsOrigin, IsShort, apart_in};
+ghost use Rattle.tora_cargoes.specs.KeptCargoes.{cargo_in, origin_at, tau_of};
 
 use crate::kept_list::KeptList;
 use std::alloc::{AllocError, Global};
@@ -45,8 +47,9 @@ pub enum KeptCargo {
     Cut(u16),
     /// The number of the origin, and the destination of the query.
     Qry(u16, u32),
-    /// The reflection bit, the number of the origin, the destination, the node that defined the level, the low 16 bits and the high 8 of the
-    /// time tag in ticks of 100 ms, and the order within the level. The node whose height it is stands with the origin.
+    /// The reflection bit, the number of the origin, the destination, the node that defined the level, the low 16 bits
+    /// and the high 8 of the time tag in ticks of 100 ms, and the order within the level. The node whose height it is
+    /// stands with the origin.
     Upd(u8, u16, u16, u16, u16, u8, i8),
     /// The place among the cargoes that are kept apart: those with a clear, and those of greater numbers.
     Apart(u32),
@@ -59,7 +62,8 @@ const _: () = prove!(size_of::<KeptCargo>() == 12);
 pub struct KeptCargoes {
     /// Whether there is room for one more.
     spare: bool,
-    /// The last of the origins, which is that of most cargoes that come: where the origins stand is not looked at for it.
+    /// The last of the origins, which is that of most cargoes that come: where the origins stand is not looked at for
+    /// it.
     last: Origin,
     origins: Vec<Origin>,
     cargoes: KeptList,
@@ -79,17 +83,12 @@ impl Model for KeptCargoes {
     } };
 
     ghost invariant = { λ s. AllByRecursion (IsKeptCargo s.origins.items s.apart.items) s.cargoes.items
-        × (s.spare ≡ true → (0 < s.cargoes.places) × (vec_len s.origins < vec_capacity s.origins) × (vec_len s.apart < vec_capacity s.apart) × (vec_len s.apart < 2 ^ 32))
+        × (s.spare ≡ true → (0 < s.cargoes.places) × (vec_len s.origins < vec_capacity s.origins)
+        × (vec_len s.apart < vec_capacity s.apart) × (vec_len s.apart < 2 ^ 32))
         × IsLastOrigin s.last s.origins.items };
 }
 
 impl KeptCargoes {
-    /// Reads what the other calls read first, as `Lane::prefetch` does. The number says nothing.
-    #[inline(always)]
-    pub fn prefetch(&self) -> u64 {
-        self.last.life.own ^ self.cargoes.len() as u64 ^ u64::from(self.spare)
-    }
-
     /// No cargoes.
     pub fn new(alloc: Global) -> KeptCargoes
         ensures { result.items ≡ [] }
@@ -135,7 +134,10 @@ impl KeptCargoes {
     /// Appends a cargo. There must be room for it.
     pub fn push(&mut self, cargo: &Cargo)
         requires { 0 < self.old.places }
-        ensures { self.new ≡ record self.old { items = self.old.items ++ cargo.now ∷ []; places = self.old.places - 1 } }
+        ensures { self.new ≡ record self.old {
+          items = self.old.items ++ cargo.now ∷ [];
+          places = self.old.places - 1;
+        } }
     {
         self.spare = false;
         let number = number_of(&mut self.origins, &mut self.last, cargo);
@@ -229,8 +231,10 @@ fn number_of(origins: &mut Vec<Origin>, last: &mut Origin, cargo: &Cargo) -> usi
 fn keep(apart: &mut Vec<Cargo>, number: usize, cargo: &Cargo) -> KeptCargo
     requires places { vec_len apart.old < vec_capacity apart.old }
     requires numbers { vec_len apart.old < 2 ^ 32 }
-    ensures value { (origins : List AnyOrigin) → HasOrigin origins number cargo.now → cargo_in origins apart.new.items result ≡ cargo.now }
-    ensures within { (origins : List AnyOrigin) → HasOrigin origins number cargo.now → IsKeptCargo origins apart.new.items result }
+    ensures value { (origins : List AnyOrigin) → HasOrigin origins number cargo.now
+        → cargo_in origins apart.new.items result ≡ cargo.now }
+    ensures within { (origins : List AnyOrigin) → HasOrigin origins number cargo.now
+        → IsKeptCargo origins apart.new.items result }
     ensures more { IsMore apart.old.items apart.new.items }
 {
     if let Some(kept) = short(number, cargo) {

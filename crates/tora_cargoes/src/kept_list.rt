@@ -1,5 +1,6 @@
 //! A list of compressed cargoes, the last few of which are stored inline.
-ghost use Rattle.std.specs.Prelude.{◌≡◌, ◌<◌, ◌≤◌, ◌+◌, ◌^◌, ◌++◌, ◌∷◌, [], length, take, slice_get, slice_set, vec_len, vec_capacity, OnOk};
+ghost use Rattle.std.specs.Prelude.{◌≡◌, ◌<◌, ◌≤◌, ◌+◌, ◌^◌, ◌++◌, ◌∷◌, [], length, take, slice_get, slice_set};
+ghost use Rattle.std.specs.Prelude.{vec_len, vec_capacity, OnOk};
 ghost use Rattle.tora_cargoes.specs.declared.kept_list.TheConstants.{NEAR_KEPT};
 
 use crate::kept_cargoes::KeptCargo;

@@ -1,5 +1,6 @@
 //! The lane from a core to a link end, and what was ever put into it.
-ghost use Rattle.std.specs.Prelude.{◌≡◌, ◌<◌, ◌≤◌, ◌⊎◌, ◌+◌, ◌++◌, ◌∷◌, [], true, suc, Some, length, nat_lt, slice_get, take, OnOk, IfOk};
+ghost use Rattle.std.specs.Prelude.{◌≡◌, ◌<◌, ◌≤◌, ◌⊎◌, ◌+◌, ◌++◌, ◌∷◌, [], true, suc, Some, length, nat_lt, slice_get};
+ghost use Rattle.std.specs.Prelude.{take, OnOk, IfOk};
 ghost use Rattle.tora_seat.specs.declared.TheConstants.{MOST_CARGOES};
 ghost use Rattle.tora_world.specs.Lists.{packets_of, parcels_in};
 ghost use Rattle.tora_cargoes.specs.Lane.{AreOthersAsWhole, Fits, has_place_in};
@@ -40,13 +41,6 @@ impl Model for Lane {
 }
 
 impl Lane {
-    /// Reads what the other calls read first, so that it is at hand by then: for callers who have many lanes in turn. The number says nothing. It is
-    /// to be kept, since a read of which nothing is kept is left out.
-    #[inline(always)]
-    pub fn prefetch(&self) -> u64 {
-        self.taken as u64 ^ self.cargoes.len() as u64 ^ self.past.prefetch()
-    }
-
     /// An empty lane.
     pub fn new(alloc: Global) -> Lane
         ensures put { result.put ≡ [] }
@@ -124,7 +118,8 @@ impl Lane {
         self.cargoes.shorten(spares, spare);
     }
 
-    /// Puts a cargo at the back. There must be a place for it, and room, or the spare list of the place `spare`, which it takes then.
+    /// Puts a cargo at the back. There must be a place for it, and room, or the spare list of the place `spare`, which
+    /// it takes then.
     #[inline(always)]
     pub fn put(&mut self, cargo: Cargo, spares: &mut Spares, spare: usize)
         requires room { Fits self.old.pulled self.old.room spares.old spare }

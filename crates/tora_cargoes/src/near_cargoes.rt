@@ -1,5 +1,6 @@
 //! A list of cargoes whose first few are stored inline.
-ghost use Rattle.std.specs.Prelude.{◌≡◌, ◌<◌, ◌≤◌, ◌+◌, ◌⊎◌, ◌^◌, ◌-◌, ◌++◌, ◌∷◌, [], length, drop, take, vec_len, vec_capacity, slice_get, slice_set, Some, IfOk, OnOk};
+ghost use Rattle.std.specs.Prelude.{◌≡◌, ◌<◌, ◌≤◌, ◌+◌, ◌⊎◌, ◌^◌, ◌-◌, ◌++◌, ◌∷◌, [], length, drop, take, vec_len};
+ghost use Rattle.std.specs.Prelude.{vec_capacity, slice_get, slice_set, Some, IfOk, OnOk};
 ghost use Rattle.tora_seat.specs.declared.TheConstants.{MOST_CARGOES};
 ghost use Rattle.tora_cargoes.specs.declared.near_cargoes.TheConstants.{NEAR};
 ghost use Rattle.tora_cargoes.specs.Lane.{IsWhole, AreOthersAsWhole};
@@ -18,8 +19,8 @@ pub const NEAR: usize = 4;
 /// A list with memory for more than so many times its cargoes is long.
 const LONG: usize = 4;
 
-/// Cargoes in the order in which they were put: a few where this stands itself, or all in a list. Where it is empty before a turn, its memory is given
-/// back, and the next few stand near again.
+/// Cargoes in the order in which they were put: a few where this stands itself, or all in a list. Where it is empty
+/// before a turn, its memory is given back, and the next few stand near again.
 #[derive(Drop)]
 pub struct NearCargoes {
     /// Whether they stand in the list.
@@ -39,7 +40,8 @@ impl Model for NearCargoes {
 
     ghost view = { λ c. cargoes_in c.is_wide c.count c.cells c.list.items (vec_capacity c.list) };
 
-    ghost invariant = { λ c. (c.count ≤ NEAR) × (length c.cells ≡ NEAR) × (c.is_wide ≡ true → 0 < vec_capacity c.list) × (c.is_wide ≡ false → c.list.items ≡ []) };
+    ghost invariant = { λ c. (c.count ≤ NEAR) × (length c.cells ≡ NEAR) × (c.is_wide ≡ true → 0 < vec_capacity c.list)
+        × (c.is_wide ≡ false → c.list.items ≡ []) };
 }
 
 impl NearCargoes {
@@ -151,12 +153,14 @@ impl NearCargoes {
         spares.give(place, long);
     }
 
-    /// Puts a cargo behind the others: near, in the list, or, where no place near is left, in one that it takes from the spare ones, that of a place.
+    /// Puts a cargo behind the others: near, in the list, or, where no place near is left, in one that it takes from
+    /// the spare ones, that of a place.
     #[inline(always)]
     pub fn push(&mut self, cargo: &Cargo, spares: &mut Spares, place: usize)
         requires { ((self.old.places ≡ 0) × IsWhole spares.old place) ⊎ (length self.old.items < self.old.places) }
         ensures items { self.new.items ≡ self.old.items ++ cargo.now ∷ [] }
-        ensures places { ((self.new.places ≡ self.old.places) × (spares.new ≡ spares.old)) ⊎ ((length self.old.items ≤ NEAR) × (MOST_CARGOES + NEAR ≤ self.new.places)) }
+        ensures places { ((self.new.places ≡ self.old.places) × (spares.new ≡ spares.old))
+            ⊎ ((length self.old.items ≤ NEAR) × (MOST_CARGOES + NEAR ≤ self.new.places)) }
         ensures others { AreOthersAsWhole spares.old spares.new place }
     {
         if self.is_wide {

@@ -52,7 +52,8 @@ pub fn list_put(packets: &mut Vec<Packet>, put: &[Cargo], life: Life) -> Result<
 /// The packet of the cargo at an index, if the cargo belongs to this life.
 fn packet_kept(kept: &KeptCargoes, place: usize, life: Life) -> Option<Packet>
     requires { place < length kept.now.items }
-    ensures { (cargo : AnyCargo) → slice_get kept.now.items place ≡ Some cargo → option_to_list result ≡ packets_of life (parcels_in (cargo ∷ [])) }
+    ensures { (cargo : AnyCargo) → slice_get kept.now.items place ≡ Some cargo
+        → option_to_list result ≡ packets_of life (parcels_in (cargo ∷ [])) }
 {
     match kept.get(place) {
         Some(cargo) => packet_put(&cargo, life),

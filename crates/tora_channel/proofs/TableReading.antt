@@ -44,7 +44,7 @@ faults n text piece after front total c is so_far =
     let e = before_cut n text piece after c ∙ ap (λ (o : Option ChannelLine). from_line n o (lines_from (n + 1) (split 10 after))) is in
     sym so_far ∙ ap (with_front front) e
 
--- what stands behind the last LF
+-- the text after the last LF
 last_piece : (n : ℕ) (text : List ℕ) → (length text == 0) ≡ false → lines_from n (text ∷ []) ≡ from_line n (channel_line_of text) (Ok [])
 unfolding lines_from
 last_piece n [] h = absurd cc

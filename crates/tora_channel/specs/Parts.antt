@@ -7,7 +7,7 @@ use Rattle.tora_lines.specs.Fronts.{◌>>=◌}
 use Rattle.tora_channel.specs.declared.channel.Channel.{Channel}
 use Rattle.tora_channel.specs.declared.parts.Parts.{Parts}
 
--- the digit at a place, 0 behind the last
+-- the digit at a place; 0 after the last one
 abbrev pub digit_at : List ℕ → ℕ → ℕ
 digit_at text place = get_or text place 48 - 48
 
@@ -15,9 +15,10 @@ digit_at text place = get_or text place 48 - 48
 abbrev pub is_fraction : List ℕ → Bool
 is_fraction text = if (length text == 0) || nat_lt 6 (length text) then false else list_all is_ascii_digit text
 
--- the digits behind the point, in millionths
+-- the digits after the point, in millionths
 abbrev pub millionths : List ℕ → ℕ
-millionths text = digit_at text 0 * 100000 + digit_at text 1 * 10000 + digit_at text 2 * 1000 + digit_at text 3 * 100 + digit_at text 4 * 10 + digit_at text 5
+millionths text = digit_at text 0 * 100000 + digit_at text 1 * 10000 + digit_at text 2 * 1000 + digit_at text 3 * 100 +
+    digit_at text 4 * 10 + digit_at text 5
 
 abbrev pub whole_share : ℕ → Option ℕ
 whole_share n = if n == 0 then Some 0 else if n == 1 then Some 1000000 else None
@@ -45,16 +46,18 @@ delay_of text = do
 
 -- ---- the parts
 
--- a value that is there now and was not before
+-- the new value, if there was none before
 abbrev pub once : {A : Type 0} → Option A → Option A → Option A
 once before now = if is_some before then None else now
 
--- with one part more: `loss=SHARE`, `repeat=SHARE` or `delay=ROUNDS`
+-- the parts with one more: `loss=SHARE`, `repeat=SHARE` or `delay=ROUNDS`
 abbrev pub with_value : Parts → List ℕ → List ℕ → Option Parts
 with_value p name value =
     if bytes_eq name (codes "loss") then option_map (λ n. record p { loss = Some n }) (once p.loss (share_of value))
-    else if bytes_eq name (codes "repeat") then option_map (λ n. record p { repeat = Some n }) (once p.repeat (share_of value))
-    else if bytes_eq name (codes "delay") then option_map (λ d. record p { delay = Some d }) (once p.delay (delay_of value))
+    else if bytes_eq name (codes "repeat") then option_map (λ n. record p { repeat = Some n })
+    (once p.repeat (share_of value))
+    else if bytes_eq name (codes "delay") then option_map (λ d. record p { delay = Some d })
+    (once p.delay (delay_of value))
     else None
 
 unfoldable pub with_part : Parts → List ℕ → Option Parts
@@ -62,12 +65,12 @@ with_part p part = do
   halves ← cut 61 part
   with_value p halves.0 halves.1
 
--- a part, and the others behind a comma, if there is one
+-- a part, and after a comma the others, if there are any
 abbrev pub parts_or : (Parts → List ℕ → Option Parts) → Parts → List ℕ → Option (List ℕ × List ℕ) → Option Parts
 parts_or others p text None = with_part p text
 parts_or others p text (Some halves) = with_part p halves.0 >>= λ more. others more halves.1
 
--- the parts between commas, one and so many at most
+-- the parts between commas, at least one and at most a number of them
 unfoldable pub parts_from : ℕ → Parts → List ℕ → Option Parts
 parts_from zero p text = with_part p text
 parts_from (suc k) p text = parts_or (parts_from k) p text (cut 44 text)
@@ -79,7 +82,7 @@ no_parts = record { loss = None; repeat = None; delay = None }
 abbrev pub parts_of : List ℕ → Option Parts
 parts_of text = parts_from 2 no_parts text
 
--- the channel of these parts: what is not told is 0
+-- the channel of these parts; a missing part is 0
 abbrev pub channel_by : Parts → ℕ → Channel
 channel_by p seed = record {
   seed = seed;

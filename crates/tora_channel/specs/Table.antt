@@ -23,21 +23,21 @@ pub record Channels : Type 0 where
 abbrev pub over : ChannelTable → Channel → Channels
 over table channel = record { base = channel; lines = lines_of table }
 
--- a channel that no line changes
+-- a channel without a table
 abbrev pub alone : Channel → Channels
 alone channel = record { base = channel; lines = [] }
 
--- the channel over which every datagram comes at once, and once
+-- the channel over which every datagram arrives at once and once
 abbrev pub clear : Channels
 clear = alone Base.clear
 
 -- ---- the channel of a link in a round
 
--- how many lines stand at or before a key
+-- how many lines are at or before a key
 abbrev pub count_at : List ChannelLine → ℕ → ℕ
 count_at table key = prefix_len (λ line. nat_le (key_of line) key) table
 
--- the last of so many lines
+-- the last of a number of lines
 abbrev pub last_of : List ChannelLine → ℕ → Option ChannelLine
 last_of table zero = None
 last_of table (suc n) = slice_get table n
@@ -46,15 +46,17 @@ last_of table (suc n) = slice_get table n
 abbrev pub line_before : List ChannelLine → ℕ → Option ChannelLine
 line_before table key = last_of table (count_at table key)
 
--- what a line says of a link, if it is of that one; what is not told of the parts is 0, and the seed stays
+-- the channel that a line gives a link, if it is for that link; missing parts are 0, and the seed stays
 abbrev pub by_line : Channel → ℕ → ℕ → Option ChannelLine → Channel
 by_line channel low high None = channel
-by_line channel low high (Some line) = if (line.low == low) && (line.high == high) then channel_by line.parts channel.seed else channel
+by_line channel low high (Some line) = if (line.low == low) && (line.high == high) then channel_by line.parts
+    channel.seed else channel
 
--- the channel of a datagram's link in its round: that of the last line of the link which has begun, if there is one
+-- the channel of a datagram's link in its round: that of the link's last line whose round has begun, if there is one
 unfoldable pub channel_on : Channels → Place → Channel
-channel_on c p = by_line c.base (min p.sender p.receiver) (max p.sender p.receiver) (line_before c.lines (key_at (min p.sender p.receiver) (max p.sender p.receiver) p.round))
+channel_on c p = by_line c.base (min p.sender p.receiver) (max p.sender p.receiver)
+    (line_before c.lines (key_at (min p.sender p.receiver) (max p.sender p.receiver) p.round))
 
--- after how many rounds a datagram comes, and comes once more
+-- after how many rounds a datagram arrives, and arrives again
 abbrev pub copies_on : Channels → Place → Copies
 copies_on c p = copies_of (channel_on c p) p

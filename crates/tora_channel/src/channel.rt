@@ -1,4 +1,4 @@
-//! A channel, and what it makes of one datagram.
+//! A channel, and its effect on a datagram.
 ghost use Rattle.std.specs.Prelude.{◌≡◌, true, Some, None};
 ghost use Rattle.tora_channel.specs.declared.channel.Place.{Place as AnyPlace};
 ghost use Rattle.tora_channel.specs.Channel.{generator_at, delay_by, is_among, is_clear, copies_of};
@@ -8,25 +8,26 @@ use rand_core::SeedableRng;
 use rand_core::utils::NextWord;
 use tora_height::Id;
 
-/// How many parts a share is told in.
+/// Shares are counted in millionths.
 const PARTS: u32 = 1_000_000;
 
-/// What becomes of datagrams: each is lost or not, comes after a number of rounds, and may come twice.
+/// The effect of a channel on datagrams: each is lost or not, arrives after a number of rounds, and may arrive twice.
 #[derive(Clone, Copy, Debug, PartialEq, Eq)]
 pub struct Channel {
-    /// What the random numbers begin with.
+    /// The seed of the random numbers.
     pub seed: u64,
     /// How many of a million are lost.
     pub loss: u32,
-    /// How many of a million that are not lost come twice.
+    /// How many of a million that are not lost arrive twice.
     pub repeat: u32,
-    /// The least rounds after which one comes; 0 is the pass in which it was sent.
+    /// The least delay in rounds; 0 means the pass in which the datagram was sent.
     pub least: u32,
-    /// The most rounds after which one comes.
+    /// The greatest delay in rounds.
     pub most: u32,
 }
 
-/// Which datagram it is: the round in which it was sent, its two nodes, and how many went the same way before it in that round.
+/// Identifies a datagram: the round in which it was sent, its two nodes, and how many went from the one to the other
+/// before it in that round.
 #[derive(Clone, Copy, Debug, PartialEq, Eq)]
 pub struct Place {
     pub round: u64,
@@ -35,14 +36,14 @@ pub struct Place {
     pub before: u64,
 }
 
-/// After how many rounds a datagram comes, and comes once more; it is lost where it never comes.
+/// After how many rounds a datagram arrives, and after how many it arrives again. It is lost if it never arrives.
 #[derive(Clone, Copy, Debug, PartialEq, Eq)]
 pub struct Copies {
     pub first: Option<u64>,
     pub second: Option<u64>,
 }
 
-/// The generator of a datagram.
+/// The random generator for a datagram.
 #[tactic(auto, unfolding(crate::specs::Channel::generator_at))]
 fn generator(seed: u64, place: Place) -> ChaCha8Rng
     ensures { result ≡ generator_at seed place }
@@ -55,7 +56,7 @@ fn generator(seed: u64, place: Place) -> ChaCha8Rng
     words
 }
 
-/// Whether a word is among so many of a million.
+/// Whether a random word falls into a share of this many millionths.
 fn is_among(word: u32, share: u32) -> bool
     ensures { result ≡ is_among word share }
 {
@@ -63,7 +64,7 @@ fn is_among(word: u32, share: u32) -> bool
 }
 
 impl Channel {
-    /// The channel over which every datagram comes at once, and once.
+    /// The channel over which every datagram arrives at once and once.
     pub const CLEAR: Channel = Channel {
         seed: 0,
         loss: 0,
@@ -76,12 +77,15 @@ impl Channel {
     #[tactic(auto, unfolding(crate::specs::Channel::copies_of))]
     pub fn is_clear(&self) -> bool
         ensures value { result ≡ is_clear self.now }
-        ensures copies { result ≡ true → (place : AnyPlace) → copies_of self.now place ≡ record { first = Some 0; second = None } }
+        ensures copies { result ≡ true → (place : AnyPlace) → copies_of self.now place ≡ record {
+          first = Some 0;
+          second = None;
+        } }
     {
         self.loss == 0 && self.repeat == 0 && self.least == 0 && self.most == 0
     }
 
-    /// The rounds that a word draws.
+    /// The delay in rounds that a random word gives.
     fn delay(&self, word: u32) -> u64
         ensures { result ≡ delay_by self.now word }
     {
@@ -89,7 +93,7 @@ impl Channel {
         u64::from(self.least) + u64::from(word) % range
     }
 
-    /// After how many rounds a datagram comes.
+    /// After how many rounds a datagram arrives.
     #[tactic(auto, unfolding(crate::specs::Channel::copies_of))]
     pub fn copies(&self, place: Place) -> Copies
         ensures { result ≡ copies_of self.now place }

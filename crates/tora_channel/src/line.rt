@@ -5,10 +5,10 @@ ghost use Rattle.tora_channel.specs.TableOrder.{key_at, key_of};
 use crate::parts::Parts;
 use tora_height::Id;
 
-/// A line of a channel file: what the link of two nodes has from a round on, both ways.
+/// A line of a channel file: the parts that the link of two nodes has from a round on, in both directions.
 #[derive(Clone, Copy, Debug, PartialEq, Eq)]
 pub struct ChannelLine {
-    /// The first round, from 0, that has these parts.
+    /// The first round, counted from 0, with these parts.
     pub round: u64,
     /// The lower of the two nodes.
     pub low: Id,

@@ -3,12 +3,13 @@ ghost use Rattle.std.specs.Prelude.{◌≡◌, ◌<◌, option_map};
 ghost use Rattle.std.specs.Result.{result_ok};
 ghost use Rattle.std.specs.List.{list_all};
 ghost use Rattle.std.specs.Char.{is_ascii_digit};
-ghost use Rattle.tora_channel.specs.Parts.{digit_at, is_fraction, whole_share, share_of, delay_of, once, with_part, parts_of, channel_by};
+ghost use Rattle.tora_channel.specs.Parts.{digit_at, is_fraction, whole_share, share_of, delay_of, once, with_part};
+ghost use Rattle.tora_channel.specs.Parts.{parts_of, channel_by};
 
 use crate::channel::Channel;
 use tora_lines::words;
 
-/// The most rounds that a datagram may be under way.
+/// The greatest delay in rounds.
 const MOST_DELAY: u64 = 10_000;
 
 /// The parts that a channel's word has.
@@ -16,13 +17,13 @@ const MOST_DELAY: u64 = 10_000;
 pub struct Parts {
     /// How many of a million datagrams are lost.
     pub loss: Option<u32>,
-    /// How many of a million come twice.
+    /// How many of a million arrive twice.
     pub repeat: Option<u32>,
-    /// The least and the most rounds after which one comes.
+    /// The least and the greatest delay in rounds.
     pub delay: Option<(u32, u32)>,
 }
 
-/// The digit at a place, 0 behind the last.
+/// The digit at a place; 0 after the last one.
 fn digit(text: &[u8], place: usize) -> u32
     ensures value { result ≡ digit_at text.now place }
     ensures small { result < 256 }
@@ -57,7 +58,7 @@ fn whole_share(number: u64) -> Option<u32>
     }
 }
 
-/// A share of 1, in millionths: `0`, `1`, or up to six digits behind `0.`.
+/// A share of 1, in millionths: `0`, `1`, or up to six digits after `0.`.
 #[tactic(auto, unfolding(crate::specs::Parts::share_of))]
 fn share(text: &[u8]) -> Option<u32>
     ensures { result ≡ share_of text.now }
@@ -92,7 +93,7 @@ fn delay(text: &[u8]) -> Option<(u32, u32)>
     Some((least as u32, most as u32))
 }
 
-/// A value that is there now and was not before; nothing otherwise.
+/// The new value, if there is one and there was none before; otherwise `None`.
 fn once<T: Copy>(before: Option<T>, now: Option<T>) -> Option<T>
     ensures { result ≡ once before now }
 {
@@ -107,7 +108,7 @@ impl Parts {
         delay: None,
     };
 
-    /// With one part more, `loss=SHARE`, `repeat=SHARE` or `delay=ROUNDS`, which is not there yet.
+    /// The parts with one more, `loss=SHARE`, `repeat=SHARE` or `delay=ROUNDS`. It must be new.
     #[tactic(auto, unfolding(crate::specs::Parts::with_part))]
     fn with(self, part: &[u8]) -> Option<Parts>
         ensures { result ≡ with_part self part.now }
@@ -155,7 +156,7 @@ impl Parts {
 /// The parts of `loss=SHARE,repeat=SHARE,delay=ROUNDS`, each once at most and in any order.
 ///
 /// # Errors
-/// The first part that is none, or that was there before.
+/// The first part that is not valid, or that is repeated.
 #[tactic(auto, unfolding(crate::specs::Parts::parts_from))]
 pub fn channel_parts(text: &[u8]) -> Result<Parts, &[u8]>
     ensures { result_ok result ≡ parts_of text.now }

@@ -18,9 +18,9 @@ use tora_lines::words;
 pub enum LineCause {
     /// It has fewer than four words.
     Words,
-    /// The first word is no round.
+    /// The first word is not a round.
     Round,
-    /// The second or the third word is no node.
+    /// The second or the third word is not a node.
     Node,
     /// Both nodes are one.
     OwnLink,
@@ -69,7 +69,7 @@ impl<T: Drop> From<AllocFailed<T>> for TableError {
     }
 }
 
-/// The line of two nodes, which are not one.
+/// The line of two different nodes.
 fn line_between(round: u64, a: Id, b: Id, parts: Parts) -> Result<ChannelLine, LineCause>
     ensures { result_ok result ≡ line_from round a b parts }
 {

@@ -16,11 +16,14 @@ pub record IsTableText (bytes : List ℕ) (table : List ChannelLine) : Type 0 wh
   pub ordered : IsTableOf lines table
 
 -- The bytes that were read from the file are the lines of a table.
-abbrev pub IsTableFile : {R : Type 0} → (Result R Error → Type 0) → (R → Result (List ℕ) Error → Type 0) → (R → Option (List ℕ)) → List ChannelLine → Type 0
-IsTableFile opened did_read remaining table = (bytes : List ℕ) × IsRead opened did_read remaining bytes × IsTableText bytes table
+abbrev pub IsTableFile : {R : Type 0} → (Result R Error → Type 0) → (R → Result (List ℕ) Error → Type 0)
+    → (R → Option (List ℕ)) → List ChannelLine → Type 0
+IsTableFile opened did_read remaining table =
+    (bytes : List ℕ) × IsRead opened did_read remaining bytes × IsTableText bytes table
 
 -- A line of the bytes that were read from the file is none.
-pub record IsNoTableText {R : Type 0} (opened : Result R Error → Type 0) (did_read : R → Result (List ℕ) Error → Type 0) (remaining : R → Option (List ℕ)) (status : ℕ) : Type 0 where
+pub record IsNoTableText {R : Type 0} (opened : Result R Error → Type 0) (did_read : R → Result (List ℕ) Error
+    → Type 0) (remaining : R → Option (List ℕ)) (status : ℕ) : Type 0 where
   pub bytes : List ℕ
   pub file : IsRead opened did_read remaining bytes
   pub line : ℕ
@@ -28,17 +31,23 @@ pub record IsNoTableText {R : Type 0} (opened : Result R Error → Type 0) (did_
   pub status_is : status ≡ 1
 
 -- Opening or reading the file gave an error, a line is none, or memory was refused.
-abbrev pub IsNoTable : {R : Type 0} → (Result R Error → Type 0) → (R → Result (List ℕ) Error → Type 0) → (R → Option (List ℕ)) → ℕ → Type 0
-IsNoTable opened did_read remaining status = IsFailed (IsUnread opened did_read) status ⊎ (IsNoTableText opened did_read remaining status ⊎ (status ≡ 5))
+abbrev pub IsNoTable : {R : Type 0} → (Result R Error → Type 0) → (R → Result (List ℕ) Error → Type 0)
+    → (R → Option (List ℕ)) → ℕ → Type 0
+IsNoTable opened did_read remaining status =
+    IsFailed (IsUnread opened did_read) status ⊎ (IsNoTableText opened did_read remaining status ⊎ (status ≡ 5))
 
 -- The trace would take the place of the channel file.
 pub record IsTracePlace (path : List ℕ) (trace : Option (List ℕ)) (status : ℕ) : Type 0 where
   pub same : trace ≡ Some path
   pub status_is : status ≡ 1
 
--- The channel file at a path was read, and the simulation over its table ended; or there was no table, and nothing was written.
-abbrev pub EndsFiled : {R W : Type 0} → (List ℕ → Result R Error → Type 0) → (List ℕ → Result R Error → Type 0) → (R → Result (List ℕ) Error → Type 0) → (R → Option (List ℕ)) → Setup → (W → Option (List ℕ)) → (W → Bool → W → Type 0) → List ℕ → List ℕ → Option (List ℕ) → W → W → ℕ → Type 0
+-- The channel file at a path was read, and the simulation over its table ended; or there was no table, and nothing was
+-- written.
+abbrev pub EndsFiled : {R W : Type 0} → (List ℕ → Result R Error → Type 0) → (List ℕ → Result R Error → Type 0)
+    → (R → Result (List ℕ) Error → Type 0) → (R → Option (List ℕ)) → Setup → (W → Option (List ℕ))
+    → (W → Bool → W → Type 0) → List ℕ → List ℕ → Option (List ℕ) → W → W → ℕ → Type 0
 EndsFiled did_open did_create did_read remaining setup contents did_flush channel_path path trace old new status =
     ((table : List ChannelLine) × IsTableFile (did_open channel_path) did_read remaining table
     × EndsSimulated did_open did_create remaining (rules_with setup table) contents did_flush path trace old new status)
-    ⊎ ((IsNoTable (did_open channel_path) did_read remaining status ⊎ IsTracePlace channel_path trace status) × (new ≡ old))
+    ⊎ ((IsNoTable (did_open channel_path) did_read remaining status ⊎ IsTracePlace channel_path trace status)
+    × (new ≡ old))

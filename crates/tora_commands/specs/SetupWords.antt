@@ -26,7 +26,8 @@ channel_asked text seed = do
   parts ← parts_of text
   Some (channel_by parts n)
 
--- the channel of a word and a seed; the clear one where no word is there, and then a seed is for the lines of a channel file
+-- the channel of a word and a seed; the clear one where no word is there, and then a seed is for the lines of a channel
+-- file
 abbrev pub asked_channel : Option (List ℕ) → Option (List ℕ) → Bool → Option Channel
 asked_channel None None has_file = Some clear
 asked_channel None (Some seed) has_file = if has_file then option_map (channel_by no_parts) (number_of seed) else None
@@ -53,7 +54,8 @@ abbrev pub asked_until : Option (List ℕ) → Option (Option ℕ)
 asked_until None = Some None
 asked_until (Some text) = option_map (λ n. Some n) (number_of text)
 
-unfoldable pub asked_setup : Option (List ℕ) → Option (List ℕ) → Option (List ℕ) → Option (List ℕ) → Option (List ℕ) → Bool → Bool → Bool → Option Setup
+unfoldable pub asked_setup : Option (List ℕ) → Option (List ℕ) → Option (List ℕ) → Option (List ℕ) → Option (List ℕ)
+    → Bool → Bool → Bool → Option Setup
 asked_setup times channel seed until erasure has_file notice large = do
   t ← asked_times times
   c ← asked_channel channel seed has_file
@@ -64,4 +66,6 @@ asked_setup times channel seed until erasure has_file notice large = do
 -- what words ask for
 abbrev pub asked_by : SetupWords → Option Setup
 asked_by w =
-    asked_setup (option_map (λ t. t.now) w.times) (option_map (λ t. t.now) w.channel) (option_map (λ t. t.now) w.seed) (option_map (λ t. t.now) w.until) (option_map (λ t. t.now) w.erasure) (is_some w.channel_file) w.has_notice w.is_large
+    asked_setup (option_map (λ t. t.now) w.times) (option_map (λ t. t.now) w.channel) (option_map (λ t. t.now) w.seed)
+    (option_map (λ t. t.now) w.until) (option_map (λ t. t.now) w.erasure) (is_some w.channel_file) w.has_notice
+    w.is_large

@@ -98,13 +98,15 @@ IsRefused did_open text status =
     ⊎ (HasNoWays text status ⊎ (HasNoKey did_open status ⊎ (status ≡ 5))))
 
 -- Opening or reading the file at a path gave an error, or what was read is refused.
-abbrev pub IsUnconfigured : {R : Type 0} → (List ℕ → Result R Error → Type 0) → (R → Result (List ℕ) Error → Type 0) → (R → Option (List ℕ)) → List ℕ → ℕ → Type 0
+abbrev pub IsUnconfigured : {R : Type 0} → (List ℕ → Result R Error → Type 0) → (R → Result (List ℕ) Error → Type 0)
+    → (R → Option (List ℕ)) → List ℕ → ℕ → Type 0
 IsUnconfigured did_open did_read remaining path status =
     IsFailed (IsUnread (did_open path) did_read) status
     ⊎ ((text : List ℕ) × IsRead (did_open path) did_read remaining text × IsRefused did_open text status)
 
 -- Opening a path gave a reader, and the bytes that reading it to its end gave say this configuration.
-pub record IsConfigured {R : Type 0} (did_open : List ℕ → Result R Error → Type 0) (did_read : R → Result (List ℕ) Error → Type 0) (remaining : R → Option (List ℕ)) (path : List ℕ) (config : NodeConfig) : Type 0 where
+pub record IsConfigured {R : Type 0} (did_open : List ℕ → Result R Error → Type 0) (did_read : R → Result (List ℕ) Error
+    → Type 0) (remaining : R → Option (List ℕ)) (path : List ℕ) (config : NodeConfig) : Type 0 where
   pub text : List ℕ
   pub read : IsRead (did_open path) did_read remaining text
   pub says : IsConfigOf text config
@@ -115,11 +117,14 @@ pub record IsConfigured {R : Type 0} (did_open : List ℕ → Result R Error →
 abbrev pub IsUnstarted : ℕ → Type 0
 IsUnstarted status = (status ≡ 3) ⊎ ((status ≡ 4) ⊎ (status ≡ 5))
 
--- A node ran that began with this core, over some wires, life files and a clock, which its threads share: what it answers of this input and this writer, which is given back so.
-abbrev pub RanNode : {W C D Wr : Type 0} → Wire.Ghosts W → Clock.Ghosts C → Disk.Ghosts D → (Wr → Option (List ℕ)) → CoreView → Option (List ℕ) → Wr → Option Wr → Result EndedView NodeError → Type 0
+-- A node ran that began with this core, over some wires, life files and a clock, which its threads share: what it
+-- answers of this input and this writer, which is given back so.
+abbrev pub RanNode : {W C D Wr : Type 0} → Wire.Ghosts W → Clock.Ghosts C → Disk.Ghosts D → (Wr → Option (List ℕ))
+    → CoreView → Option (List ℕ) → Wr → Option Wr → Result EndedView NodeError → Type 0
 RanNode {W = W} {C = C} {D = D} wire clock disk contents first input writer left ended =
     (shared : C) × (wires : List W) × (disks : List D)
-    × NodeAnswers wire.did_send wire.did_receive clock.did_tell (IsOpened disk.syncs disk.reads disk.writes) contents first wires disks (replicate (length disks) shared) shared input writer left ended
+    × NodeAnswers wire.did_send wire.did_receive clock.did_tell (IsOpened disk.syncs disk.reads disk.writes) contents
+    first wires disks (replicate (length disks) shared) shared input writer left ended
 
 -- A node ran and answered so, and the status is that of its answer.
 pub record RanAndEnded (answers : Result EndedView NodeError → Type 0) (status : ℕ) : Type 0 where
@@ -127,9 +132,10 @@ pub record RanAndEnded (answers : Result EndedView NodeError → Type 0) (status
   pub answer : answers ended
   pub status_is : status ≡ status_of_node ended
 
--- A node whose configuration is at a path ends: without one; with 0 where it is only read; before it is started; or as `run_node` answers of the node of the configuration.
--- Nothing is written where it did not run.
-abbrev pub EndsNode : {R W : Type 0} → Bool → (List ℕ → Result R Error → Type 0) → (R → Result (List ℕ) Error → Type 0) → (R → Option (List ℕ)) → List ℕ → (NodeConfig → Result EndedView NodeError → Type 0) → W → W → ℕ → Type 0
+-- A node whose configuration is at a path ends: without one; with 0 where it is only read; before it is started; or as
+-- `run_node` answers of the node of the configuration. Nothing is written where it did not run.
+abbrev pub EndsNode : {R W : Type 0} → Bool → (List ℕ → Result R Error → Type 0) → (R → Result (List ℕ) Error → Type 0)
+    → (R → Option (List ℕ)) → List ℕ → (NodeConfig → Result EndedView NodeError → Type 0) → W → W → ℕ → Type 0
 EndsNode is_check did_open did_read remaining path answers old new status =
     (IsUnconfigured did_open did_read remaining path status × (new ≡ old))
     ⊎ ((config : NodeConfig) × IsConfigured did_open did_read remaining path config

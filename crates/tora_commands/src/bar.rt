@@ -10,7 +10,8 @@ use std::io;
 use std::io::Read;
 use std::time::Clock;
 
-/// The most bytes that are read at once: those of a line or two, so that the lines before are done when the next are read.
+/// The most bytes that are read at once: those of a line or two, so that the lines before are done when the next are
+/// read.
 const PIECE: usize = 16;
 
 /// The milliseconds from a drawing to the next.

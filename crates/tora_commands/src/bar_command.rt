@@ -25,7 +25,8 @@ pub fn run<S: Simulator, T: Paths + AllocGlobal + Eprint + Clock, W: Output>(
     writer: &mut W,
 ) -> ExitCode
     requires { IsTimes setup.times }
-    ensures { EndsFile (T.did_open rt.now) T.File.remaining (rules_with setup (lines_of table)) W.contents W.did_flush path.now writer.old writer.new (exit_status result) }
+    ensures { EndsFile (T.did_open rt.now) T.File.remaining (rules_with setup (lines_of table)) W.contents W.did_flush
+        path.now writer.old writer.new (exit_status result) }
 {
     let total = rounds_of(rt, path);
     let file = match rt.open_path(path) {

@@ -11,8 +11,8 @@ use std::process::ExitCode;
 use tora_channel::{ChannelTable, LineCause, TableError, channel_table};
 use tora_simulate::{Paths, bytes_at};
 
-/// What a channel file says: its table, and the SHA-256 of its bytes as 64 hexadecimal digits. Without a file there is no line and
-/// no digest.
+/// What a channel file says: its table, and the SHA-256 of its bytes as 64 hexadecimal digits. Without a file there is
+/// no line and no digest.
 #[derive(Drop)]
 pub struct ChannelFile {
     pub table: ChannelTable,
@@ -49,8 +49,10 @@ pub(crate) fn channel_file<T: Paths + AllocGlobal + Eprint>(
     rt: &T,
     path: &str,
 ) -> Result<ChannelFile, ExitCode>
-    ensures table { IfOk result (λ file. IsTableFile (T.did_open rt.now path.now) T.did_read T.File.remaining (lines_of file.table)) }
-    ensures refused { IfErr result (λ code. IsNoTable (T.did_open rt.now path.now) T.did_read T.File.remaining (exit_status code)) }
+    ensures table { IfOk result (λ file. IsTableFile (T.did_open rt.now path.now) T.did_read T.File.remaining
+        (lines_of file.table)) }
+    ensures refused { IfErr result (λ code. IsNoTable (T.did_open rt.now path.now) T.did_read T.File.remaining
+        (exit_status code)) }
 {
     let bytes = match bytes_at(rt, rt.alloc(), path) {
         Ok(bytes) => bytes,

@@ -1,4 +1,5 @@
-//! `tora drive [--times HELLO,SILENCE,RETRY,TRIES] [--large] [--erasure WORD]`: a simulated world that another program drives, a line at a time.
+//! `tora drive [--times HELLO,SILENCE,RETRY,TRIES] [--large] [--erasure WORD]`: a simulated world that another program
+//! drives, a line at a time.
 ghost use Rattle.std.specs.Prelude.{◌≡◌, ◌≢◌, Ok, None, IfOk, IfErr, IfSome, option_map};
 ghost use Rattle.std.specs.Io.KnownBytes.{IsAtEnd};
 ghost use Rattle.std.specs.Process.{exit_status};
@@ -34,7 +35,8 @@ fn drive_and_flush<S: Driven, R: Read, W: Output>(
         Drives options times input (W.contents writer.old) (W.contents writer.new) ended)) }
     ensures at_end { result ≡ Ok Ended.Whole → IsAtEnd (R.remaining reader.new) }
     ensures begun { IfErr result (λ e. e ≢ ReplayError.Write →
-        IsDriveBegun options times (R.remaining reader.old) (R.remaining reader.new) (W.contents writer.old) (W.contents writer.new)) }
+        IsDriveBegun options times (R.remaining reader.old) (R.remaining reader.new) (W.contents writer.old)
+        (W.contents writer.new)) }
     ensures flushed { IsFlushed W.did_flush result writer.new }
 {
     let result = drive_in::<S, R, W>(alloc, options, times, reader, writer);
@@ -50,7 +52,8 @@ fn run_with<T: AllocGlobal + Eprint, R: Read + Drop, W: Output>(
     writer: &mut W,
 ) -> ExitCode
     requires { IsTimes times }
-    ensures { EndsDrive options times W.contents W.did_flush (R.remaining reader) writer.old writer.new (exit_status result) }
+    ensures { EndsDrive options times W.contents W.did_flush (R.remaining reader) writer.old writer.new
+        (exit_status result) }
 {
     let Ok(()) = greet(writer) else {
         return stop(rt, INPUT, "input");
@@ -62,9 +65,10 @@ fn run_with<T: AllocGlobal + Eprint, R: Read + Drop, W: Output>(
     status(rt, result)
 }
 
-/// Drives a world by the lines that a reader gives, with the times of link ends and the erasure that words ask for, within the
-/// greatest limits where it `is_large` and else within the standard ones, and ends with a status: 0 at the end of the input, 1 where reading or
-/// writing failed, 5 where memory was refused. A word that gives no times or no erasure is a fault of usage, and nothing is written.
+/// Drives a world by the lines that a reader gives, with the times of link ends and the erasure that words ask for,
+/// within the greatest limits where it `is_large` and else within the standard ones, and ends with a status: 0 at the
+/// end of the input, 1 where reading or writing failed, 5 where memory was refused. A word that gives no times or no
+/// erasure is a fault of usage, and nothing is written.
 ///
 /// The writer has to hand on at once what is written: whoever drives waits for it.
 pub fn run<T: AllocGlobal + Eprint, R: Read + Drop, W: Output>(
@@ -75,9 +79,12 @@ pub fn run<T: AllocGlobal + Eprint, R: Read + Drop, W: Output>(
     reader: R,
     writer: &mut W,
 ) -> ExitCode
-    ensures times { asked_times (option_map (λ w. w.now) times.entry) ≡ None → (exit_status result ≡ 2) × (writer.new ≡ writer.old) }
-    ensures erasure { asked_options is_large (option_map (λ w. w.now) erasure.entry) ≡ None → (exit_status result ≡ 2) × (writer.new ≡ writer.old) }
-    ensures ends { IfSome (asked_times (option_map (λ w. w.now) times.entry)) (λ t. IfSome (asked_options is_large (option_map (λ w. w.now) erasure.entry)) (λ o.
+    ensures times { asked_times (option_map (λ w. w.now) times.entry) ≡ None
+        → (exit_status result ≡ 2) × (writer.new ≡ writer.old) }
+    ensures erasure { asked_options is_large (option_map (λ w. w.now) erasure.entry) ≡ None
+        → (exit_status result ≡ 2) × (writer.new ≡ writer.old) }
+    ensures ends { IfSome (asked_times (option_map (λ w. w.now) times.entry)) (λ t.
+        IfSome (asked_options is_large (option_map (λ w. w.now) erasure.entry)) (λ o.
         EndsDrive o t W.contents W.did_flush (R.remaining reader) writer.old writer.new (exit_status result))) }
 {
     let Some(times) = asked_times(times) else {

@@ -21,10 +21,11 @@ fn line_of(alloc: Global, key: &[u8]) -> Result<String, AllocError>
     Ok(line)
 }
 
-/// Writes a new key, 64 hexadecimal digits from the random numbers of the operating system, and a line feed. The status is 0, 1
-/// where there are no random numbers or writing failed, 5 where memory was refused.
+/// Writes a new key, 64 hexadecimal digits from the random numbers of the operating system, and a line feed. The status
+/// is 0, 1 where there are no random numbers or writing failed, 5 where memory was refused.
 pub fn run<T: RandomSource + AllocGlobal + Eprint, W: Output>(rt: &T, writer: &mut W) -> ExitCode
-    ensures { exit_status result ≡ 0 → (key : List ℕ) × (length key ≡ 32) × Appends (W.contents writer.old) (W.contents writer.new) (encode_lower key ++ 10 ∷ []) }
+    ensures { exit_status result ≡ 0 → (key : List ℕ) × (length key ≡ 32)
+        × Appends (W.contents writer.old) (W.contents writer.new) (encode_lower key ++ 10 ∷ []) }
 {
     let mut key = [0; KEY];
     let Ok(()) = rt.fill_bytes(&mut key) else {

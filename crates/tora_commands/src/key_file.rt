@@ -44,8 +44,8 @@ fn warn_of_readers(rt: &impl Eprint, file: &File, path: &str) {
     }
 }
 
-/// The key in the file at a path. What is wrong is said on standard error, and never what the file holds. The room into which the file
-/// was read is overwritten at the end.
+/// The key in the file at a path. What is wrong is said on standard error, and never what the file holds. The room into
+/// which the file was read is overwritten at the end.
 pub(crate) fn key_at<R: Paths + Files<File = File> + Eprint>(
     rt: &R,
     path: &str,

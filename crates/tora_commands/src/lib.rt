@@ -85,9 +85,11 @@ fn asked_file<T: Paths + AllocGlobal + Eprint>(
 ) -> Result<ChannelFile, ExitCode>
     ensures none { path.entry ≡ None → IfOk result (λ file. lines_of file.table ≡ []) }
     ensures reads { path.entry ≡ None → is_ok result ≡ true }
-    ensures some { IfSome path.entry (λ p. IfOk result (λ file. IsTableFile (T.did_open rt.now p.now) T.did_read T.File.remaining (lines_of file.table))) }
+    ensures some { IfSome path.entry (λ p. IfOk result (λ file. IsTableFile (T.did_open rt.now p.now) T.did_read
+        T.File.remaining (lines_of file.table))) }
     ensures refused { IfSome path.entry (λ p. IfErr result (λ code.
-        IsNoTable (T.did_open rt.now p.now) T.did_read T.File.remaining (exit_status code) ⊎ IsTracePlace p.now (option_map (λ t. t.now) trace.entry) (exit_status code))) }
+        IsNoTable (T.did_open rt.now p.now) T.did_read T.File.remaining (exit_status code)
+        ⊎ IsTracePlace p.now (option_map (λ t. t.now) trace.entry) (exit_status code))) }
 {
     let Some(path) = path else {
         return Ok(ChannelFile::none());
@@ -98,8 +100,8 @@ fn asked_file<T: Paths + AllocGlobal + Eprint>(
     channel_file::channel_file(rt, path)
 }
 
-/// Simulates the lines of the file at a path, made with this and over the channel of a channel file, and writes the trace where a
-/// path is given for it; with a bar or without.
+/// Simulates the lines of the file at a path, made with this and over the channel of a channel file, and writes the
+/// trace where a path is given for it; with a bar or without.
 fn simulate_over<T: Paths + AllocGlobal + Eprint + Clock, W: Output>(
     rt: &T,
     setup: Setup,
@@ -110,7 +112,8 @@ fn simulate_over<T: Paths + AllocGlobal + Eprint + Clock, W: Output>(
     writer: &mut W,
 ) -> ExitCode
     requires { IsTimes setup.times }
-    ensures { EndsSimulated (T.did_open rt.now) (T.did_create rt.now) T.File.remaining (rules_with setup (lines_of file.table)) W.contents W.did_flush
+    ensures { EndsSimulated (T.did_open rt.now) (T.did_create rt.now) T.File.remaining
+        (rules_with setup (lines_of file.table)) W.contents W.did_flush
         path.now (option_map (λ t. t.now) trace.entry) writer.old writer.new (exit_status result) }
 {
     let (is_verbose, has_bar) = shown;
@@ -126,9 +129,9 @@ fn simulate_over<T: Paths + AllocGlobal + Eprint + Clock, W: Output>(
     }
 }
 
-/// Simulates the lines of the file at a path, made with what words ask for, and writes the trace where a path is given for it.
-/// Words that ask for none are a fault of usage, and nothing is written; nor is it where the channel file can't be read. What is
-/// shown on standard error: why events are refused, and a bar that tells how far the simulation is.
+/// Simulates the lines of the file at a path, made with what words ask for, and writes the trace where a path is given
+/// for it. Words that ask for none are a fault of usage, and nothing is written; nor is it where the channel file can't
+/// be read. What is shown on standard error: why events are refused, and a bar that tells how far the simulation is.
 pub fn simulate_file<T: Paths + AllocGlobal + Eprint + Clock, W: Output>(
     rt: &T,
     words: SetupWords<'_>,
@@ -158,8 +161,10 @@ pub fn simulate_file<T: Paths + AllocGlobal + Eprint + Clock, W: Output>(
 /// Prints help, a version or a fault of usage.
 pub fn usage<R: Print + Eprint>(rt: &R, error: &clap::Error) -> ExitCode
     ensures memory { kind_of error.now ≡ ErrorKind.OutOfMemory → exit_status result ≡ 5 }
-    ensures mistake { kind_of error.now ≢ ErrorKind.OutOfMemory → kind_of error.now ≢ ErrorKind.DisplayHelp → kind_of error.now ≢ ErrorKind.DisplayVersion → exit_status result ≡ 2 }
-    ensures shown { (kind_of error.now ≡ ErrorKind.DisplayHelp) ⊎ (kind_of error.now ≡ ErrorKind.DisplayVersion) → (exit_status result ≡ 0) ⊎ (exit_status result ≡ 1) }
+    ensures mistake { kind_of error.now ≢ ErrorKind.OutOfMemory → kind_of error.now ≢ ErrorKind.DisplayHelp
+        → kind_of error.now ≢ ErrorKind.DisplayVersion → exit_status result ≡ 2 }
+    ensures shown { (kind_of error.now ≡ ErrorKind.DisplayHelp) ⊎ (kind_of error.now ≡ ErrorKind.DisplayVersion)
+        → (exit_status result ≡ 0) ⊎ (exit_status result ≡ 1) }
 {
     if error.kind() == ErrorKind::OutOfMemory {
         return stop(rt, MEMORY, "memory");

@@ -15,7 +15,7 @@ use std::net::Net;
 use std::rt::Files;
 use std::time::Clock;
 use tora_config::{ConfigError, LinkWay, read_ways};
-use tora_keyed::{Key, LinkWire, NoticedWire};
+use tora_keyed::{Key, LinkWire};
 use tora_neighbour::{NodeClock, SocketWaker, UnixClock, WakingWire};
 use tora_simulate::{Paths, tell_at};
 
@@ -28,7 +28,7 @@ pub(crate) struct KeyedWay {
 }
 
 /// The wire of a link of the program.
-pub(crate) type ProgramWire<'a, R, L> = NoticedWire<'a, WakingWire<'a, &'a R>, UnixClock<&'a R>, L>;
+pub(crate) type ProgramWire<'a, R, L> = LinkWire<'a, WakingWire<'a, &'a R>, UnixClock<&'a R>, L>;
 
 /// What ends the waits of a link of the program.
 pub(crate) type ProgramWaker<'a, R> = SocketWaker<'a, &'a R>;
@@ -50,15 +50,16 @@ fn key_of<R: Paths + Files<File = File> + Eprint>(
     }
 }
 
-/// How the datagrams of each link go, by ascending neighbour, from the text of the configuration at a path, and the keys from
-/// their files. What is wrong is said on standard error.
+/// How the datagrams of each link go, by ascending neighbour, from the text of the configuration at a path, and the
+/// keys from their files. What is wrong is said on standard error.
 pub(crate) fn ways_in<R: Paths + Files<File = File> + AllocGlobal + Eprint>(
     rt: &R,
     path: &str,
     text: &str,
 ) -> Result<Vec<KeyedWay>, Fault>
     ensures ways { IfOk result (λ keyed. HasWays text.now (length keyed.items)) }
-    ensures fault { IfErr result (λ fault. HasNoWays text.now (status_of_fault fault) ⊎ (HasNoKey (R.did_open rt.now) (status_of_fault fault) ⊎ (status_of_fault fault ≡ 5))) }
+    ensures fault { IfErr result (λ fault. HasNoWays text.now (status_of_fault fault)
+        ⊎ (HasNoKey (R.did_open rt.now) (status_of_fault fault) ⊎ (status_of_fault fault ≡ 5))) }
 {
     let ways = match read_ways(rt.alloc(), text) {
         Ok(ways) => ways,
@@ -78,7 +79,8 @@ fn with_keys<R: Paths + Files<File = File> + AllocGlobal + Eprint>(
     ways: Vec<LinkWay>,
 ) -> Result<Vec<KeyedWay>, Fault>
     ensures count { IfOk result (λ keyed. length keyed.items ≡ length ways.items) }
-    ensures fault { IfErr result (λ fault. HasNoKey (R.did_open rt.now) (status_of_fault fault) ⊎ (status_of_fault fault ≡ 5)) }
+    ensures fault { IfErr result (λ fault. HasNoKey (R.did_open rt.now) (status_of_fault fault)
+        ⊎ (status_of_fault fault ≡ 5)) }
 {
     let mut keyed = Vec::new(rt.alloc());
     for way in ways {
@@ -111,14 +113,14 @@ fn wire_of<'a, R: Net + Eprint + Clock, L: Log>(
     clock: &'a NodeClock<&'a R>,
     keyed: KeyedWay,
 ) -> Result<Woken<'a, R, L>, Fault>
-    ensures wire { IfOk result (λ woken. (wire : WireView _) × (woken.0 ≡ over wire keyed.key) × (wire.remote ≡ keyed.way.remote) × (wire.failures ≡ 0)) }
+    ensures wire { IfOk result (λ woken. (wire : WireView _) × (woken.0 ≡ over wire keyed.key)
+        × (wire.remote ≡ keyed.way.remote) × (wire.failures ≡ 0)) }
     ensures fault { IfErr result (λ fault. IsUnstarted (status_of_fault fault)) }
 {
     let KeyedWay { way, key } = keyed;
     match WakingWire::bind(rt, alloc, clock, way.local, way.remote) {
         Ok((wire, waker)) => {
-            let wire = LinkWire::over(wire, key);
-            let wire = NoticedWire::new(wire, way.peer, UnixClock::new(rt), log);
+            let wire = LinkWire::new(wire, key, way.peer, UnixClock::new(rt), log);
             Ok((wire, waker))
         }
         Err(error) if error.kind() == ErrorKind::OutOfMemory => Err(say(rt, Fault::Memory)),
@@ -130,7 +132,8 @@ fn wire_of<'a, R: Net + Eprint + Clock, L: Log>(
     }
 }
 
-/// Binds the socket of each link, in this order, and puts a wire over it; and what ends the waits of each wire, likewise.
+/// Binds the socket of each link, in this order, and puts a wire over it; and what ends the waits of each wire,
+/// likewise.
 pub(crate) fn bind<'a, R: Net + Eprint + Clock, L: Log>(
     rt: &'a R,
     log: &'a L,
@@ -166,7 +169,8 @@ pub(crate) fn lend<W>(alloc: Global, wires: &mut [W]) -> Option<Vec<&mut W>>
     Some(lent)
 }
 
-/// Closes each wire, once the node has ended: the last counts of its links with keys are logged, and their keys are overwritten.
+/// Closes each wire, once the node has ended: the last counts of its links with keys are logged, and their keys are
+/// overwritten.
 pub(crate) fn close<R: Net + Clock, L: Log>(wires: &mut [ProgramWire<'_, R, L>])
     ensures { wires.new ≡ map cleared wires.old }
 {

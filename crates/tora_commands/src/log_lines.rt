@@ -11,8 +11,8 @@ use std::time::Clock;
 /// Writes each record to the standard error of `R`, a line each; a write that fails is dropped.
 ///
 /// With `has_time` the time stands before each line: in UTC, by RFC 3339, with thousandths of a second and a blank, as
-/// `2026-11-25T15:00:02.125Z `. Where the clock can't be read, or tells a time that no date has, the line stands without it.
-/// The line itself is that of the crate `log`: `[INFO  tora_node::log_hub] link 2 up`.
+/// `2026-11-25T15:00:02.125Z `. Where the clock can't be read, or tells a time that no date has, the line stands
+/// without it. The line itself is that of the crate `log`: `[INFO  tora_node::log_hub] link 2 up`.
 #[derive(Clone, Copy, Debug, Drop)]
 pub struct LogLines<R> {
     rt: R,

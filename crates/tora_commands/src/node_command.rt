@@ -1,7 +1,10 @@
 //! `tora node CONFIG`: a node over UDP and real life files.
-ghost use Rattle.std.specs.Prelude.{◌≡◌, ◌⊎◌, List, map, length, replicate, IfOk, IfErr, IfSome, Err, None, Some, string_bytes};
+ghost use Rattle.std.specs.Prelude.{◌≡◌, ◌⊎◌, List, map, length, replicate, IfOk, IfErr, IfSome, Err, None, Some};
+ghost use Rattle.std.specs.Prelude.{string_bytes};
 ghost use Rattle.std.specs.Process.{exit_status};
-ghost use Rattle.tora_commands.specs.Statuses.{core_of, status_of_node, status_of_fault, IsConfigOf, IsNoConfig, IsConfigured, IsUnconfigured, IsUnstarted, RanNode, RanAndEnded, EndsNode};
+ghost use Rattle.tora_commands.specs.Statuses.{core_of, status_of_node, status_of_fault, IsConfigOf, IsNoConfig};
+ghost use Rattle.tora_commands.specs.Statuses.{IsConfigured, IsUnconfigured, IsUnstarted, RanNode, RanAndEnded};
+ghost use Rattle.tora_commands.specs.Statuses.{EndsNode};
 ghost use Rattle.tora_config.specs.NodeConfig.{IsNodeConfig};
 ghost use Rattle.tora_node.specs.NewLinks.{IsOpened};
 ghost use Rattle.tora_node.specs.WholeRuns.{NodeAnswers};
@@ -85,8 +88,10 @@ fn status(rt: &impl Eprint, ended: Result<Ended, NodeError>) -> ExitCode
 
 /// The text at a path. Why it can't be read is said on standard error.
 fn text_of<R: Paths + AllocGlobal + Eprint>(rt: &R, path: &str) -> Result<String, Fault>
-    ensures read { IfOk result (λ text. IsRead (R.did_open rt.now path.now) R.did_read R.File.remaining (string_bytes text)) }
-    ensures failed { IfErr result (λ fault. IsFailed (IsUnread (R.did_open rt.now path.now) R.did_read) (status_of_fault fault)) }
+    ensures read { IfOk result (λ text. IsRead (R.did_open rt.now path.now) R.did_read R.File.remaining
+        (string_bytes text)) }
+    ensures failed { IfErr result (λ fault. IsFailed (IsUnread (R.did_open rt.now path.now) R.did_read)
+        (status_of_fault fault)) }
 {
     match text_at(rt, rt.alloc(), path) {
         Ok(text) => Ok(text),
@@ -104,7 +109,8 @@ fn text_of<R: Paths + AllocGlobal + Eprint>(rt: &R, path: &str) -> Result<String
 /// The configuration that the text at a path says. What is wrong is said on standard error.
 fn config_of<R: AllocGlobal + Eprint>(rt: &R, path: &str, text: &str) -> Result<NodeConfig, Fault>
     ensures says { IfOk result (IsConfigOf text.now) }
-    ensures refused { IfErr result (λ fault. IsNoConfig text.now (status_of_fault fault) ⊎ (status_of_fault fault ≡ 5)) }
+    ensures refused { IfErr result (λ fault. IsNoConfig text.now (status_of_fault fault)
+        ⊎ (status_of_fault fault ≡ 5)) }
 {
     match read_config(rt.alloc(), text) {
         Ok(config) => Ok(config),
@@ -122,9 +128,11 @@ fn read<R: Paths + Files<File = File> + AllocGlobal + Eprint>(
     rt: &R,
     path: &str,
 ) -> Result<(NodeConfig, Vec<KeyedWay>), Fault>
-    ensures says { IfOk result (λ read. IsConfigured (R.did_open rt.now) R.did_read ⟦<File as Read>⟧.remaining path.now read.0) }
+    ensures says { IfOk result (λ read. IsConfigured (R.did_open rt.now) R.did_read ⟦<File as Read>⟧.remaining path.now
+        read.0) }
     ensures count { IfOk result (λ read. length read.1.items ≡ length read.0.links.items) }
-    ensures refused { IfErr result (λ fault. IsUnconfigured (R.did_open rt.now) R.did_read ⟦<File as Read>⟧.remaining path.now (status_of_fault fault)) }
+    ensures refused { IfErr result (λ fault. IsUnconfigured (R.did_open rt.now) R.did_read ⟦<File as Read>⟧.remaining
+        path.now (status_of_fault fault)) }
 {
     let text = match text_of(rt, path) {
         Ok(text) => text,
@@ -188,8 +196,8 @@ fn tell_ended<R: Files<File = File> + AllocGlobal + Eprint>(
     }
 }
 
-/// The exit status of a node that has ended, after its line on standard error and what says more of the cause. Its life files are in
-/// `folder`.
+/// The exit status of a node that has ended, after its line on standard error and what says more of the cause. Its life
+/// files are in `folder`.
 fn finish<R: Files<File = File> + AllocGlobal + Eprint>(
     rt: &R,
     folder: &str,
@@ -212,13 +220,13 @@ fn finish<R: Files<File = File> + AllocGlobal + Eprint>(
 /// Reads the configuration, binds the sockets, opens the life files, and runs the node, which logs to `log`, until its
 /// commands end it.
 ///
-/// The first fault ends it before a thread is started: the configuration or a file with a key (status 1), then a socket, by ascending
-/// neighbour (3), then a life file, likewise (4), memory at any point (5). With `is_check` it reads the
-/// configuration and the keys, says that it is one, and ends. Standard error has the cause of a fault, and with `is_verbose` of a life file of
-/// another node whose it is.
+/// The first fault ends it before a thread is started: the configuration or a file with a key (status 1), then a
+/// socket, by ascending neighbour (3), then a life file, likewise (4), memory at any point (5). With `is_check` it
+/// reads the configuration and the keys, says that it is one, and ends. Standard error has the cause of a fault, and
+/// with `is_verbose` of a life file of another node whose it is.
 ///
-/// At the end it logs how many datagrams of each link with a key were not authentic, and overwrites the keys. The writer is given
-/// back, with what it held where no node ran; it is `None` only where memory was refused.
+/// At the end it logs how many datagrams of each link with a key were not authentic, and overwrites the keys. The
+/// writer is given back, with what it held where no node ran; it is `None` only where memory was refused.
 pub fn run<
     'a,
     R: Paths + Files<File = File> + AllocGlobal + Eprint + Net + Clock + Sync,
@@ -281,8 +289,10 @@ fn run_bound<
     requires config { IsNodeConfig config.now }
     requires wires { length wires.now ≡ length config.now.links.items }
     ensures { (IsUnstarted (exit_status result.0) × (result.1 ≡ Some writer))
-        ⊎ RanAndEnded (RanNode ⟦<&'a mut ProgramWire<'a, R, L> as Wire>⟧ ⟦<&'a NodeClock<&'a R> as tora_neighbour::Clock>⟧
-        ⟦<FileDisk as Disk>⟧ W.contents (core_of config.now) (Rd.remaining reader.old) writer result.1) (exit_status result.0) }
+        ⊎ RanAndEnded (RanNode ⟦<&'a mut ProgramWire<'a, R, L> as Wire>⟧
+        ⟦<&'a NodeClock<&'a R> as tora_neighbour::Clock>⟧
+        ⟦<FileDisk as Disk>⟧ W.contents (core_of config.now) (Rd.remaining reader.old) writer result.1)
+        (exit_status result.0) }
 {
     let (alloc, folder) = (rt.alloc(), config.life_dir.as_str());
     let disks = match open(rt, alloc, folder, config.links.as_slice()) {
@@ -295,8 +305,8 @@ fn run_bound<
     (finish(rt, folder, ended, is_verbose), writer)
 }
 
-/// Runs the node of a configuration over its wires, which are lent to it, and its disks, and wakes its links. It is `Memory` where
-/// memory was refused before, and then nothing is written.
+/// Runs the node of a configuration over its wires, which are lent to it, and its disks, and wakes its links. It is
+/// `Memory` where memory was refused before, and then nothing is written.
 fn run_over<
     'a,
     L: Threads + Wait + Log + Sync,
@@ -322,8 +332,10 @@ fn run_over<
     requires disks { length disks.items ≡ length config.now.links.items }
     ensures { ((result.0 ≡ Err NodeError.Memory) × (result.1 ≡ Some writer))
         ⊎ ((lent : List _) × (map (λ l. l.now) lent ≡ wires.old)
-        × NodeAnswers ⟦<&'a mut Wi as Wire>⟧.did_send ⟦<&'a mut Wi as Wire>⟧.did_receive C.did_tell (IsOpened D.syncs D.reads D.writes) W.contents
-        (core_of config.now) lent disks.items (replicate (length disks.items) clock) clock (Rd.remaining reader.old) writer result.1 result.0) }
+        × NodeAnswers ⟦<&'a mut Wi as Wire>⟧.did_send ⟦<&'a mut Wi as Wire>⟧.did_receive C.did_tell
+        (IsOpened D.syncs D.reads D.writes) W.contents
+        (core_of config.now) lent disks.items (replicate (length disks.items) clock) clock (Rd.remaining reader.old)
+        writer result.1 result.0) }
 {
     let Some(node) = node_of(alloc, config) else {
         return (Err(NodeError::Memory), Some(writer));

@@ -61,7 +61,8 @@ impl RoundCount {
     }
 }
 
-/// How many rounds the file at a path asks for. Nothing where it is no regular file, which could not be read again, or can't be read.
+/// How many rounds the file at a path asks for. Nothing where it is no regular file, which could not be read again, or
+/// can't be read.
 pub(crate) fn rounds_of<T: Files>(rt: &T, path: &str) -> Option<u64> {
     let about = rt.metadata(path).ok()?;
     if !about.is_file() {

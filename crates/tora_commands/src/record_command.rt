@@ -1,4 +1,5 @@
-//! `tora drive --record PATH [--times HELLO,SILENCE,RETRY,TRIES] [--large] [--erasure WORD]`: a simulated world that another program drives, and its record.
+//! `tora drive --record PATH [--times HELLO,SILENCE,RETRY,TRIES] [--large] [--erasure WORD]`: a simulated world that
+//! another program drives, and its record.
 ghost use Rattle.std.specs.Prelude.{◌≡◌, ◌≢◌, is_some, Ok, None, IfOk, IfErr, IfSome, option_map};
 ghost use Rattle.std.specs.Io.KnownBytes.{IsAtEnd};
 ghost use Rattle.std.specs.Process.{exit_status};
@@ -39,15 +40,16 @@ fn drive_and_flush<S: Driven, R: Read, W: Output, V: Output>(
         DrivesRecorded options times input (W.contents writer.old) (W.contents writer.new) ended)) }
     ensures at_end { result ≡ Ok Ended.Whole → IsAtEnd (R.remaining reader.new) }
     ensures begun { IfErr result (λ e. e ≢ ReplayError.Write →
-        IsRecordedBegun options times (R.remaining reader.old) (R.remaining reader.new) (W.contents writer.old) (W.contents writer.new)) }
+        IsRecordedBegun options times (R.remaining reader.old) (R.remaining reader.new) (W.contents writer.old)
+        (W.contents writer.new)) }
     ensures flushed { IsFlushed W.did_flush result writer.new }
 {
     let result = drive_recorded::<S, R, W, V>(alloc, options, times, reader, writer, out);
     flushed(writer, result)
 }
 
-/// Drives a world with these options, whose link ends have these times, writes the record to what goes to the file at a path, and hands
-/// both on.
+/// Drives a world with these options, whose link ends have these times, writes the record to what goes to the file at a
+/// path, and hands both on.
 pub fn run_over<T: AllocGlobal + Eprint, R: Read + Drop, W: Output, V: Output>(
     rt: &T,
     options: WorldOptions,
@@ -58,7 +60,8 @@ pub fn run_over<T: AllocGlobal + Eprint, R: Read + Drop, W: Output, V: Output>(
     out: &mut TraceOut<V>,
 ) -> ExitCode
     requires { IsTimes times }
-    ensures { EndsRecorded options times W.contents W.did_flush (R.remaining reader) writer.old writer.new (is_some out.new.failure) (exit_status result) }
+    ensures { EndsRecorded options times W.contents W.did_flush (R.remaining reader) writer.old writer.new
+        (is_some out.new.failure) (exit_status result) }
 {
     let Ok(()) = greet(writer) else {
         return stop(rt, INPUT, "input");
@@ -88,7 +91,8 @@ fn run_with<T: Paths + AllocGlobal + Eprint, R: Read + Drop, W: Output>(
     writer: &mut W,
 ) -> ExitCode
     requires { IsTimes times }
-    ensures { EndsRecordedTo (T.did_create rt.now path.now) options times W.contents W.did_flush (R.remaining reader) writer.old writer.new (exit_status result) }
+    ensures { EndsRecordedTo (T.did_create rt.now path.now) options times W.contents W.did_flush (R.remaining reader)
+        writer.old writer.new (exit_status result) }
 {
     let made = match rt.create_path(path) {
         Ok(made) => made,
@@ -101,12 +105,12 @@ fn run_with<T: Paths + AllocGlobal + Eprint, R: Read + Drop, W: Output>(
     run_over::<T, R, W, BufWriter<T::File>>(rt, options, times, reader, writer, path, &mut out)
 }
 
-/// Drives a world by the lines that a reader gives, as `drive_command::run` does, and writes its record to the file at a path, which is
-/// made anew first.
+/// Drives a world by the lines that a reader gives, as `drive_command::run` does, and writes its record to the file at
+/// a path, which is made anew first.
 ///
-/// It ends with the status of the drive, or with 1 where that is 0 and the record could not be written; with 1, before anything is
-/// written, where its file can't be made; and with 5 where memory was refused. A word that gives no times or no erasure is a fault of
-/// usage.
+/// It ends with the status of the drive, or with 1 where that is 0 and the record could not be written; with 1, before
+/// anything is written, where its file can't be made; and with 5 where memory was refused. A word that gives no times
+/// or no erasure is a fault of usage.
 pub fn run<T: Paths + AllocGlobal + Eprint, R: Read + Drop, W: Output>(
     rt: &T,
     times: Option<&str>,
@@ -116,10 +120,14 @@ pub fn run<T: Paths + AllocGlobal + Eprint, R: Read + Drop, W: Output>(
     reader: R,
     writer: &mut W,
 ) -> ExitCode
-    ensures times { asked_times (option_map (λ w. w.now) times.entry) ≡ None → (exit_status result ≡ 2) × (writer.new ≡ writer.old) }
-    ensures erasure { asked_options is_large (option_map (λ w. w.now) erasure.entry) ≡ None → (exit_status result ≡ 2) × (writer.new ≡ writer.old) }
-    ensures ends { IfSome (asked_times (option_map (λ w. w.now) times.entry)) (λ t. IfSome (asked_options is_large (option_map (λ w. w.now) erasure.entry)) (λ o.
-        EndsRecordedTo (T.did_create rt.now path.now) o t W.contents W.did_flush (R.remaining reader) writer.old writer.new (exit_status result))) }
+    ensures times { asked_times (option_map (λ w. w.now) times.entry) ≡ None
+        → (exit_status result ≡ 2) × (writer.new ≡ writer.old) }
+    ensures erasure { asked_options is_large (option_map (λ w. w.now) erasure.entry) ≡ None
+        → (exit_status result ≡ 2) × (writer.new ≡ writer.old) }
+    ensures ends { IfSome (asked_times (option_map (λ w. w.now) times.entry)) (λ t.
+        IfSome (asked_options is_large (option_map (λ w. w.now) erasure.entry)) (λ o.
+        EndsRecordedTo (T.did_create rt.now path.now) o t W.contents W.did_flush (R.remaining reader) writer.old
+        writer.new (exit_status result))) }
 {
     let Some(times) = asked_times(times) else {
         return stop(rt, USAGE, SetupFault::Times.cause());

@@ -52,7 +52,8 @@ fn run_with<T: AllocGlobal + Eprint, R: Read + Drop, W: Output>(
     reader: R,
     writer: &mut W,
 ) -> ExitCode
-    ensures { EndsBy (replay_rules_of erasure) W.contents W.did_flush (R.remaining reader) writer.old writer.new false (exit_status result) }
+    ensures { EndsBy (replay_rules_of erasure) W.contents W.did_flush (R.remaining reader) writer.old writer.new false
+        (exit_status result) }
 {
     let alloc = rt.alloc();
     let mut reader = Recent::new(alloc, reader);
@@ -63,7 +64,8 @@ fn run_with<T: AllocGlobal + Eprint, R: Read + Drop, W: Output>(
 }
 
 /// Replays what a reader gives, and ends with a status: 0 at its end, 1 where a line is a fault or reading or writing
-/// failed, 2 where the word for its erasure is none, 5 where memory was refused. It says why a line is a fault and what failed.
+/// failed, 2 where the word for its erasure is none, 5 where memory was refused. It says why a line is a fault and what
+/// failed.
 pub fn run<T: AllocGlobal + Eprint, R: Read + Drop, W: Output>(
     rt: &T,
     erasure: Option<&str>,
@@ -71,8 +73,11 @@ pub fn run<T: AllocGlobal + Eprint, R: Read + Drop, W: Output>(
     _is_verbose: bool,
     writer: &mut W,
 ) -> ExitCode
-    ensures usage { asked_erasure (option_map (λ w. w.now) erasure.entry) ≡ None → (exit_status result ≡ 2) × (writer.new ≡ writer.old) }
-    ensures ends { IfSome (asked_erasure (option_map (λ w. w.now) erasure.entry)) (λ e. EndsBy (replay_rules_of e) W.contents W.did_flush (R.remaining reader) writer.old writer.new false (exit_status result)) }
+    ensures usage { asked_erasure (option_map (λ w. w.now) erasure.entry) ≡ None
+        → (exit_status result ≡ 2) × (writer.new ≡ writer.old) }
+    ensures ends { IfSome (asked_erasure (option_map (λ w. w.now) erasure.entry)) (λ e.
+        EndsBy (replay_rules_of e) W.contents W.did_flush (R.remaining reader) writer.old writer.new false
+        (exit_status result)) }
 {
     let Some(erasure) = asked_erasure(erasure) else {
         return stop(rt, USAGE, SetupFault::Erasure.cause());

@@ -4,7 +4,8 @@ ghost use Rattle.std.specs.Result.{result_ok};
 ghost use Rattle.tora_arq.specs.Settings.{IsTimes};
 ghost use Rattle.tora_lines.specs.Words.{number_of};
 ghost use Rattle.tora_channel.specs.Parts.{no_parts, channel_by};
-ghost use Rattle.tora_commands.specs.SetupWords.{asked_seed, channel_asked, asked_channel, asked_limits, asked_erasure, options_by, asked_options, asked_until, asked_by};
+ghost use Rattle.tora_commands.specs.SetupWords.{asked_seed, channel_asked, asked_channel, asked_limits, asked_erasure};
+ghost use Rattle.tora_commands.specs.SetupWords.{options_by, asked_options, asked_until, asked_by};
 
 use crate::times_word::asked_times;
 use tora_channel::{Channel, channel_parts};
@@ -109,7 +110,8 @@ fn channel<'a>(
     seed: Option<&str>,
     has_file: bool,
 ) -> Result<Channel, SetupFault<'a>>
-    ensures { result_ok result ≡ asked_channel (option_map (λ w. w.now) channel.entry) (option_map (λ w. w.now) seed.entry) has_file }
+    ensures { result_ok result ≡ asked_channel (option_map (λ w. w.now) channel.entry)
+        (option_map (λ w. w.now) seed.entry) has_file }
 {
     match (channel, seed) {
         (None, None) => Ok(Channel::CLEAR),
@@ -171,7 +173,8 @@ fn until<'a>(word: Option<&str>) -> Result<Option<u64>, SetupFault<'a>>
     }
 }
 
-/// What the words ask for, or the first fault: of the times, then of the seed and the channel, then of the last round, then of the erasure.
+/// What the words ask for, or the first fault: of the times, then of the seed and the channel, then of the last round,
+/// then of the erasure.
 #[tactic(auto, unfolding(crate::specs::SetupWords::asked_setup))]
 pub fn asked_setup<'a>(words: SetupWords<'a>) -> Result<Setup, SetupFault<'a>>
     ensures value { result_ok result ≡ asked_by words.entry }

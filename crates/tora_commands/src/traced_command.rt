@@ -63,8 +63,8 @@ pub fn traced_status<T: Eprint, V: Output>(
     code
 }
 
-/// Simulates what is made with this over a channel that the lines of a table change, writes the trace, and flushes the writer:
-/// `Write` where that alone fails.
+/// Simulates what is made with this over a channel that the lines of a table change, writes the trace, and flushes the
+/// writer: `Write` where that alone fails.
 fn simulate_and_flush<S: Watched, T: Eprint, R: Read, W: Output, V: Output>(
     rt: &T,
     alloc: Global,
@@ -80,7 +80,8 @@ fn simulate_and_flush<S: Watched, T: Eprint, R: Read, W: Output, V: Output>(
         SimulatesWith setup (lines_of table) input (W.contents writer.old) (W.contents writer.new) ended)) }
     ensures at_end { result ≡ Ok Ended.Whole → IsAtEnd (R.remaining reader.new) }
     ensures begun { IfErr result (λ e. e ≢ ReplayError.Write →
-        IsBegunWith setup (lines_of table) (R.remaining reader.old) (R.remaining reader.new) (W.contents writer.old) (W.contents writer.new)) }
+        IsBegunWith setup (lines_of table) (R.remaining reader.old) (R.remaining reader.new) (W.contents writer.old)
+        (W.contents writer.new)) }
     ensures flushed { IsFlushed W.did_flush result writer.new }
 {
     let result = simulate_traced::<S, T, R, W, V>(
@@ -105,8 +106,8 @@ fn finish<R: Read + Drop, V: Output>(
     }
 }
 
-/// Simulates the lines that a reader gives, in a world that is made with this and over the channel of a channel file, writes the
-/// trace to the file at a path, and hands both on.
+/// Simulates the lines that a reader gives, in a world that is made with this and over the channel of a channel file,
+/// writes the trace to the file at a path, and hands both on.
 pub fn run_over<S: Watched, T: AllocGlobal + Eprint, R: Read + Drop, W: Output, V: Output>(
     rt: &T,
     setup: Setup,
@@ -118,7 +119,8 @@ pub fn run_over<S: Watched, T: AllocGlobal + Eprint, R: Read + Drop, W: Output, 
     out: &mut TraceOut<V>,
 ) -> ExitCode
     requires { IsTimes setup.times }
-    ensures ends { EndsBy (rules_with setup (lines_of file.table)) W.contents W.did_flush (R.remaining reader) writer.old writer.new (is_some out.new.failure) (exit_status result) }
+    ensures ends { EndsBy (rules_with setup (lines_of file.table)) W.contents W.did_flush (R.remaining reader)
+        writer.old writer.new (is_some out.new.failure) (exit_status result) }
     ensures trace { (before : TraceOut V) × IsHandedOn V.did_flush before out.new }
 {
     let alloc = rt.alloc();
@@ -144,13 +146,15 @@ pub fn run_over<S: Watched, T: AllocGlobal + Eprint, R: Read + Drop, W: Output, 
     traced_status(rt, result, out, path)
 }
 
-/// The file of a trace at a path, which is made anew, or the status where it can't be had, after its lines on standard error.
+/// The file of a trace at a path, which is made anew, or the status where it can't be had, after its lines on standard
+/// error.
 fn make_trace<T: Paths + AllocGlobal + Eprint>(
     rt: &T,
     path: &str,
 ) -> Result<TraceOut<BufWriter<T::File>>, ExitCode>
     ensures made { OnOk result ((made : T.File) × T.did_create rt.now path.now (Ok made)) }
-    ensures refused { IfErr result (λ code. IsFailed (λ e. T.did_create rt.now path.now (Err e)) (exit_status code) ⊎ (exit_status code ≡ 5)) }
+    ensures refused { IfErr result (λ code. IsFailed (λ e. T.did_create rt.now path.now (Err e)) (exit_status code)
+        ⊎ (exit_status code ≡ 5)) }
 {
     let made = match rt.create_path(path) {
         Ok(made) => made,
@@ -162,13 +166,13 @@ fn make_trace<T: Paths + AllocGlobal + Eprint>(
     }
 }
 
-/// Simulates the lines of the file at a path, in a world that is made with this and over the channel of a channel file, and writes
-/// the trace to the file at another one, which is made anew. It is shown on standard error why events are refused, and with a bar
-/// how far the simulation is.
+/// Simulates the lines of the file at a path, in a world that is made with this and over the channel of a channel file,
+/// and writes the trace to the file at another one, which is made anew. It is shown on standard error why events are
+/// refused, and with a bar how far the simulation is.
 ///
-/// It ends with the status of the simulation, or with 1 where that is 0 and the trace could not be written; with 1, before
-/// anything is simulated, where the file can't be opened, where that of the trace can't be made, or where both paths are
-/// one; and with 5 where memory was refused.
+/// It ends with the status of the simulation, or with 1 where that is 0 and the trace could not be written; with 1,
+/// before anything is simulated, where the file can't be opened, where that of the trace can't be made, or where both
+/// paths are one; and with 5 where memory was refused.
 pub fn run<S: Watched, T: Paths + AllocGlobal + Eprint + Clock, W: Output>(
     rt: &T,
     setup: Setup,
@@ -178,7 +182,9 @@ pub fn run<S: Watched, T: Paths + AllocGlobal + Eprint + Clock, W: Output>(
     writer: &mut W,
 ) -> ExitCode
     requires { IsTimes setup.times }
-    ensures ends { EndsTraced (T.did_open rt.now) (T.did_create rt.now) T.File.remaining (rules_with setup (lines_of file.table)) W.contents W.did_flush paths.entry.0.now paths.entry.1.now writer.old writer.new (exit_status result) }
+    ensures ends { EndsTraced (T.did_open rt.now) (T.did_create rt.now) T.File.remaining
+        (rules_with setup (lines_of file.table)) W.contents W.did_flush paths.entry.0.now paths.entry.1.now writer.old
+        writer.new (exit_status result) }
     ensures same { paths.entry.0.now ≡ paths.entry.1.now → (exit_status result ≡ 1) × (writer.new ≡ writer.old) }
 {
     let (path, trace) = paths;

@@ -1,4 +1,4 @@
--- Links in another order: no peer stands twice in the one where none does in the other, and a core is refused alike.
+-- Links in another order: a peer is repeated in one order exactly if it is in the other, and a core is refused alike.
 use Rattle.std.proofs.Common.{◌≡◌, ◌≢◌, ◌∙◌, add-one, refl, ap, sym, subst, arith, ℕ, zero, suc, ◌+◌, ◌<◌, ◌≤◌, ◌==◌, Bool, true, false, cond, ◌||◌, List, [], ◌∷◌, length, get_or, inl, inr, None}
 use Rattle.std.specs.List.{sum_by}
 use Rattle.std.specs.List.Sorted.{IsPermutation, IsNonDecreasingBy}
@@ -11,7 +11,7 @@ use Rattle.tora_core.specs.CoreRun.{core_refusal}
 use Rattle.tora_config.specs.declared.LinkConfig.{LinkConfig}
 use Rattle.tora_config.specs.NodeConfig.{peers_of, IsAscending}
 
--- how often a number stands in a list
+-- how often a number occurs in a list
 abbrev one_if : ℕ → ℕ → ℕ
 one_if n m = cond (m == n) 1 0
 
@@ -78,7 +78,7 @@ repeat_permuted xs ys moved = same_bool (has_repeat xs) (has_repeat ys) (once_pe
 peers_permuted : (xs ys : List LinkConfig) → IsPermutation xs ys → IsPermutation (peers_of xs) (peers_of ys)
 peers_permuted xs ys moved = IsPermutation-map (λ (link : LinkConfig). link.peer) xs ys moved
 
--- a core asks nothing of its neighbours' order
+-- the order of its neighbours does not matter to a core
 pub refused_alike : (me : ℕ) (xs ys : List LinkConfig) (dests : List ℕ) → IsPermutation xs ys → core_refusal me (peers_of xs) dests ≡ core_refusal me (peers_of ys) dests
 refused_alike me xs ys dests moved =
     let peers = peers_permuted xs ys moved in

@@ -1,4 +1,4 @@
--- The ends of a link, as a value says them.
+-- The addresses of a link in a value.
 use Rattle.std.specs.Prelude.{ℕ, Bool, List, [], ◌∷◌, ◌==◌, nat_lt, bytes_eq, slice_index, if◌then◌else◌, Option, Some, None, option_map, Result, Ok, Err}
 use Rattle.std.specs.Option.{option_or}
 use Rattle.std.specs.declared.net.ip_addr.IpAddr.{IpAddr}
@@ -18,17 +18,19 @@ abbrev pub v4_address : List ℕ × ℕ → SocketAddr
 v4_address parts = Socket.V4 (record { ip = record { octets = parts.0 }; port = parts.1 })
 
 abbrev pub v6_address : List ℕ × ℕ × ℕ × ℕ → SocketAddr
-v6_address parts = Socket.V6 (record { ip = record { segments = parts.0 }; port = parts.1; flowinfo = parts.2; scope_id = parts.3 })
+v6_address parts =
+    Socket.V6 (record { ip = record { segments = parts.0 }; port = parts.1; flowinfo = parts.2; scope_id = parts.3 })
 
--- the address that a text writes, as std reads it (`10.0.0.1:7001`, `[::1]:7001`)
+-- the address in a text, as std reads it (`10.0.0.1:7001`, `[::1]:7001`)
 unfoldable pub address_in : List ℕ → Option SocketAddr
-address_in text = option_or (option_map v4_address (whole_value (read_socket_v4 text))) (option_map v6_address (whole_value (read_socket_v6 text)))
+address_in text = option_or (option_map v4_address (whole_value (read_socket_v4 text)))
+    (option_map v6_address (whole_value (read_socket_v6 text)))
 
 -- a port of the loopback of IPv4, 127.0.0.1
 abbrev pub on_loopback : ℕ → SocketAddr
 on_loopback port = v4_address (127 ∷ 0 ∷ 0 ∷ 1 ∷ [], port)
 
--- an address has a port other than 0; a text that writes none is no number
+-- an address has a port other than 0; any other text is the fault `NoNumber`
 abbrev pub written : Option SocketAddr → Result SocketAddr Reason
 written None = Err Is.NoNumber
 written (Some address) = if nat_lt 0 (socket_port address) then Ok address else Err Is.NoNumber
@@ -41,7 +43,7 @@ abbrev pub end_by : Option (List ℕ) → Data → Result SocketAddr Reason
 end_by (Some text) value = written (address_in text)
 end_by None value = numbered (port_in (as_integer value))
 
--- an end of a link: a text writes its address, and a number is a port of the loopback
+-- an address of a link: a text is an address, and a number is a port of the loopback
 unfoldable pub end_in : Data → Result SocketAddr Reason
 end_in value = end_by (as_str value) value
 

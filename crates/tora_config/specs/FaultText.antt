@@ -1,4 +1,4 @@
--- The words for what is wrong with a configuration.
+-- The words for the faults of a configuration.
 use Rattle.std.specs.Prelude.{codes, List, [], ℕ, ◌++◌, Option, Some, None}
 use Rattle.std.specs.Fmt.{decimal}
 use Rattle.tora_config.specs.declared.fault.Place.{Place}
@@ -17,7 +17,7 @@ place_text (At.Local n) = codes "`local` of link " ++ decimal n
 place_text (At.Remote n) = codes "`remote` of link " ++ decimal n
 place_text (At.KeyFile n) = codes "`key_file` of link " ++ decimal n
 
--- the number behind the words for a key, where it has one
+-- the number after the words for a key, if it has one
 abbrev pub number_text : Option ℕ → List ℕ
 number_text None = []
 number_text (Some n) = decimal n

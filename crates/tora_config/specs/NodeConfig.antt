@@ -1,4 +1,4 @@
--- What holds of each configuration that is read.
+-- What holds for each configuration that is read.
 use Rattle.std.specs.Prelude.{codes, string_bytes, ◌≡◌, ℕ, ◌+◌, ◌<◌, ℤ, pos, List, map, length, slice_index, All, Option, Some, None, option_and_then, IsPermutation}
 use Rattle.toml.specs.Data.{Data, Members, as_integer, as_str, as_array, get, get_member}
 use Rattle.toml.specs.View.{items_of}
@@ -23,7 +23,8 @@ IsAscending numbers = (k : ℕ) → k + 1 < length numbers → slice_index numbe
 abbrev pub peers_of : List LinkConfig → List ℕ
 peers_of links = map (λ link. link.peer) links
 
--- there is a link, no number is 0, and the links are by ascending peer. A core of these is refused for want of memory alone
+-- there is a link, no number is 0, and the links are by ascending peer. A core of these is refused only if memory runs
+-- out
 pub record IsNodeConfig (c : NodeConfig) : Type 0 where
   pub node : 0 < c.node
   pub dests : All (λ d. 0 < d) c.dests.items
@@ -32,7 +33,7 @@ pub record IsNodeConfig (c : NodeConfig) : Type 0 where
   pub ascending : IsAscending (peers_of c.links.items)
   pub accepted : core_refusal c.node (peers_of c.links.items) c.dests.items ≡ None
 
--- ---- what a text says
+-- ---- the contents of a text
 
 -- the whole number, the text and the values of a list at a key of a table
 abbrev pub number_at : List ℕ → Members → Option ℤ
@@ -48,7 +49,7 @@ IsListAt key table values = option_and_then as_array (get_member key table) ≡ 
 abbrev pub number_in : List ℕ → Data → Option ℤ
 number_in key value = option_and_then as_integer (get key value)
 
--- the port that a value says, as a number or in the text of an address
+-- the port in a value, as a number or in the text of an address
 abbrev pub port_said : Data → Option ℕ
 port_said value = result_ok (port_of_end (end_in value))
 
@@ -58,25 +59,27 @@ port_at key table = option_and_then port_said (get_member key table)
 abbrev pub port_in : List ℕ → Data → Option ℕ
 port_in key value = option_and_then port_said (get key value)
 
--- the three numbers that a value says of a link, and those of the link
+-- the three numbers of a link in a value, and those of the link
 abbrev pub says_of_link : Data → Option ℤ × (Option ℕ × Option ℕ)
 says_of_link value = (number_in (codes "peer") value, (port_in (codes "local") value, port_in (codes "remote") value))
 
 abbrev pub said_link : LinkConfig → Option ℤ × (Option ℕ × Option ℕ)
 said_link link = (Some (pos link.peer), (Some link.local, Some link.remote))
 
--- The links are those that the list says, in another order.
+-- The links are those in the list, possibly in another order.
 abbrev pub AreLinksOf : List Data → List LinkConfig → Type 0
-AreLinksOf values links = (written : List LinkConfig) × (map says_of_link values ≡ map said_link written) × IsPermutation written links
+AreLinksOf values links =
+    (written : List LinkConfig) × (map says_of_link values ≡ map said_link written) × IsPermutation written links
 
--- what a table says that nodes make of erased levels
+-- the treatment of erased levels in a table
 abbrev pub erasure_in : Members → Option Erasure
 erasure_in table = result_ok (erasure_at (get_member (codes "erasure") table))
 
--- The configuration is what the table of a text says, key by key.
+-- The configuration has the values of the table of a text, key by key.
 pub record IsWritten (table : Members) (c : NodeConfig) : Type 0 where
   pub node : number_at (codes "node") table ≡ Some (pos c.node)
-  pub dests : (values : List Data) × IsListAt (codes "dests") table values × (map as_integer values ≡ map (λ d. Some (pos d)) c.dests.items)
+  pub dests : (values : List Data) × IsListAt (codes "dests") table values
+      × (map as_integer values ≡ map (λ d. Some (pos d)) c.dests.items)
   pub life_dir : text_at (codes "life_dir") table ≡ Some (string_bytes c.life_dir)
   pub erasure : erasure_in table ≡ Some c.erasure
   pub links : (values : List Data) × IsListAt (codes "link") table values × AreLinksOf values c.links.items

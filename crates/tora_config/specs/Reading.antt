@@ -1,4 +1,4 @@
--- What the table of a text gives: a configuration, or the first fault of it.
+-- The result of reading a table: a configuration, or its first fault.
 use Rattle.std.specs.Prelude.{codes, string_bytes, bytes_eq, ◌≡◌, ◌==◌, ◌+◌, ℕ, Bool, List, [], ◌∷◌, ◌++◌, length, if◌then◌else◌, Option, Some, None, Result, Ok, Err, IsPermutation}
 use Rattle.std.specs.List.{list_any}
 use Rattle.toml.specs.Data.{Data, Items, no_items, item, Members, no_members, member, as_table, as_integer, get_member}
@@ -16,7 +16,7 @@ use Rattle.tora_config.specs.NodeConfig.{peers_of}
 use Rattle.tora_config.specs.Numbers.{id_in}
 use Rattle.tora_config.specs.Refusal.{Fault, unknown_key, unknown_link_key, refused, no_core, id_at, port_at, text_at, list_at, erasure_at, ok_or, at_place}
 
--- one step after the other, up to the first fault
+-- one step after another, up to the first fault
 infixl 10 ◌>>=◌
 abbrev pub ◌>>=◌ : {A B : Type 0} → Result A Fault → (A → Result B Fault) → Result B Fault
 (Ok x) >>= f = f x
@@ -32,10 +32,11 @@ abbrev pub keys_in : Members → List (List ℕ)
 keys_in no_members = []
 keys_in (member key value members) = key ∷ keys_in members
 
--- The first of the keys that none of the known ones is, if there is one, is a fault.
+-- The first unknown key, if there is one, is a fault.
 abbrev pub only_known : List (List ℕ) → (List ℕ → Fault) → List (List ℕ) → Result (Unit {0}) Fault
 only_known known fault [] = Ok tt
-only_known known fault (key ∷ keys) = if list_any (bytes_eq key) known then only_known known fault keys else Err (fault key)
+only_known known fault (key ∷ keys) = if list_any (bytes_eq key) known then only_known known fault keys
+    else Err (fault key)
 
 abbrev pub keys_of_configuration : List (List ℕ)
 keys_of_configuration = codes "node" ∷ codes "dests" ∷ codes "life_dir" ∷ codes "erasure" ∷ codes "link" ∷ []
@@ -45,14 +46,14 @@ keys_of_link = codes "peer" ∷ codes "local" ∷ codes "remote" ∷ codes "key_
 
 -- ---- lists
 
--- those before, and what each of these values in turn says beside them
+-- the earlier items, and each of these values in turn, checked against them
 abbrev pub each_from : {A : Type 0} → (List A → Data → Result A Fault) → List A → Items → Result (List A) Fault
 each_from read before no_items = Ok before
 each_from read before (item value values) = do
   next ← read before value
   each_from read (before ++ next ∷ []) values
 
--- a destination that is none of those before it
+-- a destination that differs from those before it
 unfoldable pub dest_in : List ℕ → Data → Result ℕ Fault
 dest_in before value = do
   dest ← at_place (At.Dest (length before + 1)) (id_in (as_integer value))
@@ -64,7 +65,7 @@ dests_in table = do
   values ← at_place At.Dests (list_at (get_member (codes "dests") table))
   each_from dest_in [] values
 
--- what the link with the number n says
+-- the link with the number n
 unfoldable pub link_in : ℕ → Data → Result LinkConfig Fault
 link_in n value = do
   table ← at_place (At.Link n) (ok_or Is.NoTable (as_table value))
@@ -80,7 +81,7 @@ has_peer peer links = list_any (λ link. link.peer == peer) links
 abbrev pub has_local : ℕ → List LinkConfig → Bool
 has_local local links = list_any (λ link. link.local == local) links
 
--- a link to another node than this one and those of the links before it, from another port than theirs
+-- a link whose peer is neither this node nor an earlier peer, and whose local port is not an earlier one
 unfoldable pub link_beside : ℕ → List LinkConfig → Data → Result LinkConfig Fault
 link_beside node before value = do
   link ← link_in (length before + 1) value
@@ -126,9 +127,9 @@ configuration_in table = do
   _ ← has_core (core_refusal node (peers_of links) dests)
   Ok (record { node = node; dests = dests; life_dir = life_dir; erasure = erasure; links = links })
 
--- ---- what the functions answer
+-- ---- the results of the functions
 
--- An error tells the fault of what was read, unless memory ran out. A table is TOML.
+-- An error is the fault that reading found, unless memory ran out. A table is valid TOML.
 abbrev pub Fails : {Y : Type 0} → ConfigError → Result Y Fault → Type 0
 Fails Error.Memory read = Unit {0}
 Fails (Error.Syntax e) read = ⊥
@@ -137,12 +138,12 @@ Fails (Error.UnknownLinkKey n key) read = read ≡ Err (unknown_link_key n (stri
 Fails (Error.Value place reason) read = read ≡ Err (refused place reason)
 Fails (Error.Core e) read = read ≡ Err (no_core e)
 
--- What a function returned, seen by view, is what reading gives, unless memory ran out.
+-- The view of a function's result is the result of reading, unless memory ran out.
 abbrev pub Gives : {X Y : Type 0} → (X → Y) → Result X ConfigError → Result Y Fault → Type 0
 Gives view (Ok x) read = read ≡ Ok (view x)
 Gives view (Err e) read = Fails e read
 
--- The configuration is these numbers and bytes, with its links in another order.
+-- The configuration has these numbers and bytes, with its links possibly in another order.
 pub record IsOf (c : NodeConfig) (read : Configuration) : Type 0 where
   pub node : c.node ≡ read.node
   pub dests : c.dests.items ≡ read.dests
@@ -150,12 +151,12 @@ pub record IsOf (c : NodeConfig) (read : Configuration) : Type 0 where
   pub erasure : c.erasure ≡ read.erasure
   pub links : IsPermutation read.links c.links.items
 
--- The answer is what reading a table gives, unless memory ran out.
+-- The result is that of reading a table, unless memory ran out.
 abbrev pub Reads : Result NodeConfig ConfigError → Result Configuration Fault → Type 0
 Reads (Ok c) read = (x : Configuration) × (read ≡ Ok x) × IsOf c x
 Reads (Err e) read = Fails e read
 
--- The answer is that the text is no TOML, unless memory ran out.
+-- The result is that the text is not TOML, unless memory ran out.
 abbrev pub IsNoToml : {X : Type 0} → Result X ConfigError → Type 0
 IsNoToml (Err (Error.Syntax e)) = Unit {0}
 IsNoToml (Err Error.Memory) = Unit {0}

@@ -1,4 +1,4 @@
--- The words for what is wrong with a value.
+-- The words for the faults of a value.
 use Rattle.std.specs.Prelude.{codes, List, ℕ}
 use Rattle.tora_config.specs.declared.reason.Reason.{Reason}
 use Rattle.tora_config.specs.declared.reason.Reason.TheVariants as Is

@@ -1,4 +1,4 @@
--- What is wrong with a table that is no configuration, and with each value of it.
+-- The faults of a table that is not a configuration, and of its values.
 use Rattle.std.specs.Prelude.{ℕ, codes, bytes_eq, if◌then◌else◌, List, Option, Some, None, Result, Ok, Err}
 use Rattle.toml.specs.Data.{Data, Items, as_integer, as_str, as_array}
 use Rattle.tora_core.specs.declared.erasure.Erasure.{Erasure}
@@ -17,7 +17,7 @@ pub data Fault : Type 0 where
   refused : Place → Reason → Fault
   no_core : CoreError → Fault
 
--- what a look-up of a key says: nothing stands there, or this
+-- the result of a look-up of a key: it is missing, or this
 abbrev pub found : {A : Type 0} → (Data → Result A Reason) → Option Data → Result A Reason
 found read None = Err Is.Missing
 found read (Some value) = read value
@@ -41,7 +41,7 @@ text_at stands = found (λ value. ok_or Is.NoText (as_str value)) stands
 abbrev pub list_at : Option Data → Result Items Reason
 list_at stands = found (λ value. ok_or Is.NoList (as_array value)) stands
 
--- what a word says that nodes make of erased levels
+-- the treatment of erased levels that a word names
 abbrev pub erasure_of : List ℕ → Option Erasure
 erasure_of word =
     if bytes_eq word (codes "plain") then Some Plain
@@ -52,12 +52,12 @@ abbrev pub erasure_said : Option (List ℕ) → Result Erasure Reason
 erasure_said None = Err Is.NoText
 erasure_said (Some word) = ok_or Is.NoErasure (erasure_of word)
 
--- it is plain where nothing stands there
+-- it is plain if the key is missing
 abbrev pub erasure_at : Option Data → Result Erasure Reason
 erasure_at None = Ok Plain
 erasure_at (Some value) = erasure_said (as_str value)
 
--- what was read at a place, or the fault that names it and says what is wrong
+-- the value that was read at a key, or the fault with the key and the reason
 abbrev pub at_place : {A : Type 0} → Place → Result A Reason → Result A Fault
 at_place place (Ok a) = Ok a
 at_place place (Err reason) = Err (refused place reason)

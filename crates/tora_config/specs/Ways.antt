@@ -1,4 +1,4 @@
--- How the datagrams of links go, as a text says.
+-- The addresses and key files of links in a text.
 use Rattle.std.specs.Prelude.{codes, string_bytes, ℕ, ◌&&◌, Bool, List, [], ◌+◌, length, not, Option, Some, None, option_map, Result, Ok, Err}
 use Rattle.std.specs.Option.{is_some}
 use Rattle.std.specs.declared.net.socket_addr.SocketAddr.{SocketAddr}
@@ -18,9 +18,14 @@ pub record WaySaid : Type 0 where
   pub key_file : Option (List ℕ)
 
 abbrev pub said_way : LinkWay → WaySaid
-said_way way = record { peer = way.peer; local = way.local; remote = way.remote; key_file = option_map string_bytes way.key_file }
+said_way way = record {
+  peer = way.peer;
+  local = way.local;
+  remote = way.remote;
+  key_file = option_map string_bytes way.key_file;
+}
 
--- a text where there is one; none is no fault
+-- a text, if there is one; a missing one is not a fault
 abbrev pub some_text : Result (List ℕ) Reason → Result (Option (List ℕ)) Reason
 some_text (Ok text) = Ok (Some text)
 some_text (Err reason) = Err reason
@@ -33,7 +38,7 @@ key_file_at (Some value) = some_text (ok_or Is.NoText (as_str value))
 abbrev pub is_open : SocketAddr → SocketAddr → Option (List ℕ) → Bool
 is_open local remote key_file = not (is_some key_file) && not (is_loopback local && is_loopback remote)
 
--- what the link with the number n says of its datagrams; one that leaves the loopback has a key
+-- the addresses and the key file of the link with the number n; one that leaves the loopback has a key
 unfoldable pub way_in : ℕ → Data → Result WaySaid Fault
 way_in n value = do
   table ← at_place (At.Link n) (ok_or Is.NoTable (as_table value))
@@ -47,7 +52,7 @@ way_in n value = do
 abbrev pub way_beside : List WaySaid → Data → Result WaySaid Fault
 way_beside before value = way_in (length before + 1) value
 
--- that of each link, in the order of the text
+-- those of each link, in the order of the text
 unfoldable pub ways_in : Members → Result (List WaySaid) Fault
 ways_in table = do
   values ← at_place At.Links (list_at (get_member (codes "link") table))

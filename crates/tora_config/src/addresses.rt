@@ -1,4 +1,4 @@
-//! The ends of links that stand as values.
+//! Addresses and ports of links, as values of keys.
 ghost use Rattle.std.specs.Prelude.{◌≡◌, ◌<◌, IfOk};
 ghost use Rattle.toml.specs.View.{view};
 ghost use Rattle.tora_config.specs.Addresses.{address_in, end_in, on_loopback, is_loopback};
@@ -9,7 +9,7 @@ use crate::reason::Reason;
 use std::net::{Ipv4Addr, SocketAddr, SocketAddrV4};
 use toml::Value;
 
-/// The address that a text writes, as the standard library reads it: `10.0.0.1:7001`, `[::1]:7001`, `[fe80::1%2]:7001`.
+/// The address in a text, as the standard library reads it: `10.0.0.1:7001`, `[::1]:7001`, `[fe80::1%2]:7001`.
 fn address_of(text: &str) -> Option<SocketAddr>
     ensures { result ≡ address_in text.now }
 {
@@ -23,10 +23,11 @@ fn on_loopback(port: u16) -> SocketAddr
     SocketAddr::V4(SocketAddrV4::new(Ipv4Addr::LOCALHOST, port))
 }
 
-/// An end of a link, which stands there: a text writes its address, and a number is a port of the loopback, 127.0.0.1.
+/// The value of a key as the address of a link end: a text is an address, and a number is a port of the loopback,
+/// 127.0.0.1.
 ///
 /// # Errors
-/// What `port_of` says of a number. `NoNumber` for a text that writes no address, or one with the port 0.
+/// Those of `port_of` for a number. `NoNumber` for a text that is not an address, or one with the port 0.
 #[tactic(auto, unfolding(crate::specs::Addresses::end_in))]
 pub fn end_of(value: &Value) -> Result<SocketAddr, Reason>
     ensures above { IfOk result (λ address. 0 < socket_port address) }

@@ -1,4 +1,4 @@
-//! Why a text is no configuration.
+//! Why a text is not a configuration.
 use crate::reason::Reason;
 use std::alloc::{AllocError, AllocFailed};
 use std::fmt;
@@ -37,7 +37,7 @@ impl Place {
     ghost use Rattle.std.specs.Prelude.{◌≡◌, ◌++◌};
     ghost use Rattle.tora_config.specs.FaultText.{place_text, number_text};
 
-    /// The words for it, and the number behind them where it has one.
+    /// The words for it, and its number if it has one.
     fn words(self) -> (&'static str, Option<usize>)
         ensures { place_text self ≡ result.0.now ++ number_text result.1 }
     {
@@ -71,25 +71,25 @@ impl Display for Place {
     }
 }
 
-/// Why a text is no configuration.
+/// Why a text is not a configuration.
 #[derive(Debug, Drop, Error)]
 pub enum ConfigError {
     /// There is no memory.
     #[error("out of memory")]
     Memory,
-    /// The text is no TOML.
+    /// The text is not TOML.
     #[error("the configuration is no TOML: {0}")]
     Syntax(toml::de::Error),
-    /// There is a key that a configuration does not have.
+    /// There is an unknown key.
     #[error("`{0}` is no key of a configuration")]
     UnknownKey(String),
-    /// The link with this number, from 1 on, has a key that no link has.
+    /// The link with this number, from 1 on, has an unknown key.
     #[error("`{1}` of link {0} is no key of a link")]
     UnknownLinkKey(usize, String),
-    /// A key is missing, or has a value that is refused.
+    /// A key is missing, or its value is refused.
     #[error("{0} {1}")]
     Value(Place, Reason),
-    /// No core is made of these links and destinations.
+    /// The core refuses these links or destinations.
     #[error("there is no such node: {0}")]
     Core(CoreError),
 }

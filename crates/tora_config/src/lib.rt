@@ -11,15 +11,15 @@
 //! remote = 4021
 //! ```
 //!
-//! Each of these keys is required, `link` at least once, and every other key but `erasure` and `key_file` is a fault. `erasure` is
-//! "plain" or "remembered", and plain where it is not there. `node`, `peer` and each of
-//! `dests` are whole numbers from 1 to 2^32 - 1; ports are from 1 to 65535. No two links have one peer or one local port, and no
-//! peer is the node itself. What a core refuses is a fault: too many links or destinations, and a destination that stands
-//! twice.
+//! Each of these keys is required, `link` at least once, and every other key except `erasure` and `key_file` is a
+//! fault. `erasure` is "plain" or "remembered", and "plain" by default. `node`, `peer` and each of `dests` are whole
+//! numbers from 1 to 2^32 - 1; ports are from 1 to 65535. No two links have the same peer or the same local port, and
+//! no peer is the node itself. Too many links or destinations, and a repeated destination, are faults.
 //!
-//! `local` and `remote` may also be texts of addresses, as `"10.0.0.1:7001"` and `"[::1]:7001"`; a number is a port of 127.0.0.1. A
-//! link may have a `key_file`, the path of a file with a key, and one that leaves the loopback must have one. `read_config` reads all
-//! but these, of an address its port alone; `read_ways` reads the addresses and the paths.
+//! `local` and `remote` may also be addresses as texts, such as `"10.0.0.1:7001"` and `"[::1]:7001"`; a number is a
+//! port of 127.0.0.1. A link may have a `key_file`, the path of a file with a key, and one that leaves the loopback
+//! must have one. `read_config` reads everything except these, and only the port of an address; `read_ways` reads the
+//! addresses and the paths.
 #![tactic(auto)]
 
 mod addresses;
@@ -48,7 +48,7 @@ pub struct LinkConfig {
     pub remote: u16,
 }
 
-/// What a node is started with.
+/// The configuration of a node.
 #[derive(Debug, Drop)]
 pub struct NodeConfig {
     /// The node, not 0.
@@ -57,7 +57,7 @@ pub struct NodeConfig {
     pub dests: Vec<Id>,
     /// The folder of its life files, as it is given.
     pub life_dir: String,
-    /// What it makes of erased levels.
+    /// How it treats erased levels.
     pub erasure: Erasure,
     /// Its links, at least one, by ascending peer.
     pub links: Vec<LinkConfig>,

@@ -1,4 +1,4 @@
-//! The numbers that stand as values.
+//! Numbers as values of keys.
 ghost use Rattle.std.specs.Prelude.{◌≡◌, ◌<◌, pos, Some, IfOk};
 ghost use Rattle.toml.specs.Data.{as_integer};
 ghost use Rattle.toml.specs.View.{view};
@@ -10,7 +10,7 @@ use crate::reason::Reason;
 use toml::Value;
 use tora_height::Id;
 
-/// The number of a node, which stands there.
+/// The value of a key as the number of a node.
 pub fn id_of(value: &Value) -> Result<Id, Reason>
     ensures above { IfOk result (λ n. 0 < n) }
     ensures exact { IfOk result (λ n. as_integer (view value.now) ≡ Some (pos n)) }
@@ -30,7 +30,7 @@ pub fn id_of(value: &Value) -> Result<Id, Reason>
     }
 }
 
-/// A port that stands there as a number.
+/// The value of a key as a port, given as a number.
 pub(crate) fn number_of_port(value: &Value) -> Result<u16, Reason>
     ensures above { IfOk result (λ n. 0 < n) }
     ensures all { result ≡ port_in (as_integer (view value.now)) }
@@ -49,7 +49,7 @@ pub(crate) fn number_of_port(value: &Value) -> Result<u16, Reason>
     }
 }
 
-/// A port, which stands there: as a number, or in the text of an address.
+/// The value of a key as a port, given as a number or in the text of an address.
 pub fn port_of(value: &Value) -> Result<u16, Reason>
     ensures above { IfOk result (λ n. 0 < n) }
     ensures all { result ≡ port_of_end (end_in (view value.now)) }

@@ -1,14 +1,18 @@
 //! Texts to configurations.
-ghost use Rattle.std.specs.Prelude.{codes, bytes_eq, ◌≡◌, ◌+◌, ◌<◌, ℕ, pos, List, map, length, All, Some, None, IfOk, OnOk, IfErr, IsPermutation, IsTrue, Option};
+ghost use Rattle.std.specs.Prelude.{codes, bytes_eq, ◌≡◌, ◌+◌, ◌<◌, ℕ, pos, List, map, length, All, Some, None, IfOk};
+ghost use Rattle.std.specs.Prelude.{OnOk, IfErr, IsPermutation, IsTrue, Option};
 ghost use Rattle.std.specs.List.{list_any};
 ghost use Rattle.std.specs.List.Sorted.{IsNonDecreasingBy};
 ghost use Rattle.toml.specs.Data.{Data, Members, as_integer};
 ghost use Rattle.toml.specs.Parse.{parse_document};
 ghost use Rattle.toml.specs.View.{view, table_view};
 ghost use Rattle.tora_core.specs.CoreRun.{core_refusal};
-ghost use Rattle.tora_config.specs.NodeConfig.{IsLinkConfig, IsNodeConfig, IsAscending, peers_of, IsListAt, AreLinksOf, says_of_link, said_link, IsWritten};
+ghost use Rattle.tora_config.specs.NodeConfig.{IsLinkConfig, IsNodeConfig, IsAscending, peers_of, IsListAt, AreLinksOf};
+ghost use Rattle.tora_config.specs.NodeConfig.{says_of_link, said_link, IsWritten};
 ghost use Rattle.tora_config.specs.Refusal.{unknown_key, unknown_link_key};
-ghost use Rattle.tora_config.specs.Reading.{Gives, has_core, Reads, IsNoToml, has_peer, has_local, dest_in, dests_in, link_in, link_beside, listed_links, links_in, configuration_in, keys_in, only_known, keys_of_configuration, keys_of_link};
+ghost use Rattle.tora_config.specs.Reading.{Gives, has_core, Reads, IsNoToml, has_peer, has_local, dest_in, dests_in};
+ghost use Rattle.tora_config.specs.Reading.{link_in, link_beside, listed_links, links_in, configuration_in, keys_in};
+ghost use Rattle.tora_config.specs.Reading.{only_known, keys_of_configuration, keys_of_link};
 
 use crate::fault::{ConfigError, Place};
 use crate::numbers::id_of;
@@ -60,7 +64,7 @@ fn check_link_keys(alloc: Global, n: usize, table: &Table) -> Result<(), ConfigE
     Ok(())
 }
 
-// A destination that is none of those before it.
+// Reads a destination, which must differ from those before it.
 #[tactic(auto, unfolding(crate::specs::Reading::dest_in))]
 fn dest_of(before: &[Id], value: &Value) -> Result<Id, ConfigError>
     ensures above { IfOk result (λ d. 0 < d) }
@@ -82,7 +86,8 @@ fn dest_of(before: &[Id], value: &Value) -> Result<Id, ConfigError>
 #[tactic(auto, unfolding(crate::specs::Reading::dests_in))]
 fn dests_in(alloc: Global, table: &Table) -> Result<Vec<Id>, ConfigError>
     ensures above { IfOk result (λ dests. All (λ d. 0 < d) dests.items) }
-    ensures exact { IfOk result (λ dests. (values : List Data) × IsListAt (codes "dests") (table_view table.now) values × (map as_integer values ≡ map (λ d. Some (pos d)) dests.items)) }
+    ensures exact { IfOk result (λ dests. (values : List Data) × IsListAt (codes "dests") (table_view table.now) values
+        × (map as_integer values ≡ map (λ d. Some (pos d)) dests.items)) }
     ensures gives { Gives (λ dests. dests.items) result (dests_in (table_view table.now)) }
 {
     let mut dests = Vec::new(alloc);
@@ -94,7 +99,7 @@ fn dests_in(alloc: Global, table: &Table) -> Result<Vec<Id>, ConfigError>
     Ok(dests)
 }
 
-// The link with the number n, from 1 on.
+// Reads the link with the number n, from 1 on.
 #[tactic(auto, unfolding(crate::specs::Reading::link_in))]
 fn link_of(alloc: Global, n: usize, value: &Value) -> Result<LinkConfig, ConfigError>
     ensures range { IfOk result IsLinkConfig }
@@ -127,7 +132,8 @@ fn has_local(links: &[LinkConfig], local: u16) -> bool
     links.iter().any(|link| link.local == local)
 }
 
-// A link to another node than this one and those of the links before it, from another port than theirs.
+// Reads a link. Its peer must be neither this node nor a peer of the links before it, and its local port must differ
+// from theirs.
 #[tactic(auto, unfolding(crate::specs::Reading::link_beside))]
 fn link_beside(
     alloc: Global,
@@ -163,11 +169,12 @@ fn in_order(links: Vec<LinkConfig>) -> Vec<LinkConfig>
     links
 }
 
-// The links of the list, in the order of the text.
+// Reads the links of the list, in the order of the text.
 #[tactic(auto, unfolding(crate::specs::Reading::listed_links))]
 fn listed_links(alloc: Global, table: &Table, node: Id) -> Result<Vec<LinkConfig>, ConfigError>
     ensures links { IfOk result (λ links. All IsLinkConfig links.items) }
-    ensures exact { IfOk result (λ links. (values : List Data) × IsListAt (codes "link") (table_view table.now) values × (map says_of_link values ≡ map said_link links.items)) }
+    ensures exact { IfOk result (λ links. (values : List Data) × IsListAt (codes "link") (table_view table.now) values
+        × (map says_of_link values ≡ map said_link links.items)) }
     ensures gives { Gives (λ links. links.items) result (listed_links node (table_view table.now)) }
 {
     let mut links = Vec::new(alloc);
@@ -179,12 +186,13 @@ fn listed_links(alloc: Global, table: &Table, node: Id) -> Result<Vec<LinkConfig
     Ok(links)
 }
 
-// These links, which are at least one.
+// Reads the links, of which there must be at least one.
 #[tactic(auto, unfolding(crate::specs::Reading::links_in))]
 fn links_in(alloc: Global, table: &Table, node: Id) -> Result<Vec<LinkConfig>, ConfigError>
     ensures links { IfOk result (λ links. All IsLinkConfig links.items) }
     ensures some_link { IfOk result (λ links. 0 < length links.items) }
-    ensures exact { IfOk result (λ links. (values : List Data) × IsListAt (codes "link") (table_view table.now) values × (map says_of_link values ≡ map said_link links.items)) }
+    ensures exact { IfOk result (λ links. (values : List Data) × IsListAt (codes "link") (table_view table.now) values
+        × (map says_of_link values ≡ map said_link links.items)) }
     ensures gives { Gives (λ links. links.items) result (links_in node (table_view table.now)) }
 {
     let links = listed_links(alloc, table, node)?;
@@ -200,7 +208,7 @@ fn peers_of(alloc: Global, links: &[LinkConfig]) -> Result<Vec<Id>, AllocError>
     links.iter().map(|link| link.peer).collect(alloc)
 }
 
-// Sees that there is a core of these.
+// Checks that a core accepts these.
 fn check_core(
     alloc: Global,
     node: Id,
@@ -247,15 +255,15 @@ fn config_of(alloc: Global, table: &Table) -> Result<NodeConfig, ConfigError>
 /// Reads a configuration.
 ///
 /// # Errors
-/// The first of these: `Syntax` where the text is no TOML, `UnknownKey`, then what is wrong at `node`, `dests`, `life_dir`,
-/// `erasure` and `link`, in this order, and then `Core`. Of each destination in turn: what is wrong with its number, and then that it
-/// stands before. Of each link in turn: that it is no table, `UnknownLinkKey`, what is wrong at `peer`, `local` and
-/// `remote`, that the peer is the node itself, that it is the peer of a link before, and that `local` is that of a link
-/// before. Of several unknown keys the first in the order of the table is told, in which keys ascend by their bytes.
-/// `Memory` may come at any point.
+/// The first of these: `Syntax` if the text is not TOML, `UnknownKey`, then faults at `node`, `dests`, `life_dir`,
+/// `erasure` and `link`, in this order, and then `Core`. For each destination in turn: its number, and then that it is
+/// repeated. For each link in turn: that it is not a table, `UnknownLinkKey`, faults at `peer`, `local` and `remote`,
+/// that the peer is the node itself, that the peer is repeated, and that `local` is repeated. Of several unknown keys
+/// the one that is first by its bytes is reported. `Memory` may come at any point.
 pub fn read_config(alloc: Global, text: &str) -> Result<NodeConfig, ConfigError>
     ensures range { IfOk result IsNodeConfig }
-    ensures written { IfOk result (λ c. (table : Members) × (parse_document text.now ≡ Some table) × IsWritten table c) }
+    ensures written { IfOk result (λ c. (table : Members) × (parse_document text.now ≡ Some table)
+        × IsWritten table c) }
     ensures exact { (table : Members) → parse_document text.now ≡ Some table → Reads result (configuration_in table) }
     ensures syntax { parse_document text.now ≡ None → IsNoToml result }
 {

@@ -1,31 +1,31 @@
-//! What is wrong with a value.
+//! Why a value is refused.
 use std::fmt;
 use std::fmt::{Display, Formatter};
 
-/// What is wrong with the value of a key.
+/// Why the value of a key is refused.
 #[derive(Clone, Copy, Debug, PartialEq, Eq, Hash)]
 pub enum Reason {
-    /// There is none.
+    /// The key is missing.
     Missing,
-    /// It is no whole number.
+    /// It is not a whole number.
     NoNumber,
-    /// It is a number that no node has.
+    /// It is not the number of a node.
     NoId,
-    /// It is a number that no port has.
+    /// It is not the number of a port.
     NoPort,
-    /// It is no text.
+    /// It is not a text.
     NoText,
-    /// It is no word for what nodes make of erased levels.
+    /// It is not a word for a treatment of erased levels.
     NoErasure,
-    /// It is no list.
+    /// It is not a list.
     NoList,
-    /// It is no table.
+    /// It is not a table.
     NoTable,
     /// It is repeated.
     Repeated,
     /// It is the node itself.
     OwnId,
-    /// There is none, and the link leaves the loopback.
+    /// The key is missing, and the link leaves the loopback.
     Unkeyed,
 }
 

@@ -3,7 +3,8 @@ ghost use Rattle.std.specs.Prelude.{codes, string_bytes, ◌≡◌, ◌<◌, pos
 ghost use Rattle.toml.specs.Data.{as_str, get_member};
 ghost use Rattle.tora_config.specs.Reading.{Gives};
 ghost use Rattle.toml.specs.View.{view, items_view, table_view};
-ghost use Rattle.tora_config.specs.Refusal.{id_at, port_at, end_at, text_at as text_said, list_at, erasure_of, erasure_said, erasure_at, at_place};
+ghost use Rattle.tora_config.specs.Refusal.{id_at, port_at, end_at, text_at as text_said, list_at, erasure_of};
+ghost use Rattle.tora_config.specs.Refusal.{erasure_said, erasure_at, at_place};
 ghost use Rattle.tora_config.specs.NodeConfig.{number_at, port_at as port_said_at, text_at, IsListAt};
 
 use crate::addresses::end_of;
@@ -19,7 +20,8 @@ use tora_height::Id;
 /// The value at a key, which is required.
 pub fn value_at<'a>(table: &'a Table, key: &str, place: Place) -> Result<&'a Value, ConfigError>
     ensures found { IfOk result (λ v. get_member key.now (table_view table.now) ≡ Some (view v.now)) }
-    ensures missing { IfErr result (λ e. (get_member key.now (table_view table.now) ≡ None) × (e ≡ ConfigError.Value place Reason.Missing)) }
+    ensures missing { IfErr result (λ e. (get_member key.now (table_view table.now) ≡ None)
+        × (e ≡ ConfigError.Value place Reason.Missing)) }
 {
     match table.get(key) {
         Some(value) => Ok(value),
@@ -81,7 +83,8 @@ pub fn text_at(alloc: Global, table: &Table, key: &str, place: Place) -> Result<
 /// The values of a list at a key.
 pub fn list_at<'a>(table: &'a Table, key: &str, place: Place) -> Result<&'a [Value], ConfigError>
     ensures exact { IfOk result (λ values. IsListAt key.now (table_view table.now) (map view values.now)) }
-    ensures gives { Gives (λ values. items_view values.now) result (at_place place (list_at (get_member key.now (table_view table.now)))) }
+    ensures gives { Gives (λ values. items_view values.now) result
+        (at_place place (list_at (get_member key.now (table_view table.now)))) }
     ensures no_memory { IfErr result (λ e. ¬ (e ≡ ConfigError.Memory)) }
 {
     let value = value_at(table, key, place)?;
@@ -115,9 +118,10 @@ fn erasure_in(value: &Value) -> Result<Erasure, ConfigError>
     }
 }
 
-/// What nodes make of erased levels, which is plain where the key is not there.
+/// The treatment of erased levels; plain if the key is missing.
 pub fn erasure_at(table: &Table) -> Result<Erasure, ConfigError>
-    ensures { Gives (λ e. e) result (at_place Place.Erasure (erasure_at (get_member (codes "erasure") (table_view table.now)))) }
+    ensures { Gives (λ e. e) result (at_place Place.Erasure
+        (erasure_at (get_member (codes "erasure") (table_view table.now)))) }
 {
     match value_at(table, "erasure", Place::Erasure) {
         Ok(value) => erasure_in(value),

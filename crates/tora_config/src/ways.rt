@@ -1,4 +1,4 @@
-//! How the datagrams of links go.
+//! Addresses and key files of links.
 ghost use Rattle.std.specs.Prelude.{codes, string_bytes, ◌≡◌, ◌+◌, length, map, Some, None, IfOk, Option, option_map};
 ghost use Rattle.toml.specs.Data.{Members, get_member};
 ghost use Rattle.toml.specs.Parse.{parse_document};
@@ -16,21 +16,22 @@ use std::net::SocketAddr;
 use toml::{Table, Value};
 use tora_height::Id;
 
-/// How the datagrams of a link go.
+/// The addresses and the key file of a link.
 #[derive(Debug, Drop)]
 pub struct LinkWay {
     /// The neighbour, not 0.
     pub peer: Id,
-    /// The own end; its port is not 0.
+    /// The node's own address; its port is not 0.
     pub local: SocketAddr,
-    /// The neighbour's end; its port is not 0.
+    /// The neighbour's address; its port is not 0.
     pub remote: SocketAddr,
-    /// The path of the file with the link's key, where it has one. Each link that leaves the loopback has one.
+    /// The path of the file with the link's key, if it has one. Each link that leaves the loopback has one.
     pub key_file: Option<String>,
 }
 
 fn key_file_at(alloc: Global, table: &Table, n: usize) -> Result<Option<String>, ConfigError>
-    ensures { Gives (option_map string_bytes) result (at_place (Place.KeyFile n) (key_file_at (get_member (codes "key_file") (table_view table.now)))) }
+    ensures { Gives (option_map string_bytes) result (at_place (Place.KeyFile n)
+        (key_file_at (get_member (codes "key_file") (table_view table.now)))) }
 {
     let place = Place::KeyFile(n);
     let Ok(value) = value_at(table, "key_file", place) else {
@@ -49,7 +50,7 @@ fn is_open(local: &SocketAddr, remote: &SocketAddr, key_file: &Option<String>) -
     key_file.is_none() && !(is_loopback(local) && is_loopback(remote))
 }
 
-// How the datagrams of the link with the number n go, from 1 on.
+// Reads the addresses and the key file of the link with the number n, from 1 on.
 #[tactic(auto, unfolding(crate::specs::Ways::way_in))]
 fn way_of(alloc: Global, n: usize, value: &Value) -> Result<LinkWay, ConfigError>
     ensures { Gives said_way result (way_in n (view value.now)) }
@@ -72,7 +73,7 @@ fn way_of(alloc: Global, n: usize, value: &Value) -> Result<LinkWay, ConfigError
     })
 }
 
-// That of a link behind those before it.
+// Reads the addresses and the key file of the next link.
 fn way_beside(alloc: Global, before: &[LinkWay], value: &Value) -> Result<LinkWay, ConfigError>
     ensures { Gives said_way result (way_beside (map said_way before.now) (view value.now)) }
 {
@@ -92,17 +93,18 @@ fn ways_of(alloc: Global, table: &Table) -> Result<Vec<LinkWay>, ConfigError>
     Ok(ways)
 }
 
-/// Reads how the datagrams of each link go, in the order of the text, from the text of a configuration.
+/// Reads the addresses and the key file of each link, in the order of the text, from the text of a configuration.
 ///
-/// `local` and `remote` are ports of the loopback of IPv4, 127.0.0.1, or texts of addresses: `10.0.0.1:7001`, `[::1]:7001`.
-/// `key_file` is the path of the file with the link's key. What else a configuration needs `read_config` says.
+/// `local` and `remote` are ports of the loopback of IPv4, 127.0.0.1, or texts of addresses: `10.0.0.1:7001`,
+/// `[::1]:7001`. `key_file` is the path of the file with the link's key. `read_config` checks the other keys.
 ///
 /// # Errors
-/// The first of these: `Syntax` where the text is no TOML, and then of each link in turn what is wrong at `peer`, `local`, `remote`
-/// and `key_file`, and then that it has no `key_file` though an end of it is none of the loopback (`Unkeyed`). `Memory` may come at
-/// any point.
+/// The first of these: `Syntax` if the text is not TOML, and then for each link in turn: faults at `peer`, `local`,
+/// `remote` and `key_file`, and then `Unkeyed` if it has no `key_file` and one of its addresses is not on the loopback.
+/// `Memory` may come at any point.
 pub fn read_ways(alloc: Global, text: &str) -> Result<Vec<LinkWay>, ConfigError>
-    ensures exact { (table : Members) → parse_document text.now ≡ Some table → Gives (λ ways. map said_way ways.items) result (ways_in table) }
+    ensures exact { (table : Members) → parse_document text.now ≡ Some table
+        → Gives (λ ways. map said_way ways.items) result (ways_in table) }
     ensures syntax { parse_document text.now ≡ None → IsNoToml result }
 {
     let table = match toml::table_from_str(alloc, text) {

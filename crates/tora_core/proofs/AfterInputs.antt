@@ -287,7 +287,7 @@ pub known-sends : (c : CoreView) (input : Input) (now : ℕ) → AllByRecursion 
 known-sends c input now =
     cond_both (is_some (refusal_of c input)) [] (filter_map (next_packet input now) c.views) (AllByRecursion (IsKnown c.views)) (λ _. tt) (λ _. sends-known input now c.views)
 
--- ---- what an input that is not refused finds
+-- ---- facts about an accepted input
 
 pub linked : (c : CoreView) (input : Input) → refusal_of c input ≡ None → IsLinked input c.up
 linked c (In.Need d) free = tt

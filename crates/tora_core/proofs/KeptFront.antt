@@ -5,7 +5,7 @@ use Rattle.std.proofs.lemmas.Grind.{common_steps}
 use Rattle.std.proofs.lemmas.List.{append-nil}
 use Rattle.std.proofs.lemmas.List.Elements.{filter-append}
 
--- what is read behind the elements that were moved
+-- what is read after the elements that were moved
 read-behind : {X : Type 0} (xs ys : List X) (i : ℕ) (x : X) → i < length ys → drop i ys ≡ drop i xs → x ≡ get_or ys i x → x ≡ get_or xs i x
 read-behind xs ys i x lt rest read = grind (arith, common_steps)
 

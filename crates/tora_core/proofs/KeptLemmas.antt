@@ -76,7 +76,7 @@ told-base v b =
       ascending = ascending-map told_row (λ row. refl) v.rows b.ascending;
     }
 
--- a height that was told to all
+-- a height that was broadcast
 update_broadcast-kept : (v : View) (q : Quintuple) → IsBase v → v.flag ≡ false → IsHeightOf v.me v.destination q → list_any (λ h. is_downstream (Some q) (Some h)) (heights_of v.rows) ≡ true → IsKeptOutcome (update_broadcast (record v { height = Some q }))
 update_broadcast-kept v q b f h low =
     let t = told-base v b in
@@ -93,7 +93,7 @@ fitted-kept : (v : View) (q : Quintuple) → IsBase v → v.flag ≡ false → (
 fitted-kept v q b f h low None e = update_broadcast-kept v q b f (h e) low
 fitted-kept v q b f h low (Some _) e = null-sound v b f
 
--- ---- the heights that neighbours told
+-- ---- the heights of the neighbours
 
 in-range : (k d : ℕ) (o : Option Quintuple) → IfSome o (IsHeightOf k d) → IfSome o IsHeight
 in-range k d None h = tt
@@ -192,7 +192,7 @@ after_erase-kept v tau oid b f level =
       broadcast = level;
     }
 
--- ---- the last way down is lost
+-- ---- the last downstream link is lost
 
 first-heights_of : (rows : List Row) → are_null rows ≡ false → (h : Quintuple) × (hs : List Quintuple) × (heights_of rows ≡ h ∷ hs)
 first-heights_of [] e = absurd cc
@@ -306,7 +306,7 @@ after_update_loss-kept : (v : View) (now : ℕ) → IsBase v → v.flag ≡ fals
 unfolding after_update_loss
 after_update_loss-kept v now b f = update-lost v now b f (heights_of v.rows) refl (greatest_level (heights_of v.rows)) refl
 
--- ---- what a view without a way down knows
+-- ---- a view without a downstream neighbour
 
 not-true-false : (b : Bool) → b ≡ true → b ≡ false → ⊥
 not-true-false b t f = cc
@@ -331,7 +331,7 @@ query_broadcast-kept : (v : View) → IsKept v → v.me ≢ v.destination → v.
 query_broadcast-kept v k e null none =
     record { view = make-kept (record v { flag = true }) (same-base v (record v { flag = true }) refl refl refl refl (base v k e)) k.height (λ _. (null, none)) (k.lower e); broadcast = tt }
 
--- a view with no height has no downstream neighbour where nothing is known
+-- a view with no height and no entries has no downstream neighbour
 heights_of-none : (own : Option Quintuple) (rows : List Row) → heights_of rows ≡ [] → list_any (λ row. is_downstream own row.entry) rows ≡ false
 heights_of-none own rows e = down-heights_of own rows ∙ ap (list_any (λ h. is_downstream own (Some h))) e
 
@@ -363,7 +363,7 @@ not-stuck true true h s = refl
 not-stuck true false h s = absurd cc
 not-stuck false b h s = absurd cc
 
--- a view whose rows changed: either it still has a way down, or the outcome is that of the lost
+-- a view whose rows changed: either it still has a downstream neighbour, or the outcome is that of the loss
 settled : (w : View) (o : Outcome) → IsBase w → IfSome w.height (IsHeightOf w.me w.destination) → (w.flag ≡ true → (w.height ≡ None) × (heights_of w.rows ≡ []))
     → (w.flag ≡ false → IsKeptOutcome o) → IsKeptOutcome (if lacks_downstream w then o else silent w)
 settled w o b height flag lost =
@@ -627,7 +627,7 @@ at-some : (l : Level) (o : Option Quintuple) → is_entry_at l o ≡ true → Is
 at-some l None e = absurd cc
 at-some l (Some h) e = refl
 
--- what the flag says of a view, also of one that has lost entries
+-- the meaning of the flag for a view, also for one that has lost entries
 abbrev IsQuiet : View → Type 0
 IsQuiet v = v.flag ≡ true → (v.height ≡ None) × (heights_of v.rows ≡ [])
 

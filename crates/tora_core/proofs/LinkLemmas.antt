@@ -460,7 +460,7 @@ rest-kept k [] all = refl
 rest-kept k (row ∷ rows) all =
     ap (λ b. if not b then row ∷ without_row k rows else without_row k rows) (not-same row.neighbour k all.0) ∙ ap (λ (xs : List Row). row ∷ xs) (rest-kept k rows all.1)
 
--- ---- told rows
+-- ---- marked rows
 
 pub rest-told : (k : ℕ) (rows : List Row) → AllByRecursion (λ (m : ℕ). m ≢ k) (neighbours_of rows) → is_told k rows ≡ false
 rest-told k [] all = refl
@@ -618,7 +618,7 @@ in-longer (Some i) m n le is = omega arith
 pub least-in_first : (least : Option ℕ) (i : ℕ) (rows : List Row) → i < length rows → IsLeastPlace least (take i rows) → IfSome least (λ j. j < length rows)
 least-in_first least i rows lt is = in-longer least (length (take i rows)) (length rows) (let e = length-first i rows lt in omega arith) (least-in least (take i rows) is)
 
--- ---- all that is kept, after each change
+-- ---- all stored values, after each change
 
 pub kept-set : (own : Option Quintuple) (rows : List Row) (ds : List Direction) (count : ℕ) (least : Option ℕ) (place : ℕ) (h : Quintuple) (before : Direction) (recount : ℕ) (found : Option ℕ)
     → AreKept own rows ds count least → place < length rows → before ≡ slice_index_or ds place before

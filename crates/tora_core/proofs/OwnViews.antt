@@ -1,4 +1,4 @@
--- An input that concerns one destination: its view alone changes, and sends.
+-- An input that concerns one destination: only its view changes and sends.
 use Rattle.std.proofs.Common.{◌≡◌, refl, ap, sym, ◌∙◌, ℕ, ◌+◌, ◌<◌, ◌≤◌, suc, Bool, true, false, not, List, [], ◌∷◌, map, length, Option, Some, None, arith, nat_lt}
 use Rattle.std.specs.Prelude.{filter_map, if◌then◌else◌, slice_set, slice_index_or}
 use Rattle.std.specs.List.{AllByRecursion, position, position_or_len, cons_option}

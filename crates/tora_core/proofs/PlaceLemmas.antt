@@ -69,13 +69,13 @@ null-off place (mark ∷ up) [] d is off lt = absurd is
 null-off zero (mark ∷ up) (row ∷ places) d is off lt = is.0 off
 null-off (suc place) (mark ∷ up) (row ∷ places) d is off lt = null-off place up places d is.1 off (omega arith)
 
--- a mark, whatever stands for one that is not there
+-- a mark, with any value for a missing one
 pub mark-read : (place : ℕ) (up : List Bool) (b c : Bool) → place < length up → slice_index_or up place b ≡ slice_index_or up place c
 mark-read place [] b c lt = absurd (omega arith)
 mark-read zero (mark ∷ up) b c lt = refl
 mark-read (suc place) (mark ∷ up) b c lt = mark-read place up b c (omega arith)
 
--- ---- what is read of all places
+-- ---- values read at all places
 
 pub heights-up : (up : List Bool) (places : List Row) → AreMarked up places → heights_of (rows_up up places) ≡ heights_of places
 heights-up [] [] is = refl
@@ -111,7 +111,7 @@ nulls-up (mark ∷ up) [] is = absurd is
 nulls-up (true ∷ up) (row ∷ places) is = ap (λ b. is_none row.entry && b) (nulls-up up places is.1)
 nulls-up (false ∷ up) (row ∷ places) is = nulls-up up places is.1 ∙ sym (ap (λ (o : Option Quintuple). is_none o && are_null places) (is.0 refl))
 
--- ---- what is read of one place
+-- ---- values read at one place
 
 pub told-up : (k place : ℕ) (up : List Bool) (places : List Row) (d : Row) → slice_index_or up place false ≡ true → IsOnlyPlace k place (neighbours_of places)
     → is_told k (rows_up up places) ≡ (slice_index_or places place d).told

@@ -87,7 +87,7 @@ next-is input now v here = (if-true (concerns input v.destination) (view_after v
     if-true true x y e = refl
     if-true false x y e = absurd cc
 
--- a view of a core, and what an accepted input makes of it
+-- a view of a core, and the effect of an accepted input
 pub accepted-reacts : (c : CoreView) (input : Input) (now : ℕ) (v : View) → IsCore c → IsInput input → refusal_of c input ≡ None → Contains c.views v → concerns input v.destination ≡ true
     → (broadcast : Option Broadcast) × Reacts v input now (next_view input now v) broadcast × (next_packet input now v ≡ option_map (packet_of v.destination) broadcast)
 accepted-reacts c input now v core is e in_core here =

@@ -1,4 +1,4 @@
--- What the relation says of erased levels is what the rules compute.
+-- The relation and the rules agree about erased levels.
 use Rattle.std.proofs.Common.{◌≡◌, refl, ap, sym, subst, ◌∙◌, ℕ, Bool, true, false, List, Option, Some, None}
 use Rattle.tora_height.specs.declared.level.Level.{Level}
 use Rattle.tora_height.specs.Height.{Quintuple, level_of}
@@ -28,7 +28,7 @@ pub keeps-only : (v : View) (level : Level) {kept : Option Level} → Keeps v le
 keeps-only v level (kept_plain is) = ap (λ (x : Erasure). erased_after x v.erased level) (sym is)
 keeps-only v level (kept_remembered is) = ap (λ (x : Erasure). erased_after x v.erased level) (sym is)
 
--- a view that has heard a clear, at a node of this choice
+-- a view after a clear, at a node with this choice
 abbrev heard_as : Erasure → View → ℕ → Level → View
 heard_as x v k level = record v { rows = rows_behind_clear x v.destination k v.rows; erased = erased_after x v.erased level }
 

@@ -45,7 +45,7 @@ filter-among test (r ∷ rows) row i t =
     second f (inl e) rest = let x = ap test e in absurd cc
     second f (inr j) rest = rest j
 
--- the lowest row has the least entry, and stands among the rows
+-- the lowest row has the least entry, and is one of the rows
 record IsLowestRow (a : Quintuple) (best : Row) (rows : List Row) (m : Row) : Type 0 where
   low : Quintuple
   entry : m.entry ≡ Some low

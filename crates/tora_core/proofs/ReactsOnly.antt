@@ -1,4 +1,4 @@
--- What stands in the relation is what the rule computes.
+-- What the relation allows is what the rule computes.
 use Rattle.std.proofs.Common.{◌≡◌, ◌≢◌, ◌⊎◌, inl, inr, refl, ℕ, ◌<◌, ◌^◌, Bool, true, false, not, ◌&&◌, ◌==◌, arith, ap, sym, subst, ◌∙◌, Option, Some, None, is_some, is_none, ℤ, pos, ◌+ℤ◌, ◌-ℤ◌}
 use Rattle.std.specs.Prelude.{IfSome, if◌then◌else◌}
 use Rattle.std.specs.List.{AllByRecursion, list_all}
@@ -38,7 +38,7 @@ if-false : (b : Bool) (x y : Outcome) → b ≡ false → (if b then x else y) �
 if-false true x y e = absurd cc
 if-false false x y e = refl
 
--- ---- what is known is in range
+-- ---- known heights are in range
 
 -- the node's number and what it knows are in range
 pub record IsRanged (v : View) : Type 0 where
@@ -90,7 +90,7 @@ updated-ranged v k height kept is =
 
 -- ---- a computed height
 
--- what a height, where there is one, makes of a view
+-- the effect of a height, if there is one, on a view
 abbrev pub taken_of : View → ℕ → Option Quintuple → Outcome
 taken_of v last None = silent (record v { height = None })
 taken_of v last (Some h) = record { view = record v { height = Some h; rows = all_told v.rows; last = last }; broadcast = Some (Tell.Update h) }
@@ -258,7 +258,7 @@ update-fresh v k height now fresh = if-false (is_outdated v height) (on_outdated
 update-old : (v : View) (k : ℕ) (height : Quintuple) (now : ℕ) → IsOutdated v height → on_update v k height now ≡ on_outdated v k now
 update-old v k height now old = if-true (is_outdated v height) (on_outdated v k now) (on_taken_update v k height now) (is-outdated v height old)
 
--- the outcome of a clear that is heard
+-- the outcome of a clear
 clear-heard : (v : View) (k : ℕ) (level : Level) (now : ℕ) {u : View} → HearsClear v k level u → on_clear v k level now ≡ on_heard_clear u level now
 clear-heard v k level now heard = ap (λ (x : View). on_heard_clear x level now) (sym (hears-only v k level heard))
 

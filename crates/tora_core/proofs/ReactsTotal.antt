@@ -1,4 +1,4 @@
--- What the rule computes stands in the relation.
+-- The relation allows what the rule computes.
 use Rattle.std.proofs.Common.{◌≡◌, ◌⊎◌, inl, inr, refl, ℕ, ◌<◌, ◌^◌, Bool, true, false, not, ◌&&◌, ◌==◌, ap, sym, subst, List, [], ◌∷◌, map, Option, Some, None, nat_lt, is_some, is_none, ℤ, pos, ◌+ℤ◌, ◌-ℤ◌}
 use Rattle.std.specs.Prelude.{if◌then◌else◌}
 use Rattle.std.specs.List.{list_all}
@@ -144,7 +144,7 @@ not-false false e = absurd cc
 known-by_entry : (v : View) (row : Row) (h : Quintuple) → IsAmong row v.rows → row.entry ≡ Some h → KnowsSome v
 known-by_entry v row h i e = (h, among-known v h (entry-among v.rows row h i e))
 
--- the new row stands among the rows
+-- the new row is one of the rows
 among-with_row : (new : Row) (rows : List Row) → IsAmong new (with_row new rows)
 among-with_row new [] = inl refl
 among-with_row new (row ∷ rows) = cond_both (nat_lt new.neighbour row.neighbour) (new ∷ row ∷ rows) (row ∷ with_row new rows) (IsAmong new) (λ _. inl refl) (λ _. inr (among-with_row new rows))

@@ -1,4 +1,5 @@
--- The words of the relation, computed: what is known, the least and the greatest of it, fresh times, downstream neighbours.
+-- The terms of the relation, computed: known heights, the least and the greatest of them, fresh times, downstream
+-- neighbours.
 use Rattle.std.proofs.Common.{◌≡◌, ◌≢◌, ◌⊎◌, inl, inr, refl, ℕ, ◌+◌, ◌<◌, ◌≤◌, ◌^◌, max, Bool, true, false, not, ◌&&◌, ◌||◌, arith, ap, sym, subst, ◌∙◌, List, [], ◌∷◌, ◌==◌, Option, Some, None, is_some, is_none, ℤ, ◌≤ℤ◌}
 use Rattle.std.specs.Prelude.{IfSome, IsSome, fold, Contains, int_lt, if◌then◌else◌}
 use Rattle.std.specs.List.{AllByRecursion, list_any, list_all, cons_option}
@@ -121,7 +122,7 @@ same-is m n e = grind (arith, nat_tests)
 pub other-is : (m n : ℕ) → (m == n) ≡ false → m ≢ n
 other-is m n e = λ (s : m ≡ n). grind (arith, nat_tests)
 
--- ---- what is known
+-- ---- known heights
 
 among-cons_option : (h : Quintuple) (o : Option Quintuple) (hs : List Quintuple) → IsAmong h hs → IsAmong h (cons_option o hs)
 among-cons_option h None hs i = i
@@ -143,7 +144,7 @@ among-entry (r ∷ rows) h i = at (λ j. among-entry rows h j) r.entry refl i
     at rest (Some g) is (inl e) = (r, inl refl, is ∙ ap Some e)
     at rest (Some g) is (inr j) = let s = rest j in (s.0, inr s.1, s.2)
 
--- what is known is what stands in the list of known heights
+-- the known heights are those in the list of known heights
 pub known-among : (v : View) (h : Quintuple) → IsKnown v h → IsAmong h (known_heights v)
 known-among v h k = let e = k.1 in entry-among v.rows e.0 h (among-Contains v.rows e.0 e.1) e.3
 
@@ -621,7 +622,7 @@ lacks-not v n = at (lacks_downstream v) refl
     at true e = absurd (n (lacks-downstream v e))
     at false e = refl
 
--- ---- the own level, and who was told
+-- ---- the own level, and the marks
 
 pub own-level : (v : View) (level : Level) → is_entry_at level v.height ≡ true → IsOwnLevel v level
 own-level v level e = at v.height refl e

@@ -44,7 +44,7 @@ told-has v k i = (i.0, among-Contains v.rows i.0 i.1, i.2, i.3)
 has-told : (v : View) (k : ℕ) → HasRow Told v.rows k → IsTold v k
 has-told v k i = (i.0, Contains-among v.rows i.0 i.1, i.2, i.3)
 
--- ---- a row that comes
+-- ---- a new row
 
 come : (new row : Row) (rows : List Row) → IsAmong row (with_row new rows) → (new ≡ row) ⊎ IsAmong row rows
 come new row [] i = i
@@ -368,7 +368,7 @@ withdraw-entry v d j k h = (
     back row e (inl f) = inl (e ∙ f)
     back row e (inr f) = inr (λ (q : row.neighbour ≡ j). f (sym e ∙ q))
 
--- ---- one that is not told
+-- ---- an item without a report
 
 pub untold-number : (j : ℕ) (row : Row) → (untold_row j row).neighbour ≡ row.neighbour
 untold-number j row = cond_both (row.neighbour == j) (record row { told = false }) row (λ (r : Row). r.neighbour ≡ row.neighbour) (λ _. refl) (λ _. refl)

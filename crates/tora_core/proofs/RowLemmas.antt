@@ -1,4 +1,4 @@
--- Rows after each change, and the least and greatest of what neighbours told.
+-- Rows after each change, and the least and greatest of the neighbours' heights.
 use Rattle.std.proofs.Common.{◌≡◌, ◌≢◌, refl, ℕ, ◌+◌, ◌<◌, ◌≤◌, max, Bool, true, false, ◌||◌, arith, ap, subst, ◌∙◌, List, [], ◌∷◌, map, Option, Some, None, nat_lt}
 use Rattle.std.specs.Prelude.{IfSome, filter, fold}
 use Rattle.std.specs.List.{AllByRecursion, list_any, cons_option}
@@ -61,7 +61,7 @@ ascending-with_row new (row ∷ rows) apart h =
     let above : row.neighbour < new.neighbour = grind (arith, nat_tests) in
     (all-with_row (λ (other : Row). row.neighbour < other.neighbour) new rows above h.0, ascending-with_row new rows apart.1 h.1))
 
--- ---- what the neighbours told
+-- ---- the neighbours' heights
 
 pub heights_of-told : (rows : List Row) → heights_of (all_told rows) ≡ heights_of rows
 heights_of-told [] = refl
@@ -79,7 +79,7 @@ down-cons : (own o : Option Quintuple) (hs : List Quintuple) (b : Bool) → b �
 down-cons own None hs b e = e
 down-cons own (Some h) hs b e = ap (λ c. is_downstream own (Some h) || c) e
 
--- whether a link leads down, by what was told
+-- whether a link is downstream, by the heights
 pub down-heights_of : (own : Option Quintuple) (rows : List Row) → list_any (λ row. is_downstream own row.entry) rows ≡ list_any (λ h. is_downstream own (Some h)) (heights_of rows)
 down-heights_of own [] = refl
 down-heights_of own (row ∷ rows) = down-cons own row.entry (heights_of rows) (list_any (λ row. is_downstream own row.entry) rows) (down-heights_of own rows)

@@ -24,7 +24,7 @@ above-apart : (n : ℕ) (ns : List ℕ) → AllByRecursion (λ (m : ℕ). n < m)
 above-apart n [] all = tt
 above-apart n (m ∷ ns) all = let lt = all.0 in ((λ (e : m ≡ n). absurd (omega arith)), above-apart n ns all.1)
 
--- a number of an ascending list stands at one place
+-- a number of an ascending list is at one place
 pub only-of : (k : ℕ) (ns : List ℕ) → IsAscending ns → has_number k ns ≡ true → IsOnlyPlace k (position_or_len (λ n. n == k) ns) ns
 only-of k [] asc has = absurd cc
 only-of k (n ∷ ns) asc has = at (n == k) refl has (only-of k ns asc.1)
@@ -36,7 +36,7 @@ only-of k (n ∷ ns) asc has = at (n == k) refl has (only-of k ns asc.1)
         let one : suc (position_or_len (λ m. m == k) ns) ≡ 1 + position_or_len (λ m. m == k) ns = omega arith in
         subst (λ (i : ℕ). IsOnlyPlace k i (n ∷ ns)) one (other-number n k e, rest h)
 
--- a neighbour stands where its row does
+-- a neighbour is at the place of its row
 row-numbers : (k : ℕ) (rows : List Row) → position_or_len (λ (row : Row). row.neighbour == k) rows ≡ position_or_len (λ n. n == k) (neighbours_of rows)
 row-numbers k [] = refl
 row-numbers k (row ∷ rows) = ap (λ (n : ℕ). if not (row.neighbour == k) then 1 + n else 0) (row-numbers k rows)
@@ -45,7 +45,7 @@ pub length-rows : (rows : List Row) → length (neighbours_of rows) ≡ length r
 length-rows [] = refl
 length-rows (row ∷ rows) = ap suc (length-rows rows)
 
--- a number that stands somewhere is there
+-- a number at some place is in the list
 has-within : (k : ℕ) (ns : List ℕ) → position_or_len (λ n. n == k) ns < length ns → has_number k ns ≡ true
 has-within k [] lt = absurd (omega arith)
 has-within k (n ∷ ns) lt = at (n == k) refl lt (has-within k ns)
@@ -76,7 +76,7 @@ others k (row ∷ rows) all = (other-number row.neighbour k all.0, others k rows
 pub row-none : (k : ℕ) (rows : List Row) → position (λ (row : Row). row.neighbour == k) rows ≡ None → AllByRecursion (λ (m : ℕ). m ≢ k) (neighbours_of rows)
 row-none k rows e = others k rows (none-passes (λ (row : Row). row.neighbour == k) rows e)
 
--- a destination stands where its view does
+-- a destination is at the place of its view
 place-names : (d : ℕ) (views : List View) → position_or_len (λ n. n == d) (destinations_of views) ≡ position_or_len (is_of d) views
 place-names d [] = refl
 place-names d (v ∷ views) = ap (λ (n : ℕ). if not (v.destination == d) then 1 + n else 0) (place-names d views)

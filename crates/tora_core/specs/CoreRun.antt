@@ -21,24 +21,26 @@ use Rattle.tora_core.specs.Rules.{view_after, packet_sent}
 
 pub record CoreView : Type 0 where
   pub me : ℕ  -- the node
-  pub erasure : Erasure  -- what it makes of erased levels
+  pub erasure : Erasure  -- how it treats erased levels
   pub neighbours : List ℕ  -- the configured neighbours, ascending
   pub up : List ℕ  -- those whose link is up, ascending
   pub views : List View  -- one for each destination, ascending
 
 -- ---- a new core
 
--- why a core is refused that may have so many neighbours and so many destinations: the first cause that holds
+-- why a core is refused within limits on neighbours and destinations: the first cause that applies
 abbrev pub core_refusal_within : ℕ → ℕ → ℕ → List ℕ → List ℕ → Option CoreError
 core_refusal_within most_neighbours most_destinations me neighbours destinations =
-    if nat_lt most_neighbours (length neighbours) || nat_lt most_destinations (length destinations) then Some Refusal.TooMany
+    if nat_lt most_neighbours (length neighbours) || nat_lt most_destinations (length destinations) then Some
+    Refusal.TooMany
     else if has_repeat neighbours || has_repeat destinations then Some Refusal.Repeated
     else if has_number me neighbours then Some Refusal.OwnId
     else None
 
 -- why a core is refused within the standard limits
 abbrev pub core_refusal : ℕ → List ℕ → List ℕ → Option CoreError
-core_refusal me neighbours destinations = core_refusal_within MOST_NEIGHBOURS MOST_DESTINATIONS me neighbours destinations
+core_refusal me neighbours destinations =
+    core_refusal_within MOST_NEIGHBOURS MOST_DESTINATIONS me neighbours destinations
 
 abbrev pub first_core_of : Erasure → ℕ → List ℕ → List ℕ → CoreView
 first_core_of erasure me neighbours destinations = record {
@@ -49,7 +51,7 @@ first_core_of erasure me neighbours destinations = record {
   views = map (first_view_of erasure me) (ascending destinations);
 }
 
--- that of a node that remembers no erased level
+-- the same for a node with the plain choice
 abbrev pub first_core : ℕ → List ℕ → List ℕ → CoreView
 first_core me neighbours destinations = first_core_of Plain me neighbours destinations
 
@@ -62,20 +64,20 @@ is_of d v = v.destination == d
 abbrev pub has_destination : ℕ → List View → Bool
 has_destination d views = list_any (is_of d) views
 
--- an update comes from the node whose height it tells
+-- the sender of an update is the node whose height it carries
 abbrev pub is_from : ℕ → Packet → Bool
 is_from k (Qry d) = true
 is_from k (Upd u) = u.height.id == k
 is_from k (Clr c) = true
 
--- why an input over the link to k is refused, where the link is to be up already or is not
+-- why an input over the link to k is refused; the flag says whether the link must be up
 abbrev pub link_fault : CoreView → ℕ → Bool → Option StepError
 link_fault c k is_up =
     if not (has_number k c.neighbours) then Some Fault.UnknownNeighbour
     else if is_up then (if not (has_number k c.up) then Some Fault.NotUp else None)
     else (if has_number k c.up then Some Fault.AlreadyUp else None)
 
--- why an input is refused: the first cause that holds
+-- why an input is refused: the first cause that applies
 abbrev pub refusal_of : CoreView → Input → Option StepError
 refusal_of c (In.LinkUp k) =
     if not (has_number k c.neighbours) then Some Fault.UnknownNeighbour
@@ -122,7 +124,7 @@ up_after up (In.Packet k packet) = up
 abbrev pub core_taking : CoreView → Input → ℕ → CoreView
 core_taking c input now = record c { up = up_after c.up input; views = map (next_view input now) c.views }
 
--- the core after any input: one that is refused changes nothing
+-- the core after any input; a refused one changes nothing
 abbrev pub core_after : CoreView → Input → ℕ → CoreView
 core_after c input now = if is_some (refusal_of c input) then c else core_taking c input now
 
@@ -135,16 +137,16 @@ abbrev pub core_after_all : CoreView → List (Input × ℕ) → CoreView
 core_after_all c [] = c
 core_after_all c ((input, now) ∷ inputs) = core_after_all (core_after c input now) inputs
 
--- ---- what is asked of a core
+-- ---- questions about a core
 
--- the view of a destination, where the table has it
+-- the view of a destination, if the table has it
 abbrev pub view_of : CoreView → ℕ → Option View
 view_of c d = find (is_of d) c.views
 
 abbrev pub height_of : CoreView → ℕ → Option (Option Quintuple)
 height_of c d = option_map (λ v. v.height) (view_of c d)
 
--- the entry of a neighbour, where the table has the destination and the link is up
+-- the entry of a neighbour, if the table has the destination and the link is up
 abbrev pub entry_in : ℕ → View → Option (Option Quintuple)
 entry_in k v = option_map (λ row. row.entry) (find (λ row. row.neighbour == k) v.rows)
 
@@ -154,7 +156,7 @@ entry_of c d k = option_and_then (entry_in k) (view_of c d)
 abbrev pub flag_of : CoreView → ℕ → Bool
 flag_of c d = option_map_or (λ v. v.flag) (view_of c d) false
 
--- how many neighbours are downstream, where the table has the destination
+-- how many neighbours are downstream, if the table has the destination
 abbrev pub downstream_of : CoreView → ℕ → Option ℕ
 downstream_of c d = option_map downstream_count (view_of c d)
 

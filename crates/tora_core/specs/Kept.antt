@@ -1,4 +1,4 @@
--- What every view and every core keeps, whatever comes in.
+-- The invariants of every view and every core.
 use Rattle.std.specs.Prelude.{◌≡◌, ◌≢◌, ◌⊎◌, ℕ, ◌<◌, ◌≤◌, ◌^◌, true, List, [], ◌∷◌, length, map, Option, None, Some, IfSome, IsSome}
 use Rattle.std.specs.List.{AllByRecursion}
 use Rattle.tora_height.specs.Height.{IsHeightOf, destination_height}
@@ -39,12 +39,12 @@ pub record IsKept (v : View) : Type 0 where
   pub height : IfSome v.height (IsHeightOf v.me v.destination)
   pub at_destination : v.me ≡ v.destination → v.height ≡ Some (destination_height v.destination)
   pub last : v.last ≤ 2 ^ 62
-  -- the quiet flag law: a route is required only where the height and every entry are NULL
+  -- the quiet flag law: a route is required only if the height and every entry are NULL
   pub flag : v.flag ≡ true → (v.height ≡ None) × (known_heights v ≡ [])
   -- the lower neighbour law: a node other than the destination that has a height has a lower neighbour
   pub lower : v.me ≢ v.destination → IsSome v.height → has_downstream v ≡ true
 
--- ---- what may come to a view, and what it broadcasts
+-- ---- the inputs of a view, and its broadcasts
 
 -- a packet of neighbour k for this destination
 abbrev pub IsPacketOf : ℕ → ℕ → Packet → Type 0
@@ -65,14 +65,14 @@ HasRoom v (In.LinkUp k) = IsId k × (length v.rows < GREATEST_NEIGHBOURS)
 HasRoom v (In.LinkDown k) = Unit {0}
 HasRoom v (In.Packet k packet) = Unit {0}
 
--- an update tells the view's height, and a clear erases a level that can be erased
+-- an update carries the view's height, and a clear has a level that can be erased
 abbrev pub IsBroadcastOf : View → Option Broadcast → Type 0
 IsBroadcastOf v None = Unit {0}
 IsBroadcastOf v (Some Tell.Query) = Unit {0}
 IsBroadcastOf v (Some (Tell.Update height)) = (v.me ≢ v.destination) × (v.height ≡ Some height)
 IsBroadcastOf v (Some (Tell.Clear tau oid)) = IsClear (clear_of v.destination tau oid)
 
--- an outcome whose view keeps the laws
+-- an outcome whose view keeps the invariants
 pub record IsKeptOutcome (o : Outcome) : Type 0 where
   pub view : IsKept o.view
   pub broadcast : IsBroadcastOf o.view o.broadcast
@@ -83,7 +83,7 @@ MakesPacket destination Tell.Query = IsId destination
 MakesPacket destination (Tell.Update height) = IsUpdate (update_of destination height)
 MakesPacket destination (Tell.Clear tau oid) = IsClear (clear_of destination tau oid)
 
--- a view that keeps the laws, and an input that may come to it where it concerns it
+-- a view that keeps the invariants, and an input that the view may get if it concerns the view
 pub record CanTake (input : Input) (v : View) : Type 0 where
   pub kept : IsKept v
   pub may : concerns input v.destination ≡ true → MayCome v input × HasRoom v input
@@ -95,7 +95,7 @@ IsLinked (In.LinkUp k) up = Unit {0}
 IsLinked (In.LinkDown k) up = has_number k up ≡ true
 IsLinked (In.Packet k packet) up = has_number k up ≡ true
 
--- a link that comes up or goes down, or over which a packet comes, is that of one of these neighbours
+-- the link that an input is about is that of one of these neighbours
 abbrev pub IsOfOne : Input → List ℕ → Type 0
 IsOfOne (In.Need d) neighbours = Unit {0}
 IsOfOne (In.LinkUp k) neighbours = has_number k neighbours ≡ true
@@ -135,7 +135,7 @@ pub record IsCore (c : CoreView) : Type 0 where
 
 -- ---- inputs
 
--- the parts of an input are in their ranges, as their types have it
+-- the parts of an input are in the ranges of their types
 abbrev pub IsInput : Input → Type 0
 IsInput (In.Need d) = Unit {0}
 IsInput (In.LinkUp k) = Unit {0}

@@ -3,7 +3,7 @@ use Rattle.std.specs.Prelude.{ℕ, nat_lt, if◌then◌else◌}
 use Rattle.tora_core.specs.declared.limits.CoreLimits.{CoreLimits}
 use Rattle.tora_core.specs.declared.TheConstants.{GREATEST_NEIGHBOURS, MOST_DESTINATIONS}
 
--- a limit, or the greatest where it is above that
+-- the smaller one of a limit and the greatest
 abbrev pub at_most : ℕ → ℕ → ℕ
 at_most greatest limit = if nat_lt limit greatest then limit else greatest
 

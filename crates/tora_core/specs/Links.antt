@@ -1,5 +1,5 @@
--- What a core keeps of the rows of one destination: a place for each neighbour, the directions of the links, how many are
--- downstream, and the row with the least height.
+-- The stored values for the rows of one destination: a place for each neighbour, the directions of the links, the count
+-- of downstream links, and the row with the least height.
 use Rattle.std.specs.Prelude.{◌≡◌, ◌≢◌, ℕ, zero, suc, Bool, true, false, List, [], ◌∷◌, length, map, filter, Option, None, Some}
 use Rattle.std.specs.List.{AllByRecursion, items_where_true}
 use Rattle.std.specs.Ordering.{is_lt}
@@ -26,7 +26,7 @@ empty_place k = record { neighbour = k; entry = None; told = false }
 abbrev pub rows_up : List Bool → List Row → List Row
 rows_up up places = items_where_true up places
 
--- there is a mark for each place, and no entry where the link is not up
+-- there is a mark for each place, and a place whose link is not up has no entry
 abbrev pub AreMarked : List Bool → List Row → Type 0
 AreMarked [] [] = Unit {0}
 AreMarked [] (row ∷ places) = ⊥
@@ -68,7 +68,7 @@ IsLeastAt (suc place) h (row ∷ rows) = (is_above h row.entry ≡ true) × IsLe
 abbrev pub IsNull : Row → Type 0
 IsNull row = row.entry ≡ None
 
--- the place of the first row with the least height, and none where every entry is NULL
+-- the place of the first row with the least height; none if every entry is NULL
 abbrev pub IsLeastPlace : Option ℕ → List Row → Type 0
 IsLeastPlace None rows = AllByRecursion IsNull rows
 IsLeastPlace (Some place) rows = (h : Quintuple) × IsLeastAt place h rows
@@ -79,7 +79,7 @@ entry_at place [] = None
 entry_at zero (row ∷ rows) = row.entry
 entry_at (suc place) (row ∷ rows) = entry_at place rows
 
--- the entry at the place of the least row, where there is one
+-- the entry at the place of the least row, if there is one
 abbrev pub low_of : Option ℕ → List Row → Option Quintuple
 low_of None rows = None
 low_of (Some place) rows = entry_at place rows
@@ -90,15 +90,16 @@ with_entry_at place h [] = []
 with_entry_at zero h (row ∷ rows) = record row { entry = Some h } ∷ rows
 with_entry_at (suc place) h (row ∷ rows) = row ∷ with_entry_at place h rows
 
--- what is kept is what the own height and the rows give
-pub record AreKept (own : Option Quintuple) (rows : List Row) (directions : List Direction) (downstream : ℕ) (least : Option ℕ) : Type 0 where
+-- the stored values are those computed from the own height and the rows
+pub record AreKept (own : Option Quintuple) (rows : List Row) (directions : List Direction) (downstream : ℕ)
+    (least : Option ℕ) : Type 0 where
   pub directions_are : directions ≡ directions_of own rows
   pub downstream_is : downstream ≡ downstream_in own rows
   pub least_is : IsLeastPlace least rows
 
 -- ---- the place of a neighbour
 
--- k stands at this place of the numbers, and nowhere else
+-- k is at this place of the numbers, and nowhere else
 abbrev pub IsOnlyPlace : ℕ → ℕ → List ℕ → Type 0
 IsOnlyPlace k place [] = ⊥
 IsOnlyPlace k zero (n ∷ numbers) = (n ≡ k) × AllByRecursion (λ (m : ℕ). m ≢ k) numbers

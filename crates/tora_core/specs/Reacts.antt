@@ -1,4 +1,5 @@
--- TORA's rules for one destination as a relation: what an input makes of a view, one case for each line of the rules.
+-- TORA's rules for one destination as a relation: the effect of an input on a view, with one case for each line of the
+-- rules.
 use Rattle.std.specs.Prelude.{◌≡◌, ◌≢◌, ◌⊎◌, ℕ, ◌<◌, ◌≤◌, ℤ, pos, ◌+ℤ◌, ◌-ℤ◌, ◌≤ℤ◌, true, false, Option, None, Some, IsSome, IfSome, Contains}
 use Rattle.tora_height.specs.declared.level.Level.{Level}
 use Rattle.tora_height.specs.Height.{Quintuple, quintuple, destination_height, level_of, IsHeight}
@@ -39,7 +40,7 @@ KnowsSome v = (h : Quintuple) × IsKnown v h
 abbrev pub KnowsNone : View → Type 0
 KnowsNone v = (h : Quintuple) → ¬ IsKnown v h
 
--- the link to k has an entry, and that is lower than the own height where this is not NULL
+-- the link to k has an entry, and the entry is lower than the own height unless that is NULL
 abbrev pub IsDownstream : View → ℕ → Type 0
 IsDownstream v k = (h : Quintuple) × IsEntry v k h × IfSome v.height (IsLower h)
 
@@ -87,7 +88,7 @@ pub record IsCommonLevel (v : View) (level : Level) : Type 0 where
 abbrev pub LevelsDiffer : View → Type 0
 LevelsDiffer v = (g : Quintuple) × (h : Quintuple) × IsKnown v g × IsKnown v h × (level_of g ≢ level_of h)
 
--- not before the tick, at least 1, and after each time that the node generated or knows
+-- at least the tick, at least 1, and later than each time that the node generated or knows
 pub record IsAfterAll (v : View) (now t : ℕ) : Type 0 where
   pub tick : now ≤ t
   pub positive : 1 ≤ t
@@ -102,10 +103,11 @@ pub record IsFreshTime (v : View) (now t : ℕ) : Type 0 where
 
 -- ---- a computed height
 
--- A computed height, and the last time that is generated with it. Where the height is in range it becomes the own one,
--- and all up neighbours are told by an update. Otherwise the own height becomes NULL, and nothing is broadcast.
+-- A computed height, and the last time that is generated with it. If the height is in range it becomes the own height,
+-- and an update is broadcast. Otherwise the own height becomes NULL, and nothing is broadcast.
 pub data Takes (v : View) (h : Quintuple) (last : ℕ) : View → Option Broadcast → Type 0 where
-  fits : IsHeight h → Takes v h last (record v { height = Some h; rows = all_told v.rows; last = last }) (Some (Tell.Update h))
+  fits : IsHeight h → Takes v h last (record v { height = Some h; rows = all_told v.rows; last = last })
+      (Some (Tell.Update h))
   does_not_fit : ¬ IsHeight h → Takes v h last (record v { height = None }) None
 
 -- a new reference level of the node's own, at the fresh time
@@ -114,15 +116,16 @@ pub record TakesNewLevel (v : View) (now : ℕ) (after : View) (broadcast : Opti
   pub fresh : IsFreshTime v now time
   pub taken : Takes v (quintuple time v.me 0 (pos 0) v.me) time after broadcast
 
--- one above the least entry, and no route is required from now on
+-- one above the least entry; a route is no longer required
 pub record Joins (v : View) (after : View) (broadcast : Option Broadcast) : Type 0 where
   pub low : Quintuple
   pub least : IsLeastKnown v low
-  pub taken : Takes (record v { flag = false }) (quintuple low.tau low.oid low.r (low.delta +ℤ pos 1) v.me) v.last after broadcast
+  pub taken : Takes (record v { flag = false }) (quintuple low.tau low.oid low.r (low.delta +ℤ pos 1) v.me) v.last after
+      broadcast
 
 -- ---- erased levels
 
--- the level that is kept as the one that was erased last, once this one is
+-- the level that counts as erased last, once this one is erased
 pub data Keeps (v : View) (level : Level) : Option Level → Type 0 where
   kept_plain : v.erasure ≡ Plain → Keeps v level v.erased
   kept_remembered : v.erasure ≡ Remembered → Keeps v level (Some level)
@@ -135,12 +138,13 @@ IsOutdated v height = (v.erasure ≡ Remembered) × (v.erased ≡ Some (level_of
 abbrev pub withdrawn_view : View → ℕ → View
 withdrawn_view v k = record v { rows = without_entry v.destination k v.rows }
 
--- a clear of this level is heard from k, which has no height and no entries then
+-- a clear of this level comes from k, which then has no height and no entries
 pub data HearsClear (v : View) (k : ℕ) (level : Level) : View → Type 0 where
   heard_plain : v.erasure ≡ Plain → HearsClear v k level v
-  heard_remembered : v.erasure ≡ Remembered → HearsClear v k level (record v { rows = without_told k (without_entry v.destination k v.rows); erased = Some level })
+  heard_remembered : v.erasure ≡ Remembered → HearsClear v k level
+      (record v { rows = without_told k (without_entry v.destination k v.rows); erased = Some level })
 
--- the height and the entries become NULL, that of the destination excepted
+-- the height and the entries become NULL, except that of the destination
 abbrev pub erased_view : View → Option Level → View
 erased_view v kept = record v { height = None; rows = all_erased v.destination v.rows; erased = kept }
 
@@ -157,21 +161,26 @@ pub data Lost (v : View) (now : ℕ) : LossCause → View → Option Broadcast �
   -- by a link failure or a clear, and nothing is known
   no_height_left : KnowsNone v → Lost v now LinkLoss (record v { height = None }) None
   -- by a link failure or a clear, and a height is known
-  new_level_after_failure : {after : View} {broadcast : Option Broadcast} → KnowsSome v → TakesNewLevel v now after broadcast
+  new_level_after_failure : {after : View} {broadcast : Option Broadcast} → KnowsSome v
+      → TakesNewLevel v now after broadcast
       → Lost v now LinkLoss after broadcast
   -- by an update, and the levels are not all equal: the greatest level, one below the least delta at it
   propagated_level : {after : View} {broadcast : Option Broadcast} (level : Level) (delta : ℤ)
       → LevelsDiffer v → IsGreatestLevel v level → IsLeastDelta v level delta
-      → Takes v (quintuple level.tau level.oid level.r (delta -ℤ pos 1) v.me) v.last after broadcast → Lost v now UpdateLoss after broadcast
+      → Takes v (quintuple level.tau level.oid level.r (delta -ℤ pos 1) v.me) v.last after broadcast
+      → Lost v now UpdateLoss after broadcast
   -- by an update, and all are at one original level
   reflected_level : (level : Level) → IsCommonLevel v level → level.r ≡ 0
-      → Lost v now UpdateLoss (record v { height = Some (reflected_height v.me level); rows = all_told v.rows }) (Some (Tell.Update (reflected_height v.me level)))
+      → Lost v now UpdateLoss (record v { height = Some (reflected_height v.me level); rows = all_told v.rows })
+      (Some (Tell.Update (reflected_height v.me level)))
   -- by an update, and all are at one reflected level, which the node defined itself
-  partition_detected : {kept : Option Level} (level : Level) → IsCommonLevel v level → level.r ≡ 1 → level.oid ≡ v.me → Keeps v level kept
+  partition_detected : {kept : Option Level} (level : Level) → IsCommonLevel v level → level.r ≡ 1 → level.oid ≡ v.me
+      → Keeps v level kept
       → Lost v now UpdateLoss (erased_view v kept) (Some (Tell.Clear level.tau level.oid))
   -- by an update, and all are at one reflected level, which another node defined
   new_level_after_reflection : {after : View} {broadcast : Option Broadcast} (level : Level)
-      → IsCommonLevel v level → level.r ≡ 1 → level.oid ≢ v.me → TakesNewLevel v now after broadcast → Lost v now UpdateLoss after broadcast
+      → IsCommonLevel v level → level.r ≡ 1 → level.oid ≢ v.me → TakesNewLevel v now after broadcast
+      → Lost v now UpdateLoss after broadcast
 
 -- ---- the inputs, at a node that is not the destination
 
@@ -185,56 +194,74 @@ unlinked_view v k = record v { rows = without_row k v.rows }
 abbrev pub updated_view : View → ℕ → Quintuple → View
 updated_view v k height = record v { rows = with_entry k height v.rows }
 
--- no entry at this level, but that of the destination
+-- no entry at this level, except that of the destination
 abbrev pub cleared_view : View → Level → View
 cleared_view v level = record v { rows = all_cleared v.destination level v.rows }
 
 pub data ReactsElsewhere (v : View) (now : ℕ) : Input → View → Option Broadcast → Type 0 where
   -- a need
-  need_asked : {d : ℕ} → KnowsNone v → v.flag ≡ false → ReactsElsewhere v now (In.Need d) (record v { flag = true }) (Some Tell.Query)
+  need_asked : {d : ℕ} → KnowsNone v → v.flag ≡ false → ReactsElsewhere v now (In.Need d) (record v { flag = true })
+      (Some Tell.Query)
   need_quiet : {d : ℕ} → KnowsSome v ⊎ (v.flag ≡ true) → ReactsElsewhere v now (In.Need d) v None
   -- a link to another neighbour than the destination comes up
-  link_up_quiet : {k : ℕ} → k ≢ v.destination → v.flag ≡ false → ReactsElsewhere v now (In.LinkUp k) (linked_view v k None) None
-  link_up_asked : {k : ℕ} → k ≢ v.destination → v.flag ≡ true → ReactsElsewhere v now (In.LinkUp k) (linked_view v k None) (Some Tell.Query)
+  link_up_quiet : {k : ℕ} → k ≢ v.destination → v.flag ≡ false →
+      ReactsElsewhere v now (In.LinkUp k) (linked_view v k None) None
+  link_up_asked : {k : ℕ} → k ≢ v.destination → v.flag ≡ true → ReactsElsewhere v now (In.LinkUp k)
+      (linked_view v k None) (Some Tell.Query)
   -- a link to the destination comes up
   destination_up_quiet : {k : ℕ} → k ≡ v.destination → v.flag ≡ false
       → ReactsElsewhere v now (In.LinkUp k) (linked_view v k (Some (destination_height k))) None
   destination_up_joined : {k : ℕ} {after : View} {broadcast : Option Broadcast} → k ≡ v.destination → v.flag ≡ true
-      → Joins (linked_view v k (Some (destination_height k))) after broadcast → ReactsElsewhere v now (In.LinkUp k) after broadcast
+      → Joins (linked_view v k (Some (destination_height k))) after broadcast
+      → ReactsElsewhere v now (In.LinkUp k) after broadcast
   -- a link goes down
-  link_down_quiet : {k : ℕ} → ¬ LacksDownstream (unlinked_view v k) → ReactsElsewhere v now (In.LinkDown k) (unlinked_view v k) None
+  link_down_quiet : {k : ℕ} → ¬ LacksDownstream (unlinked_view v k)
+      → ReactsElsewhere v now (In.LinkDown k) (unlinked_view v k) None
   link_down_lost : {k : ℕ} {after : View} {broadcast : Option Broadcast} → LacksDownstream (unlinked_view v k)
       → Lost (unlinked_view v k) now LinkLoss after broadcast → ReactsElsewhere v now (In.LinkDown k) after broadcast
   -- a query, without a downstream neighbour and with one
-  query_asked : {k d : ℕ} → HasNoDownstream v → v.flag ≡ false → ReactsElsewhere v now (In.Packet k (Qry d)) (record v { flag = true }) (Some Tell.Query)
+  query_asked : {k d : ℕ} → HasNoDownstream v → v.flag ≡ false →
+      ReactsElsewhere v now (In.Packet k (Qry d)) (record v { flag = true }) (Some Tell.Query)
   query_pending : {k d : ℕ} → HasNoDownstream v → v.flag ≡ true → ReactsElsewhere v now (In.Packet k (Qry d)) v None
-  query_joined : {k d : ℕ} {after : View} {broadcast : Option Broadcast} → HasDownstream v → v.height ≡ None → Joins v after broadcast
+  query_joined : {k d : ℕ} {after : View} {broadcast : Option Broadcast} → HasDownstream v → v.height ≡ None
+      → Joins v after broadcast
       → ReactsElsewhere v now (In.Packet k (Qry d)) after broadcast
   query_answered : {k d : ℕ} (own : Quintuple) → HasDownstream v → v.height ≡ Some own → ¬ IsTold v k
       → ReactsElsewhere v now (In.Packet k (Qry d)) (record v { rows = all_told v.rows }) (Some (Tell.Update own))
-  query_quiet : {k d : ℕ} → HasDownstream v → IsSome v.height → IsTold v k → ReactsElsewhere v now (In.Packet k (Qry d)) v None
+  query_quiet : {k d : ℕ} → HasDownstream v → IsSome v.height → IsTold v k
+      → ReactsElsewhere v now (In.Packet k (Qry d)) v None
   -- an update of the level that was erased last
   update_withdrawn : {k d : ℕ} {height : Quintuple} → IsOutdated v height → ¬ LacksDownstream (withdrawn_view v k)
       → ReactsElsewhere v now (In.Packet k (Upd (update_of d height))) (withdrawn_view v k) None
-  update_withdrawn_lost : {k d : ℕ} {height : Quintuple} {after : View} {broadcast : Option Broadcast} → IsOutdated v height
+  update_withdrawn_lost : {k d : ℕ} {height : Quintuple} {after : View} {broadcast : Option Broadcast}
+      → IsOutdated v height
       → LacksDownstream (withdrawn_view v k) → Lost (withdrawn_view v k) now LinkLoss after broadcast
       → ReactsElsewhere v now (In.Packet k (Upd (update_of d height))) after broadcast
   -- any other update, where a route is required and where none is
   update_joined : {k d : ℕ} {height : Quintuple} {after : View} {broadcast : Option Broadcast}
-      → ¬ IsOutdated v height → v.flag ≡ true → Joins (updated_view v k height) after broadcast → ReactsElsewhere v now (In.Packet k (Upd (update_of d height))) after broadcast
-  update_lost : {k d : ℕ} {height : Quintuple} {after : View} {broadcast : Option Broadcast}
-      → ¬ IsOutdated v height → v.flag ≡ false → LacksDownstream (updated_view v k height) → Lost (updated_view v k height) now UpdateLoss after broadcast
+      → ¬ IsOutdated v height → v.flag ≡ true → Joins (updated_view v k height) after broadcast
       → ReactsElsewhere v now (In.Packet k (Upd (update_of d height))) after broadcast
-  update_quiet : {k d : ℕ} {height : Quintuple} → ¬ IsOutdated v height → v.flag ≡ false → ¬ LacksDownstream (updated_view v k height)
+  update_lost : {k d : ℕ} {height : Quintuple} {after : View} {broadcast : Option Broadcast}
+      → ¬ IsOutdated v height → v.flag ≡ false → LacksDownstream (updated_view v k height)
+      → Lost (updated_view v k height) now UpdateLoss after broadcast
+      → ReactsElsewhere v now (In.Packet k (Upd (update_of d height))) after broadcast
+  update_quiet : {k d : ℕ} {height : Quintuple} → ¬ IsOutdated v height → v.flag ≡ false
+      → ¬ LacksDownstream (updated_view v k height)
       → ReactsElsewhere v now (In.Packet k (Upd (update_of d height))) (updated_view v k height) None
   -- a clear, of the own level and of another one
-  clear_erased : {k d tau oid : ℕ} {u : View} {kept : Option Level} → HearsClear v k (cleared_level tau oid) u → IsOwnLevel u (cleared_level tau oid)
-      → Keeps u (cleared_level tau oid) kept → ReactsElsewhere v now (In.Packet k (Clr (clear_of d tau oid))) (erased_view u kept) (Some (Tell.Clear tau oid))
-  clear_lost : {k d tau oid : ℕ} {u after : View} {broadcast : Option Broadcast} → HearsClear v k (cleared_level tau oid) u → ¬ IsOwnLevel u (cleared_level tau oid)
-      → LacksDownstream (cleared_view u (cleared_level tau oid)) → Lost (cleared_view u (cleared_level tau oid)) now LinkLoss after broadcast
+  clear_erased : {k d tau oid : ℕ} {u : View} {kept : Option Level} → HearsClear v k (cleared_level tau oid) u
+      → IsOwnLevel u (cleared_level tau oid)
+      → Keeps u (cleared_level tau oid) kept → ReactsElsewhere v now (In.Packet k (Clr (clear_of d tau oid)))
+      (erased_view u kept) (Some (Tell.Clear tau oid))
+  clear_lost : {k d tau oid : ℕ} {u after : View} {broadcast : Option Broadcast}
+      → HearsClear v k (cleared_level tau oid) u → ¬ IsOwnLevel u (cleared_level tau oid)
+      → LacksDownstream (cleared_view u (cleared_level tau oid))
+      → Lost (cleared_view u (cleared_level tau oid)) now LinkLoss after broadcast
       → ReactsElsewhere v now (In.Packet k (Clr (clear_of d tau oid))) after broadcast
-  clear_quiet : {k d tau oid : ℕ} {u : View} → HearsClear v k (cleared_level tau oid) u → ¬ IsOwnLevel u (cleared_level tau oid)
-      → ¬ LacksDownstream (cleared_view u (cleared_level tau oid)) → ReactsElsewhere v now (In.Packet k (Clr (clear_of d tau oid))) (cleared_view u (cleared_level tau oid)) None
+  clear_quiet : {k d tau oid : ℕ} {u : View} → HearsClear v k (cleared_level tau oid) u
+      → ¬ IsOwnLevel u (cleared_level tau oid)
+      → ¬ LacksDownstream (cleared_view u (cleared_level tau oid))
+      → ReactsElsewhere v now (In.Packet k (Clr (clear_of d tau oid))) (cleared_view u (cleared_level tau oid)) None
 
 -- ---- the inputs, at the destination itself: only the set of up neighbours changes, and their entries are NULL
 
@@ -244,11 +271,12 @@ pub data ReactsAtDestination (v : View) : Input → View → Option Broadcast �
   own_link_down : {k : ℕ} → ReactsAtDestination v (In.LinkDown k) (unlinked_view v k) None
   own_packet : {k : ℕ} {packet : Packet} → ReactsAtDestination v (In.Packet k packet) v None
 
--- ---- what an input that concerns the destination makes of a view at this tick, and what is broadcast
+-- ---- the effect of an input that concerns the destination on a view at this tick, and its broadcast
 
 pub data Reacts (v : View) (input : Input) (now : ℕ) (after : View) (broadcast : Option Broadcast) : Type 0 where
   elsewhere : v.me ≢ v.destination → ReactsElsewhere v now input after broadcast → Reacts v input now after broadcast
-  at_destination : v.me ≡ v.destination → ReactsAtDestination v input after broadcast → Reacts v input now after broadcast
+  at_destination : v.me ≡ v.destination → ReactsAtDestination v input after broadcast
+      → Reacts v input now after broadcast
 
 -- a packet comes from a neighbour whose link is up
 abbrev pub IsFromUp : View → Input → Type 0

@@ -1,4 +1,4 @@
--- TORA's rules for one destination: what an input makes of a view, and what is broadcast.
+-- TORA's rules for one destination: the effect of an input on a view, and what is broadcast.
 use Rattle.std.specs.Prelude.{ℕ, ◌==◌, Bool, true, false, List, not, ◌&&◌, if◌then◌else◌, Option, None, Some, is_none, option_map, ℤ, pos, ◌+ℤ◌, ◌-ℤ◌}
 use Rattle.std.specs.List.{list_all}
 use Rattle.tora_height.specs.declared.level.Level.{Level}
@@ -30,10 +30,13 @@ silent v = record { view = v; broadcast = None }
 abbrev pub query_broadcast : View → Outcome
 query_broadcast v = record { view = record v { flag = true }; broadcast = Some Tell.Query }
 
--- an update with the own height, where there is one: from now on every up neighbour has been told
+-- an update with the own height, if there is one; every up neighbour is then marked as told
 abbrev pub update_broadcast_of : View → Option Quintuple → Outcome
 update_broadcast_of v None = silent v
-update_broadcast_of v (Some height) = record { view = record v { rows = all_told v.rows }; broadcast = Some (Tell.Update height) }
+update_broadcast_of v (Some height) = record {
+  view = record v { rows = all_told v.rows };
+  broadcast = Some (Tell.Update height);
+}
 
 abbrev pub update_broadcast : View → Outcome
 update_broadcast v = update_broadcast_of v v.height
@@ -56,7 +59,7 @@ after_join v = update_broadcast (record v { height = joined_height v; flag = fal
 abbrev pub cleared_level : ℕ → ℕ → Level
 cleared_level tau oid = record { tau = tau; oid = oid; r = 1 }
 
--- the level that was erased last, after this one was
+-- the level that was erased last, once this one is erased
 abbrev pub erased_after : Erasure → Option Level → Level → Option Level
 erased_after Plain old level = old
 erased_after Remembered old level = Some level
@@ -70,14 +73,17 @@ is_outdated_by Remembered (Some level) height = is_at level height
 abbrev pub is_outdated : View → Quintuple → Bool
 is_outdated v height = is_outdated_by v.erasure v.erased height
 
--- a node that sends a clear has no height and no entries: what it told is withdrawn, and it has not been told
+-- the sender of a clear has no height and no entries: its entry is withdrawn, and its mark is removed
 abbrev pub rows_behind_clear : Erasure → ℕ → ℕ → List Row → List Row
 rows_behind_clear Plain destination k rows = rows
 rows_behind_clear Remembered destination k rows = without_told k (without_entry destination k rows)
 
--- a clear of a level is heard from a neighbour
+-- a clear of a level comes from a neighbour
 abbrev pub hearing_clear : View → ℕ → Level → View
-hearing_clear v k level = record v { rows = rows_behind_clear v.erasure v.destination k v.rows; erased = erased_after v.erasure v.erased level }
+hearing_clear v k level = record v {
+  rows = rows_behind_clear v.erasure v.destination k v.rows;
+  erased = erased_after v.erasure v.erased level;
+}
 
 -- ---- the last downstream link is lost
 
@@ -89,11 +95,15 @@ new_level_at v time (Some height) = update_broadcast (record v { height = Some h
 unfoldable pub new_level : View → ℕ → Outcome
 new_level v now = new_level_at v (fresh_time v now) (fitted_height (quintuple (fresh_time v now) v.me 0 (pos 0) v.me))
 
--- no height, no entry but that of the destination, and a clear with the level
+-- no height, no entry except that of the destination, and a clear with the level
 unfoldable pub after_erase : View → ℕ → ℕ → Outcome
 after_erase v tau oid =
     record {
-      view = record v { height = None; rows = all_erased v.destination v.rows; erased = erased_after v.erasure v.erased (cleared_level tau oid) };
+      view = record v {
+        height = None;
+        rows = all_erased v.destination v.rows;
+        erased = erased_after v.erasure v.erased (cleared_level tau oid);
+      };
       broadcast = Some (Tell.Clear tau oid);
     }
 
@@ -107,7 +117,8 @@ below_delta me level None = None
 below_delta me level (Some delta) = fitted_height (quintuple level.tau level.oid level.r (delta -ℤ pos 1) me)
 
 abbrev pub propagated_level : View → Level → Outcome
-propagated_level v level = update_broadcast (record v { height = below_delta v.me level (least_delta level (known_heights v)) })
+propagated_level v level =
+    update_broadcast (record v { height = below_delta v.me level (least_delta level (known_heights v)) })
 
 -- case 3: all entries are at one original level, which is reflected
 abbrev pub reflected_level : View → Level → Outcome
@@ -148,8 +159,10 @@ link_row k entry = record { neighbour = k; entry = entry; told = false }
 abbrev pub on_link_up : View → ℕ → Outcome
 on_link_up v k =
     if k == v.destination
-    then (let w = record v { rows = with_row (link_row k (Some (destination_height k))) v.rows } in if v.flag then after_join w else silent w)
-    else (let w = record v { rows = with_row (link_row k None) v.rows } in if v.flag then query_broadcast w else silent w)
+    then (let w = record v { rows = with_row (link_row k (Some (destination_height k))) v.rows } in
+    if v.flag then after_join w else silent w)
+    else (let w = record v { rows = with_row (link_row k None) v.rows } in if v.flag then query_broadcast w
+    else silent w)
 
 abbrev pub on_link_down : View → ℕ → ℕ → Outcome
 on_link_down v k now =
@@ -164,7 +177,7 @@ on_query v k =
     else if not (is_told k v.rows) then update_broadcast v
     else silent v
 
--- an update that is older than the clear of its level only withdraws what its sender told
+-- an update that is older than the clear of its level only withdraws its sender's entry
 abbrev pub on_outdated : View → ℕ → ℕ → Outcome
 on_outdated v k now =
     let w = record v { rows = without_entry v.destination k v.rows } in

@@ -36,12 +36,14 @@ line_end = 10 ∷ []
 -- the line of a destination
 unfoldable pub to_line : View → List ℕ
 to_line v =
-    codes "to " ++ decimal v.destination ++ codes " height " ++ height_text v.height ++ codes " flag " ++ flag_text v.flag ++ codes " hop " ++ hop_text (next_hop_of v) ++ line_end
+    codes "to " ++ decimal v.destination ++ codes " height " ++ height_text v.height ++ codes " flag "
+    ++ flag_text v.flag ++ codes " hop " ++ hop_text (next_hop_of v) ++ line_end
 
 -- the line of an up neighbour, at this own height
 unfoldable pub via_line : Option Quintuple → Row → List ℕ
 via_line own row =
-    codes "via " ++ decimal row.neighbour ++ codes " " ++ height_text row.entry ++ codes " " ++ direction_text (link_status own row.entry) ++ line_end
+    codes "via " ++ decimal row.neighbour ++ codes " " ++ height_text row.entry ++ codes " "
+    ++ direction_text (link_status own row.entry) ++ line_end
 
 abbrev pub view_text : View → List ℕ
 view_text v = to_line v ++ flat_map (via_line v.height) v.rows

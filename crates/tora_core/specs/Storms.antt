@@ -1,4 +1,4 @@
--- A storm: three nodes, each joined to the two others, erase, ask and tell one another in turns that never end.
+-- A storm: three nodes with links to each other send clears, queries and updates to each other in turns that never end.
 use Rattle.std.specs.Prelude.{◌≡◌, ℕ, ◌^◌, false, true, List, [], ◌∷◌, ◌++◌, fold, Option, None, Some, ℤ, pos, neg_ℤ, ◌+ℤ◌, ◌≤ℤ◌}
 use Rattle.std.specs.List.{cons_option}
 use Rattle.tora_height.specs.Height.{Quintuple, quintuple}
@@ -32,13 +32,13 @@ storm_view delta n j k = record {
   erased = None;
 }
 
--- what it has told its neighbours by then, in this order: it erased, it asked, it joined
+-- what it has broadcast by then, in this order: a clear, a query, an update
 abbrev pub told_in_storm : ℤ → ℕ → List Broadcast
 told_in_storm delta n = Tell.Clear 1 1 ∷ Tell.Query ∷ Tell.Update (storm_height (delta +ℤ pos 1) n) ∷ []
 
--- ---- a turn: the node hears what both neighbours have told
+-- ---- a turn: the node receives the packets of both neighbours
 
--- a view, and what it has told since the turn began
+-- a view, and what it has broadcast since the turn began
 pub record Turn : Type 0 where
   pub view : View
   pub told : List Broadcast
@@ -47,17 +47,22 @@ abbrev pub turn_after : Turn → Outcome → Turn
 turn_after t o = record { view = o.view; told = t.told ++ cons_option o.broadcast [] }
 
 abbrev pub after_heard : ℕ → Turn → ℕ × Broadcast → Turn
-after_heard now t heard = turn_after t (outcome_of t.view (In.Packet heard.0 (packet_of t.view.destination heard.1)) now)
+after_heard now t heard =
+    turn_after t (outcome_of t.view (In.Packet heard.0 (packet_of t.view.destination heard.1)) now)
 
--- what two neighbours have told, by turns
+-- the broadcasts of two neighbours, alternating
 abbrev pub alternating : ℕ → ℕ → List Broadcast → List Broadcast → List (ℕ × Broadcast)
 alternating j k [] ys = []
 alternating j k (x ∷ xs) [] = []
 alternating j k (x ∷ xs) (y ∷ ys) = (j, x) ∷ (k, y) ∷ alternating j k xs ys
 
 abbrev pub turn_of : ℕ → ℤ → ℕ → ℕ → ℕ → Turn
-turn_of now delta n j k = fold (after_heard now) (record { view = storm_view delta n j k; told = [] }) (alternating j k (told_in_storm delta j) (told_in_storm delta k))
+turn_of now delta n j k = fold (after_heard now) (record { view = storm_view delta n j k; told = [] })
+    (alternating j k (told_in_storm delta j) (told_in_storm delta k))
 
--- node n stands one higher after the turn, and has told its neighbours just what makes their next turn
+-- after the turn node n is one higher, and has broadcast exactly the inputs of its neighbours' next turn
 abbrev pub GoesOn : ℕ → ℤ → ℕ → ℕ → ℕ → Type 0
-GoesOn now delta n j k = turn_of now delta n j k ≡ record { view = storm_view (delta +ℤ pos 1) n j k; told = told_in_storm (delta +ℤ pos 1) n }
+GoesOn now delta n j k = turn_of now delta n j k ≡ record {
+  view = storm_view (delta +ℤ pos 1) n j k;
+  told = told_in_storm (delta +ℤ pos 1) n;
+}

@@ -14,7 +14,10 @@ abbrev pub views_in : List TableView → List View
 views_in table = map (λ t. t.view) table
 
 abbrev pub first_in : List ℕ → Erasure → ℕ → ℕ → TableView
-first_in neighbours erasure me destination = record { view = first_view_of erasure me destination; neighbours = neighbours }
+first_in neighbours erasure me destination = record {
+  view = first_view_of erasure me destination;
+  neighbours = neighbours;
+}
 
 abbrev pub next_in : Input → ℕ → TableView → TableView
 next_in input now t = record t { view = next_view input now t.view }

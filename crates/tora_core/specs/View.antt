@@ -1,4 +1,4 @@
--- What a node knows of one destination, and the words of TORA's rules on it.
+-- The view that a node has of one destination, and the terms of TORA's rules about it.
 use Rattle.std.specs.Prelude.{ℕ, ◌==◌, Bool, true, false, not, ◌&&◌, nat_lt, if◌then◌else◌, List, [], ◌∷◌, length, map, filter, filter_map, fold, Option, None, Some, is_some, is_none, option_map, ℤ, int_lt}
 use Rattle.std.specs.List.{list_any, list_all}
 use Rattle.std.specs.Ordering.{is_lt, is_eq}
@@ -17,8 +17,8 @@ pub record View : Type 0 where
   pub flag : Bool  -- a route is required
   pub rows : List Row  -- a row for each neighbour whose link is up, by ascending number
   pub last : ℕ  -- the last time tag that the node generated
-  pub erasure : Erasure  -- what the node makes of erased levels
-  pub erased : Option Level  -- the reflected level that was erased last, where the node remembers it
+  pub erasure : Erasure  -- how the node treats erased levels
+  pub erased : Option Level  -- the reflected level that was erased last, if the node remembers it
 
 -- at first no link is up, and only the destination has a height
 abbrev pub first_view_of : Erasure → ℕ → ℕ → View
@@ -33,7 +33,7 @@ first_view_of erasure me destination = record {
   erased = None;
 }
 
--- that of a node that remembers no erased level
+-- the same for a node with the plain choice
 abbrev pub first_view : ℕ → ℕ → View
 first_view me destination = first_view_of Plain me destination
 
@@ -100,7 +100,8 @@ least_height heights = fold lower_of None heights
 
 abbrev pub higher_level_of : Option Level → Quintuple → Option Level
 higher_level_of None height = Some (level_of height)
-higher_level_of (Some best) height = if is_lt (level_cmp best (level_of height)) then Some (level_of height) else Some best
+higher_level_of (Some best) height = if is_lt (level_cmp best (level_of height)) then Some (level_of height)
+    else Some best
 
 abbrev pub greatest_level : List Quintuple → Option Level
 greatest_level heights = fold higher_level_of None heights
@@ -114,7 +115,8 @@ lower_delta_of None delta = Some delta
 lower_delta_of (Some best) delta = if int_lt delta best then Some delta else Some best
 
 abbrev pub least_delta : Level → List Quintuple → Option ℤ
-least_delta level heights = fold (λ best height. if is_at level height then lower_delta_of best height.delta else best) None heights
+least_delta level heights =
+    fold (λ best height. if is_at level height then lower_delta_of best height.delta else best) None heights
 
 -- ---- rows after a change
 
@@ -134,7 +136,7 @@ row_with_entry k height row = if row.neighbour == k then record row { entry = So
 abbrev pub with_entry : ℕ → Quintuple → List Row → List Row
 with_entry k height rows = map (row_with_entry k height) rows
 
--- every up neighbour has been told the own height
+-- every up neighbour was sent the own height
 abbrev pub told_row : Row → Row
 told_row row = record row { told = true }
 
@@ -144,7 +146,7 @@ all_told rows = map told_row rows
 abbrev pub is_told : ℕ → List Row → Bool
 is_told k rows = list_any (λ row. (row.neighbour == k) && row.told) rows
 
--- no entry but that of the destination
+-- no entry except that of the destination
 abbrev pub erased_row : ℕ → Row → Row
 erased_row destination row = if row.neighbour == destination then row else record row { entry = None }
 
@@ -153,19 +155,20 @@ all_erased destination rows = map (erased_row destination) rows
 
 -- no entry of a neighbour, unless it is the destination
 abbrev pub withdrawn_row : ℕ → ℕ → Row → Row
-withdrawn_row destination k row = if (row.neighbour == k) && not (row.neighbour == destination) then record row { entry = None } else row
+withdrawn_row destination k row =
+    if (row.neighbour == k) && not (row.neighbour == destination) then record row { entry = None } else row
 
 abbrev pub without_entry : ℕ → ℕ → List Row → List Row
 without_entry destination k rows = map (withdrawn_row destination k) rows
 
--- a neighbour has not been told the own height
+-- a neighbour was not sent the own height
 abbrev pub untold_row : ℕ → Row → Row
 untold_row k row = if row.neighbour == k then record row { told = false } else row
 
 abbrev pub without_told : ℕ → List Row → List Row
 without_told k rows = map (untold_row k) rows
 
--- no entry at this level but that of the destination
+-- no entry at this level except that of the destination
 abbrev pub is_entry_at : Level → Option Quintuple → Bool
 is_entry_at level None = false
 is_entry_at level (Some height) = is_at level height
@@ -175,7 +178,8 @@ abbrev pub is_cleared : ℕ → Level → Row → Bool
 is_cleared destination level row = not (row.neighbour == destination) && is_entry_at level row.entry
 
 abbrev pub cleared_row : ℕ → Level → Row → Row
-cleared_row destination level row = if not (row.neighbour == destination) && is_entry_at level row.entry then record row { entry = None } else row
+cleared_row destination level row =
+    if not (row.neighbour == destination) && is_entry_at level row.entry then record row { entry = None } else row
 
 abbrev pub all_cleared : ℕ → Level → List Row → List Row
 all_cleared destination level rows = map (cleared_row destination level) rows

@@ -1,4 +1,5 @@
--- Worked runs of the rules: what one core answers and shows, and what the cores of a line of four answer to one another.
+-- Examples of the rules, computed: the packets and the text of one core, and the packets between the cores of a line of
+-- four.
 use Rattle.std.specs.Prelude.{◌≡◌, ℕ, zero, suc, ◌==◌, ℤ, pos, negsuc, if◌then◌else◌, codes, List, [], ◌∷◌, ◌++◌, map, Option, None, Some, option_map}
 use Rattle.std.specs.List.{flat_map}
 use Rattle.tora_height.specs.Height.{Quintuple, quintuple}
@@ -50,7 +51,7 @@ only packet = packet ∷ []
 abbrev pub node_3 : CoreView
 node_3 = first_core 3 (2 ∷ 4 ∷ []) (4 ∷ [])
 
--- a query of 2 is answered, and then 2 tells its height
+-- node 3 answers a query of 2, and then 2 sends its height
 abbrev pub route_found : Inputs
 route_found = (LinkUp 2, 1) ∷ (LinkUp 4, 1) ∷ (From 2 query, 2) ∷ (From 2 (update 0 0 0 (pos 2) 2), 3) ∷ []
 
@@ -58,7 +59,7 @@ route_found = (LinkUp 2, 1) ∷ (LinkUp 4, 1) ∷ (From 2 query, 2) ∷ (From 2 
 abbrev pub link_lost : Inputs
 link_lost = (LinkDown 4, 7) ∷ []
 
--- 2 propagates the new level, and then sends back what was reflected
+-- 2 propagates the new level, and then sends the reflected one back
 abbrev pub level_comes_back : Inputs
 level_comes_back = (From 2 (update 7 3 0 (negsuc 0) 2), 8) ∷ (From 2 (update 7 3 1 (negsuc 0) 2), 9) ∷ []
 
@@ -71,15 +72,16 @@ abbrev pub foreign_reflection : Inputs
 foreign_reflection = (LinkUp 1, 1) ∷ (LinkUp 3, 1) ∷ (Need 4, 2) ∷ (From 3 (update 0 0 0 (pos 1) 3), 3)
     ∷ (From 1 (update 7 9 1 (pos 0) 1), 4) ∷ (From 3 (update 7 9 1 (negsuc 0) 3), 8) ∷ []
 
--- node 3 has a route by 4 and loses it, and 2 told a level that is later than its clock
+-- node 3 has a route by 4 and loses it; 2 has sent a level that is later than 3's clock
 abbrev pub clock_behind : Inputs
-clock_behind = (LinkUp 2, 1) ∷ (LinkUp 4, 1) ∷ (From 2 query, 2) ∷ (From 2 (update 7 9 0 (pos 0) 2), 3) ∷ (LinkDown 4, 3) ∷ []
+clock_behind =
+    (LinkUp 2, 1) ∷ (LinkUp 4, 1) ∷ (From 2 query, 2) ∷ (From 2 (update 7 9 0 (pos 0) 2), 3) ∷ (LinkDown 4, 3) ∷ []
 
--- 3 tells the greatest delta that there is
+-- 3 sends the greatest delta
 abbrev pub greatest_delta : Inputs
 greatest_delta = (LinkUp 3, 1) ∷ (Need 4, 2) ∷ (From 3 (update 0 0 0 (pos 1073741824) 3), 3) ∷ []
 
--- 2 asks once more, and again after its link was down
+-- 2 sends another query, and one more after its link was down
 abbrev pub asked_again : Inputs
 asked_again = (From 2 query, 4) ∷ (LinkDown 2, 5) ∷ (LinkUp 2, 6) ∷ (From 2 query, 6) ∷ []
 
@@ -90,17 +92,19 @@ node_3_of_two = first_core 3 (2 ∷ 4 ∷ []) (5 ∷ 4 ∷ [])
 abbrev pub two_needs : Inputs
 two_needs = (LinkUp 2, 1) ∷ (Need 5, 1) ∷ (Need 4, 1) ∷ (LinkUp 4, 2) ∷ []
 
--- node 2 among 1, 3 and 5: 1 and 5 tell deltas 4 and 1 at one level, and then 3 goes to a lower level, above the own height
+-- node 2 among 1, 3 and 5: 1 and 5 send deltas 4 and 1 at one level, and then 3 goes to a lower level, above the own
+-- height
 abbrev pub node_2_of_three : CoreView
 node_2_of_three = first_core 2 (1 ∷ 3 ∷ 5 ∷ []) (4 ∷ [])
 
 abbrev pub two_deltas : Inputs
 two_deltas = (LinkUp 1, 1) ∷ (LinkUp 3, 1) ∷ (LinkUp 5, 1) ∷ (Need 4, 2) ∷ (From 3 (update 0 0 0 (pos 1) 3), 3)
-    ∷ (From 1 (update 7 9 0 (pos 4) 1), 8) ∷ (From 5 (update 7 9 0 (pos 1) 5), 8) ∷ (From 3 (update 5 8 0 (pos 0) 3), 9) ∷ []
+    ∷ (From 1 (update 7 9 0 (pos 4) 1), 8) ∷ (From 5 (update 7 9 0 (pos 1) 5), 8) ∷ (From 3 (update 5 8 0 (pos 0) 3), 9)
+    ∷ []
 
 -- ---- the line 1-2-3-4
 
--- inputs on their way, each with the node that takes it
+-- inputs in transit, each with the node that takes it
 abbrev pub Waiting : Type 0
 Waiting = List (ℕ × Input)
 
@@ -117,22 +121,28 @@ abbrev pub cores_after : ℕ → Input → ℕ → List CoreView → List CoreVi
 cores_after n input now cores = map (λ c. if c.me == n then core_after c input now else c) cores
 
 abbrev pub copies_after : ℕ → Input → ℕ → List CoreView → Waiting
-copies_after n input now cores = flat_map (λ c. if c.me == n then copies_of (core_after c input now) (sends_of c input now) else []) cores
+copies_after n input now cores =
+    flat_map (λ c. if c.me == n then copies_of (core_after c input now) (sends_of c input now) else []) cores
 
 abbrev pub sent_after : ℕ → Input → ℕ → List CoreView → List (ℕ × Packet)
-sent_after n input now cores = flat_map (λ c. if c.me == n then map (λ packet. (n, packet)) (sends_of c input now) else []) cores
+sent_after n input now cores =
+    flat_map (λ c. if c.me == n then map (λ packet. (n, packet)) (sends_of c input now) else []) cores
 
--- inputs are taken in the order in which they came, all at one tick, at most so many
+-- inputs are taken in the order of their arrival, all at one tick, up to a number of them
 abbrev pub line_after : ℕ → ℕ → Line → Waiting → Line
 line_after zero now line waiting = line
 line_after (suc most) now line [] = line
 line_after (suc most) now line ((n, input) ∷ waiting) =
-    line_after most now (record { cores = cores_after n input now line.cores; sent = line.sent ++ sent_after n input now line.cores })
+    line_after most now (record {
+      cores = cores_after n input now line.cores;
+      sent = line.sent ++ sent_after n input now line.cores;
+    })
     (waiting ++ copies_after n input now line.cores)
 
 abbrev pub first_line : Line
 first_line = record {
-  cores = first_core 1 (2 ∷ []) (4 ∷ []) ∷ first_core 2 (1 ∷ 3 ∷ []) (4 ∷ []) ∷ first_core 3 (2 ∷ 4 ∷ []) (4 ∷ []) ∷ first_core 4 (3 ∷ []) (4 ∷ []) ∷ [];
+  cores = first_core 1 (2 ∷ []) (4 ∷ []) ∷ first_core 2 (1 ∷ 3 ∷ []) (4 ∷ []) ∷ first_core 3 (2 ∷ 4 ∷ []) (4 ∷ [])
+      ∷ first_core 4 (3 ∷ []) (4 ∷ []) ∷ [];
   sent = [];
 }
 
@@ -166,45 +176,60 @@ pub record WorkedRows : Type 0 where
   pub query_is_answered_by_the_destinations_neighbour :
       (answers_of node_3 route_found ≡ nothing ∷ nothing ∷ only (update 0 0 0 (pos 1) 3) ∷ nothing ∷ [])
       × (shown_after node_3 route_found
-      ≡ lines_of (codes "to 4 height (0,0,0,1,3) flag 0 hop 4" ∷ codes "via 2 (0,0,0,2,2) up" ∷ codes "via 4 (0,0,0,0,4) down" ∷ []))
+      ≡ lines_of (codes "to 4 height (0,0,0,1,3) flag 0 hop 4" ∷ codes "via 2 (0,0,0,2,2) up"
+      ∷ codes "via 4 (0,0,0,0,4) down" ∷ []))
   pub partition_is_detected_by_the_reflected_level :
-      (answers_of (core_after_all node_3 route_found) (link_lost ++ level_comes_back) ≡ only (update 7 3 0 (pos 0) 3) ∷ nothing ∷ only (clear 7 3) ∷ [])
-      × (shown_after node_3 (route_found ++ link_lost) ≡ lines_of (codes "to 4 height (7,3,0,0,3) flag 0 hop 2" ∷ codes "via 2 (0,0,0,2,2) down" ∷ []))
-      × (shown_after node_3 (route_found ++ link_lost ++ level_comes_back) ≡ lines_of (codes "to 4 height - flag 0 hop -" ∷ codes "via 2 - none" ∷ []))
+      (answers_of (core_after_all node_3 route_found) (link_lost ++ level_comes_back)
+      ≡ only (update 7 3 0 (pos 0) 3) ∷ nothing ∷ only (clear 7 3) ∷ [])
+      × (shown_after node_3 (route_found ++ link_lost) ≡ lines_of
+      (codes "to 4 height (7,3,0,0,3) flag 0 hop 2" ∷ codes "via 2 (0,0,0,2,2) down" ∷ []))
+      × (shown_after node_3 (route_found ++ link_lost ++ level_comes_back)
+      ≡ lines_of (codes "to 4 height - flag 0 hop -" ∷ codes "via 2 - none" ∷ []))
   pub line_of_four_joins :
-      (heights_in joined_line ≡ known_height 0 0 0 (pos 3) 1 ∷ known_height 0 0 0 (pos 2) 2 ∷ known_height 0 0 0 (pos 1) 3 ∷ known_height 0 0 0 (pos 0) 4 ∷ [])
+      (heights_in joined_line ≡ known_height 0 0 0 (pos 3) 1 ∷ known_height 0 0 0 (pos 2) 2
+      ∷ known_height 0 0 0 (pos 1) 3 ∷ known_height 0 0 0 (pos 0) 4 ∷ [])
       × (hops_in joined_line ≡ Some 2 ∷ Some 3 ∷ Some 4 ∷ None ∷ [])
-      × (joined_line.sent ≡ (1, query) ∷ (2, query) ∷ (3, update 0 0 0 (pos 1) 3) ∷ (2, update 0 0 0 (pos 2) 2) ∷ (1, update 0 0 0 (pos 3) 1) ∷ [])
+      × (joined_line.sent ≡ (1, query) ∷ (2, query) ∷ (3, update 0 0 0 (pos 1) 3) ∷ (2, update 0 0 0 (pos 2) 2)
+      ∷ (1, update 0 0 0 (pos 3) 1) ∷ [])
   pub line_of_four_detects_a_partition :
       (parted_line.sent
-      ≡ (3, update 7 3 0 (pos 0) 3) ∷ (2, update 7 3 0 (negsuc 0) 2) ∷ (1, update 7 3 1 (pos 0) 1) ∷ (2, update 7 3 1 (negsuc 0) 2) ∷ (3, clear 7 3) ∷ (2, clear 7 3) ∷ (1, clear 7 3) ∷ [])
+      ≡ (3, update 7 3 0 (pos 0) 3) ∷ (2, update 7 3 0 (negsuc 0) 2) ∷ (1, update 7 3 1 (pos 0) 1)
+      ∷ (2, update 7 3 1 (negsuc 0) 2) ∷ (3, clear 7 3) ∷ (2, clear 7 3) ∷ (1, clear 7 3) ∷ [])
       × (heights_in parted_line ≡ null_height ∷ null_height ∷ null_height ∷ known_height 0 0 0 (pos 0) 4 ∷ [])
   pub reflection_of_another_node_gives_a_new_level :
-      answers_of node_2 foreign_reflection ≡ nothing ∷ nothing ∷ only query ∷ only (update 0 0 0 (pos 2) 2) ∷ nothing ∷ only (update 8 2 0 (pos 0) 2) ∷ []
+      answers_of node_2 foreign_reflection ≡ nothing ∷ nothing ∷ only query ∷ only (update 0 0 0 (pos 2) 2) ∷ nothing
+      ∷ only (update 8 2 0 (pos 0) 2) ∷ []
   pub clear_of_a_foreign_level_counts_as_link_failure :
-      (answers_of (core_after_all node_2 foreign_reflection) ((From 1 (update 9 1 0 (pos 0) 1), 9) ∷ (From 3 (clear 7 9), 9) ∷ [])
+      (answers_of (core_after_all node_2 foreign_reflection) ((From 1 (update 9 1 0 (pos 0) 1), 9)
+      ∷ (From 3 (clear 7 9), 9) ∷ [])
       ≡ nothing ∷ only (update 10 2 0 (pos 0) 2) ∷ [])
       × (answers_of (core_after_all node_2 foreign_reflection) ((From 3 (clear 7 9), 9) ∷ []) ≡ nothing ∷ [])
       × (height_of (core_after_all node_2 (foreign_reflection ++ (From 3 (clear 7 9), 9) ∷ [])) 4 ≡ null_height)
   pub fresh_time_passes_a_clock_that_is_behind :
-      answers_of node_3 clock_behind ≡ nothing ∷ nothing ∷ only (update 0 0 0 (pos 1) 3) ∷ nothing ∷ only (update 8 3 0 (pos 0) 3) ∷ []
+      answers_of node_3 clock_behind ≡ nothing ∷ nothing ∷ only (update 0 0 0 (pos 1) 3) ∷ nothing
+      ∷ only (update 8 3 0 (pos 0) 3) ∷ []
   pub delta_out_of_range_gives_no_height :
       (answers_of node_2 greatest_delta ≡ nothing ∷ only query ∷ nothing ∷ [])
-      × (shown_after node_2 greatest_delta ≡ lines_of (codes "to 4 height - flag 0 hop 3" ∷ codes "via 3 (0,0,0,1073741824,3) down" ∷ []))
+      × (shown_after node_2 greatest_delta ≡ lines_of (codes "to 4 height - flag 0 hop 3"
+      ∷ codes "via 3 (0,0,0,1073741824,3) down" ∷ []))
   pub told_neighbour_gets_no_second_answer :
-      answers_of (core_after_all node_3 route_found) asked_again ≡ nothing ∷ nothing ∷ nothing ∷ only (update 0 0 0 (pos 1) 3) ∷ []
+      answers_of (core_after_all node_3 route_found) asked_again
+      ≡ nothing ∷ nothing ∷ nothing ∷ only (update 0 0 0 (pos 1) 3) ∷ []
   pub refusals_change_nothing :
       (option_map step_error_number (refusal_of node_3 (LinkUp 9)) ≡ Some 1)
       × (option_map step_error_number (refusal_of (core_after node_3 (LinkUp 2) 1) (LinkUp 2)) ≡ Some 2)
       × (option_map step_error_number (refusal_of node_3 (From 2 query)) ≡ Some 3)
-      × (option_map step_error_number (refusal_of (core_after node_3 (LinkUp 2) 1) (From 2 (update 0 0 0 (pos 1) 3))) ≡ Some 4)
+      × (option_map step_error_number (refusal_of (core_after node_3 (LinkUp 2) 1) (From 2 (update 0 0 0 (pos 1) 3)))
+      ≡ Some 4)
       × (option_map step_error_number (refusal_of node_3 (Need 99)) ≡ Some 5)
       × (core_after node_3 (LinkUp 9) 1 ≡ node_3)
       × (core_after node_3 (From 2 query) 1 ≡ node_3)
       × (core_after node_3 (Need 99) 1 ≡ node_3)
   pub sends_are_listed_by_destination :
-      answers_of node_3_of_two two_needs ≡ nothing ∷ only (Qry 5) ∷ only query ∷ (update 0 0 0 (pos 1) 3 ∷ Qry 5 ∷ []) ∷ []
+      answers_of node_3_of_two two_needs ≡ nothing ∷ only (Qry 5) ∷ only query ∷ (update 0 0 0 (pos 1) 3 ∷ Qry 5 ∷ [])
+      ∷ []
   -- the greatest delta at that level would give (7,9,0,3,2)
   pub propagation_takes_the_least_delta :
       answers_of node_2_of_three two_deltas
-      ≡ nothing ∷ nothing ∷ nothing ∷ only query ∷ only (update 0 0 0 (pos 2) 2) ∷ nothing ∷ nothing ∷ only (update 7 9 0 (pos 0) 2) ∷ []
+      ≡ nothing ∷ nothing ∷ nothing ∷ only query ∷ only (update 0 0 0 (pos 2) 2) ∷ nothing ∷ nothing
+      ∷ only (update 7 9 0 (pos 0) 2) ∷ []

@@ -12,7 +12,7 @@ impl Links {
     /// A copy of the rows and of what is stored with them.
     ///
     /// # Errors
-    /// Want of memory.
+    /// Out of memory.
     fn try_clone(&self, alloc: Global) -> Result<Links, AllocError>
         ensures { IfOk result (λ links. links ≡ self.now) }
     {
@@ -34,7 +34,7 @@ impl Destination {
     /// The same view.
     ///
     /// # Errors
-    /// Want of memory.
+    /// Out of memory.
     fn try_clone(&self, alloc: Global) -> Result<Destination, AllocError>
         ensures { IfOk result (λ view. view ≡ self.now) }
     {
@@ -53,7 +53,7 @@ impl Destination {
 /// The same views.
 ///
 /// # Errors
-/// Want of memory.
+/// Out of memory.
 fn copied_views(alloc: Global, views: &[Destination]) -> Result<Vec<Destination>, AllocError>
     ensures { IfOk result (λ copies. copies.items ≡ views.now) }
 {
@@ -64,10 +64,10 @@ fn copied_views(alloc: Global, views: &[Destination]) -> Result<Vec<Destination>
     Ok(copies)
 }
 
-/// A copy of a list of numbers, with this much room.
+/// A copy of a list of numbers, with room for `room` numbers.
 ///
 /// # Errors
-/// Want of memory.
+/// Out of memory.
 fn with_room(alloc: Global, room: usize, numbers: &[Id]) -> Result<Vec<Id>, AllocError>
     ensures items { IfOk result (λ list. list.items ≡ numbers.now) }
     ensures room { IfOk result (λ list. room ≤ vec_capacity list) }
@@ -78,7 +78,7 @@ fn with_room(alloc: Global, room: usize, numbers: &[Id]) -> Result<Vec<Id>, Allo
 }
 
 impl Core {
-    /// A second core with the same state, which then goes its own way.
+    /// A second core with the same state, independent of the first.
     ///
     /// # Errors
     /// `Memory`.

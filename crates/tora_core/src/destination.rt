@@ -1,5 +1,5 @@
-//! What a node knows of one destination, what it takes in, and what it broadcasts (Park and Corson 1997, section 3). What an input does
-//! to the rows stands in `reactions`, and how heights come and go in `levels`.
+//! The view that a node has of one destination: its state, its inputs and its broadcasts (Park and Corson 1997, section
+//! 3). `reactions` has what an input does to the rows, and `levels` how the node gets and loses its height.
 ghost use Rattle.std.specs.Prelude.{◌≡◌, ◌==◌, ◌<◌, ◌≤◌, IfOk, IfSome, option_map, length, true};
 ghost use Rattle.tora_packet.specs.PacketParts.{IsId};
 ghost use Rattle.tora_core.specs.Links.{IsOnlyPlace};
@@ -20,18 +20,18 @@ use std::marker::Model;
 use tora_height::{Entry, Height, Id, Level};
 use tora_packet::{Clear, Packet, Query, Update};
 
-/// What is broadcast of a destination.
+/// A broadcast about a destination, before it is a packet.
 #[derive(Clone, Copy, Debug, PartialEq, Eq, Hash)]
 pub enum Broadcast {
     /// A route is required.
     Query,
-    /// The own height.
+    /// The node's own height.
     Update(Height),
     /// The time tag and the originator of the reflected level that is erased.
     Clear(u64, Id),
 }
 
-/// What a node knows of one destination.
+/// The view that a node has of one destination.
 #[derive(Debug, Drop)]
 pub struct Destination {
     pub(crate) me: Id,
@@ -51,7 +51,16 @@ impl Model for Destination {
     ghost Value = { TableView };
 
     ghost view = { λ d. record {
-      view = record { me = d.me; destination = d.destination; height = d.links.own; flag = d.flag; rows = d.links.rows; last = d.last; erasure = d.erasure; erased = d.erased };
+      view = record {
+        me = d.me;
+        destination = d.destination;
+        height = d.links.own;
+        flag = d.flag;
+        rows = d.links.rows;
+        last = d.last;
+        erasure = d.erasure;
+        erased = d.erased;
+      };
       neighbours = d.links.neighbours;
     } };
 
@@ -59,10 +68,10 @@ impl Model for Destination {
 }
 
 impl Destination {
-    /// The first view of a destination, with a place for each of these neighbours, which stand in ascending order.
+    /// The first view of a destination, with a place for each of these neighbours, which are in ascending order.
     ///
     /// # Errors
-    /// Want of memory.
+    /// Out of memory.
     pub fn new(
         alloc: Global,
         erasure: Erasure,
@@ -92,12 +101,6 @@ impl Destination {
         })
     }
 
-    /// Reads what an input of the neighbour at a place reads here, as `Core::prefetch` has it.
-    #[inline(always)]
-    pub fn prefetch(&self, place: usize) -> u64 {
-        self.last ^ u64::from(self.destination) ^ self.links.prefetch(place)
-    }
-
     pub fn destination(&self) -> Id
         ensures { result ≡ self.now.view.destination }
     {
@@ -116,10 +119,10 @@ impl Destination {
         self.flag
     }
 
-    /// The rows, in a list of their own.
+    /// A copy of the rows.
     ///
     /// # Errors
-    /// Want of memory.
+    /// Out of memory.
     pub fn rows(&self, alloc: Global) -> Result<Vec<Row>, AllocError>
         ensures { IfOk result (λ rows. rows.items ≡ self.now.view.rows) }
     {
@@ -147,7 +150,7 @@ impl Destination {
         self.links.next_hop()
     }
 
-    /// A route to the destination is needed: answers the packet to every up neighbour. The rule for it reads no clock.
+    /// A route to the destination is needed. Returns the packet to broadcast, if there is one. The rule reads no clock.
     pub fn need(&mut self) -> Option<Packet>
         requires kept { IsKept self.old.view }
         ensures view { self.new.view ≡ view_after self.old.view (Input.Need self.old.view.destination) 0 }
@@ -159,7 +162,7 @@ impl Destination {
         packet_to_send(destination, broadcast)
     }
 
-    /// As `need`, for a packet for the destination of the neighbour `k`, which is at `place` among the neighbours.
+    /// As `need`, for a packet about the destination from the neighbour `k`, which is at `place` among the neighbours.
     pub fn packet(&mut self, k: Id, place: usize, packet: &Packet, now: u64) -> Option<Packet>
         requires kept { IsKept self.old.view }
         requires place { IsOnlyPlace k place self.old.neighbours }
@@ -174,7 +177,7 @@ impl Destination {
         packet_to_send(destination, broadcast)
     }
 
-    /// As `need`, for the link to neighbour `k`, which is at `place` among the neighbours, that came up. The rules for it read no
+    /// As `need`, when the link to neighbour `k`, which is at `place` among the neighbours, comes up. The rules read no
     /// clock.
     pub fn link_up(&mut self, k: Id, place: usize) -> Option<Packet>
         requires kept { IsKept self.old.view }
@@ -190,7 +193,7 @@ impl Destination {
         packet_to_send(destination, broadcast)
     }
 
-    /// As `need`, for the link to neighbour `k`, which is at `place` among the neighbours, that went down.
+    /// As `need`, when the link to neighbour `k`, which is at `place` among the neighbours, goes down.
     pub fn link_down(&mut self, k: Id, place: usize, now: u64) -> Option<Packet>
         requires kept { IsKept self.old.view }
         requires place { IsOnlyPlace k place self.old.neighbours }
@@ -203,7 +206,7 @@ impl Destination {
         packet_to_send(destination, broadcast)
     }
 
-    /// Whether the node is the destination itself, where only the set of neighbours changes.
+    /// Whether the node is the destination itself. Its view changes only in the set of neighbours.
     pub(crate) fn is_own(&self) -> bool
         ensures { result ≡ (self.now.view.me == self.now.view.destination) }
     {

@@ -1,4 +1,4 @@
-//! What a node makes of erased reference levels.
+//! How a node treats erased reference levels.
 ghost use Rattle.std.specs.Prelude.{◌≡◌};
 ghost use Rattle.tora_core.specs.Rules.{erased_after, hearing_clear, is_outdated, is_outdated_by};
 
@@ -12,11 +12,12 @@ pub enum Erasure {
     /// A clear erases heights of its level; an update is taken whatever its level.
     #[default]
     Plain,
-    /// A clear also withdraws what its sender told before, and an update of the level that was erased last withdraws its sender's entry.
+    /// A clear also withdraws the height that its sender sent before, and an update at the level that was erased last
+    /// withdraws its sender's entry.
     Remembered,
 }
 
-/// The level that was erased last, after this one was.
+/// The level that was erased last, once this one is erased.
 pub fn erased_after(erasure: Erasure, old: Option<Level>, level: Level) -> Option<Level>
     ensures { result ≡ erased_after erasure old level }
 {
@@ -47,7 +48,7 @@ impl Destination {
         is_outdated(self.erasure, self.erased, height)
     }
 
-    /// A clear of a level is heard from the neighbour `k`, which has no height and no entries then.
+    /// A clear of a level comes from the neighbour `k`, which then has no height and no entries.
     pub(crate) fn hear_clear(&mut self, k: Id, level: Level)
         ensures view { self.new.view ≡ hearing_clear self.old.view k level }
         ensures neighbours { self.new.neighbours ≡ self.old.neighbours }

@@ -1,17 +1,17 @@
-//! Why a core is refused, and why an input is.
+//! Why a core or an input is refused.
 ghost use Rattle.std.specs.Prelude.{◌≡◌};
 ghost use Rattle.tora_core.specs.Errors.{core_error_number, step_error_number};
 
 use std::fmt;
 use thiserror::Error;
 
-/// Why there is no core, or no text of one.
+/// Why a core, or the text of a core, can't be made.
 #[derive(Clone, Copy, Debug, PartialEq, Eq, Hash, Error)]
 pub enum CoreError {
     /// There is not enough memory.
     Memory,
-    /// There are more than `MOST_NEIGHBOURS` neighbours or more than `MOST_DESTINATIONS` destinations, or more than the limits
-    /// allow that were given.
+    /// There are more neighbours or destinations than `MOST_NEIGHBOURS` and `MOST_DESTINATIONS`, or than the given
+    /// limits allow.
     TooMany,
     /// A neighbour or a destination is named twice.
     Repeated,
@@ -61,7 +61,7 @@ pub enum StepError {
     AlreadyUp,
     /// The link that goes down, or over which a packet came, is not up.
     NotUp,
-    /// The height of an update is not that of the neighbour from which it came.
+    /// The height in an update is not that of the neighbour that sent it.
     WrongSender,
     /// The needed destination is not in the table.
     UnknownDestination,
@@ -88,7 +88,8 @@ impl fmt::Display for StepError {
 }
 
 impl StepError {
-    /// The number of the error: 1 `UnknownNeighbour`, 2 `AlreadyUp`, 3 `NotUp`, 4 `WrongSender`, 5 `UnknownDestination`.
+    /// The number of the error: 1 `UnknownNeighbour`, 2 `AlreadyUp`, 3 `NotUp`, 4 `WrongSender`, 5
+    /// `UnknownDestination`.
     pub fn number(self) -> u8
         ensures { result ≡ step_error_number self }
     {

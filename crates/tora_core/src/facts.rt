@@ -1,4 +1,4 @@
-//! What an input changes of a core, and what it leaves, for those who reason above it.
+//! What an input changes in a core and what it leaves unchanged: facts for the crates above.
 ghost use Rattle.std.specs.Prelude.{◌≡◌, ◌≢◌, ◌↔◌, ◌==◌, ◌&&◌, ◌||◌, not, ℕ, true, false, None, List, length, map};
 ghost use Rattle.std.specs.List.{AllByRecursion};
 ghost use Rattle.tora_packet.specs.declared.Packet.{Packet};
@@ -6,19 +6,21 @@ ghost use Rattle.tora_packet.specs.AnyPacket.{destination_of};
 ghost use Rattle.tora_core.specs.declared.Input.{Input};
 ghost use Rattle.tora_core.specs.declared.Input.TheVariants.{LinkDown, LinkUp, Need, Packet as From};
 ghost use Rattle.tora_core.specs.Numbers.{IsAscending, ascending, has_number, has_repeat, with_number, without_number};
-ghost use Rattle.tora_core.specs.CoreRun.{CoreView, concerns, core_after, has_destination, is_from, refusal_of, sends_of, view_of};
+ghost use Rattle.tora_core.specs.CoreRun.{CoreView, concerns, core_after, has_destination, is_from, refusal_of};
+ghost use Rattle.tora_core.specs.CoreRun.{sends_of, view_of};
 ghost use Rattle.tora_core.specs.Kept.{IsCore, destinations_of};
 
-/// The node, its configured neighbours and the destinations of its table stay, whatever comes in.
+/// No input changes the node, its configured neighbours or the destinations of its table.
 pub fn tables_stay()
     ensures node { (c : CoreView) (input : Input) (now : ℕ) → (core_after c input now).me ≡ c.me }
     ensures erasure { (c : CoreView) (input : Input) (now : ℕ) → (core_after c input now).erasure ≡ c.erasure }
     ensures neighbours { (c : CoreView) (input : Input) (now : ℕ) → (core_after c input now).neighbours ≡ c.neighbours }
-    ensures destinations { (c : CoreView) (input : Input) (now : ℕ) → destinations_of (core_after c input now).views ≡ destinations_of c.views }
+    ensures destinations { (c : CoreView) (input : Input) (now : ℕ)
+        → destinations_of (core_after c input now).views ≡ destinations_of c.views }
 {}
 
-/// A link is up after an accepted input that it came up, and not up after one that it went down. No other link changes
-/// with it, and no link changes with a packet or a need.
+/// A link is up after an accepted `LinkUp`, and not up after an accepted `LinkDown`. No other link changes with these,
+/// and no link changes with a packet or a need.
 pub fn links_follow_inputs()
     ensures comes { (c : CoreView) (k now : ℕ) → refusal_of c (LinkUp k) ≡ None
         → has_number k (core_after c (LinkUp k) now).up ≡ true }
@@ -28,7 +30,8 @@ pub fn links_follow_inputs()
         → has_number j (core_after c (LinkUp k) now).up ≡ has_number j c.up }
     ensures others_at_down { (c : CoreView) (j k now : ℕ) → j ≢ k
         → has_number j (core_after c (LinkDown k) now).up ≡ has_number j c.up }
-    ensures at_packet { (c : CoreView) (k : ℕ) (packet : Packet) (now : ℕ) → (core_after c (From k packet) now).up ≡ c.up }
+    ensures at_packet { (c : CoreView) (k : ℕ) (packet : Packet) (now : ℕ)
+        → (core_after c (From k packet) now).up ≡ c.up }
     ensures at_need { (c : CoreView) (d now : ℕ) → (core_after c (Need d) now).up ≡ c.up }
 {}
 
@@ -43,7 +46,7 @@ pub fn inputs_are_accepted()
     ensures need { (c : CoreView) (d : ℕ) → (refusal_of c (Need d) ≡ None) ↔ (has_destination d c.views ≡ true) }
 {}
 
-/// The view of a destination that an input does not concern stays.
+/// An input leaves the view of every destination that it does not concern unchanged.
 pub fn other_views_stay()
     ensures { (c : CoreView) (input : Input) (now d : ℕ) → concerns input d ≡ false
         → view_of (core_after c input now) d ≡ view_of c d }
@@ -51,11 +54,12 @@ pub fn other_views_stay()
 
 /// The links that are up are those of configured neighbours, in ascending order.
 pub fn up_links_are_of_neighbours()
-    ensures neighbours { (c : CoreView) (k : ℕ) → IsCore c → has_number k c.up ≡ true → has_number k c.neighbours ≡ true }
+    ensures neighbours { (c : CoreView) (k : ℕ) → IsCore c → has_number k c.up ≡ true
+        → has_number k c.neighbours ≡ true }
     ensures ascending { (c : CoreView) → IsCore c → IsAscending c.up }
 {}
 
-/// What an input sends is of destinations of the table, each destination at most once, in ascending order.
+/// An input sends packets about destinations of the table only, at most one for each, in ascending order.
 pub fn sends_ascend()
     ensures ascending { (c : CoreView) (input : Input) (now : ℕ) → IsCore c
         → IsAscending (map destination_of (sends_of c input now)) }
@@ -63,17 +67,17 @@ pub fn sends_ascend()
         → AllByRecursion (λ packet. has_destination (destination_of packet) c.views ≡ true) (sends_of c input now) }
 {}
 
-/// Putting numbers in order keeps which numbers there are and how many; where none stands twice each is less than the
-/// next.
+/// Sorting keeps the numbers and their count. If no number occurs twice, each is less than the next.
 pub fn numbers_are_put_in_order()
     ensures members { (n : ℕ) (numbers : List ℕ) → has_number n (ascending numbers) ≡ has_number n numbers }
     ensures count { (numbers : List ℕ) → length (ascending numbers) ≡ length numbers }
     ensures order { (numbers : List ℕ) → has_repeat numbers ≡ false → IsAscending (ascending numbers) }
 {}
 
-/// A number that is put in is there, one that is taken out is not, and no other number comes or goes.
+/// After an insertion the list has the number, after a removal it has not, and no other number is added or removed.
 pub fn numbers_come_and_go()
-    ensures put { (n m : ℕ) (numbers : List ℕ) → has_number n (with_number m numbers) ≡ ((m == n) || has_number n numbers) }
+    ensures put { (n m : ℕ) (numbers : List ℕ) → has_number n (with_number m numbers)
+        ≡ ((m == n) || has_number n numbers) }
     ensures taken { (n m : ℕ) (numbers : List ℕ)
         → has_number n (without_number m numbers) ≡ (not (m == n) && has_number n numbers) }
     ensures in_order { (n : ℕ) (numbers : List ℕ) → has_number n numbers ≡ false → IsAscending numbers

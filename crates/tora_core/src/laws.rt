@@ -1,4 +1,4 @@
-//! What TORA's rules keep.
+//! The invariants of TORA's rules.
 ghost use Rattle.std.specs.Prelude.{◌≡◌, List, None, ℕ};
 ghost use Rattle.std.specs.List.{AllByRecursion};
 ghost use Rattle.tora_packet.specs.PacketParts.{IsId};
@@ -11,17 +11,21 @@ ghost use Rattle.tora_core.specs.Limits.{most_destinations, most_neighbours};
 ghost use Rattle.tora_core.specs.declared.limits.CoreLimits.{CoreLimits};
 ghost use Rattle.tora_core.specs.Kept.{AreInputs, IsCore, IsKept, IsKeptOutcome, MayCome};
 
-/// Whatever comes in, a view keeps its laws: a route is required only where the height and every entry are NULL, and a
-/// node other than the destination that has a height has a lower neighbour. What is broadcast is a packet for the
+/// Every input keeps the invariants of a view: a route is required only if the height and every entry are NULL, and a
+/// node other than the destination that has a height has a lower neighbour. Broadcast packets are about the
 /// destination.
 pub fn rules_are_kept()
-    ensures first { (erasure : Erasure) (me destination : ℕ) → IsId me → IsId destination → IsKept (first_view_of erasure me destination) }
-    ensures next { (v : View) (input : Input) (now : ℕ) → IsKept v → MayCome v input → IsKeptOutcome (outcome_of v input now) }
+    ensures first { (erasure : Erasure) (me destination : ℕ) → IsId me → IsId destination
+        → IsKept (first_view_of erasure me destination) }
+    ensures next { (v : View) (input : Input) (now : ℕ) → IsKept v → MayCome v input
+        → IsKeptOutcome (outcome_of v input now) }
 {}
 
-/// Every view of a core keeps the laws, over every run of inputs from the first core on, of any length, with any ticks,
-/// whatever is refused on the way, within whatever limits and with whatever choice of erased levels the core was made.
+/// Every view of a core keeps the invariants over every run of inputs from a new core on, of any length, with any
+/// ticks, with any inputs refused on the way, for any limits and either choice of `Erasure`.
 pub fn runs_are_kept()
-    ensures { (erasure : Erasure) (limits : CoreLimits) (me : ℕ) (neighbours destinations : List ℕ) (inputs : List (Input × ℕ)) → IsId me → AllByRecursion IsId neighbours → AllByRecursion IsId destinations
-        → core_refusal_within (most_neighbours limits) (most_destinations limits) me neighbours destinations ≡ None → AreInputs inputs → IsCore (core_after_all (first_core_of erasure me neighbours destinations) inputs) }
+    ensures { (erasure : Erasure) (limits : CoreLimits) (me : ℕ) (neighbours destinations : List ℕ)
+        (inputs : List (Input × ℕ)) → IsId me → AllByRecursion IsId neighbours → AllByRecursion IsId destinations
+        → core_refusal_within (most_neighbours limits) (most_destinations limits) me neighbours destinations ≡ None
+        → AreInputs inputs → IsCore (core_after_all (first_core_of erasure me neighbours destinations) inputs) }
 {}

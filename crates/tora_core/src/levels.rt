@@ -1,16 +1,19 @@
-//! How the height of a destination comes and goes (Park and Corson 1997, section 3): a node joins below a neighbour, and where it
-//! loses its last downstream link it defines a reference level, propagates or reflects one, or gives its height up.
+//! How a node gets and loses its height for a destination (Park and Corson 1997, section 3): it joins one above its
+//! lowest neighbour; when it loses its last downstream link it defines, propagates or reflects a reference level, or
+//! gives up its height.
 ghost use Rattle.std.specs.Prelude.{◌≡◌, ◌<◌, Some, pos};
 ghost use Rattle.tora_height.specs.Height.{IsLevel, quintuple};
 ghost use Rattle.tora_core.specs.Heights.{fitted_height, fresh_time};
-ghost use Rattle.tora_core.specs.Rules.{query_broadcast, update_broadcast, joined_height, after_join, new_level, after_erase, after_link_loss, after_update_loss, propagated_level, reflected_level};
+ghost use Rattle.tora_core.specs.Rules.{query_broadcast, update_broadcast, joined_height, after_join, new_level};
+ghost use Rattle.tora_core.specs.Rules.{after_erase, after_link_loss, after_update_loss, propagated_level};
+ghost use Rattle.tora_core.specs.Rules.{reflected_level};
 
 use crate::destination::{Broadcast, Destination};
 use crate::erasure::erased_after;
 use crate::rows::{all_at, greatest_level, least_delta, time_after_all};
 use tora_height::{Entry, Height, Id, Level};
 
-/// A computed height, or NULL where a part of it is out of range.
+/// A computed height, or NULL if a part of it is out of range.
 fn fitted(tau: u64, oid: Id, r: u8, delta: i32, id: Id) -> Entry
     ensures { result ≡ fitted_height (quintuple tau oid r delta id) }
 {
@@ -98,7 +101,7 @@ impl Destination {
         self.define_level(now)
     }
 
-    /// A time tag after all that the node generated and knows.
+    /// A time tag later than every time tag that the node has generated or knows.
     fn fresh_time(&self, now: u64) -> u64
         ensures { result ≡ fresh_time self.now.view now }
     {
@@ -151,7 +154,7 @@ impl Destination {
         self.broadcast_update()
     }
 
-    /// Gives up the height and every entry but that of the destination.
+    /// Gives up the height and every entry except that of the destination.
     #[tactic(auto, unfolding(crate::specs::Rules::after_erase))]
     pub(crate) fn erase(&mut self, level: Level) -> Option<Broadcast>
         ensures view { self.new.view ≡ (after_erase self.old.view level.tau level.oid).view }

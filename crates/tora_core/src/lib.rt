@@ -2,8 +2,8 @@
 //!
 //! For each destination of its table, a core has a view: the node's own height, whether a route is required, and the
 //! heights that the neighbours sent. It takes inputs, each with its tick of 100 ms, and returns the packets to
-//! broadcast to every neighbour whose link is up (Park and Corson 1997, section 3). Neither text says where a query is
-//! answered and which entries a clear erases; these rules are this project's choice.
+//! broadcast to every neighbour whose link is up (Park and Corson 1997, section 3). The published texts do not say
+//! where a query is answered and which entries a clear erases; those two rules are this project's choice.
 //!
 //! Only a new core and its text take memory. A core has at most 32 neighbours, or up to 255 with `Core::with_limits`,
 //! and 64 destinations.
@@ -74,7 +74,7 @@ pub const GREATEST_NEIGHBOURS: usize = 255;
 /// The most destinations of a table.
 pub const MOST_DESTINATIONS: usize = 64;
 
-/// What a core takes in.
+/// An input of a core.
 #[derive(Clone, Copy, Debug, PartialEq, Eq, Hash)]
 pub enum Input {
     /// The link to a neighbour came up.

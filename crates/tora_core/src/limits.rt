@@ -6,7 +6,7 @@ use crate::{GREATEST_NEIGHBOURS, MOST_DESTINATIONS, MOST_NEIGHBOURS};
 
 /// The most neighbours and destinations of a core.
 ///
-/// A limit above the greatest, which is 255 neighbours or 64 destinations, stands for the greatest.
+/// A limit above the greatest (255 neighbours, 64 destinations) counts as the greatest.
 #[derive(Clone, Copy, Debug, PartialEq, Eq)]
 pub struct CoreLimits {
     pub neighbours: usize,
@@ -43,7 +43,7 @@ impl CoreLimits {
     }
 }
 
-/// A limit, or the greatest where it is above that.
+/// The smaller one of a limit and the greatest.
 fn at_most(greatest: usize, limit: usize) -> usize
     ensures value { result ≡ at_most greatest limit }
     ensures bound { result ≤ greatest }

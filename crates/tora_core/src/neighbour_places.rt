@@ -1,5 +1,6 @@
 //! The places of a destination's rows, one for each neighbour of the node, and the marks of the links that are up.
-ghost use Rattle.std.specs.Prelude.{◌≡◌, ◌==◌, ◌<◌, ◌∷◌, ◌++◌, [], false, find, if◌then◌else◌, length, map, option_map, position, replicate, slice_index_or, slice_set, IfOk, OnOk};
+ghost use Rattle.std.specs.Prelude.{◌≡◌, ◌==◌, ◌<◌, ◌∷◌, ◌++◌, [], false, find, if◌then◌else◌, length, map, option_map};
+ghost use Rattle.std.specs.Prelude.{position, replicate, slice_index_or, slice_set, IfOk, OnOk};
 ghost use Rattle.tora_core.specs.Links.{directions_of, empty_place, rows_up};
 ghost use Rattle.tora_core.specs.Numbers.{IsAscending};
 ghost use Rattle.tora_core.specs.View.{neighbours_of};
@@ -11,7 +12,7 @@ use tora_height::{Direction, Entry, Id, status};
 /// A place for each neighbour, without an entry.
 ///
 /// # Errors
-/// Want of memory.
+/// Out of memory.
 pub fn empty_places(alloc: Global, neighbours: &[Id]) -> Result<Vec<Row>, AllocError>
     ensures { IfOk result (λ places. places.items ≡ map empty_place neighbours.now) }
 {
@@ -22,10 +23,10 @@ pub fn empty_places(alloc: Global, neighbours: &[Id]) -> Result<Vec<Row>, AllocE
     Ok(places)
 }
 
-/// Marks for so many places: no link is up.
+/// Marks for `count` places: no link is up.
 ///
 /// # Errors
-/// Want of memory.
+/// Out of memory.
 pub fn none_up(alloc: Global, count: usize) -> Result<Vec<bool>, AllocError>
     ensures { IfOk result (λ up. up.items ≡ replicate count false) }
 {
@@ -37,7 +38,7 @@ pub fn none_up(alloc: Global, count: usize) -> Result<Vec<bool>, AllocError>
 /// The direction of the link of each row.
 ///
 /// # Errors
-/// Want of memory.
+/// Out of memory.
 pub fn directed(alloc: Global, own: &Entry, rows: &[Row]) -> Result<Vec<Direction>, AllocError>
     ensures { IfOk result (λ directions. directions.items ≡ directions_of own.now rows.now) }
 {
@@ -51,7 +52,7 @@ pub fn directed(alloc: Global, own: &Entry, rows: &[Row]) -> Result<Vec<Directio
 /// The rows of the marked places.
 ///
 /// # Errors
-/// Want of memory.
+/// Out of memory.
 pub fn rows_up(alloc: Global, up: &[bool], places: &[Row]) -> Result<Vec<Row>, AllocError>
     requires { length up.now ≡ length places.now }
     ensures { IfOk result (λ rows. rows.items ≡ rows_up up.now places.now) }
@@ -65,7 +66,7 @@ pub fn rows_up(alloc: Global, up: &[bool], places: &[Row]) -> Result<Vec<Row>, A
     Ok(rows)
 }
 
-/// Appends an item, where its place is marked.
+/// Appends an item if its place is marked.
 fn push_marked<T: Copy>(mark: bool, item: T, items: &mut Vec<T>) -> Result<(), AllocError>
     ensures { OnOk result (items.new.items ≡ items.old.items ++ (if mark then item ∷ [] else [])) }
 {

@@ -1,6 +1,9 @@
 //! The core of a node.
-ghost use Rattle.std.specs.Prelude.{◌≡◌, ◌==◌, ◌<◌, ◌≤◌, length, ℕ, All, find, IfErr, IfNone, IfOk, MatchOption, None, OnErr, [], OnOk, option_copied, option_map, IsOk, string_bytes};
-ghost use Rattle.tora_core.specs.CoreRun.{downstream_of, link_fault, core_after, core_refusal, core_refusal_within, entry_of, first_core, first_core_of, flag_of, has_destination, height_of, hop_of, refusal_of, sends_of, view_of};
+ghost use Rattle.std.specs.Prelude.{◌≡◌, ◌==◌, ◌<◌, ◌≤◌, length, ℕ, All, find, IfErr, IfNone, IfOk, MatchOption, None};
+ghost use Rattle.std.specs.Prelude.{OnErr, [], OnOk, option_copied, option_map, IsOk, string_bytes};
+ghost use Rattle.tora_core.specs.CoreRun.{downstream_of, link_fault, core_after, core_refusal, core_refusal_within};
+ghost use Rattle.tora_core.specs.CoreRun.{entry_of, first_core, first_core_of, flag_of, has_destination, height_of};
+ghost use Rattle.tora_core.specs.CoreRun.{hop_of, refusal_of, sends_of, view_of};
 ghost use Rattle.tora_core.specs.Limits.{most_destinations, most_neighbours};
 ghost use Rattle.tora_core.specs.Numbers.{has_number};
 ghost use Rattle.tora_core.specs.Kept.{IsCore, IsInput, destinations_of};
@@ -23,8 +26,8 @@ use tora_height::{Entry, Id};
 
 /// The core of a node: its links, and its view of each destination of its table.
 ///
-/// A core takes inputs by `step`, one after the other, each with the tick at which it came. What it keeps, whatever
-/// comes in: a route is required only where the height and every entry are NULL, and a node other than the destination
+/// A core takes inputs by `step`, one after the other, each with the tick at which it came. Every input keeps two
+/// invariants: a route is required only if the height and every entry are NULL, and a node other than the destination
 /// that has a height has a lower neighbour.
 #[derive(Debug, Drop)]
 pub struct Core {
@@ -46,20 +49,34 @@ impl Model for Core {
 
     ghost Value = { CoreView };
 
-    ghost view = { λ c. record { me = c.me; erasure = c.erasure; neighbours = c.neighbours.items; up = c.up.items; views = views_in c.views.items } };
+    ghost view = { λ c. record {
+      me = c.me;
+      erasure = c.erasure;
+      neighbours = c.neighbours.items;
+      up = c.up.items;
+      views = views_in c.views.items;
+    } };
 
-    ghost invariant = { λ c. IsCore (record { me = c.me; erasure = c.erasure; neighbours = c.neighbours.items; up = c.up.items; views = views_in c.views.items })
-        × ((c.destinations.items ≡ destinations_of (views_in c.views.items)) × (length c.neighbours.items ≤ vec_capacity c.up)) × HavePlaces c.neighbours.items c.views.items };
+    ghost invariant = { λ c. IsCore (record {
+      me = c.me;
+      erasure = c.erasure;
+      neighbours = c.neighbours.items;
+      up = c.up.items;
+      views = views_in c.views.items;
+    })
+        × ((c.destinations.items ≡ destinations_of (views_in c.views.items))
+        × (length c.neighbours.items ≤ vec_capacity c.up)) × HavePlaces c.neighbours.items c.views.items };
 }
 
 impl Core {
-    /// The core of node `me`, with its configured neighbours and the destinations of its table: no link is up, and no
-    /// height is known but that of `me` for itself.
+    /// The core of node `me`, with its configured neighbours and the destinations of its table. No link is up, and the
+    /// only known height is that of `me` for itself.
     ///
-    /// There are at most `MOST_NEIGHBOURS` neighbours and `MOST_DESTINATIONS` destinations, in any order, none of them 0; `me` may be a destination.
+    /// There are at most `MOST_NEIGHBOURS` neighbours and `MOST_DESTINATIONS` destinations, in any order, none of them
+    /// 0; `me` may be a destination.
     ///
     /// # Errors
-    /// In this order: `TooMany` of either list, `Repeated` within one list, `OwnId` where `me` is among the neighbours,
+    /// In this order: `TooMany` for either list, `Repeated` within one list, `OwnId` if `me` is among the neighbours,
     /// `Memory`.
     pub fn new(
         alloc: Global,
@@ -79,11 +96,11 @@ impl Core {
         Core::with_limits(alloc, CoreLimits::STANDARD, me, neighbours, destinations)
     }
 
-    /// The core of a node, as `new` makes it, but within these limits.
+    /// As `new`, but within these limits.
     ///
     /// # Errors
-    /// In this order: `TooMany` where there are more neighbours or more destinations than the limits allow, `Repeated` within
-    /// one list, `OwnId` where `me` is among the neighbours, `Memory`.
+    /// In this order: `TooMany` if there are more neighbours or destinations than the limits allow, `Repeated` within
+    /// one list, `OwnId` if `me` is among the neighbours, `Memory`.
     pub fn with_limits(
         alloc: Global,
         limits: CoreLimits,
@@ -95,16 +112,19 @@ impl Core {
         requires neighbours { All (λ k. 0 < k) neighbours.now }
         requires destinations { All (λ d. 0 < d) destinations.now }
         ensures value { IfOk result (λ core. core ≡ first_core me neighbours.now destinations.now) }
-        ensures accepted { OnOk result (core_refusal_within (most_neighbours limits) (most_destinations limits) me neighbours.now destinations.now ≡ None) }
-        ensures refused { MatchOption (core_refusal_within (most_neighbours limits) (most_destinations limits) me neighbours.now destinations.now)
+        ensures accepted { OnOk result (core_refusal_within (most_neighbours limits) (most_destinations limits) me
+            neighbours.now destinations.now ≡ None) }
+        ensures refused { MatchOption (core_refusal_within (most_neighbours limits) (most_destinations limits) me
+            neighbours.now destinations.now)
             (IfErr result (λ e. e ≡ CoreError.Memory)) (λ e. result ≡ Err e) }
         ensures memory { result ≡ Err CoreError.Memory
-            → core_refusal_within (most_neighbours limits) (most_destinations limits) me neighbours.now destinations.now ≡ None }
+            → core_refusal_within (most_neighbours limits) (most_destinations limits) me neighbours.now destinations.now
+            ≡ None }
     {
         Core::with_erasure(alloc, Erasure::Plain, limits, me, neighbours, destinations)
     }
 
-    /// The core of a node, as `with_limits` makes it, with this choice of what becomes of erased levels.
+    /// As `with_limits`, with this treatment of erased levels.
     ///
     /// # Errors
     /// Those of `with_limits`, in its order.
@@ -120,11 +140,14 @@ impl Core {
         requires neighbours { All (λ k. 0 < k) neighbours.now }
         requires destinations { All (λ d. 0 < d) destinations.now }
         ensures value { IfOk result (λ core. core ≡ first_core_of erasure me neighbours.now destinations.now) }
-        ensures accepted { OnOk result (core_refusal_within (most_neighbours limits) (most_destinations limits) me neighbours.now destinations.now ≡ None) }
-        ensures refused { MatchOption (core_refusal_within (most_neighbours limits) (most_destinations limits) me neighbours.now destinations.now)
+        ensures accepted { OnOk result (core_refusal_within (most_neighbours limits) (most_destinations limits) me
+            neighbours.now destinations.now ≡ None) }
+        ensures refused { MatchOption (core_refusal_within (most_neighbours limits) (most_destinations limits) me
+            neighbours.now destinations.now)
             (IfErr result (λ e. e ≡ CoreError.Memory)) (λ e. result ≡ Err e) }
         ensures memory { result ≡ Err CoreError.Memory
-            → core_refusal_within (most_neighbours limits) (most_destinations limits) me neighbours.now destinations.now ≡ None }
+            → core_refusal_within (most_neighbours limits) (most_destinations limits) me neighbours.now destinations.now
+            ≡ None }
     {
         if let Some(error) = core_refusal(limits, me, neighbours, destinations) {
             return Err(error);
@@ -154,22 +177,6 @@ impl Core {
         })
     }
 
-    /// Prefetches what a step reads for an input about a destination from the neighbour at an index; for callers that
-    /// step many cores in turn. If there is no such neighbour or destination, it reads less or other data. The result
-    /// has no meaning, but the caller must use it, because the compiler drops a read whose result is not used.
-    #[inline(always)]
-    pub fn prefetch(&self, place: usize, d: Id) -> u64 {
-        let at = self.hints.destinations.place(d);
-        let view = match self.views.get(at) {
-            Some(view) => view.prefetch(place),
-            None => 0,
-        };
-        view ^ read_at(self.neighbours.as_slice(), place)
-            ^ read_at(self.up.as_slice(), 0)
-            ^ read_at(self.destinations.as_slice(), at)
-            ^ self.hints.neighbours.place(0) as u64
-    }
-
     /// The node.
     pub fn me(&self) -> Id
         ensures value { result ≡ self.now.me }
@@ -178,7 +185,7 @@ impl Core {
         self.me
     }
 
-    /// What the node makes of erased levels.
+    /// How the node treats erased levels.
     pub fn erasure(&self) -> Erasure
         ensures { result ≡ self.now.erasure }
     {
@@ -206,21 +213,20 @@ impl Core {
         self.up.as_slice()
     }
 
-    /// Whether the link to a neighbour is up; not so where it is no neighbour.
+    /// Whether the link to a neighbour is up; `false` if `k` is no neighbour.
     pub fn is_up(&self, k: Id) -> bool
         ensures { result ≡ has_number k self.now.up }
     {
         has_number(k, self.up.as_slice())
     }
 
-    /// Takes an input in at a tick, and answers the packets to every up neighbour.
+    /// Applies an input at a tick, and returns the packets to broadcast to every neighbour whose link is up.
     ///
-    /// `now` is the tick of 100 ms at which the input came. An input that is refused changes nothing. It takes no
-    /// memory.
+    /// `now` is the tick of 100 ms at which the input came. A refused input changes nothing. The call takes no memory.
     ///
     /// # Errors
-    /// In this order: `UnknownNeighbour`, `AlreadyUp` (of `LinkUp`), `NotUp` (of `LinkDown` and `Packet`),
-    /// `WrongSender` (of an update), `UnknownDestination` (of `Need` alone; a packet for such a destination changes
+    /// In this order: `UnknownNeighbour`, `AlreadyUp` (for `LinkUp`), `NotUp` (for `LinkDown` and `Packet`),
+    /// `WrongSender` (for an update), `UnknownDestination` (for `Need` only; a packet about such a destination changes
     /// nothing).
     pub fn step(&mut self, input: Input, now: u64) -> Result<Sends, StepError>
         ensures refused { MatchOption (refusal_of self.old input) (IsOk result) (λ e. result ≡ Err e) }
@@ -233,11 +239,11 @@ impl Core {
         Ok(sends)
     }
 
-    /// As `step`, for callers who keep the list: what `sends` held goes, and the packets to every up neighbour are in
-    /// it, none where the input is refused.
+    /// As `step`, for callers that reuse the list: `sends` is overwritten with the packets to broadcast, and is empty
+    /// if the input is refused.
     ///
     /// # Errors
-    /// As those of `step`.
+    /// Those of `step`.
     pub fn step_into(&mut self, input: &Input, now: u64, sends: &mut Sends) -> Result<(), StepError>
         ensures refused { MatchOption (refusal_of self.old input.now) (IsOk result) (λ e. result ≡ Err e) }
         ensures unchanged { OnErr result (self.new ≡ self.old) }
@@ -288,11 +294,13 @@ impl Core {
         }
     }
 
-    /// Why an input over the link to `k` is refused, if it is, where the link is to be up already or is not.
+    /// Why an input over the link to `k` is refused, if it is. The input needs the link to be up if `is_up`, and not up
+    /// otherwise.
     fn fault_of_link(&self, k: Id, is_up: bool) -> Option<StepError>
         ensures { result ≡ link_fault self.now k is_up }
     {
-        // A link that is up is that of a neighbour, and stands at the neighbour's place while all before it are up.
+        // A link that is up is one to a neighbour. Its place in `up` is the neighbour's place if all links before it
+        // are up.
         let at = self.hints.neighbours.place(k);
         if has_number_near(at, k, self.up.as_slice()) {
             if is_up {
@@ -328,14 +336,14 @@ impl Core {
         view_of(d, self.views.as_slice())
     }
 
-    /// The own height for a destination, `None` where the table does not have it.
+    /// The own height for a destination, `None` if the table does not have it.
     pub fn height(&self, d: Id) -> Option<Entry>
         ensures { result ≡ height_of self.now d }
     {
         self.view(d).map(|view| view.height())
     }
 
-    /// The height that neighbour `k` told for a destination, `None` where the table does not have it or the link is not
+    /// The height that neighbour `k` sent for a destination, `None` if the table does not have it or the link is not
     /// up.
     pub fn entry(&self, d: Id, k: Id) -> Option<Entry>
         ensures { result ≡ entry_of self.now d k }
@@ -343,14 +351,14 @@ impl Core {
         self.view(d).and_then(|view| view.entry(k))
     }
 
-    /// Whether a route to the destination is required; not so where the table does not have it.
+    /// Whether a route to the destination is required; `false` if the table does not have it.
     pub fn flag(&self, d: Id) -> bool
         ensures { result ≡ flag_of self.now d }
     {
         self.view(d).map_or(false, |view| view.flag())
     }
 
-    /// The next hop to a destination: the downstream neighbour with the lowest entry, `None` where no neighbour is
+    /// The next hop to a destination: the downstream neighbour with the lowest entry. `None` if no neighbour is
     /// downstream or the table does not have the destination.
     pub fn next_hop(&self, d: Id) -> Option<Id>
         ensures { result ≡ hop_of self.now d }
@@ -358,8 +366,8 @@ impl Core {
         self.view(d).and_then(|view| view.next_hop())
     }
 
-    /// How many neighbours are downstream for a destination: those whose entry is not NULL, and lower than the own height
-    /// where that is not NULL. `None` where the table does not have the destination.
+    /// How many neighbours are downstream for a destination: those with an entry that is not NULL and, if the own
+    /// height is not NULL, is lower than it. `None` if the table does not have the destination.
     pub fn downstream(&self, d: Id) -> Option<u32>
         ensures { result ≡ downstream_of self.now d }
     {
@@ -369,7 +377,7 @@ impl Core {
     /// The core as text: for each destination in ascending order the line `to D height H flag F hop K`, and then for
     /// each neighbour whose link is up, in ascending order, the line `via K H S`.
     ///
-    /// A height is written `(tau,oid,r,delta,id)`, NULL and an absent next hop `-`; F is 1 where a route is required and
+    /// A height is written `(tau,oid,r,delta,id)`, NULL and an absent next hop `-`; F is 1 if a route is required and
     /// otherwise 0; S is `up`, `down` or `none` for the direction of the link. Each line ends with a line feed.
     ///
     /// # Errors
@@ -391,13 +399,4 @@ fn view_of(d: Id, views: &[Destination]) -> Option<&Destination>
     ensures { option_copied result ≡ find (λ t. t.view.destination == d) views.now }
 {
     views.iter().find(|view| view.destination() == d)
-}
-
-/// Reads the number at a place, if there is one.
-#[inline(always)]
-fn read_at(numbers: &[Id], place: usize) -> u64 {
-    match numbers.get(place) {
-        Some(n) => u64::from(*n),
-        None => 0,
-    }
 }

@@ -1,7 +1,7 @@
 //! Guesses at the indexes of numbers in a list.
 //!
-//! A guess may be wrong, for instance if two numbers end in the same bits. Whoever uses one checks which number is
-//! there, and searches the list if it is another.
+//! A guess may be wrong, for instance if two numbers end in the same bits. A caller checks the number at the guessed
+//! index, and searches the list if it is another number.
 ghost use Rattle.std.specs.Prelude.{◌<◌};
 
 use tora_height::Id;
@@ -9,13 +9,13 @@ use tora_height::Id;
 /// How many guesses there are.
 const PLACES: usize = 64;
 
-/// Guesses of where the numbers of a list stand, by the last six bits of each.
+/// Guesses at the indexes of the numbers of a list, by the last six bits of each number.
 #[derive(Clone, Copy, Debug, PartialEq, Eq)]
 pub struct PlaceHints {
     places: [u8; 64],
 }
 
-/// The bits of a number that a guess goes by.
+/// The bits of a number that select its guess.
 fn bits(n: Id) -> usize
     ensures { result < 64 }
 {
@@ -28,7 +28,7 @@ fn kept(place: usize) -> u8 {
 }
 
 impl PlaceHints {
-    /// The guesses for the numbers of a list: each is right but where a later number ends in the same bits.
+    /// The guesses for the numbers of a list. Each is right, unless a later number ends in the same bits.
     pub fn new(numbers: &[Id]) -> PlaceHints {
         let mut hints = PlaceHints { places: [0; 64] };
         for (place, n) in numbers.iter().enumerate() {

@@ -1,4 +1,5 @@
-//! What an input does to a destination (Park and Corson 1997, section 3): the rows take it in, and the rule for it is followed.
+//! What an input does to a destination (Park and Corson 1997, section 3): it updates the rows, and then its rule
+//! applies.
 ghost use Rattle.std.specs.Prelude.{◌≡◌, ◌≢◌, ◌==◌, ◌<◌, None, Some, MatchBool, true};
 ghost use Rattle.std.specs.List.{AllByRecursion};
 ghost use Rattle.tora_height.specs.Height.{destination_height};
@@ -8,7 +9,8 @@ ghost use Rattle.tora_core.specs.declared.rows.Row.{Row};
 ghost use Rattle.tora_core.specs.Numbers.{has_number};
 ghost use Rattle.tora_core.specs.Links.{IsOnlyPlace};
 ghost use Rattle.tora_core.specs.View.{up_neighbours};
-ghost use Rattle.tora_core.specs.Rules.{on_need, on_query, on_update, on_outdated, on_taken_update, on_clear, on_heard_clear, on_packet, cleared_level, outcome_of};
+ghost use Rattle.tora_core.specs.Rules.{on_need, on_query, on_update, on_outdated, on_taken_update, on_clear};
+ghost use Rattle.tora_core.specs.Rules.{on_heard_clear, on_packet, cleared_level, outcome_of};
 
 use crate::destination::{Broadcast, Destination};
 use crate::rows::is_entry_at;
@@ -25,7 +27,7 @@ impl Destination {
         if self.is_own() { None } else { self.on_need() }
     }
 
-    /// A packet of the neighbour `k`, which is at `place` among the neighbours, came for the destination.
+    /// A packet about the destination came from the neighbour `k`, which is at `place` among the neighbours.
     pub(crate) fn react_to_packet(
         &mut self,
         k: Id,
@@ -66,7 +68,7 @@ impl Destination {
         }
     }
 
-    /// The link to neighbour `k`, which is at `place` among the neighbours, went down.
+    /// Removes the row of neighbour `k`, which is at `place` among the neighbours and whose link went down.
     pub(crate) fn react_to_link_down(&mut self, k: Id, place: usize, now: u64) -> Option<Broadcast>
         requires { IsOnlyPlace k place self.old.neighbours }
         ensures view { self.new.view ≡ (outcome_of self.old.view (Input.LinkDown k) now).view }
@@ -143,7 +145,7 @@ impl Destination {
         }
     }
 
-    /// An update that is older than the clear of its level only withdraws what its sender told.
+    /// An update that is older than the clear of its level only withdraws its sender's entry.
     fn on_outdated(&mut self, k: Id, now: u64) -> Option<Broadcast>
         ensures view { self.new.view ≡ (on_outdated self.old.view k now).view }
         ensures broadcast { result ≡ (on_outdated self.old.view k now).broadcast }
@@ -217,7 +219,7 @@ fn cleared_level(clear: &Clear) -> Level
     }
 }
 
-/// The entry of a neighbour whose link came up: that of the destination is its own height, any other is NULL.
+/// The first entry of a neighbour whose link came up: the zero height for the destination itself, NULL for any other.
 fn first_entry(me: Id, destination: Id, k: Id) -> Entry
     requires { 0 < k }
     ensures { MatchBool (me == destination) (result ≡ None)

@@ -1,4 +1,4 @@
-//! Why a core or an input is refused, by its numbers alone.
+//! Why a core or an input is refused; both depend on numbers only.
 ghost use Rattle.std.specs.Prelude.{◌≡◌, ◌≤◌, IfNone, length};
 ghost use Rattle.tora_core.specs.CoreRun.{core_refusal_within, is_from};
 ghost use Rattle.tora_core.specs.Limits.{most_destinations, most_neighbours};
@@ -10,14 +10,15 @@ use crate::{CoreLimits, GREATEST_NEIGHBOURS, MOST_DESTINATIONS};
 use tora_height::Id;
 use tora_packet::Packet;
 
-/// Why there is no core of these within the limits, but for want of memory.
+/// Why a core of these can't be made within the limits, apart from memory.
 pub fn core_refusal(
     limits: CoreLimits,
     me: Id,
     neighbours: &[Id],
     destinations: &[Id],
 ) -> Option<CoreError>
-    ensures value { result ≡ core_refusal_within (most_neighbours limits) (most_destinations limits) me neighbours.now destinations.now }
+    ensures value { result ≡ core_refusal_within (most_neighbours limits) (most_destinations limits) me neighbours.now
+        destinations.now }
     ensures few_neighbours { IfNone result (length neighbours.now ≤ GREATEST_NEIGHBOURS) }
     ensures few_destinations { IfNone result (length destinations.now ≤ MOST_DESTINATIONS) }
 {

@@ -1,19 +1,21 @@
-//! TORA's rules as a relation: the rule that computes gives what the relation says, and the relation says nothing else.
+//! TORA's rules as a relation, and the proof that the computed rules and the relation agree.
 ghost use Rattle.std.specs.Prelude.{◌≡◌, ◌↔◌, ℕ, ℤ, true, Option, None, Some, option_map, Contains};
 ghost use Rattle.tora_height.specs.Height.{Quintuple};
 ghost use Rattle.tora_height.specs.declared.level.Level.{Level};
 ghost use Rattle.tora_core.specs.declared.Input.{Input};
 ghost use Rattle.tora_core.specs.declared.destination.Broadcast.{Broadcast};
-ghost use Rattle.tora_core.specs.View.{View, greatest_level, has_downstream, known_heights, least_delta, least_height, next_hop_of};
+ghost use Rattle.tora_core.specs.View.{View, greatest_level, has_downstream, known_heights, least_delta, least_height};
+ghost use Rattle.tora_core.specs.View.{next_hop_of};
 ghost use Rattle.tora_core.specs.Heights.{fresh_time};
 ghost use Rattle.tora_core.specs.Rules.{outcome_of, packet_of};
 ghost use Rattle.tora_core.specs.CoreRun.{CoreView, concerns, next_packet, next_view, refusal_of};
 ghost use Rattle.tora_core.specs.Kept.{IsCore, IsInput, IsKept, MayCome};
-ghost use Rattle.tora_core.specs.Reacts.{HasDownstream, IsFreshTime, IsFromUp, IsGreatestLevel, IsLeastDelta, IsLeastKnown, IsNextHop, KnowsNone, Reacts};
+ghost use Rattle.tora_core.specs.Reacts.{HasDownstream, IsFreshTime, IsFromUp, IsGreatestLevel, IsLeastDelta};
+ghost use Rattle.tora_core.specs.Reacts.{IsLeastKnown, IsNextHop, KnowsNone, Reacts};
 ghost use Rattle.tora_core.specs.Worked.{WorkedRows};
 
-/// TORA's rules as a relation, one case for each line of them (Park and Corson 1997, section 3), hold of what the
-/// computing rule answers, and of nothing else.
+/// The relation of TORA's rules, with one case for each line of them (Park and Corson 1997, section 3), holds for the
+/// result of the computed rules, and for no other result.
 pub fn rules_are_the_relation()
     ensures total { (v : View) (input : Input) (now : ℕ)
         → IsKept v → MayCome v input → IsFromUp v input
@@ -23,8 +25,7 @@ pub fn rules_are_the_relation()
         → (after ≡ (outcome_of v input now).view) × (broadcast ≡ (outcome_of v input now).broadcast) }
 {}
 
-/// What the computing rule finds by going through the entries is the least, the greatest and the lowest of them, as the
-/// relation says it.
+/// The searches of the computed rules find the least, greatest and lowest entries that the relation describes.
 pub fn words_are_computed()
     ensures least { (v : View) (low : Quintuple)
         → (least_height (known_heights v) ≡ Some low) ↔ IsLeastKnown v low }
@@ -39,8 +40,8 @@ pub fn words_are_computed()
         → IsKept v → (next_hop_of v ≡ Some k) ↔ IsNextHop v k }
 {}
 
-/// Each view of a core that an accepted input concerns reacts to it by the relation, and the packet that is sent for its
-/// destination is what the view broadcasts.
+/// If an accepted input concerns a view, the view reacts to it by the relation, and the packet sent for its destination
+/// is the broadcast of the view.
 pub fn accepted_inputs_react()
     ensures { (c : CoreView) (input : Input) (now : ℕ) (v : View)
         → IsCore c → IsInput input → refusal_of c input ≡ None → Contains c.views v

@@ -1,19 +1,24 @@
 //! The rows of a view, read and changed.
-ghost use Rattle.std.specs.Prelude.{◌≡◌, false, ◌<◌, ◌≤◌, ◌+◌, ◌^◌, ◌≤ℤ◌, pos, neg_ℤ, IfSome, fold, filter, nat_lt, position, length, slice_index_or, ◌==◌, None};
+ghost use Rattle.std.specs.Prelude.{◌≡◌, false, ◌<◌, ◌≤◌, ◌+◌, ◌^◌, ◌≤ℤ◌, pos, neg_ℤ, IfSome, fold, filter, nat_lt};
+ghost use Rattle.std.specs.Prelude.{position, length, slice_index_or, ◌==◌, None};
 ghost use Rattle.std.specs.List.{list_any, list_all};
 ghost use Rattle.arrayvec.specs.ArrayVec.{array_vec_len};
 ghost use Rattle.tora_height.specs.Height.{IsLevel};
-ghost use Rattle.tora_core.specs.View.{neighbours_of, heights_of, are_null, is_downstream, lower_of, least_height, lower_row_of, higher_level_of, greatest_level, lower_delta_of, least_delta, is_at, all_told, told_row, row_with_entry, is_told, with_entry, erased_row, all_erased, cleared_row, all_cleared, is_cleared, is_entry_at, with_row, without_row};
+ghost use Rattle.tora_core.specs.View.{neighbours_of, heights_of, are_null, is_downstream, lower_of, least_height};
+ghost use Rattle.tora_core.specs.View.{lower_row_of, higher_level_of, greatest_level, lower_delta_of, least_delta};
+ghost use Rattle.tora_core.specs.View.{is_at, all_told, told_row, row_with_entry, is_told, with_entry, erased_row};
+ghost use Rattle.tora_core.specs.View.{all_erased, cleared_row, all_cleared, is_cleared, is_entry_at, with_row};
+ghost use Rattle.tora_core.specs.View.{without_row};
 ghost use Rattle.tora_core.specs.Heights.{time_after_all};
 ghost use Rattle.tora_core.specs.Rules.{link_row};
 ghost use Rattle.tora_core.specs.Links.{with_entry_at};
 
 use tora_height::{Entry, Height, Id, Level};
 
-/// What a node knows of one neighbour whose link is up.
+/// The row of one neighbour whose link is up.
 #[derive(Clone, Copy, Debug, Default, PartialEq, Eq, Hash)]
 pub struct Row {
-    /// The height that the neighbour told last, `None` for NULL.
+    /// The height that the neighbour sent last, `None` for NULL.
     pub entry: Entry,
     pub neighbour: Id,
     /// Whether an update was broadcast since the link came up.
@@ -88,7 +93,7 @@ pub fn all_at(level: Level, rows: &[Row]) -> bool
         .all(|height| is_at(level, height))
 }
 
-/// The time after that of every entry.
+/// A time tag later than that of every entry.
 pub fn time_after_all(rows: &[Row]) -> u64
     ensures { result ≡ time_after_all (heights_of rows.now) }
 {
@@ -151,7 +156,7 @@ pub fn row_at(place: usize, rows: &[Row]) -> &Row
     &rows[place]
 }
 
-/// Takes another height for the neighbour whose row is at `place`.
+/// Sets the height of the neighbour whose row is at `place`.
 pub fn put_entry(place: usize, height: Height, rows: &mut [Row])
     requires { place < length rows.old }
     ensures { rows.new ≡ with_entry_at place height rows.old }
@@ -167,7 +172,7 @@ fn erase_row(destination: Id, row: &mut Row)
     }
 }
 
-/// Erases every entry but that of the destination.
+/// Erases every entry except that of the destination.
 pub fn erase_all(destination: Id, rows: &mut [Row])
     ensures { rows.new ≡ all_erased destination rows.old }
 {
@@ -185,7 +190,7 @@ pub fn is_entry_at(level: Level, entry: Entry) -> bool
     }
 }
 
-/// Erases the entry at a level, but for that of the destination. Answers whether it was there.
+/// Erases the entry if it is at the level, unless it is that of the destination. Returns whether it was erased.
 fn clear_row(destination: Id, level: Level, row: &mut Row) -> bool
     ensures row { row.new ≡ cleared_row destination level row.old }
     ensures cleared { result ≡ is_cleared destination level row.old }
@@ -201,7 +206,7 @@ fn clear_row(destination: Id, level: Level, row: &mut Row) -> bool
     }
 }
 
-/// Erases the entries at a level, but for that of the destination. Answers whether there were some.
+/// Erases the entries at a level, except that of the destination. Returns whether there were some.
 pub fn clear_level(destination: Id, level: Level, rows: &mut [Row]) -> bool
     ensures rows { rows.new ≡ all_cleared destination level rows.old }
     ensures cleared { result ≡ list_any (is_cleared destination level) rows.old }

@@ -1,5 +1,6 @@
 //! The views of a node's destinations, by ascending destination.
-ghost use Rattle.std.specs.Prelude.{◌≡◌, ◌≤◌, ◌<◌, length, map, filter_map, position, ◌==◌, All, true, Some, IfOk, [], ◌++◌};
+ghost use Rattle.std.specs.Prelude.{◌≡◌, ◌≤◌, ◌<◌, length, map, filter_map, position, ◌==◌, All, true, Some, IfOk, []};
+ghost use Rattle.std.specs.Prelude.{◌++◌};
 ghost use Rattle.std.specs.List.{cons_option};
 ghost use Rattle.arrayvec.specs.ArrayVec.{array_vec_len};
 ghost use Rattle.tora_core.specs.Numbers.{IsAscending, has_number};
@@ -19,7 +20,7 @@ use std::alloc::{AllocError, Global};
 use tora_height::Id;
 use tora_packet::Packet;
 
-/// The first views of the destinations, each with a place for each of these neighbours, which stand in ascending order.
+/// The first views of the destinations, each with a place for each of these neighbours, which are in ascending order.
 pub fn first_views(
     alloc: Global,
     erasure: Erasure,
@@ -47,8 +48,8 @@ pub struct TableHints {
     pub destinations: PlaceHints,
 }
 
-/// Takes an input in, and lists the packets to every up neighbour. `destinations` are those of the views, and `neighbours` those
-/// that each view has a place for. It takes no memory.
+/// Applies an input, and appends the packets to broadcast. `destinations` are those of the views, and each view has a
+/// place for each of `neighbours`. It takes no memory.
 pub fn step(
     views: &mut [Destination],
     destinations: &[Id],
@@ -112,7 +113,7 @@ fn place_in(k: Id, neighbours: &[Id], hints: &PlaceHints) -> usize
     place_near(hints.place(k), k, neighbours).unwrap_or(neighbours.len())
 }
 
-/// A link that came up goes to every view, to the neighbour's place.
+/// Reports a link that came up to every view, at the neighbour's place.
 fn link_up(views: &mut [Destination], k: Id, place: usize, sends: &mut Sends)
     requires may { All (λ t. CanTake (Input.LinkUp k) t.view) views.old }
     requires few { length views.old ≤ MOST_DESTINATIONS }
@@ -126,7 +127,7 @@ fn link_up(views: &mut [Destination], k: Id, place: usize, sends: &mut Sends)
     }
 }
 
-/// A link that went down goes to every view, where the neighbour is at `place`.
+/// Reports a link that went down to every view; the neighbour is at `place`.
 fn link_down(views: &mut [Destination], k: Id, place: usize, now: u64, sends: &mut Sends)
     requires may { All (λ t. CanTake (Input.LinkDown k) t.view) views.old }
     requires few { length views.old ≤ MOST_DESTINATIONS }
@@ -140,7 +141,7 @@ fn link_down(views: &mut [Destination], k: Id, place: usize, now: u64, sends: &m
     }
 }
 
-/// A need goes to the view of its destination alone. The rule for it reads no clock: `now` is any tick.
+/// Reports a need to the view of its destination only. The rule reads no clock, so `now` may be any tick.
 fn step_need(
     d: Id,
     views: &mut [Destination],
@@ -162,7 +163,7 @@ fn step_need(
     list(views[place].need(), sends);
 }
 
-/// A packet of neighbour `k`, whose rows are at `row` in all views, goes to the view of its destination alone.
+/// Passes a packet of neighbour `k`, whose rows are at `row` in all views, to the view of its destination only.
 fn step_packet(
     k: Id,
     row: usize,
@@ -189,7 +190,7 @@ fn step_packet(
     list(views[place].packet(k, row, packet, now), sends);
 }
 
-/// Lists a packet, where there is one.
+/// Appends a packet, if there is one.
 fn list(packet: Option<Packet>, sends: &mut Sends)
     requires { array_vec_len sends.old < MOST_DESTINATIONS }
     ensures { sends.new.items ≡ sends.old.items ++ cons_option packet [] }

@@ -1,4 +1,4 @@
-//! What a neighbour told is withdrawn.
+//! Withdrawal of the entry and the mark of a neighbour.
 ghost use Rattle.std.specs.Prelude.{◌≡◌};
 ghost use Rattle.tora_core.specs.View.{untold_row, withdrawn_row, without_entry, without_told};
 
@@ -20,7 +20,7 @@ impl Links {
         self.least = place_of_least(self.places.as_slice());
     }
 
-    /// Notes that neighbour `k` has not been told the own height.
+    /// Notes that no update was broadcast to neighbour `k`.
     pub fn untell(&mut self, k: Id)
         ensures { self.new ≡ record self.old { rows = without_told k self.old.rows } }
     {

@@ -25,7 +25,8 @@ HasRoom d = (0 < d.places) × (16 ≤ d.packet_places)
 -- the body that is kept so
 abbrev pub body_in : List Packet → KeptBody → Body
 body_in packets Hello = Carries.Hello
-body_in packets (Data many from number count) = Carries.Data number count (batch (slice_range packets from (from + many)))
+body_in packets (Data many from number count) = Carries.Data number count
+    (batch (slice_range packets from (from + many)))
 body_in packets (Ack count) = Carries.Ack count
 
 abbrev pub frame_in : List Packet → KeptFrame → FrameParts

@@ -1,5 +1,6 @@
 //! The datagrams that were sent.
-ghost use Rattle.std.specs.Prelude.{◌≡◌, ◌<◌, ◌∷◌, ◌++◌, [], true, false, length, option_map, slice_get, Some, IfSome, OnOk};
+ghost use Rattle.std.specs.Prelude.{◌≡◌, ◌<◌, ◌∷◌, ◌++◌, [], true, false, length, option_map, slice_get, Some, IfSome};
+ghost use Rattle.std.specs.Prelude.{OnOk};
 ghost use Rattle.tora_frame.specs.FrameParts.{IsHeader, frame_of};
 ghost use Rattle.tora_frame.specs.declared.parts.Body.{Body};
 ghost use Rattle.tora_datagrams.specs.Datagrams.{DatagramList, HasRoom, way_of};
@@ -13,8 +14,8 @@ use tora_height::Id;
 
 /// All datagrams that were ever sent, in order.
 ///
-/// Most of them are HELLOs that say what the last one of their link end said: such a frame is kept once, and a datagram is the place of its
-/// frame, in four bytes.
+/// Most of them are HELLOs that say what the last one of their link end said: such a frame is kept once, and a datagram
+/// is the place of its frame, in four bytes.
 #[derive(Drop)]
 pub struct Datagrams {
     frames: KeptFrames,
@@ -71,7 +72,8 @@ impl Datagrams {
         self.places.reserve(1)
     }
 
-    /// Appends a datagram that the link end at a place sends to the one that may stand at the place `far_end`. There must be room for it.
+    /// Appends a datagram that the link end at a place sends to the one that may stand at the place `far_end`. There
+    /// must be room for it.
     #[inline(always)]
     pub fn push(&mut self, end: usize, far_end: u32, frame: &BorrowedFrame<'_>)
         requires { HasRoom self.old }
@@ -99,8 +101,8 @@ impl Datagrams {
         place
     }
 
-    /// Appends a HELLO of this header that the link end at a place sends to the one that may stand at the place `far_end`. There must be room for
-    /// it.
+    /// Appends a HELLO of this header that the link end at a place sends to the one that may stand at the place
+    /// `far_end`. There must be room for it.
     #[inline(always)]
     pub fn push_hello(&mut self, end: usize, far_end: u32, header: &Header)
         requires room { HasRoom self.old }
@@ -125,13 +127,14 @@ impl Datagrams {
         note_hello(&mut self.hellos, end, header, place);
     }
 
-    /// Appends two HELLOs of these headers, one after the other, that the link end at a place sends, where both say what its last ones said
-    /// and there is room for two; and answers whether it did. Else nothing is changed.
+    /// Appends two HELLOs of these headers, one after the other, that the link end at a place sends, where both say
+    /// what its last ones said and there is room for two; and answers whether it did. Else nothing is changed.
     #[inline(always)]
     pub fn push_pair(&mut self, end: usize, _far_end: u32, first: &Header, second: &Header) -> bool
         requires first { IsHeader first.now }
         requires second { IsHeader second.now }
-        ensures items { result ≡ true → self.new.items ≡ (self.old.items ++ frame_of first.now Body.Hello ∷ []) ++ frame_of second.now Body.Hello ∷ [] }
+        ensures items { result ≡ true → self.new.items ≡ (self.old.items ++ frame_of first.now Body.Hello ∷ [])
+            ++ frame_of second.now Body.Hello ∷ [] }
         ensures same { result ≡ false → self.new ≡ self.old }
     {
         if self.places.capacity() - self.places.len() < 2 {
@@ -162,7 +165,8 @@ impl Datagrams {
     /// The datagram at the index `place`, if it is a HELLO.
     #[inline(always)]
     pub fn hello(&self, place: usize) -> Option<&KeptFrame>
-        ensures hello { IfSome result (λ kept. slice_get self.now.items place ≡ Some (frame_of kept.now.header Body.Hello)) }
+        ensures hello { IfSome result (λ kept. slice_get self.now.items place
+            ≡ Some (frame_of kept.now.header Body.Hello)) }
         ensures valid { IfSome result (λ kept. IsHeader kept.now.header) }
     {
         let Some(at) = place_at(&self.places, place) else {

@@ -1,9 +1,11 @@
 //! Frames, with the packets of all of them in one list.
-ghost use Rattle.std.specs.Prelude.{◌≡◌, ◌<◌, ◌≤◌, ◌+◌, ◌^◌, ◌∷◌, ◌++◌, [], length, option_map, slice_get, slice_range, vec_len, vec_capacity, Some, IfSome, IsTrue, OnOk};
+ghost use Rattle.std.specs.Prelude.{◌≡◌, ◌<◌, ◌≤◌, ◌+◌, ◌^◌, ◌∷◌, ◌++◌, [], length, option_map, slice_get, slice_range};
+ghost use Rattle.std.specs.Prelude.{vec_len, vec_capacity, Some, IfSome, IsTrue, OnOk};
 ghost use Rattle.tora_frame.specs.FrameParts.{IsFrame, IsHeader, batch, frame_of};
 ghost use Rattle.tora_frame.specs.declared.parts.Body.{Body};
 ghost use Rattle.tora_frame.specs.declared.parts.Body.TheVariants as Carries;
-ghost use Rattle.tora_datagrams.specs.Datagrams.{DatagramList, HasRoom, IsKept, IsMore, IsWithin, body_in, frame_in, way_of};
+ghost use Rattle.tora_datagrams.specs.Datagrams.{DatagramList, HasRoom, IsKept, IsMore, IsWithin, body_in, frame_in};
+ghost use Rattle.tora_datagrams.specs.Datagrams.{way_of};
 
 use std::alloc::{AllocError, Global};
 use std::marker::Model;
@@ -19,7 +21,8 @@ const MOST_KEPT: usize = 0x1_0000_0000;
 pub enum KeptBody {
     /// A HELLO.
     Hello,
-    /// How many packets there are, the place of the first among all that are kept, its number, and the count of packets accepted.
+    /// How many packets there are, the place of the first among all that are kept, its number, and the count of packets
+    /// accepted.
     Data(u8, u32, u64, u64),
     /// The count of packets accepted.
     Ack(u64),
@@ -133,7 +136,8 @@ impl KeptFrames {
     /// The frame at the index `place`, if it is a HELLO.
     #[inline(always)]
     pub fn hello(&self, place: usize) -> Option<&KeptFrame>
-        ensures hello { IfSome result (λ kept. slice_get self.now.items place ≡ Some (frame_of kept.now.header Body.Hello)) }
+        ensures hello { IfSome result (λ kept. slice_get self.now.items place
+            ≡ Some (frame_of kept.now.header Body.Hello)) }
         ensures valid { IfSome result (λ kept. IsHeader kept.now.header) }
     {
         let Some(kept) = self.frames.get(place) else {

@@ -1,8 +1,8 @@
 //! The indexes of the HELLOs that a link end sent last.
 use tora_frame::Version;
 
-/// The places of the HELLOs that a link end sent last, one of either version, among the frames that are kept. They are guesses: who uses one
-/// compares what stands there.
+/// The places of the HELLOs that a link end sent last, one of either version, among the frames that are kept. They are
+/// guesses: who uses one compares what stands there.
 #[derive(Clone, Copy, Debug, PartialEq, Eq)]
 pub struct LastHellos {
     one: u32,

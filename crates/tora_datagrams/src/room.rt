@@ -3,7 +3,8 @@ ghost use Rattle.std.specs.Prelude.{◌≡◌, ◌<◌, vec_len, vec_capacity, O
 
 use std::alloc::AllocError;
 
-/// Makes room for one more item; a first one gets no more than its own, as most lists have few origins, and nothing apart.
+/// Makes room for one more item; a first one gets no more than its own, as most lists have few origins, and nothing
+/// apart.
 ///
 /// # Errors
 /// Want of memory.

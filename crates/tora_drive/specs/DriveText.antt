@@ -102,7 +102,12 @@ is_forgotten o (Happen.Arm n call) = false
 abbrev pub event_outcome : RunningView → OwnView → Event → Outcome
 event_outcome s o event =
     if is_forgotten o event then unnamed s o
-    else record { run = (event_reply s event).0; own = o; text = (event_reply s event).1; refused = is_some (refusal_of s.world event) }
+    else record {
+      run = (event_reply s event).0;
+      own = o;
+      text = (event_reply s event).1;
+      refused = is_some (refusal_of s.world event);
+    }
 
 -- the world behind a step
 abbrev pub after_step : RunningView → OwnView → World
@@ -123,13 +128,16 @@ bytes_line i f = codes "bytes " ++ decimal i ++ codes " " ++ encode_lower (frame
 abbrev pub silenced : RunningView → OwnView → ℕ → ℕ → List (ℕ × ℕ) → Option Outcome
 silenced s o n k far = if has_end n k s.ends then Some (shown s (record o { far = far }) []) else None
 
--- the end of a node towards another cuts the life that it is bound to, and is then closed; refused where it is bound to none
+-- the end of a node towards another cuts the life that it is bound to, and is then closed; refused where it is bound to
+-- none
 abbrev pub noticed : RunningView → OwnView → ℕ → ℕ → Outcome
-noticed s o n k = if is_some (bound_life (s.world.ends n k)) then shown (record s { world = after_cut_at s.world n k }) o [] else impossible s o
+noticed s o n k = if is_some (bound_life (s.world.ends n k)) then shown (record s { world = after_cut_at s.world n k })
+    o [] else impossible s o
 
 -- the datagrams up to a number are forgotten, and those that were stay so
 abbrev pub forgetting : RunningView → OwnView → ℕ → Outcome
-forgetting s o i = if nat_le i (length s.world.datagrams) then shown s (record o { forgotten = max o.forgotten i }) [] else unnamed s o
+forgetting s o i =
+    if nat_le i (length s.world.datagrams) then shown s (record o { forgotten = max o.forgotten i }) [] else unnamed s o
 
 -- for a line of a simulation file, what a simulation prints for it; None for a fault
 abbrev pub script_outcome : RunningView → OwnView → SimulationLine → Option Outcome
@@ -189,10 +197,16 @@ DriveReply = RunningView × OwnView × List ℕ
 
 -- what is printed first, then what the line changed, and `ok`
 abbrev pub told : RunningView → Outcome → DriveReply
-told s r = (r.run, r.own, r.text ++ sent_text s.world r.run.world ++ hops_text s.nodes s.dests s.world r.run.world ++ closing r.refused)
+told s r = (
+  r.run,
+  r.own,
+  r.text ++ sent_text s.world r.run.world ++ hops_text s.nodes s.dests s.world r.run.world
+      ++ closing r.refused,
+)
 
 unfoldable pub answer_to : RunningView → OwnView → List ℕ → Option DriveReply
-answer_to s o text = option_and_then (λ line. option_map (told s) (outcome_of s o line)) (line_in s.world o.forgotten text)
+answer_to s o text =
+    option_and_then (λ line. option_map (told s) (outcome_of s o line)) (line_in s.world o.forgotten text)
 
 -- ---- any line
 
@@ -215,26 +229,34 @@ abbrev pub acknowledged : OwnView → Progress → Placed
 acknowledged o progress = (record { progress = progress; own = o }, closing false)
 
 -- the line behind the last link and what is said of single nodes, which makes the world: at least one link is required
-abbrev pub first_answer : WorldOptions → Times → OwnView → List ℕ → List (ℕ × ℕ) → List Mark → List ℕ → Option DriveReply
+abbrev pub first_answer : WorldOptions → Times → OwnView → List ℕ → List (ℕ × ℕ) → List Mark → List ℕ
+    → Option DriveReply
 first_answer options times o dests [] marks line = None
-first_answer options times o dests (link ∷ links) marks line = option_and_then (λ w. answer_to (begun_in dests (plain times) w) o line) (started options (link ∷ links) dests marks times)
+first_answer options times o dests (link ∷ links) marks line = option_and_then (λ w.
+    answer_to (begun_in dests (plain times) w) o line) (started options (link ∷ links) dests marks times)
 
 -- a line behind the first, which may say a link, or something of a node
-abbrev pub link_answer : WorldOptions → Times → OwnView → List ℕ → List (ℕ × ℕ) → List Mark → List ℕ → Option (ℕ × ℕ) → Option Mark → Option Placed
-link_answer options times o dests links marks line (Some link) mark = option_map (acknowledged o) (with_link dests links marks link)
-link_answer options times o dests links marks line None (Some mark) = option_map (acknowledged o) (with_mark_line options.limits dests links marks mark)
-link_answer options times o dests links marks line None None = option_map running_at (first_answer options times o dests links marks line)
+abbrev pub link_answer : WorldOptions → Times → OwnView → List ℕ → List (ℕ × ℕ) → List Mark → List ℕ → Option (ℕ × ℕ)
+    → Option Mark → Option Placed
+link_answer options times o dests links marks line (Some link) mark =
+    option_map (acknowledged o) (with_link dests links marks link)
+link_answer options times o dests links marks line None (Some mark) =
+    option_map (acknowledged o) (with_mark_line options.limits dests links marks mark)
+link_answer options times o dests links marks line None None =
+    option_map running_at (first_answer options times o dests links marks line)
 
 -- the same at any place: only links can have such a line behind them
 abbrev pub run_begun : WorldOptions → Times → OwnView → Progress → List ℕ → Option Placed
 run_begun options times o Progress.First line = None
-run_begun options times o (Progress.Links dests links marks) line = option_map running_at (first_answer options times o dests links marks line)
+run_begun options times o (Progress.Links dests links marks) line =
+    option_map running_at (first_answer options times o dests links marks line)
 run_begun options times o (Progress.Runs s) line = None
 
 -- what a line leaves, and what is printed for it; None for a fault
 unfoldable pub place_reply : WorldOptions → Times → OwnView → Progress → List ℕ → Option Placed
 place_reply options times o Progress.First line = option_map (acknowledged o) (first_progress line)
-place_reply options times o (Progress.Links dests links marks) line = link_answer options times o dests links marks line (link_of line) (mark_of line)
+place_reply options times o (Progress.Links dests links marks) line =
+    link_answer options times o dests links marks line (link_of line) (mark_of line)
 place_reply options times o (Progress.Runs s) line = option_map running_at (answer_to s o line)
 
 -- ---- faults
@@ -245,7 +267,8 @@ cause_of_line line = if is_some (drive_line_of line) then Name else Word
 
 abbrev pub cause_behind_links : Limits → List ℕ → List (ℕ × ℕ) → List ℕ → Cause
 cause_behind_links limits dests [] line = NoLink
-cause_behind_links limits dests (link ∷ links) line = if has_topology limits (link ∷ links) dests then cause_of_line line else Topology
+cause_behind_links limits dests (link ∷ links) line = if has_topology limits (link ∷ links) dests then cause_of_line
+    line else Topology
 
 unfoldable pub cause_of : Limits → Progress → List ℕ → Cause
 cause_of limits Progress.First line = Dests
@@ -278,11 +301,19 @@ taken n r = (record { lines = n; place = r.0 }, r.1)
 -- a line that is a fault leaves everything as it was
 abbrev pub drive_reply : WorldOptions → Times → DriveView → List ℕ → DriveView × List ℕ
 drive_reply options times v line =
-    option_map_or (taken (v.lines + 1)) (place_reply options times v.place.own v.place.progress line) (record v { lines = v.lines + 1 }, fault_line (v.lines + 1) (cause_of options.limits v.place.progress line))
+    option_map_or (taken (v.lines + 1)) (place_reply options times v.place.own v.place.progress line)
+    (record v { lines = v.lines + 1 }, fault_line (v.lines + 1) (cause_of options.limits v.place.progress line))
 
 -- a drive of a world with these options whose link ends have these times; no end of its input is a fault
 abbrev pub drive_rules : WorldOptions → Times → Rules DriveView
-drive_rules options times = record { start = record { lines = 0; place = record { progress = Progress.First; own = first_own } }; reply = λ v line. Some (drive_reply options times v line); at_end = λ v n. None }
+drive_rules options times = record {
+  start = record {
+    lines = 0;
+    place = record { progress = Progress.First; own = first_own };
+  };
+  reply = λ v line. Some (drive_reply options times v line);
+  at_end = λ v n. None;
+}
 
 -- `tora drive 1`
 abbrev pub greeting : List ℕ
@@ -290,7 +321,8 @@ greeting = codes "tora drive 1" ++ 10 ∷ []
 
 -- ---- what drive_in promises
 
--- the text of an input, where a line of more than 4,096 bytes is taken as an empty one, which is a fault wherever it stands
+-- the text of an input, where a line of more than 4,096 bytes is taken as an empty one, which is a fault wherever it
+-- stands
 abbrev pub shortened_text : Rules DriveView → List ℕ → Text
 shortened_text rules bytes = text_from rules rules.start 1 (map shortened (pieces_of bytes))
 
@@ -299,5 +331,7 @@ abbrev pub Drives : WorldOptions → Times → List ℕ → Option (List ℕ) �
 Drives options times input old new ended = IsWholeText (shortened_text (drive_rules options times)) input old new ended
 
 -- The reader gave some bytes, and the writer got a front of the answers to them.
-abbrev pub IsDriveBegun : WorldOptions → Times → Option (List ℕ) → Option (List ℕ) → Option (List ℕ) → Option (List ℕ) → Type 0
-IsDriveBegun options times old_reader new_reader old_writer new_writer = IsFrontOfText (shortened_text (drive_rules options times)) old_reader new_reader old_writer new_writer
+abbrev pub IsDriveBegun : WorldOptions → Times → Option (List ℕ) → Option (List ℕ) → Option (List ℕ) → Option (List ℕ)
+    → Type 0
+IsDriveBegun options times old_reader new_reader old_writer new_writer =
+    IsFrontOfText (shortened_text (drive_rules options times)) old_reader new_reader old_writer new_writer

@@ -20,7 +20,13 @@ abbrev pub record_view : Own → Option (List ℕ)
 record_view o = option_map (λ v. v.items) o.recorded
 
 abbrev pub view_of : {S : Type 0} → (S → World) → Drive S → DriveView
-view_of world d = record { lines = d.lines; place = record { progress = progress_of world d.stage; own = own_view d.own } }
+view_of world d = record {
+  lines = d.lines;
+  place = record {
+    progress = progress_of world d.stage;
+    own = own_view d.own;
+  };
+}
 
 abbrev pub drive_kind : {S : Type 0} → (S → World) → Kind (Drive S)
 drive_kind world = record {
@@ -32,5 +38,6 @@ drive_kind world = record {
 abbrev pub recording_kind : {S W : Type 0} → (S → World) → Kind (Recording S W)
 recording_kind world = record {
   text = λ r. text_from (recorded_rules r.drive.options r.drive.times) (view_of world r.drive);
-  long = λ r line h. long_lines_are_faults (recorded_rules r.drive.options r.drive.times) (view_of world r.drive) line h;
+  long = λ r line h. long_lines_are_faults (recorded_rules r.drive.options r.drive.times) (view_of world r.drive) line
+      h;
 }

@@ -23,12 +23,14 @@ unnoticed line = if says_notice line then [] else line
 abbrev pub RecordedAreDrives : Type 0
 RecordedAreDrives =
     (options : WorldOptions) (times : Times) (lines : List (List ℕ)) (v : DriveView)
-    → state_behind (recorded_rules options times) (recorded_rules options times).start lines ≡ Some v → state_behind (drive_rules options times) (drive_rules options times).start (map unnoticed lines) ≡ Some v
+    → state_behind (recorded_rules options times) (recorded_rules options times).start lines ≡ Some v
+    → state_behind (drive_rules options times) (drive_rules options times).start (map unnoticed lines) ≡ Some v
 
 abbrev pub RecordedSaysNoNotice : Type 0
 RecordedSaysNoNotice = (lines : List (List ℕ)) → SaysNoNotice (map unnoticed lines)
 
--- a world is the one behind some events, from the first world with these options of some links and destinations, and of what is said of single nodes
+-- a world is the one behind some events, from the first world with these options of some links and destinations, and of
+-- what is said of single nodes
 pub record IsOfHappened (options : WorldOptions) (times : Times) (w : World) : Type 0 where
   pub links : List (ℕ × ℕ)
   pub dests : List ℕ
@@ -43,10 +45,12 @@ pub record IsOfHappened (options : WorldOptions) (times : Times) (w : World) : T
 abbrev pub EveryRecordedDrive : (WorldOptions → Times → World → Type 0) → Type 0
 EveryRecordedDrive Holds =
     (options : WorldOptions) (times : Times) (lines : List (List ℕ)) (v : DriveView) (s : RunningView)
-    → state_behind (recorded_rules options times) (recorded_rules options times).start lines ≡ Some v → v.place.progress ≡ Progress.Runs s → Holds options times s.world
+    → state_behind (recorded_rules options times) (recorded_rules options times).start lines ≡ Some v
+    → v.place.progress ≡ Progress.Runs s → Holds options times s.world
 
 -- a line of more than 4,096 bytes, which is taken as an empty one, is a fault wherever it stands, and changes nothing
 abbrev pub LongLinesAreFaults : (WorldOptions → Times → DriveView → List ℕ → DriveView × List ℕ) → Type 0
 LongLinesAreFaults reply =
     (options : WorldOptions) (times : Times) (v : DriveView) (line : List ℕ)
-    → 4096 < length line → reply options times v (shortened line) ≡ (record v { lines = v.lines + 1 }, fault_line (v.lines + 1) (cause_of options.limits v.place.progress []))
+    → 4096 < length line → reply options times v (shortened line)
+    ≡ (record v { lines = v.lines + 1 }, fault_line (v.lines + 1) (cause_of options.limits v.place.progress []))

@@ -63,9 +63,10 @@ abbrev pub turns_of : List (ℕ × ℕ) → EndTurn → ℕ → ℕ × ℕ → P
 turns_of left_out kind most e w = if is_far left_out e then [] else repeats most (end_event kind e) w
 
 -- Events led from a world to another, some or none, and their lines went behind a text.
-pub record HappenedTold (before : World) (events : List Event) (after : World) (some : Bool) (old new : List ℕ) : Type 0 where
-  pub happened : Happened before events after some
-  pub told : new ≡ old ++ events_text events
+pub record HappenedTold (before : World) (events : List Event) (after : World) (some : Bool) (old new : List ℕ) : Type 0
+  where
+    pub happened : Happened before events after some
+    pub told : new ≡ old ++ events_text events
 
 -- the same, whether there were any or not
 pub record Told (before : World) (events : List Event) (after : World) (old new : List ℕ) : Type 0 where
@@ -95,7 +96,8 @@ step_recorded r s o (Notice n k) = r
 step_recorded r s o (Bytes i) = r
 step_recorded r s o (Forget i) = r
 
--- of another line: an event that is not refused has its line, an order has the line as it is, and all that changes no world has none
+-- of another line: an event that is not refused has its line, an order has the line as it is, and all that changes no
+-- world has none
 abbrev pub line_recorded : Record → DriveLine → List ℕ → Bool → Record
 line_recorded r (Script (Happens event)) line refused = if refused then r else with_record r (event_line event)
 line_recorded r (Script (Rounds n)) line refused = with_line r line
@@ -118,27 +120,34 @@ line_recorded r (Forget i) line refused = r
 -- of a line of a running simulation; a fault has none
 unfoldable pub answer_recorded : Record → RunningView → OwnView → List ℕ → Record
 answer_recorded r s o text =
-    option_map_or (λ line. option_map_or (λ q. line_recorded (step_recorded r s o line) line text q.refused) (outcome_of s o line) r) (line_in s.world o.forgotten text) r
+    option_map_or (λ line. option_map_or (λ q. line_recorded (step_recorded r s o line) line text q.refused)
+    (outcome_of s o line) r) (line_in s.world o.forgotten text) r
 
 -- of the line behind the last link and what is said of single nodes
-abbrev pub first_recorded : Record → WorldOptions → Times → OwnView → List ℕ → List (ℕ × ℕ) → List Mark → List ℕ → Record
-first_recorded r options times o dests links marks line = option_map_or (λ w. answer_recorded r (begun_in dests (plain times) w) o line) (started options links dests marks times) r
+abbrev pub first_recorded : Record → WorldOptions → Times → OwnView → List ℕ → List (ℕ × ℕ) → List Mark → List ℕ
+    → Record
+first_recorded r options times o dests links marks line = option_map_or (λ w.
+    answer_recorded r (begun_in dests (plain times) w) o line) (started options links dests marks times) r
 
-abbrev pub link_recorded : Record → WorldOptions → Times → OwnView → List ℕ → List (ℕ × ℕ) → List Mark → List ℕ → Option (ℕ × ℕ) → Option Mark → Record
+abbrev pub link_recorded : Record → WorldOptions → Times → OwnView → List ℕ → List (ℕ × ℕ) → List Mark → List ℕ
+    → Option (ℕ × ℕ) → Option Mark → Record
 link_recorded r options times o dests links marks line (Some link) mark = with_line r line
 link_recorded r options times o dests links marks line None (Some mark) = with_line r line
-link_recorded r options times o dests links marks line None None = first_recorded r options times o dests links marks line
+link_recorded r options times o dests links marks line None None =
+    first_recorded r options times o dests links marks line
 
 -- the same at any place: only links can have such a line behind them
 abbrev pub run_recorded : Record → WorldOptions → Times → OwnView → Progress → List ℕ → Record
 run_recorded r options times o Progress.First line = r
-run_recorded r options times o (Progress.Links dests links marks) line = first_recorded r options times o dests links marks line
+run_recorded r options times o (Progress.Links dests links marks) line =
+    first_recorded r options times o dests links marks line
 run_recorded r options times o (Progress.Runs s) line = r
 
 -- of any line
 unfoldable pub place_recorded : Record → WorldOptions → Times → OwnView → Progress → List ℕ → Record
 place_recorded r options times o Progress.First line = with_line r line
-place_recorded r options times o (Progress.Links dests links marks) line = link_recorded r options times o dests links marks line (link_of line) (mark_of line)
+place_recorded r options times o (Progress.Links dests links marks) line =
+    link_recorded r options times o dests links marks line (link_of line) (mark_of line)
 place_recorded r options times o (Progress.Runs s) line = answer_recorded r s o line
 
 -- a record that has nothing yet, if there is one
@@ -149,7 +158,8 @@ cleared (Some text) = Some []
 -- what a line has in a record; a fault has nothing
 abbrev pub drive_recorded : Record → WorldOptions → Times → DriveView → List ℕ → Record
 drive_recorded r options times v line =
-    option_map_or (λ q. place_recorded (cleared r) options times v.place.own v.place.progress line) (place_reply options times v.place.own v.place.progress line) (cleared r)
+    option_map_or (λ q. place_recorded (cleared r) options times v.place.own v.place.progress line)
+    (place_reply options times v.place.own v.place.progress line) (cleared r)
 
 -- ---- a drive that is recorded
 
@@ -177,14 +187,21 @@ abbrev pub recorded_reply : WorldOptions → Times → DriveView → List ℕ �
 recorded_reply options times v line = if says_notice line then unrecorded v else drive_reply options times v line
 
 abbrev pub recorded_rules : WorldOptions → Times → Rules DriveView
-recorded_rules options times = record { start = (drive_rules options times).start; reply = λ v line. Some (recorded_reply options times v line); at_end = λ v n. None }
+recorded_rules options times = record {
+  start = (drive_rules options times).start;
+  reply = λ v line. Some (recorded_reply options times v line);
+  at_end = λ v n. None;
+}
 
 -- ---- what drive_recorded promises
 
 -- Known bytes grew by the answers to the lines of the input, and the input ends so.
 abbrev pub DrivesRecorded : WorldOptions → Times → List ℕ → Option (List ℕ) → Option (List ℕ) → Ended → Type 0
-DrivesRecorded options times input old new ended = IsWholeText (shortened_text (recorded_rules options times)) input old new ended
+DrivesRecorded options times input old new ended =
+    IsWholeText (shortened_text (recorded_rules options times)) input old new ended
 
 -- The reader gave some bytes, and the writer got a front of the answers to them.
-abbrev pub IsRecordedBegun : WorldOptions → Times → Option (List ℕ) → Option (List ℕ) → Option (List ℕ) → Option (List ℕ) → Type 0
-IsRecordedBegun options times old_reader new_reader old_writer new_writer = IsFrontOfText (shortened_text (recorded_rules options times)) old_reader new_reader old_writer new_writer
+abbrev pub IsRecordedBegun : WorldOptions → Times → Option (List ℕ) → Option (List ℕ) → Option (List ℕ)
+    → Option (List ℕ) → Type 0
+IsRecordedBegun options times old_reader new_reader old_writer new_writer =
+    IsFrontOfText (shortened_text (recorded_rules options times)) old_reader new_reader old_writer new_writer

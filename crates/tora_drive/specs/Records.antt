@@ -14,7 +14,8 @@ use Rattle.tora_drive.specs.declared.records.Route.{Route}
 
 -- `sent A B ID LENGTH`
 unfoldable pub sent_line : ℕ → FrameParts → List ℕ
-sent_line i f = codes "sent " ++ decimal f.header.sender ++ codes " " ++ decimal f.header.receiver ++ codes " " ++ decimal i ++ codes " " ++ decimal (length (frame_spelling f)) ++ 10 ∷ []
+sent_line i f = codes "sent " ++ decimal f.header.sender ++ codes " " ++ decimal f.header.receiver ++ codes " "
+    ++ decimal i ++ codes " " ++ decimal (length (frame_spelling f)) ++ 10 ∷ []
 
 -- the line of the datagram of this number
 abbrev pub sent_of : World → ℕ → List ℕ
@@ -48,8 +49,10 @@ is_same_hop (Some a) (Some b) = a == b
 unfoldable pub hop_line : World → Route → List ℕ
 hop_line w r =
     if is_same_hop r.hop (hop_at w r.node r.destination) then []
-    else codes "hop " ++ decimal r.node ++ codes " " ++ decimal r.destination ++ codes " " ++ hop_text (hop_at w r.node r.destination) ++ 10 ∷ []
+    else codes "hop " ++ decimal r.node ++ codes " " ++ decimal r.destination ++ codes " "
+    ++ hop_text (hop_at w r.node r.destination) ++ 10 ∷ []
 
--- the lines of the next hops that are others now, by ascending node, and then by the destinations as the first line has them
+-- the lines of the next hops that are others now, by ascending node, and then by the destinations as the first line has
+-- them
 abbrev pub hops_text : List ℕ → List ℕ → World → World → List ℕ
 hops_text nodes dests before after = flat_map (hop_line after) (routes_of before nodes dests)

@@ -58,8 +58,8 @@ IsNotice line = (n : ℕ) × (k : ℕ) × (drive_line_of line ≡ Some (Notice n
 abbrev pub SaysNoNotice : List (List ℕ) → Type 0
 SaysNoNotice lines = AllByRecursion (λ line. IsNotice line → ⊥) lines
 
--- A world is the one behind some events, from the first world with these options of some links and destinations, and of what is said of single nodes; where no line cuts a life,
--- they are events of the simulator alone.
+-- A world is the one behind some events, from the first world with these options of some links and destinations, and of
+-- what is said of single nodes; where no line cuts a life, they are events of the simulator alone.
 pub record IsOfEvents (options : WorldOptions) (times : Times) (CutsNothing : Type 0) (w : World) : Type 0 where
   pub links : List (ℕ × ℕ)
   pub dests : List ℕ
@@ -75,7 +75,8 @@ pub record IsOfEvents (options : WorldOptions) (times : Times) (CutsNothing : Ty
 abbrev pub EveryDrive : (WorldOptions → Times → List (List ℕ) → World → Type 0) → Type 0
 EveryDrive Holds =
     (options : WorldOptions) (times : Times) (lines : List (List ℕ)) (v : DriveView) (s : RunningView)
-    → state_behind (drive_rules options times) (drive_rules options times).start lines ≡ Some v → v.place.progress ≡ Progress.Runs s → Holds options times lines s.world
+    → state_behind (drive_rules options times) (drive_rules options times).start lines ≡ Some v
+    → v.place.progress ≡ Progress.Runs s → Holds options times lines s.world
 
 -- the world behind any lines of a drive is of events
 abbrev pub DrivesAreRuns : Type 0
@@ -83,12 +84,15 @@ DrivesAreRuns = EveryDrive (λ options times lines w. IsOfEvents options times (
 
 -- such events are a schedule
 abbrev pub AreSchedules : Type 0
-AreSchedules = (w : World) (events : List DriveEvent) → after_all_driven w events ≡ after_schedule (schedule_of w events) w
+AreSchedules =
+    (w : World) (events : List DriveEvent) → after_all_driven w events ≡ after_schedule (schedule_of w events) w
 
--- A world is the one behind a schedule, over a topology that is not refused within some limits; and at each link end nothing is left out of a life.
+-- A world is the one behind a schedule, over a topology that is not refused within some limits; and at each link end
+-- nothing is left out of a life.
 pub record HasNoGaps (times : Times) (w : World) : Type 0 where
   pub topology : Topology
   pub sound : IsWithinLimits topology
   pub schedule : Schedule
   pub world_is : w ≡ after_schedule schedule (first_world topology times)
-  pub gapless : (n k : ℕ) → is_link topology n k ≡ true → IsWithoutGap topology (first_world topology times) schedule w n k
+  pub gapless : (n k : ℕ) → is_link topology n k ≡ true → IsWithoutGap topology (first_world topology times) schedule w
+      n k

@@ -56,7 +56,8 @@ CutsNothing line = (n k : ℕ) → line ≡ Notice n k → ⊥
 -- what a line of a drive leaves of the simulation, those that stand for it leave of it
 abbrev pub ScriptsStandForLines : Type 0
 ScriptsStandForLines =
-    (s : RunningView) (o : OwnView) (line : DriveLine) (q : Outcome) → CutsNothing line → outcome_of s o line ≡ Some q → simulated s (script_of s o line q.refused) ≡ Some q.run
+    (s : RunningView) (o : OwnView) (line : DriveLine) (q : Outcome) → CutsNothing line → outcome_of s o line ≡ Some q
+    → simulated s (script_of s o line q.refused) ≡ Some q.run
 
 -- none, or 16 bytes
 abbrev pub IsTorn : Option (List ℕ) → Type 0
@@ -87,7 +88,8 @@ IsOrder line = (event : Event) → line ≡ Happens event → ⊥
 -- the line of an order, which a record has as it is, says that order
 abbrev pub OrdersAreRead : Type 0
 OrdersAreRead =
-    (w : World) (forgotten : ℕ) (text : List ℕ) (order : SimulationLine) → IsOrder order → line_in w forgotten text ≡ Some (Script order) → simulation_line_of text ≡ Some order
+    (w : World) (forgotten : ℕ) (text : List ℕ) (order : SimulationLine) → IsOrder order
+    → line_in w forgotten text ≡ Some (Script order) → simulation_line_of text ≡ Some order
 
 -- a link end of two nodes
 abbrev pub IsEnd : ℕ × ℕ → Type 0
@@ -96,40 +98,50 @@ IsEnd e = IsId e.0 × IsId e.1
 -- the numbers of the events of a step are in range
 abbrev pub StepsHaveNumbers : Type 0
 StepsHaveNumbers =
-    (nodes : List ℕ) (ends far : List (ℕ × ℕ)) → AllByRecursion IsId nodes → AllByRecursion IsEnd ends → (w : World) → AllByRecursion HasNumbers (step nodes ends far w)
+    (nodes : List ℕ) (ends far : List (ℕ × ℕ)) → AllByRecursion IsId nodes → AllByRecursion IsEnd ends → (w : World)
+    → AllByRecursion HasNumbers (step nodes ends far w)
 
 -- ---- all lines
 
 -- the lines that stand for the text of a line, if it is one that is taken
 abbrev pub script_in : RunningView → OwnView → List ℕ → List SimulationLine
-script_in s o text = option_map_or (λ line. option_map_or (λ q. script_of s o line q.refused) (outcome_of s o line) []) (line_in s.world o.forgotten text) []
+script_in s o text = option_map_or (λ line. option_map_or (λ q. script_of s o line q.refused) (outcome_of s o line) [])
+    (line_in s.world o.forgotten text) []
 
-abbrev pub first_script : WorldOptions → Times → OwnView → List ℕ → List (ℕ × ℕ) → List Mark → List ℕ → List SimulationLine
-first_script options times o dests links marks line = option_map_or (λ w. script_in (begun_in dests (plain times) w) o line) (started options links dests marks times) []
+abbrev pub first_script : WorldOptions → Times → OwnView → List ℕ → List (ℕ × ℕ) → List Mark → List ℕ
+    → List SimulationLine
+first_script options times o dests links marks line =
+    option_map_or (λ w. script_in (begun_in dests (plain times) w) o line) (started options links dests marks times) []
 
 -- the lines in front of the world have none
-abbrev pub link_script : WorldOptions → Times → OwnView → List ℕ → List (ℕ × ℕ) → List Mark → List ℕ → Option (ℕ × ℕ) → Option Mark → List SimulationLine
+abbrev pub link_script : WorldOptions → Times → OwnView → List ℕ → List (ℕ × ℕ) → List Mark → List ℕ → Option (ℕ × ℕ)
+    → Option Mark → List SimulationLine
 link_script options times o dests links marks line (Some link) mark = []
 link_script options times o dests links marks line None (Some mark) = []
 link_script options times o dests links marks line None None = first_script options times o dests links marks line
 
 unfoldable pub place_script : WorldOptions → Times → OwnView → Progress → List ℕ → List SimulationLine
 place_script options times o Progress.First line = []
-place_script options times o (Progress.Links dests links marks) line = link_script options times o dests links marks line (link_of line) (mark_of line)
+place_script options times o (Progress.Links dests links marks) line =
+    link_script options times o dests links marks line (link_of line) (mark_of line)
 place_script options times o (Progress.Runs s) line = script_in s o line
 
 -- a fault has none
 abbrev pub line_script : WorldOptions → Times → DriveView → List ℕ → List SimulationLine
 line_script options times v line =
-    if says_notice line then [] else option_map_or (λ q. place_script options times v.place.own v.place.progress line) (place_reply options times v.place.own v.place.progress line) []
+    if says_notice line then [] else option_map_or (λ q. place_script options times v.place.own v.place.progress line)
+    (place_reply options times v.place.own v.place.progress line) []
 
 -- the lines behind the links that stand for the lines of a recorded drive, from one on
 unfoldable pub scripts : WorldOptions → Times → DriveView → List (List ℕ) → List SimulationLine
 scripts options times v [] = []
-scripts options times v (line ∷ lines) = line_script options times v line ++ scripts options times (recorded_reply options times v line).0 lines
+scripts options times v (line ∷ lines) = line_script options times v line
+    ++ scripts options times (recorded_reply options times v line).0 lines
 
--- A simulation is what lines leave of one that begins in the first world with these options of some links and destinations, and of what is said of single nodes.
-pub record IsSimulated (options : WorldOptions) (times : Times) (script : List SimulationLine) (s : RunningView) : Type 0 where
+-- A simulation is what lines leave of one that begins in the first world with these options of some links and
+-- destinations, and of what is said of single nodes.
+pub record IsSimulated (options : WorldOptions) (times : Times) (script : List SimulationLine) (s : RunningView) :
+    Type 0 where
   pub links : List (ℕ × ℕ)
   pub dests : List ℕ
   pub marks : List Mark
@@ -141,5 +153,6 @@ pub record IsSimulated (options : WorldOptions) (times : Times) (script : List S
 abbrev pub RecordsAreSimulated : Type 0
 RecordsAreSimulated =
     (options : WorldOptions) (times : Times) (lines : List (List ℕ)) (v : DriveView) (s : RunningView)
-    → state_behind (recorded_rules options times) (recorded_rules options times).start lines ≡ Some v → v.place.progress ≡ Progress.Runs s
+    → state_behind (recorded_rules options times) (recorded_rules options times).start lines ≡ Some v
+    → v.place.progress ≡ Progress.Runs s
     → IsSimulated options times (scripts options times (recorded_rules options times).start lines) s

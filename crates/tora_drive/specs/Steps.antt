@@ -30,7 +30,8 @@ step_pass nodes ends far w =
 -- passes until one has no event, and so many at most
 unfoldable pub step_passes : ℕ → List ℕ → List (ℕ × ℕ) → List (ℕ × ℕ) → Plan
 step_passes zero nodes ends far w = []
-step_passes (suc k) nodes ends far w = if is_empty (step_pass nodes ends far w) then [] else plan_then (step_pass nodes ends far) (step_passes k nodes ends far) w
+step_passes (suc k) nodes ends far w = if is_empty (step_pass nodes ends far w) then []
+    else plan_then (step_pass nodes ends far) (step_passes k nodes ends far) w
 
 unfoldable pub step : List ℕ → List (ℕ × ℕ) → List (ℕ × ℕ) → Plan
 step nodes ends far = plan_then (once Tick) (plan_then (each_end_once turn.Open ends) (step_passes 1000 nodes ends far))

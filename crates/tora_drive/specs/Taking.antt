@@ -17,7 +17,8 @@ use Rattle.tora_drive.specs.DriveLines.{drive_line_of}
 
 -- the datagram went from one node to another, and has these bytes
 abbrev pub is_sent_so : ℕ → ℕ → List ℕ → FrameParts → Bool
-is_sent_so sender receiver bytes f = (f.header.sender == sender) && (f.header.receiver == receiver) && is_word bytes (frame_spelling f)
+is_sent_so sender receiver bytes f =
+    (f.header.sender == sender) && (f.header.receiver == receiver) && is_word bytes (frame_spelling f)
 
 abbrev pub is_sent_at : World → ℕ → ℕ → List ℕ → ℕ → Bool
 is_sent_at w sender receiver bytes i = option_map_or (is_sent_so sender receiver bytes) (datagram w i) false

@@ -1,6 +1,6 @@
 //! The answer to a line of a running simulation.
-ghost use Rattle.std.specs.Prelude.{◌≡◌, ◌↔◌, ◌+◌, ◌++◌, [], length, OnOk, IfOk, IsTrue, Err, Some, None, string_bytes, is_some, option_map, if◌then◌else◌};
-ghost use Rattle.std.specs.List.{flat_map};
+ghost use Rattle.std.specs.Prelude.{◌≡◌, ◌↔◌, ◌+◌, ◌++◌, [], length, OnOk, IfOk, IsTrue, Err, Some, None, string_bytes};
+ghost use Rattle.std.specs.Prelude.{is_some, option_map, if◌then◌else◌};
 ghost use Rattle.std.specs.Option.{option_map_or};
 ghost use Rattle.tora_lines.specs.Gives.{Gives};
 ghost use Rattle.tora_lines.specs.LineText.{TakesReply};
@@ -9,7 +9,9 @@ ghost use Rattle.tora_script.specs.declared.turns.EndTurn.TheVariants.{Open};
 ghost use Rattle.tora_script.specs.Rounds.{plan_then, each_end_once};
 ghost use Rattle.tora_script.specs.RunningView.{running_view};
 ghost use Rattle.tora_script.specs.SimulationText.{refusal_text, event_reply, has_end};
-ghost use Rattle.tora_drive.specs.DriveText.{named, with_far, without_far, outcome, shown, unnamed, is_forgotten, event_outcome, after_step, need_line, needs_text, bytes_line, silenced, noticed, forgetting, script_outcome, outcome_of, closing, told, answer_to};
+ghost use Rattle.tora_drive.specs.DriveText.{named, with_far, without_far, outcome, shown, unnamed, is_forgotten};
+ghost use Rattle.tora_drive.specs.DriveText.{event_outcome, after_step, bytes_line, silenced, noticed, forgetting};
+ghost use Rattle.tora_drive.specs.DriveText.{script_outcome, outcome_of, closing, told, answer_to};
 ghost use Rattle.tora_drive.specs.DriveView.{own_view, record_view};
 ghost use Rattle.tora_drive.specs.Recording.{events_text, with_record, step_recorded, line_recorded, answer_recorded};
 ghost use Rattle.tora_drive.specs.declared.line.DriveLine.TheVariants.{Step};
@@ -18,6 +20,7 @@ ghost use Rattle.tora_drive.specs.Steps.{step, step_passes};
 
 use crate::driven::Driven;
 use crate::line::DriveLine;
+use crate::needs::write_needs;
 use crate::own::Own;
 use crate::records::{routes_before, routes_in, write_frame, write_hops, write_sent};
 use crate::stepping::{finish_step, tick};
@@ -29,47 +32,6 @@ use tora_lines::numbered;
 use tora_lines::words::LineError;
 use tora_script::{Running, SimulationLine, has_end};
 use tora_world::{Event, SimError};
-
-/// Puts `need N D` behind a text where a route is required.
-#[tactic(auto, unfolding(crate::specs::DriveText::need_line))]
-fn write_need<S: Driven>(out: &mut String, sim: &S, n: Id, d: Id) -> Result<(), AllocError>
-    ensures { OnOk result (string_bytes out.new ≡ string_bytes out.old ++ need_line (S.world sim.now) n d) }
-{
-    if sim.flag(n, d) {
-        writeln!(out, "need {n} {d}")
-    } else {
-        Ok(())
-    }
-}
-
-fn write_needs_of<S: Driven>(
-    out: &mut String,
-    sim: &S,
-    n: Id,
-    dests: &[Id],
-) -> Result<(), AllocError>
-    ensures { OnOk result (string_bytes out.new ≡ string_bytes out.old ++ flat_map (need_line (S.world sim.now) n) dests.now) }
-{
-    for d in dests {
-        write_need(out, sim, n, *d)?;
-    }
-    Ok(())
-}
-
-/// Puts the routes that are required behind a text.
-fn write_needs<S: Driven>(
-    out: &mut String,
-    sim: &S,
-    nodes: &[Id],
-    dests: &[Id],
-) -> Result<(), AllocError>
-    ensures { OnOk result (string_bytes out.new ≡ string_bytes out.old ++ needs_text (S.world sim.now) nodes.now dests.now) }
-{
-    for n in nodes {
-        write_needs_of(out, sim, *n, dests)?;
-    }
-    Ok(())
-}
 
 /// Puts `refused N` behind a text.
 fn refuse(out: &mut String, error: SimError) -> Result<(), AllocError>
@@ -84,7 +46,8 @@ fn happen<S: Driven>(
     event: &Event,
     out: &mut String,
 ) -> Result<bool, AllocError>
-    ensures reply { OnOk result (TakesReply (event_reply (running_view S.world running.old) event.now) (running_view S.world running.new) (string_bytes out.old) (string_bytes out.new)) }
+    ensures reply { OnOk result (TakesReply (event_reply (running_view S.world running.old) event.now)
+        (running_view S.world running.new) (string_bytes out.old) (string_bytes out.new)) }
     ensures refused { IfOk result (λ r. r ≡ is_some (refusal_of (S.world running.old.sim) event.now)) }
 {
     let refused = running.sim.happen(event)?;
@@ -115,7 +78,8 @@ fn event<S: Driven>(
     out: &mut String,
 ) -> Result<bool, AllocError>
     requires { string_bytes out.old ≡ [] }
-    ensures { IfOk result (λ r. outcome (running_view S.world running.new) (own_view own.now) (string_bytes out.new) r ≡ event_outcome (running_view S.world running.old) (own_view own.now) event.now) }
+    ensures { IfOk result (λ r. outcome (running_view S.world running.new) (own_view own.now) (string_bytes out.new) r
+        ≡ event_outcome (running_view S.world running.old) (own_view own.now) event.now) }
 {
     if is_forgotten(own, event) {
         refuse(out, SimError::NoDatagram)?;
@@ -126,9 +90,15 @@ fn event<S: Driven>(
 
 /// A round in which nothing is delivered; its events are recorded.
 fn step<S: Driven>(alloc: Global, running: &mut Running<S>, own: &mut Own) -> Result<(), AllocError>
-    ensures view { OnOk result (running_view S.world running.new ≡ record (running_view S.world running.old) { world = after_step (running_view S.world running.old) (own_view own.old) }) }
+    ensures view { OnOk result (running_view S.world running.new
+        ≡ record (running_view S.world running.old) {
+          world = after_step (running_view S.world running.old)
+              (own_view own.old);
+        }) }
     ensures own { own_view own.new ≡ own_view own.old }
-    ensures record { OnOk result (record_view own.new ≡ with_record (record_view own.old) (events_text (step (running_view S.world running.old).nodes (running_view S.world running.old).ends (own_view own.old).far (S.world running.old.sim)))) }
+    ensures record { OnOk result (record_view own.new ≡ with_record (record_view own.old)
+        (events_text (step (running_view S.world running.old).nodes (running_view S.world running.old).ends
+        (own_view own.old).far (S.world running.old.sim)))) }
 {
     let mut text = String::new(alloc);
     let (nodes, ends) = (&running.nodes, &running.ends);
@@ -144,7 +114,8 @@ fn silence<S: Driven>(
     is_far: bool,
 ) -> Result<(), LineError>
     ensures gives { Gives (λ _. shown (running_view S.world running.now) (own_view own.new) []) result
-        (silenced (running_view S.world running.now) (own_view own.old) end.0 end.1 (if is_far then with_far end (own_view own.old).far else without_far end (own_view own.old).far)) }
+        (silenced (running_view S.world running.now) (own_view own.old) end.0 end.1
+        (if is_far then with_far end (own_view own.old).far else without_far end (own_view own.old).far)) }
     ensures kept { result ≡ Err LineError.Fault → own_view own.new ≡ own_view own.old }
     ensures record { record_view own.new ≡ record_view own.old }
 {
@@ -159,8 +130,8 @@ fn silence<S: Driven>(
     Ok(())
 }
 
-/// Cuts the life that an end is bound to, and says whether that is refused, since it is bound to none; a fault where there is no such
-/// end. A refusal stands behind an empty text.
+/// Cuts the life that an end is bound to, and says whether that is refused, since it is bound to none; a fault where
+/// there is no such end. A refusal stands behind an empty text.
 fn notice<S: Driven>(
     running: &mut Running<S>,
     own: &Own,
@@ -168,8 +139,10 @@ fn notice<S: Driven>(
     out: &mut String,
 ) -> Result<bool, LineError>
     requires { string_bytes out.old ≡ [] }
-    ensures gives { Gives (λ r. outcome (running_view S.world running.new) (own_view own.now) (string_bytes out.new) r) result
-        (if has_end end.0 end.1 (running_view S.world running.old).ends then Some (noticed (running_view S.world running.old) (own_view own.now) end.0 end.1) else None) }
+    ensures gives { Gives (λ r. outcome (running_view S.world running.new) (own_view own.now) (string_bytes out.new) r)
+        result
+        (if has_end end.0 end.1 (running_view S.world running.old).ends then Some
+        (noticed (running_view S.world running.old) (own_view own.now) end.0 end.1) else None) }
     ensures kept { result ≡ Err LineError.Fault → running_view S.world running.new ≡ running_view S.world running.old }
 {
     if !has_end(end.0, end.1, &running.ends) {
@@ -183,7 +156,8 @@ fn notice<S: Driven>(
     Ok(false)
 }
 
-/// Puts the bytes of a datagram behind an empty text, and says whether that is refused, since there is no such datagram.
+/// Puts the bytes of a datagram behind an empty text, and says whether that is refused, since there is no such
+/// datagram.
 fn write_bytes<S: Driven>(
     running: &Running<S>,
     own: &Own,
@@ -192,7 +166,9 @@ fn write_bytes<S: Driven>(
 ) -> Result<bool, AllocError>
     requires { string_bytes out.old ≡ [] }
     ensures { IfOk result (λ r. outcome (running_view S.world running.now) (own_view own.now) (string_bytes out.new) r
-        ≡ option_map_or (λ f. shown (running_view S.world running.now) (own_view own.now) (bytes_line i f)) (named (own_view own.now) (S.world running.now.sim) i) (unnamed (running_view S.world running.now) (own_view own.now))) }
+        ≡ option_map_or (λ f. shown (running_view S.world running.now) (own_view own.now) (bytes_line i f))
+        (named (own_view own.now) (S.world running.now.sim) i) (unnamed (running_view S.world running.now)
+        (own_view own.now))) }
 {
     if i <= own.forgotten {
         refuse(out, SimError::NoDatagram)?;
@@ -218,7 +194,8 @@ fn forget<S: Driven>(
     out: &mut String,
 ) -> Result<bool, AllocError>
     requires { string_bytes out.old ≡ [] }
-    ensures view { IfOk result (λ r. outcome (running_view S.world running.now) (own_view own.new) (string_bytes out.new) r ≡ forgetting (running_view S.world running.now) (own_view own.old) i) }
+    ensures view { IfOk result (λ r. outcome (running_view S.world running.now) (own_view own.new)
+        (string_bytes out.new) r ≡ forgetting (running_view S.world running.now) (own_view own.old) i) }
     ensures record { record_view own.new ≡ record_view own.old }
 {
     if i > running.sim.datagrams() {
@@ -231,7 +208,8 @@ fn forget<S: Driven>(
     Ok(false)
 }
 
-/// Does what a line of a simulation file asks for, puts what is printed first behind an empty text, and says whether it was refused.
+/// Does what a line of a simulation file asks for, puts what is printed first behind an empty text, and says whether it
+/// was refused.
 fn perform_script<S: Driven>(
     running: &mut Running<S>,
     own: &Own,
@@ -239,7 +217,8 @@ fn perform_script<S: Driven>(
     out: &mut String,
 ) -> Result<bool, LineError>
     requires { string_bytes out.old ≡ [] }
-    ensures gives { Gives (λ r. outcome (running_view S.world running.new) (own_view own.now) (string_bytes out.new) r) result (script_outcome (running_view S.world running.old) (own_view own.now) line) }
+    ensures gives { Gives (λ r. outcome (running_view S.world running.new) (own_view own.now) (string_bytes out.new) r)
+        result (script_outcome (running_view S.world running.old) (own_view own.now) line) }
     ensures kept { result ≡ Err LineError.Fault → running_view S.world running.new ≡ running_view S.world running.old }
 {
     match line {
@@ -261,10 +240,12 @@ fn perform<S: Driven>(
     out: &mut String,
 ) -> Result<bool, LineError>
     requires { string_bytes out.old ≡ [] }
-    ensures gives { Gives (λ r. outcome (running_view S.world running.new) (own_view own.new) (string_bytes out.new) r) result (outcome_of (running_view S.world running.old) (own_view own.old) line) }
+    ensures gives { Gives (λ r. outcome (running_view S.world running.new) (own_view own.new) (string_bytes out.new) r)
+        result (outcome_of (running_view S.world running.old) (own_view own.old) line) }
     ensures kept { result ≡ Err LineError.Fault → running_view S.world running.new ≡ running_view S.world running.old }
     ensures own { result ≡ Err LineError.Fault → own_view own.new ≡ own_view own.old }
-    ensures record { IfOk result (λ r. record_view own.new ≡ step_recorded (record_view own.old) (running_view S.world running.old) (own_view own.old) line) }
+    ensures record { IfOk result (λ r. record_view own.new ≡ step_recorded (record_view own.old)
+        (running_view S.world running.old) (own_view own.old) line) }
 {
     match line {
         DriveLine::Script(line) => perform_script(running, own, line, out),
@@ -299,7 +280,8 @@ fn record_line(
     was_refused: bool,
 ) -> Result<(), AllocError>
     ensures view { own_view own.new ≡ own_view own.old }
-    ensures record { OnOk result (record_view own.new ≡ line_recorded (record_view own.old) line.now text.now was_refused) }
+    ensures record { OnOk result (record_view own.new ≡ line_recorded (record_view own.old) line.now text.now
+        was_refused) }
 {
     match line {
         DriveLine::Script(SimulationLine::Happens(event)) => {
@@ -334,8 +316,8 @@ fn is_unrecorded_step(own: &Own, line: &DriveLine) -> bool
     }
 }
 
-/// What a step does behind its tick, and what is told of it, behind a text. Where nothing is to be done nothing changes, and so no next hop is
-/// looked up.
+/// What a step does behind its tick, and what is told of it, behind a text. Where nothing is to be done nothing
+/// changes, and so no next hop is looked up.
 #[tactic(auto, using(crate::proofs::QuietLaws::quiet_world))]
 fn finish<S: Driven>(
     alloc: Global,
@@ -343,8 +325,16 @@ fn finish<S: Driven>(
     own: &Own,
     out: &mut String,
 ) -> Result<(), AllocError>
-    ensures view { OnOk result (running_view S.world running.new ≡ record (running_view S.world running.old) { world = world_after_all (S.world running.old.sim) (plan_then (each_end_once Open running.old.ends.items) (step_passes 1000 running.old.nodes.items running.old.ends.items own.now.far.items) (S.world running.old.sim)) }) }
-    ensures told { OnOk result (string_bytes out.new ≡ string_bytes out.old ++ sent_text (S.world running.old.sim) (S.world running.new.sim) ++ hops_text running.old.nodes.items running.old.dests.items (S.world running.old.sim) (S.world running.new.sim)) }
+    ensures view { OnOk result (running_view S.world running.new
+        ≡ record (running_view S.world running.old) {
+          world = world_after_all (S.world running.old.sim)
+              (plan_then (each_end_once Open running.old.ends.items) (step_passes 1000 running.old.nodes.items
+              running.old.ends.items own.now.far.items) (S.world running.old.sim));
+        }) }
+    ensures told { OnOk result (string_bytes out.new ≡ string_bytes out.old
+        ++ sent_text (S.world running.old.sim) (S.world running.new.sim)
+        ++ hops_text running.old.nodes.items running.old.dests.items (S.world running.old.sim)
+        (S.world running.new.sim)) }
 {
     let is_done = running.sim.is_quiet();
     if is_done {
@@ -365,7 +355,8 @@ fn answer_step<S: Driven>(
     out: &mut String,
 ) -> Result<(), AllocError>
     requires { string_bytes out.old ≡ [] }
-    ensures { OnOk result (option_map (told (running_view S.world running.old)) (outcome_of (running_view S.world running.old) (own_view own.now) Step)
+    ensures { OnOk result (option_map (told (running_view S.world running.old))
+        (outcome_of (running_view S.world running.old) (own_view own.now) Step)
         ≡ Some (running_view S.world running.new, own_view own.now, string_bytes out.new)) }
 {
     tick(&mut running.sim)?;
@@ -373,8 +364,8 @@ fn answer_step<S: Driven>(
     close(out, false)
 }
 
-/// Takes any line, whose text it is, and puts the answer behind an empty text, and what stands for the line behind the record, if there is
-/// one.
+/// Takes any line, whose text it is, and puts the answer behind an empty text, and what stands for the line behind the
+/// record, if there is one.
 fn answer_line<S: Driven>(
     alloc: Global,
     running: &mut Running<S>,
@@ -384,10 +375,15 @@ fn answer_line<S: Driven>(
     out: &mut String,
 ) -> Result<(), LineError>
     requires { string_bytes out.old ≡ [] }
-    ensures gives { Gives (λ _. (running_view S.world running.new, own_view own.new, string_bytes out.new)) result (option_map (told (running_view S.world running.old)) (outcome_of (running_view S.world running.old) (own_view own.old) line)) }
+    ensures gives { Gives (λ _. (running_view S.world running.new, own_view own.new, string_bytes out.new)) result
+        (option_map (told (running_view S.world running.old)) (outcome_of (running_view S.world running.old)
+        (own_view own.old) line)) }
     ensures kept { result ≡ Err LineError.Fault → running_view S.world running.new ≡ running_view S.world running.old }
     ensures own { result ≡ Err LineError.Fault → own_view own.new ≡ own_view own.old }
-    ensures record { OnOk result (record_view own.new ≡ option_map_or (λ q. line_recorded (step_recorded (record_view own.old) (running_view S.world running.old) (own_view own.old) line) line text.now q.refused) (outcome_of (running_view S.world running.old) (own_view own.old) line) (record_view own.old)) }
+    ensures record { OnOk result (record_view own.new ≡ option_map_or (λ q.
+        line_recorded (step_recorded (record_view own.old) (running_view S.world running.old) (own_view own.old) line)
+        line text.now q.refused) (outcome_of (running_view S.world running.old) (own_view own.old) line)
+        (record_view own.old)) }
 {
     let first = running.sim.datagrams();
     let before = routes_before(alloc, running, &line)?;
@@ -399,8 +395,8 @@ fn answer_line<S: Driven>(
     Ok(())
 }
 
-/// Takes a line of a running simulation, puts the answer behind an empty text, and what stands for the line behind the record, if there
-/// is one. A line that is a fault changes nothing.
+/// Takes a line of a running simulation, puts the answer behind an empty text, and what stands for the line behind the
+/// record, if there is one. A line that is a fault changes nothing.
 #[tactic(auto, unfolding(crate::specs::DriveText::answer_to))]
 pub fn answer<S: Driven>(
     alloc: Global,
@@ -410,10 +406,12 @@ pub fn answer<S: Driven>(
     out: &mut String,
 ) -> Result<(), LineError>
     requires { string_bytes out.old ≡ [] }
-    ensures gives { Gives (λ _. (running_view S.world running.new, own_view own.new, string_bytes out.new)) result (answer_to (running_view S.world running.old) (own_view own.old) text.now) }
+    ensures gives { Gives (λ _. (running_view S.world running.new, own_view own.new, string_bytes out.new)) result
+        (answer_to (running_view S.world running.old) (own_view own.old) text.now) }
     ensures kept { result ≡ Err LineError.Fault → running_view S.world running.new ≡ running_view S.world running.old }
     ensures own { result ≡ Err LineError.Fault → own_view own.new ≡ own_view own.old }
-    ensures record { OnOk result (record_view own.new ≡ answer_recorded (record_view own.old) (running_view S.world running.old) (own_view own.old) text.now) }
+    ensures record { OnOk result (record_view own.new ≡ answer_recorded (record_view own.old)
+        (running_view S.world running.old) (own_view own.old) text.now) }
 {
     let line = line_in(alloc, &running.sim, own.forgotten, text)?;
     if is_unrecorded_step(own, &line) {

@@ -5,8 +5,8 @@ use crate::own::Own;
 use tora_arq::Times;
 use tora_script::{Stage, WorldOptions};
 
-/// A drive, by how many lines came, the options of its world, the times of its link ends, none of which is 0, the simulation that
-/// the lines made, and what is kept beside it.
+/// A drive, by how many lines came, the options of its world, the times of its link ends, none of which is 0, the
+/// simulation that the lines made, and what is kept beside it.
 #[derive(Drop)]
 pub struct Drive<S> {
     pub lines: u64,

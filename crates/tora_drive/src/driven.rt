@@ -24,7 +24,8 @@ pub trait Driven: Simulator {
     fn flag(&self, n: Id, d: Id) -> bool
         ensures { result ≡ flag_at (Self.world self.now) n d };
 
-    /// The life that the end of a node towards another is bound in; `None` where it is not bound, or where there is no such end.
+    /// The life that the end of a node towards another is bound in; `None` where it is not bound, or where there is no
+    /// such end.
     fn bound_life(&self, n: Id, k: Id) -> Option<Life>
         ensures { result ≡ bound_life ((Self.world self.now).ends n k) };
 }

@@ -37,7 +37,8 @@ fn call_text(call: Call) -> &'static str
 
 /// Puts `arm N CALL` behind a text.
 fn write_arm(out: &mut String, n: Id, call: Call) -> Result<(), AllocError>
-    ensures { OnOk result (string_bytes out.new ≡ string_bytes out.old ++ codes "arm " ++ decimal n ++ codes " " ++ call_text call) }
+    ensures { OnOk result (string_bytes out.new ≡ string_bytes out.old ++ codes "arm " ++ decimal n ++ codes " "
+        ++ call_text call) }
 {
     let call = call_text(call);
     write!(out, "arm {n} {call}")
@@ -45,14 +46,16 @@ fn write_arm(out: &mut String, n: Id, call: Call) -> Result<(), AllocError>
 
 /// Puts `restart N T` behind a text, for a T of these digits.
 fn write_digits(out: &mut String, n: Id, digits: &str) -> Result<(), AllocError>
-    ensures { OnOk result (string_bytes out.new ≡ string_bytes out.old ++ codes "restart " ++ decimal n ++ codes " " ++ digits.now) }
+    ensures { OnOk result (string_bytes out.new ≡ string_bytes out.old ++ codes "restart " ++ decimal n ++ codes " "
+        ++ digits.now) }
 {
     write!(out, "restart {n} {digits}")
 }
 
 /// Puts `restart N T` behind a text.
 fn write_restart(out: &mut String, n: Id, torn: Option<[u8; 16]>) -> Result<(), AllocError>
-    ensures { OnOk result (string_bytes out.new ≡ string_bytes out.old ++ codes "restart " ++ decimal n ++ codes " " ++ torn_text torn) }
+    ensures { OnOk result (string_bytes out.new ≡ string_bytes out.old ++ codes "restart " ++ decimal n ++ codes " "
+        ++ torn_text torn) }
 {
     let Some(bytes) = torn else {
         return write_digits(out, n, "-");

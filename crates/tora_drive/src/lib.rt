@@ -20,6 +20,7 @@ mod driving;
 mod event_lines;
 mod laws;
 mod line;
+mod needs;
 mod one_line;
 mod own;
 mod recorded;

@@ -10,8 +10,8 @@ use std::alloc::{AllocError, Global};
 use tora_height::Id;
 use tora_world::Event;
 
-/// The ends that are silent, each as its node and its neighbour, the number up to which datagrams can't be named any more, and the lines of a
-/// simulation file that stand for the last line.
+/// The ends that are silent, each as its node and its neighbour, the number up to which datagrams can't be named any
+/// more, and the lines of a simulation file that stand for the last line.
 #[derive(Drop)]
 pub struct Own {
     pub far: Vec<(Id, Id)>,
@@ -109,7 +109,10 @@ impl Own {
 
     /// Makes an end silent.
     pub fn silence(&mut self, end: (Id, Id)) -> Result<(), AllocError>
-        ensures view { OnOk result (own_view self.new ≡ record (own_view self.old) { far = with_far end (own_view self.old).far }) }
+        ensures view { OnOk result (own_view self.new ≡ record (own_view self.old) {
+          far =
+              with_far end (own_view self.old).far;
+        }) }
         ensures record { record_view self.new ≡ record_view self.old }
     {
         if is_far(&self.far, end) {

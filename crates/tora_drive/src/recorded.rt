@@ -5,16 +5,16 @@ ghost use Rattle.tora_arq.specs.Settings.{IsTimes};
 ghost use Rattle.tora_traced.specs.TraceOuts.{ArePut};
 ghost use Rattle.tora_drive.specs.DriveView.{record_view, recording_kind};
 ghost use Rattle.tora_drive.specs.Recording.{DrivesRecorded, IsRecordedBegun};
+ghost use Rattle.tora_lines.specs.Reads.{IsReadSo, IsUnwritten};
 
 use crate::drive::Drive;
 use crate::driven::Driven;
 use crate::line::says_notice;
 use crate::own::Own;
 use std::alloc::{AllocError, Global};
-use std::io::{Read, Write};
 use tora_arq::Times;
 use tora_lines::words::LineError;
-use tora_lines::{Ended, FileKind, Output, ReplayError, read_shortened_lines};
+use tora_lines::{Ended, FileKind, Input, Output, ReplayError, read_shortened_lines};
 use tora_script::{Stage, WorldOptions};
 use tora_traced::TraceOut;
 
@@ -54,13 +54,14 @@ impl<S: Driven, W: Output> FileKind for Recording<'_, S, W> {
     }
 }
 
-/// Drives as `drive_in` does, and writes the record of the lines that are taken: a simulation file that stands for them. It has the
-/// lines in front of the world, the orders as they are, the line of each event that is not refused, and the events of each `step`, one by
-/// one; `needs`, `near`, `far`, `bytes` and `forget` change no world and have no line. `notice N K` has none either, and is a fault.
+/// Drives as `drive_in` does, and writes the record of the lines that are taken: a simulation file that stands for
+/// them. It has the lines in front of the world, the orders as they are, the line of each event that is not refused,
+/// and the events of each `step`, one by one; `needs`, `near`, `far`, `bytes` and `forget` change no world and have no
+/// line. `notice N K` has none either, and is a fault.
 ///
 /// A record that can't be written stops nothing; `out` says so then.
 #[tactic(auto, unfolding(tora_lines::specs::Shortened::shortened_text_of))]
-pub fn drive_recorded<S: Driven, R: Read, W: Write, V: Output>(
+pub fn drive_recorded<S: Driven, R: Input, W: Output, V: Output>(
     alloc: Global,
     options: WorldOptions,
     times: Times,
@@ -75,7 +76,10 @@ pub fn drive_recorded<S: Driven, R: Read, W: Write, V: Output>(
     ensures at_end { result ≡ Ok Ended.Whole → IsAtEnd (R.remaining reader.new) }
     // What was written begins the answers to what was read.
     ensures begun { IfErr result (λ e. e ≢ ReplayError.Write →
-        IsRecordedBegun options times (R.remaining reader.old) (R.remaining reader.new) (W.contents writer.old) (W.contents writer.new)) }
+        IsRecordedBegun options times (R.remaining reader.old) (R.remaining reader.new) (W.contents writer.old)
+        (W.contents writer.new)) }
+    ensures reads { IsReadSo R.did_read reader.old reader.new result }
+    ensures failed { IfErr result (λ e. e ≡ ReplayError.Write → IsUnwritten W.did_write writer.new) }
 {
     let state: Recording<'_, S, V> = Recording {
         drive: Drive {

@@ -1,5 +1,6 @@
 //! The lines that report what a line changed in a world.
-ghost use Rattle.std.specs.Prelude.{◌≡◌, ◌<◌, ◌+◌, ◌-◌, ◌++◌, ◌∷◌, [], codes, OnOk, IfOk, length, string_bytes, if◌then◌else◌};
+ghost use Rattle.std.specs.Prelude.{◌≡◌, ◌<◌, ◌+◌, ◌-◌, ◌++◌, ◌∷◌, [], codes, OnOk, IfOk, length, string_bytes};
+ghost use Rattle.std.specs.Prelude.{if◌then◌else◌};
 ghost use Rattle.tora_drive.specs.Records.{sent_line, sent_of, sent_from, is_same_hop, hop_line, routes_at, routes_of};
 ghost use Rattle.std.specs.List.{flat_map};
 ghost use Rattle.std.specs.Fmt.{decimal};
@@ -73,7 +74,8 @@ fn write_sent_one<S: Driven>(out: &mut String, sim: &S, i: u64) -> Result<(), Al
 
 /// Puts the lines of the datagrams behind a text that come after the first ones.
 pub fn write_sent<S: Driven>(out: &mut String, sim: &S, first: u64) -> Result<(), AllocError>
-    ensures { OnOk result (string_bytes out.new ≡ string_bytes out.old ++ sent_from (S.world sim.now) (first) (length (S.world sim.now).datagrams - first)) }
+    ensures { OnOk result (string_bytes out.new ≡ string_bytes out.old
+        ++ sent_from (S.world sim.now) (first) (length (S.world sim.now).datagrams - first)) }
 {
     for i in first..sim.datagrams() {
         write_sent_one(out, sim, i + 1)?;
@@ -102,7 +104,8 @@ fn put_routes<S: Simulator>(
 
 /// Puts `bytes ID` and hexadecimal digits behind a text.
 fn write_digits(out: &mut String, i: u64, digits: &str) -> Result<(), AllocError>
-    ensures { OnOk result (string_bytes out.new ≡ string_bytes out.old ++ codes "bytes " ++ decimal i ++ codes " " ++ digits.now ++ 10 ∷ []) }
+    ensures { OnOk result (string_bytes out.new ≡ string_bytes out.old ++ codes "bytes " ++ decimal i ++ codes " "
+        ++ digits.now ++ 10 ∷ []) }
 {
     writeln!(out, "bytes {i} {digits}")
 }
@@ -142,7 +145,8 @@ fn routes<S: Simulator>(
 
 /// The next hops of all nodes to all destinations.
 pub fn routes_in<S: Driven>(alloc: Global, running: &Running<S>) -> Result<Vec<Route>, AllocError>
-    ensures { IfOk result (λ v. v.items ≡ routes_of (S.world running.now.sim) running.now.nodes.items running.now.dests.items) }
+    ensures { IfOk result (λ v. v.items ≡ routes_of (S.world running.now.sim) running.now.nodes.items
+        running.now.dests.items) }
 {
     routes(alloc, &running.sim, &running.nodes, &running.dests)
 }
@@ -166,7 +170,8 @@ pub fn routes_before<S: Driven>(
     running: &Running<S>,
     line: &DriveLine,
 ) -> Result<Vec<Route>, AllocError>
-    ensures { IfOk result (λ v. v.items ≡ (if may_change_hops line.now then routes_of (S.world running.now.sim) running.now.nodes.items running.now.dests.items else [])) }
+    ensures { IfOk result (λ v. v.items ≡ (if may_change_hops line.now then routes_of (S.world running.now.sim)
+        running.now.nodes.items running.now.dests.items else [])) }
 {
     if may_change_hops(line) {
         routes_in(alloc, running)
@@ -206,7 +211,8 @@ pub fn write_hops<S: Simulator>(
     sim: &S,
     routes: &[Route],
 ) -> Result<(), AllocError>
-    ensures { OnOk result (string_bytes out.new ≡ string_bytes out.old ++ flat_map (hop_line (S.world sim.now)) routes.now) }
+    ensures { OnOk result (string_bytes out.new ≡ string_bytes out.old
+        ++ flat_map (hop_line (S.world sim.now)) routes.now) }
 {
     for route in routes {
         write_hop(out, sim, route)?;

@@ -1,5 +1,5 @@
 //! A step: a round in which nothing is delivered, and silent ends send nothing.
-ghost use Rattle.std.specs.Prelude.{◌≡◌, ◌||◌, IfOk};
+ghost use Rattle.std.specs.Prelude.{◌≡◌, IfOk};
 ghost use Rattle.tora_world.specs.World.{world_after, world_after_all};
 ghost use Rattle.tora_world.specs.declared.event.Event.TheVariants.{Tick};
 ghost use Rattle.tora_script.specs.declared.turns.EndTurn.TheVariants.{Open};
@@ -9,28 +9,16 @@ ghost use Rattle.tora_drive.specs.Steps.{is_far, sends_of, step_pass, step_passe
 use std::alloc::AllocError;
 use tora_height::Id;
 use tora_script::{
-    EndTurn, Simulator, are_known, next_place, turn_cores, turn_end, turn_known_ends,
+    EndTurn, MOST_PASSES, MOST_TIMES, Simulator, are_known, either, next_place, turn_cores,
+    turn_end, turn_known_ends,
 };
 use tora_world::Event;
-
-/// The most times that an event is made to happen on end, as in a round.
-pub const MOST_TIMES: u64 = 1024;
-
-/// The most passes of a step, as of a round.
-pub const MOST_PASSES: u64 = 1000;
 
 /// Whether an end is silent.
 pub fn is_far(far: &[(Id, Id)], end: (Id, Id)) -> bool
     ensures { result ≡ is_far far.now end }
 {
     far.iter().any(|e| end.0 == e.0 && end.1 == e.1)
-}
-
-/// Either of the two.
-pub fn either(a: bool, b: bool) -> bool
-    ensures { result ≡ (a || b) }
-{
-    a || b
 }
 
 /// Lets an end send its frames, unless it is silent. The place is that of the end.
@@ -40,7 +28,8 @@ fn send_of<S: Simulator>(
     end: (Id, Id),
     far: &[(Id, Id)],
 ) -> Result<bool, AllocError>
-    ensures { IfOk result (λ some. Happened (S.world sim.old) (sends_of far.now end (S.world sim.old)) (S.world sim.new) some) }
+    ensures { IfOk result (λ some. Happened (S.world sim.old) (sends_of far.now end (S.world sim.old)) (S.world sim.new)
+        some) }
 {
     if is_far(far, end) {
         return Ok(false);
@@ -48,8 +37,8 @@ fn send_of<S: Simulator>(
     turn_end(sim, EndTurn::Transmit, place, end, MOST_TIMES)
 }
 
-/// Lets each end send its frames that is not silent. Where it is known that these are the ends of the simulator, those at which nothing is
-/// due are passed over.
+/// Lets each end send its frames that is not silent. Where it is known that these are the ends of the simulator, those
+/// at which nothing is due are passed over.
 fn send_all<S: Simulator>(
     sim: &mut S,
     known: bool,
@@ -57,17 +46,18 @@ fn send_all<S: Simulator>(
     far: &[(Id, Id)],
 ) -> Result<bool, AllocError>
     requires { AreKnown known ends.now (S.world sim.old) }
-    ensures { IfOk result (λ some. Happened (S.world sim.old) (each (sends_of far.now) ends.now (S.world sim.old)) (S.world sim.new) some) }
+    ensures { IfOk result (λ some. Happened (S.world sim.old) (each (sends_of far.now) ends.now (S.world sim.old))
+        (S.world sim.new) some) }
 {
     if sim.is_quiet() {
         return Ok(false);
     }
     let mut some = false;
-    let mut place = next_place(sim, known, ends, EndTurn::Transmit, 0);
+    let mut place = next_place(sim, known, ends, 0);
     while place < ends.len() {
         let any = send_of(sim, place, ends[place], far)?;
         some = either(some, any);
-        place = next_place(sim, known, ends, EndTurn::Transmit, place + 1);
+        place = next_place(sim, known, ends, place + 1);
     }
     Ok(some)
 }
@@ -82,7 +72,8 @@ fn pass<S: Simulator>(
     far: &[(Id, Id)],
 ) -> Result<bool, AllocError>
     requires { AreKnown known ends.now (S.world sim.old) }
-    ensures { IfOk result (λ some. Happened (S.world sim.old) (step_pass nodes.now ends.now far.now (S.world sim.old)) (S.world sim.new) some) }
+    ensures { IfOk result (λ some. Happened (S.world sim.old) (step_pass nodes.now ends.now far.now (S.world sim.old))
+        (S.world sim.new) some) }
 {
     let turned = turn_cores(sim, nodes)?;
     let pulled = turn_known_ends(sim, known, ends, EndTurn::Pull, MOST_TIMES)?;
@@ -91,8 +82,8 @@ fn pass<S: Simulator>(
     Ok(either(turned, either(pulled, either(sent, pumped))))
 }
 
-/// Passes until one has no event. The simulator settles behind that one, too: what was delivered since the last step may have left it unknown
-/// whether anything is to be done, and so the steps that follow would look at all.
+/// Passes until one has no event. The simulator settles behind that one, too: what was delivered since the last step
+/// may have left it unknown whether anything is to be done, and so the steps that follow would look at all.
 fn make_passes<S: Simulator>(
     sim: &mut S,
     nodes: &[Id],
@@ -101,7 +92,8 @@ fn make_passes<S: Simulator>(
     far: &[(Id, Id)],
 ) -> Result<(), AllocError>
     requires { AreKnown known ends.now (S.world sim.old) }
-    ensures { IfOk result (λ _. S.world sim.new ≡ world_after_all (S.world sim.old) (step_passes 1000 nodes.now ends.now far.now (S.world sim.old))) }
+    ensures { IfOk result (λ _. S.world sim.new ≡ world_after_all (S.world sim.old)
+        (step_passes 1000 nodes.now ends.now far.now (S.world sim.old))) }
 {
     for _ in 0..MOST_PASSES {
         let some = pass(sim, nodes, known, ends, far)?;
@@ -128,7 +120,8 @@ pub fn finish_step<S: Simulator>(
     ends: &[(Id, Id)],
     far: &[(Id, Id)],
 ) -> Result<(), AllocError>
-    ensures { IfOk result (λ _. S.world sim.new ≡ world_after_all (S.world sim.old) (plan_then (each_end_once Open ends.now) (step_passes 1000 nodes.now ends.now far.now) (S.world sim.old))) }
+    ensures { IfOk result (λ _. S.world sim.new ≡ world_after_all (S.world sim.old)
+        (plan_then (each_end_once Open ends.now) (step_passes 1000 nodes.now ends.now far.now) (S.world sim.old))) }
 {
     let known = are_known(sim, ends);
     turn_known_ends(sim, known, ends, EndTurn::Open, 1)?;

@@ -7,7 +7,8 @@ ghost use Rattle.tora_script.specs.SimulationText.{first_progress};
 ghost use Rattle.tora_script.specs.SimulationView.{progress_of};
 ghost use Rattle.tora_drive.specs.DriveText.{closing, first_answer, run_begun, placed, place_reply, drive_reply};
 ghost use Rattle.tora_drive.specs.DriveView.{own_view, record_view, view_of, drive_kind};
-ghost use Rattle.tora_drive.specs.Recording.{with_line, first_recorded, run_recorded, place_recorded, drive_recorded, unrecorded};
+ghost use Rattle.tora_drive.specs.Recording.{with_line, first_recorded, run_recorded, place_recorded, drive_recorded};
+ghost use Rattle.tora_drive.specs.Recording.{unrecorded};
 
 use crate::answer::answer;
 use crate::cause::{Cause, fault_cause, write_fault};
@@ -22,8 +23,8 @@ use tora_script::{
     LinkLines, Running, Setup, Stage, WorldOptions, first_line, link, mark, take_link, take_mark,
 };
 
-/// Takes a line behind the last link and what is said of single nodes, which makes the world; at least one link is required. A line that is a
-/// fault changes nothing.
+/// Takes a line behind the last link and what is said of single nodes, which makes the world; at least one link is
+/// required. A line that is a fault changes nothing.
 fn begin<S: Driven>(
     alloc: Global,
     options: WorldOptions,
@@ -35,9 +36,12 @@ fn begin<S: Driven>(
 ) -> Result<Running<S>, LineError>
     requires times { IsTimes times }
     requires empty { string_bytes text.old ≡ [] }
-    ensures gives { Gives (λ s. (running_view S.world s, own_view own.new, string_bytes text.new)) result (first_answer options times (own_view own.old) lines.now.dests.items lines.now.links.items lines.now.marks.items line.now) }
+    ensures gives { Gives (λ s. (running_view S.world s, own_view own.new, string_bytes text.new)) result
+        (first_answer options times (own_view own.old) lines.now.dests.items lines.now.links.items lines.now.marks.items
+        line.now) }
     ensures own { result ≡ Err LineError.Fault → own_view own.new ≡ own_view own.old }
-    ensures record { IfOk result (λ _. record_view own.new ≡ first_recorded (record_view own.old) options times (own_view own.old) lines.now.dests.items lines.now.links.items lines.now.marks.items line.now) }
+    ensures record { IfOk result (λ _. record_view own.new ≡ first_recorded (record_view own.old) options times
+        (own_view own.old) lines.now.dests.items lines.now.links.items lines.now.marks.items line.now) }
 {
     if lines.links.is_empty() {
         return Err(LineError::Fault);
@@ -70,8 +74,8 @@ fn take_in(own: &mut Own, line: &[u8], text: &mut String) -> Result<(), AllocErr
 
 /// Takes the first line; the links come behind it.
 ///
-/// As `begin_run` it stands in a function of its own, which is never put into its caller: else every line of a drive would make room for
-/// a simulation.
+/// As `begin_run` it stands in a function of its own, which is never put into its caller: else every line of a drive
+/// would make room for a simulation.
 #[inline(never)]
 fn begin_links<S: Driven>(stage: &mut Stage<S>, alloc: Global, line: &[u8]) -> Result<(), LineError>
     ensures gives { Gives (λ _. progress_of S.world stage.new) result (first_progress line.now) }
@@ -81,8 +85,8 @@ fn begin_links<S: Driven>(stage: &mut Stage<S>, alloc: Global, line: &[u8]) -> R
     Ok(())
 }
 
-/// Takes a line behind the links that is none of them and says nothing of a node; the simulation runs behind it. At any other place there is no such
-/// line, and nothing changes.
+/// Takes a line behind the links that is none of them and says nothing of a node; the simulation runs behind it. At any
+/// other place there is no such line, and nothing changes.
 #[inline(never)]
 fn begin_run<S: Driven>(
     stage: &mut Stage<S>,
@@ -95,10 +99,12 @@ fn begin_run<S: Driven>(
 ) -> Result<(), LineError>
     requires times { IsTimes times }
     requires empty { string_bytes text.old ≡ [] }
-    ensures gives { Gives (λ _. placed (progress_of S.world stage.new) (own_view own.new) (string_bytes text.new)) result (run_begun options times (own_view own.old) (progress_of S.world stage.old) line.now) }
+    ensures gives { Gives (λ _. placed (progress_of S.world stage.new) (own_view own.new) (string_bytes text.new))
+        result (run_begun options times (own_view own.old) (progress_of S.world stage.old) line.now) }
     ensures kept { result ≡ Err LineError.Fault → progress_of S.world stage.new ≡ progress_of S.world stage.old }
     ensures own { result ≡ Err LineError.Fault → own_view own.new ≡ own_view own.old }
-    ensures record { OnOk result (record_view own.new ≡ run_recorded (record_view own.old) options times (own_view own.old) (progress_of S.world stage.old) line.now) }
+    ensures record { OnOk result (record_view own.new ≡ run_recorded (record_view own.old) options times
+        (own_view own.old) (progress_of S.world stage.old) line.now) }
 {
     let Stage::Links(lines) = stage else {
         return Err(LineError::Fault);
@@ -108,8 +114,8 @@ fn begin_run<S: Driven>(
     Ok(())
 }
 
-/// Takes a line, puts the answer behind an empty text, and what stands for the line behind the record, if there is one. A line that is
-/// a fault changes nothing.
+/// Takes a line, puts the answer behind an empty text, and what stands for the line behind the record, if there is one.
+/// A line that is a fault changes nothing.
 #[tactic(auto, unfolding(crate::specs::DriveText::place_reply, crate::specs::Recording::place_recorded))]
 fn take_line<S: Driven>(
     stage: &mut Stage<S>,
@@ -122,10 +128,12 @@ fn take_line<S: Driven>(
 ) -> Result<(), LineError>
     requires times { IsTimes times }
     requires empty { string_bytes text.old ≡ [] }
-    ensures gives { Gives (λ _. placed (progress_of S.world stage.new) (own_view own.new) (string_bytes text.new)) result (place_reply options times (own_view own.old) (progress_of S.world stage.old) line.now) }
+    ensures gives { Gives (λ _. placed (progress_of S.world stage.new) (own_view own.new) (string_bytes text.new))
+        result (place_reply options times (own_view own.old) (progress_of S.world stage.old) line.now) }
     ensures kept { result ≡ Err LineError.Fault → progress_of S.world stage.new ≡ progress_of S.world stage.old }
     ensures own { result ≡ Err LineError.Fault → own_view own.new ≡ own_view own.old }
-    ensures record { OnOk result (record_view own.new ≡ place_recorded (record_view own.old) options times (own_view own.old) (progress_of S.world stage.old) line.now) }
+    ensures record { OnOk result (record_view own.new ≡ place_recorded (record_view own.old) options times
+        (own_view own.old) (progress_of S.world stage.old) line.now) }
 {
     match stage {
         Stage::First => {
@@ -155,8 +163,10 @@ impl<S: Driven> Drive<S> {
     /// for this line alone.
     pub fn reply(&mut self, alloc: Global, line: &[u8], text: &mut String) -> Result<(), AllocError>
         requires { string_bytes text.old ≡ [] }
-        ensures answer { OnOk result ((view_of S.world self.new, string_bytes text.new) ≡ drive_reply self.old.options self.old.times (view_of S.world self.old) line.now) }
-        ensures record { OnOk result (record_view self.new.own ≡ drive_recorded (record_view self.old.own) self.old.options self.old.times (view_of S.world self.old) line.now) }
+        ensures answer { OnOk result ((view_of S.world self.new, string_bytes text.new)
+            ≡ drive_reply self.old.options self.old.times (view_of S.world self.old) line.now) }
+        ensures record { OnOk result (record_view self.new.own ≡ drive_recorded (record_view self.old.own)
+            self.old.options self.old.times (view_of S.world self.old) line.now) }
         ensures options { self.new.options ≡ self.old.options }
         ensures times { self.new.times ≡ self.old.times }
     {
@@ -194,7 +204,8 @@ impl<S: Driven> Drive<S> {
     /// Takes a line that no line of a record stands for, as a fault: it puts the answer behind an empty text.
     pub fn refuse(&mut self, text: &mut String) -> Result<(), AllocError>
         requires { string_bytes text.old ≡ [] }
-        ensures answer { OnOk result ((view_of S.world self.new, string_bytes text.new) ≡ unrecorded (view_of S.world self.old)) }
+        ensures answer { OnOk result ((view_of S.world self.new, string_bytes text.new)
+            ≡ unrecorded (view_of S.world self.old)) }
         ensures options { self.new.options ≡ self.old.options }
         ensures times { self.new.times ≡ self.old.times }
     {

@@ -5,10 +5,10 @@ ghost use Rattle.tora_drive.specs.Recording.{HappenedTold, Told, turns_of};
 ghost use Rattle.tora_drive.specs.Steps.{step_pass, step_passes, step};
 
 use crate::event_lines::tell_event;
-use crate::stepping::{MOST_PASSES, MOST_TIMES, either, is_far};
+use crate::stepping::is_far;
 use std::alloc::AllocError;
 use tora_height::Id;
-use tora_script::{EndTurn, Simulator};
+use tora_script::{EndTurn, MOST_PASSES, MOST_TIMES, Simulator, either};
 use tora_world::Event;
 
 /// Makes an event happen until it is refused, at most `most` times, and returns whether it happened at all. `place` is
@@ -20,7 +20,8 @@ fn repeat_told<S: Simulator>(
     most: u64,
     text: &mut String,
 ) -> Result<bool, AllocError>
-    ensures { IfOk result (λ some. HappenedTold (S.world sim.old) (repeats most event.now (S.world sim.old)) (S.world sim.new) some (string_bytes text.old) (string_bytes text.new)) }
+    ensures { IfOk result (λ some. HappenedTold (S.world sim.old) (repeats most event.now (S.world sim.old))
+        (S.world sim.new) some (string_bytes text.old) (string_bytes text.new)) }
 {
     let mut some = false;
     for _ in 0..most {
@@ -45,7 +46,8 @@ fn tell_cores<S: Simulator>(
     nodes: &[Id],
     text: &mut String,
 ) -> Result<bool, AllocError>
-    ensures { IfOk result (λ some. HappenedTold (S.world sim.old) (each_core nodes.now (S.world sim.old)) (S.world sim.new) some (string_bytes text.old) (string_bytes text.new)) }
+    ensures { IfOk result (λ some. HappenedTold (S.world sim.old) (each_core nodes.now (S.world sim.old))
+        (S.world sim.new) some (string_bytes text.old) (string_bytes text.new)) }
 {
     let mut some = false;
     for (place, n) in nodes.iter().enumerate() {
@@ -65,7 +67,9 @@ fn tell_end<S: Simulator>(
     most: u64,
     text: &mut String,
 ) -> Result<bool, AllocError>
-    ensures { IfOk result (λ some. HappenedTold (S.world sim.old) (turns_of left_out.now kind most end (S.world sim.old)) (S.world sim.new) some (string_bytes text.old) (string_bytes text.new)) }
+    ensures { IfOk result (λ some. HappenedTold (S.world sim.old)
+        (turns_of left_out.now kind most end (S.world sim.old)) (S.world sim.new) some (string_bytes text.old)
+        (string_bytes text.new)) }
 {
     if is_far(left_out, end) {
         return Ok(false);
@@ -82,7 +86,9 @@ fn tell_ends<S: Simulator>(
     most: u64,
     text: &mut String,
 ) -> Result<bool, AllocError>
-    ensures { IfOk result (λ some. HappenedTold (S.world sim.old) (each (turns_of left_out.now kind most) ends.now (S.world sim.old)) (S.world sim.new) some (string_bytes text.old) (string_bytes text.new)) }
+    ensures { IfOk result (λ some. HappenedTold (S.world sim.old)
+        (each (turns_of left_out.now kind most) ends.now (S.world sim.old)) (S.world sim.new) some
+        (string_bytes text.old) (string_bytes text.new)) }
 {
     let mut some = false;
     for (place, end) in ends.iter().enumerate() {
@@ -100,7 +106,9 @@ fn pass_told<S: Simulator>(
     far: &[(Id, Id)],
     text: &mut String,
 ) -> Result<bool, AllocError>
-    ensures { IfOk result (λ some. HappenedTold (S.world sim.old) (step_pass nodes.now ends.now far.now (S.world sim.old)) (S.world sim.new) some (string_bytes text.old) (string_bytes text.new)) }
+    ensures { IfOk result (λ some. HappenedTold (S.world sim.old)
+        (step_pass nodes.now ends.now far.now (S.world sim.old)) (S.world sim.new) some (string_bytes text.old)
+        (string_bytes text.new)) }
 {
     let turned = tell_cores(sim, nodes, text)?;
     let pulled = tell_ends(sim, ends, &[], EndTurn::Pull, MOST_TIMES, text)?;
@@ -117,7 +125,8 @@ fn make_passes_told<S: Simulator>(
     far: &[(Id, Id)],
     text: &mut String,
 ) -> Result<(), AllocError>
-    ensures { IfOk result (λ _. Told (S.world sim.old) (step_passes 1000 nodes.now ends.now far.now (S.world sim.old)) (S.world sim.new) (string_bytes text.old) (string_bytes text.new)) }
+    ensures { IfOk result (λ _. Told (S.world sim.old) (step_passes 1000 nodes.now ends.now far.now (S.world sim.old))
+        (S.world sim.new) (string_bytes text.old) (string_bytes text.new)) }
 {
     for _ in 0..MOST_PASSES {
         if !pass_told(sim, nodes, ends, far, text)? {
@@ -136,7 +145,8 @@ pub fn make_step_told<S: Simulator>(
     far: &[(Id, Id)],
     text: &mut String,
 ) -> Result<(), AllocError>
-    ensures { IfOk result (λ _. Told (S.world sim.old) (step nodes.now ends.now far.now (S.world sim.old)) (S.world sim.new) (string_bytes text.old) (string_bytes text.new)) }
+    ensures { IfOk result (λ _. Told (S.world sim.old) (step nodes.now ends.now far.now (S.world sim.old))
+        (S.world sim.new) (string_bytes text.old) (string_bytes text.new)) }
 {
     repeat_told(sim, 0, &Event::Tick, 1, text)?;
     tell_ends(sim, ends, &[], EndTurn::Open, 1, text)?;

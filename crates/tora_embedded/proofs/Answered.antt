@@ -1,4 +1,4 @@
--- An item that is served where every cargo is put: its offers, read back as answers, give the same serving.
+-- An item that is served with every cargo put: the results of its offers give the same serving.
 use Rattle.std.proofs.Common.{◌≡◌, ℕ, zero, suc, Bool, true, false, List, [], ◌∷◌, ◌++◌, length, Option, Some, None, nat_eq, ◌||◌, if◌then◌else◌, refl, sym, ap, ◌∙◌, subst, append_assoc, append-nil, eq-eqb}
 use Rattle.std.proofs.lemmas.Bool.{or_right}
 use Rattle.std.specs.Prelude.{slice_get, is_some}
@@ -40,7 +40,7 @@ at_length : (before : List Offer) (o : Offer) (offers : List Offer) → slice_ge
 at_length [] o offers = refl
 at_length (x ∷ before) o offers = at_length before o offers
 
--- what was offered, read back as answers, follows those answers
+-- the offers have the results that are read back from them
 told_follows : (before offers : List Offer) → Follows (answers_told (before ++ offers)) before offers
 told_follows before [] = tt
 told_follows before (o ∷ offers) = (
@@ -67,7 +67,7 @@ all_among ks [] inside = tt
 all_among ks (j ∷ js) inside = (inside j (ap (λ b. b || has_number j js) (eq-eqb j j refl)), all_among ks js (λ i e. inside i (or_right (nat_eq j i) (has_number i js) e)))
 
 module _ (ks : List ℕ) (told : Answers) where
-  -- one goes on where every cargo is put, and the other by the answers told: where those are the same answers, both come to the same
+  -- one serving puts every cargo, and the other uses given results: if these are the same, both servings are the same
   record Same (before : List Offer) (near : List ℕ) (x y : Serving) : Type 0 where
     added : List Offer
     offers : x.offers ≡ before ++ added
@@ -232,7 +232,7 @@ module _ (ks : List ℕ) (seat : SeatState) (item : Item) where
   pub served_put : ArePut ks served.offers
   served_put = subst (ArePut ks) (sym goes.offers) goes.are_put
 
-  -- and the offers give the serving back
+  -- the offers determine the serving
   pub served_told : serving_of (answers_told served.offers) ks seat item ≡ served
   served_told = goes.same (subst (Follows (answers_told served.offers) []) goes.offers (told_follows [] served.offers))
 

@@ -121,7 +121,7 @@ module _ (t : Topology) (times : Times) (n : ℕ) (once : has_repeat (neighbours
 
   -- ---- the link to a neighbour
 
-  -- the place of the neighbour, where there is such a link
+  -- the place of the neighbour, if there is such a link
   neighbour_found : (r : RouterState) (h : History) (w : Network) (k : ℕ) (found : ℕ × Unit {0}) → IsHere r h w → first_in (to_peer k) r.links ≡ Some found → slice_get ks found.0 ≡ Some k
   neighbour_found r h w k found i q =
       let same = first_same (end_in t times n (w.ends n)) (to_peer k) (λ j. if nat_eq j k then Some tt else None) (λ link j e. ap (λ (x : LinkEndView). if nat_eq x.settings.peer k then Some tt else None) e) ks r.links i.ends in

@@ -1,4 +1,4 @@
--- Neighbours by their places, and the links that stand at them.
+-- Neighbours by their places, and the links at these places.
 use Rattle.std.proofs.Common.{◌≡◌, ◌<◌, ◌≤◌, ℕ, zero, suc, Bool, true, false, true≢false, List, [], ◌∷◌, ◌++◌, length, Option, Some, None, nat_eq, nat_lt, ◌||◌, if◌then◌else◌, refl, sym, ap, ap₂, ◌∙◌, subst, append_assoc, append-nil, eqb-true, eq-eqb, arith}
 use Rattle.std.proofs.lemmas.Bool.{cond_both, false_from_ne_true, or_right, or_parts}
 use Rattle.std.proofs.lemmas.Bool.Decides.{nat_tests}
@@ -29,7 +29,7 @@ number_at k place [] e = not_none k e
 number_at k zero (x ∷ ks) e = ap (λ b. b || has_number k ks) (eq-eqb x k (ap (value_or x) e))
 number_at k (suc place) (x ∷ ks) e = or_right (nat_eq x k) (has_number k ks) (number_at k place ks e)
 
--- a number that stands further on is another one
+-- a number further on is another one
 other_first : (x k : ℕ) (ks : List ℕ) → has_repeat (x ∷ ks) ≡ false → has_number k ks ≡ true → nat_eq x k ≡ false
 other_first x k ks once i =
     false_from_ne_true (nat_eq x k) (λ q. true≢false (sym (subst (λ (y : ℕ). has_number y ks ≡ true) (sym (eqb-true x k q)) i) ∙ (or_parts (has_number x ks) (has_repeat ks) once).0))
@@ -164,7 +164,7 @@ changed_at end end' f k zero (x ∷ ks) (link ∷ links) once e g others h =
 changed_at end end' f k (suc place) (x ∷ ks) (link ∷ links) once e g others h =
     (h.0 ∙ sym (others x (other_first x k ks once (number_at k place ks e))), changed_at end end' f k place ks links (or_parts (has_number x ks) (has_repeat ks) once).1 e g others h.1)
 
--- what is told of a link changes no end
+-- polling a change of a link changes no end
 pub told_at : (end : ℕ → LinkEndView) (f : Link → Link) (place : ℕ) (ks : List ℕ) (links : List Link) → ((link : Link) → (f link).end ≡ link.end) → AreEnds end ks links → AreEnds end ks (at_place f place links)
 told_at end f place [] [] g h = h
 told_at end f place [] (link ∷ links) g h = absurd h

@@ -1,4 +1,4 @@
--- One node of a network: what a part of a run makes of it, and where it is a router's.
+-- One node of a network: the effect of a part of a run, and how it agrees with a router.
 use Rattle.std.proofs.Common.{◌≡◌, ℕ, ◌<◌, Bool, true, false, List, [], ◌∷◌, ◌++◌, nat_eq, refl, sym, ap, ◌∙◌, subst, eq-eqb}
 use Rattle.tora_frame.specs.FrameParts.{FrameParts}
 use Rattle.tora_arq.specs.declared.times.Times.{Times}

@@ -57,7 +57,7 @@ at_place_then f g after place [] e = refl
 at_place_then f g after zero (link ∷ links) e = ap (λ x. x ∷ links) (e link)
 at_place_then f g after (suc place) (link ∷ links) e = ap (λ xs. link ∷ xs) (at_place_then f g after place links e)
 
--- ---- an end that is opened, and a tick that is handed to it
+-- ---- an end that is opened, and its tick
 
 abbrev pub may_be_opened : ℕ → EndState → Bool
 may_be_opened number e = is_closed e && (nat_lt e.last_life number && nat_le number (2 ^ 62))
@@ -73,7 +73,7 @@ ticked_is number now link = go (may_open number link)
     go true = refl
     go false = refl
 
--- the number of an item tells nothing
+-- the number of an item does not matter
 pub numbered : (answers : Answers) (ks : List ℕ) (seat : SeatState) (place number now : ℕ) (what : What) → serving_of answers ks seat (record { seat = place; number = number; now = now; what = what }) ≡ serving_of answers ks seat (item_at place now what)
 unfolding serving_of
 numbered answers ks seat place number now what = refl
@@ -92,7 +92,7 @@ module _ (t : Topology) (times : Times) (n : ℕ) (once : has_repeat (neighbours
       (λ link q. g link q ∙ ap (link_end_of (s t times n k)) (sym (put_here ends k e))) (λ j o. ap (link_end_of (s t times n j)) (put_there ends k e j o)) h
 
   module _ (r : RouterState) (h : History) (w : Network) where
-    -- a part that is about its end alone
+    -- a part that changes only its end
     pub quiet : IsNode t times n r h [] [] (node_of w n) → (k place : ℕ) → slice_get ks place ≡ Some k → (part : LinkPart) (e : EndState) (f : Link → Link) → MayBe (net t times w) (OfLink n k part)
         → after_part (net t times w) (OfLink n k part) ≡ net t times (record w { ends = put_at w.ends n k e })
         → ((link : Link) → link.end ≡ end_in t times n (w.ends n) k → (f link).end ≡ link_end_of (s t times n k) e)
@@ -264,7 +264,7 @@ module _ (t : Topology) (times : Times) (n : ℕ) (once : has_repeat (neighbours
       (tells r h w i k place now event at first)
       (λ x j. item_served r' h x (place_of k ks) number now (what_of event) j))
 
-  -- a tick is handed to the link at a place
+  -- a tick is passed to the link at a place
   pub tick_handed : (r : RouterState) (h : History) (w : Network) (k place now : ℕ) → slice_get ks place ≡ Some k → IsNode t times n r h [] [] (node_of w n)
       → Reached t times n (record r { links = at_place (ticked r.next_life now) place r.links; next_life = next_number (may_be_opened r.next_life (w.ends n k)) r.next_life }) h [] [] w
   tick_handed r h w k place now at i = go (may_be_opened r.next_life (w.ends n k)) refl

@@ -1,4 +1,4 @@
--- Programs that embed routers: what their hosts do at the routers of all nodes, in one order of all calls.
+-- Programs that embed routers: the calls of their hosts at the routers of all nodes, in one order.
 use Rattle.std.specs.Prelude.{◌≡◌, ◌⊎◌, ℕ, zero, suc, ◌≤◌, IsTrue, List, [], ◌∷◌, ◌++◌, length, Option, Some, None, Result, Ok, Err}
 use Rattle.tora_frame.specs.declared.FrameError.{FrameError}
 use Rattle.tora_frame.specs.FrameParts.{FrameParts}
@@ -22,17 +22,17 @@ use Rattle.tora_running.specs.Network.{IsRefusal}
 
 -- a call that a host makes at the router of a node
 pub data RouterCall : Type 0 where
-  -- a router is made anew, with the first number for its link ends
+  -- a new router is made, with the first number for its link ends
   New : (config : Config) (neighbours destinations : List ℕ) (first_life : ℕ) → RouterCall
   OnTick : (now : ℕ) → RouterCall
-  -- a datagram that is said to come from this neighbour; its bytes read so
+  -- a datagram that is said to come from this neighbour, decoded
   OnDatagram : (peer : ℕ) (reading : Result FrameParts FrameError) (now : ℕ) → RouterCall
   Need : (destination now : ℕ) → RouterCall
   Cut : (peer now : ℕ) → RouterCall
   PollDatagram : (now : ℕ) → RouterCall
   PollChange : RouterCall
 
--- the router that the call leaves, as the contracts of `Router` have it
+-- the router after the call, as the contracts of `Router` say
 abbrev pub router_after : RouterCall → RouterState → RouterState
 router_after (New config neighbours destinations first_life) r = first_router config neighbours destinations first_life
 router_after (OnTick now) r = after_tick now r
@@ -47,14 +47,16 @@ router_after PollChange r = after_poll_change r
 abbrev pub served_event : ℕ → RouterState → Option (ℕ × LinkEvent) → List Serving
 served_event now r None = []
 served_event now r (Some found) =
-    serving (record r { links = at_place (polled found.1) found.0 r.links }) (item_at found.0 now (what_of found.1)) ∷ []
+    serving (record r { links = at_place (polled found.1) found.0 r.links }) (item_at found.0 now (what_of found.1))
+    ∷ []
 
 abbrev pub served_events : ℕ → ℕ → RouterState → List Serving
 served_events zero now r = []
 served_events (suc count) now r =
-    served_events count now r ++ served_event now (after_events count now r) (first_in event_of (after_events count now r).links)
+    served_events count now r ++ served_event now (after_events count now r)
+    (first_in event_of (after_events count now r).links)
 
--- until no event waits
+-- the events served until none waits
 abbrev pub served_settling : ℕ → RouterState → List Serving
 served_settling now r = served_events (waiting r.links) now r
 
@@ -62,21 +64,23 @@ abbrev pub served_in : RouterCall → RouterState → List Serving
 served_in (New config neighbours destinations first_life) r = []
 served_in (OnTick now) r = served_settling now (ticked_before (length r.links) now r)
 served_in (OnDatagram k reading now) r =
-    at_link [] (λ place. served_settling now (record r { links = at_place (heard now reading) place r.links })) (first_in (to_peer k) r.links)
+    at_link [] (λ place. served_settling now (record r { links = at_place (heard now reading) place r.links }))
+    (first_in (to_peer k) r.links)
 served_in (Need d now) r = serving r (need_item r d now) ∷ served_settling now (after_item r (need_item r d now))
 served_in (Cut k now) r =
-    at_link [] (λ place. served_settling now (record r { links = at_place cut place r.links })) (first_in (to_peer k) r.links)
+    at_link [] (λ place. served_settling now (record r { links = at_place cut place r.links }))
+    (first_in (to_peer k) r.links)
 served_in (PollDatagram now) r = []
 served_in PollChange r = []
 
--- ---- what a node has exchanged
+-- ---- the exchanges of a node
 
--- over all routers of the node but for the inputs, which are those of the last one
+-- the history over all routers of a node, except the inputs, which are those of the last one
 pub record History : Type 0 where
-  pub frames : ℕ → List FrameParts  -- for each neighbour, all that `poll_datagram` gave
-  pub put : ℕ → List Cargo  -- all cargoes that the core handed to the link end
+  pub frames : ℕ → List FrameParts  -- for each neighbour, all frames that `poll_datagram` returned
+  pub put : ℕ → List Cargo  -- all cargoes that the core passed to the link end
   pub inputs : List (Input × ℕ)  -- the inputs that the core accepted
-  pub steps : ℕ → List Parcel  -- for each neighbour, its packets that were stepped
+  pub steps : ℕ → List Parcel  -- for each neighbour, its packets that the core took
 
 abbrev pub first_history : History
 first_history = record { frames = λ k. []; put = λ k. []; inputs = []; steps = λ k. [] }
@@ -95,9 +99,11 @@ with_servings h (v ∷ servings) = with_servings (with_serving h v) servings
 abbrev pub with_frame : RouterState → History → Option (ℕ × FrameParts) → History
 with_frame r h None = h
 with_frame r h (Some found) =
-    record h { frames = put_one h.frames (peer_at found.0 r.links) (h.frames (peer_at found.0 r.links) ++ found.1 ∷ []) }
+    record h {
+      frames = put_one h.frames (peer_at found.0 r.links) (h.frames (peer_at found.0 r.links) ++ found.1 ∷ []);
+    }
 
--- what a call adds beside what its items do
+-- what a call adds to the history, apart from its items
 abbrev pub beside : RouterCall → RouterState → History → History
 beside (New config neighbours destinations first_life) r h = record h { inputs = [] }
 beside (OnTick now) r h = h
@@ -109,7 +115,7 @@ beside PollChange r h = h
 
 -- ---- all nodes
 
--- the router of a node, and what the node has exchanged
+-- the router of a node, and the node's history
 pub record Host : Type 0 where
   pub router : RouterState
   pub history : History
@@ -138,21 +144,22 @@ abbrev pub after_calls : List HostedCall → Hosts → Hosts
 after_calls [] hosts = hosts
 after_calls (c ∷ calls) hosts = after_calls calls (after_call hosts c)
 
--- ---- what a host owes
+-- ---- the duties of a host
 
 -- the reading is one of these frames
 abbrev pub IsOneOf : List FrameParts → Result FrameParts FrameError → Type 0
 IsOneOf frames (Ok frame) = IsIn frame frames
 IsOneOf frames (Err error) = ⊥
 
--- `on_datagram` has made nothing of the datagram
+-- `on_datagram` refused the datagram
 abbrev pub IsRefused : Intake → Type 0
 IsRefused NoNeighbour = Unit {0}
 IsRefused (Bad error) = Unit {0}
 IsRefused (Seen verdict) = IsRefusal verdict
 
--- Life numbers rise over all routers of a node, and no datagram is forged and not refused: what comes from a neighbour is a frame that a router of
--- that neighbour gave for this node, at any time before and however often it came. Ticks, needs, cuts and polls are any
+-- Life numbers rise over all routers of a node, and no forged datagram is accepted: a datagram of a neighbour is a
+-- frame that a router of that neighbour returned for this node at any time before, however often it comes. Ticks,
+-- needs, cuts and polls are any
 abbrev pub MayCall : Topology → Times → Hosts → ℕ → RouterCall → Type 0
 MayCall t times hosts n (New config neighbours destinations first_life) =
     (first_core_of config.erasure config.me neighbours destinations ≡ new_core t n) × (config.times ≡ times)
@@ -165,7 +172,7 @@ MayCall t times hosts n (Cut k now) = Unit {0}
 MayCall t times hosts n (PollDatagram now) = Unit {0}
 MayCall t times hosts n PollChange = Unit {0}
 
--- each call may be made when it is made, and is made at a node of the topology
+-- each call is allowed when it is made, and is made at a node of the topology
 abbrev pub IsHosted : Topology → Times → Hosts → List HostedCall → Type 0
 IsHosted t times hosts [] = Unit {0}
 IsHosted t times hosts (c ∷ calls) =

@@ -1,4 +1,4 @@
--- What holds of every program that embeds routers.
+-- What holds for every program that embeds routers.
 use Rattle.std.specs.Prelude.{◌≡◌, ℕ, ◌==◌, true, false, if◌then◌else◌, List, [], ◌∷◌, Some, Err}
 use Rattle.tora_packet.specs.declared.Packet.{Packet}
 use Rattle.tora_frame.specs.declared.parts.Version.TheVariants.{Two}
@@ -22,20 +22,21 @@ use Rattle.tora_running.specs.Network.{Network, Part, first_network, after_parts
 use Rattle.tora_running.specs.Laws.{IsOfWorld}
 use Rattle.tora_embedded.specs.Hosts.{Hosts, HostedCall, first_hosts, after_calls, IsHosted}
 
--- what `Router::new` sees to: no neighbour is named twice, and every link end speaks version 2
+-- what `Router::new` ensures: no neighbour is named twice, and every link end speaks version 2
 pub record IsOfRouters (t : Topology) : Type 0 where
   pub apart : (n : ℕ) → has_repeat (neighbours_of t n) ≡ false
   pub two : (n : ℕ) → version_at t n ≡ Two
 
--- this holds of the hosts that any calls leave, over any such topology and with any times of the link ends
+-- this holds for the hosts after any calls, over any such topology and with any times of the link ends
 abbrev pub AllHosts : (Topology → Times → Hosts → Type 0) → Type 0
 AllHosts Holds =
-    (t : Topology) (times : Times) (calls : List HostedCall) → IsOfRouters t → IsHosted t times (first_hosts t times) calls
+    (t : Topology) (times : Times) (calls : List HostedCall) → IsOfRouters t
+    → IsHosted t times (first_hosts t times) calls
     → Holds t times (after_calls calls (first_hosts t times))
 
 -- ---- the world
 
--- these links have these ends, that of each neighbour in turn
+-- these links have these ends, in the order of the neighbours
 abbrev pub AreEnds : (ℕ → LinkEndView) → List ℕ → List Link → Type 0
 AreEnds end [] [] = Unit {0}
 AreEnds end [] (link ∷ links) = ⊥
@@ -47,7 +48,8 @@ pub record IsNetworkOf (t : Topology) (times : Times) (hosts : Hosts) (w : Netwo
   pub topology : w.topology ≡ t
   pub times_are : w.times ≡ times
   pub seats : (n : ℕ) → w.seats n ≡ (hosts n).router.seat
-  pub ends : (n : ℕ) → AreEnds (λ k. link_end_of (settings_at w n k) (w.ends n k)) (neighbours_at w n) (hosts n).router.links
+  pub ends : (n : ℕ) → AreEnds (λ k. link_end_of (settings_at w n k) (w.ends n k)) (neighbours_at w n)
+      (hosts n).router.links
   pub items : (n : ℕ) → w.items n ≡ []
   pub cargoes : (n k : ℕ) → w.cargoes n k ≡ []
   pub frames : (n k : ℕ) → w.frames n k ≡ (hosts n).history.frames k
@@ -55,28 +57,29 @@ pub record IsNetworkOf (t : Topology) (times : Times) (hosts : Hosts) (w : Netwo
   pub inputs : (n : ℕ) → w.inputs n ≡ (hosts n).history.inputs
   pub steps : (n k : ℕ) → w.steps n k ≡ (hosts n).history.steps k
 
--- some run of parts leaves such a network, and some schedule of the free world such a world
+-- some run of parts leads to such a network, and some schedule of the free world to such a world
 pub record AreAWorld (t : Topology) (times : Times) (hosts : Hosts) : Type 0 where
   pub parts : List Part
   pub run : IsRun (first_network t times) parts
   pub same : IsNetworkOf t times hosts (after_parts parts (first_network t times))
   pub world : IsOfWorld t times (after_parts parts (first_network t times))
 
--- ---- what follows
+-- ---- consequences
 
--- the packets that the core of a handed to the link end of b in a life, as a's end writes it
+-- the packets that the core of a passed to the link end of b in a life, as a's end writes it
 abbrev pub packets_sent : Hosts → ℕ → ℕ → Life → List Packet
 packets_sent hosts a b life = packets_of life (parcels_in ((hosts a).history.put b))
 
--- the packets of a that the core of b stepped in a life, as b's end writes it
+-- the packets of a that the core of b took in a life, as b's end writes it
 abbrev pub packets_taken : Hosts → ℕ → ℕ → Life → List Packet
 packets_taken hosts b a life = packets_of life ((hosts b).history.steps a)
 
--- what was taken in a life begins what was sent in it
+-- what was taken in a life is a prefix of what was sent in it
 abbrev pub TakenBeginsSent : Hosts → Type 0
-TakenBeginsSent hosts = (a b : ℕ) (life : Life) → Begins (packets_taken hosts b a (reversed life)) (packets_sent hosts a b life)
+TakenBeginsSent hosts =
+    (a b : ℕ) (life : Life) → Begins (packets_taken hosts b a (reversed life)) (packets_sent hosts a b life)
 
--- each core is what TORA's rules make of the inputs that it accepted since its router was made
+-- each core has the state that TORA's rules give for the inputs accepted since its router was made
 abbrev pub CoresFollow : Topology → Hosts → Type 0
 CoresFollow t hosts = (n : ℕ) → (hosts n).router.seat.core ≡ core_after_all (new_core t n) (hosts n).history.inputs
 
@@ -90,7 +93,7 @@ IsWithoutGap t hosts =
     IsWithinLimits t → (n k : ℕ) (life : Life) → is_link t n k ≡ true → (hosts n).router.seat.current k ≡ Some life
     → packets_sent hosts n k life ≡ packets_broadcast t hosts n k
 
--- `need` answers an error only for a destination that is not in the table, and says so
+-- `need` returns an error only for a destination that is not in the table, and that is the error
 abbrev pub RefusesOnlyUnknown : Topology → Hosts → Type 0
 RefusesOnlyUnknown t hosts =
     (n d now : ℕ) (error : StepError) → is_node t n ≡ true → need_result (hosts n).router d now ≡ Err error
@@ -103,11 +106,14 @@ abbrev pub end_to : ℕ → List Link → EndState
 end_to k [] = first_end
 end_to k (link ∷ links) = if link.end.settings.peer == k then link.end.state else end_to k links
 
--- A world that has the cores and link ends of the routers, and in whose lanes nothing waits. All else is that of a first world, and nothing below
--- asks for it
+-- A world with the cores and link ends of the routers and with empty lanes. The rest is that of a first world, and no
+-- definition below uses it
 abbrev pub shown : Topology → Times → Hosts → World
-shown t times hosts = record (first_world t times) { seats = λ n. (hosts n).router.seat; ends = λ n k. end_to k (hosts n).router.links }
+shown t times hosts = record (first_world t times) {
+  seats = λ n. (hosts n).router.seat;
+  ends = λ n k. end_to k (hosts n).router.links;
+}
 
--- this holds of that world, where the topology is not refused within some limits and has nodes' numbers
+-- this holds for that world, if the topology is not refused within some limits and has numbers of nodes
 abbrev pub HoldsOfSound : (World → Type 0) → Topology → Times → Hosts → Type 0
 HoldsOfSound Holds t times hosts = IsWithinLimits t → AreIds t → Holds (shown t times hosts)

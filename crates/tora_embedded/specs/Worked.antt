@@ -1,5 +1,5 @@
--- Two routers, computed: what the laws say of hosted routers is not empty. A datagram is lost and one is repeated, a route is found, and both routers
--- are made anew.
+-- An example with two routers, computed, so that the laws are not vacuous. A datagram is lost and one is repeated, a
+-- route is found, and both routers are replaced by new ones.
 use Rattle.std.specs.Prelude.{◌≡◌, ℕ, List, [], ◌∷◌, slice_get, Option, Some, None, Ok}
 use Rattle.tora_frame.specs.FrameParts.{FrameParts}
 use Rattle.tora_arq.specs.declared.life.Life.{Life}
@@ -37,7 +37,7 @@ abbrev pub heard : ℕ → ℕ → Option FrameParts → HostedCall
 heard n k None = at_node n PollChange
 heard n k (Some frame) = at_node n (OnDatagram k (Ok frame) 0)
 
--- the datagram at this place of all that routers of k gave for n
+-- the datagram at this place among all that routers of k returned for n
 abbrev pub hears : ℕ → ℕ → ℕ → Reads
 hears n k place hosts = heard n k (slice_get ((hosts k).history.frames n) place)
 
@@ -68,10 +68,12 @@ first_calls = read_from start first_life
 abbrev pub met : Hosts
 met = after_calls first_calls start
 
--- both routers are made anew, that of node 1 with a number that leaves some out. An old datagram comes first; the update comes twice again
+-- both routers are new, that of node 1 with a number that skips some. An old datagram comes first; the update comes
+-- twice again
 abbrev pub second_life : List Reads
 second_life =
-    makes 1 2 5 ∷ makes 2 1 2 ∷ needs 1 2 ∷ ticks 1 0 ∷ ticks 2 0 ∷ hears 2 1 1 ∷ polls 1 ∷ hears 2 1 4 ∷ polls 2 ∷ hears 1 2 1
+    makes 1 2 5 ∷ makes 2 1 2 ∷ needs 1 2 ∷ ticks 1 0 ∷ ticks 2 0 ∷ hears 2 1 1 ∷ polls 1 ∷ hears 2 1 4 ∷ polls 2
+    ∷ hears 1 2 1
     ∷ polls 1 ∷ hears 2 1 5 ∷ polls 1 ∷ hears 2 1 6 ∷ hears 2 1 6 ∷ []
 
 abbrev pub second_calls : List HostedCall
@@ -91,7 +93,7 @@ pub record HasMet (life : Life) (hosts : Hosts) : Type 0 where
 
 -- ---- the end of the second life
 
--- node 1 is told that the radio lost its neighbour, and node 2 hears nothing for 60 ticks
+-- the host of node 1 reports that the radio lost its neighbour, and node 2 receives nothing for 60 ticks
 abbrev pub last_turns : List Reads
 last_turns = cuts 1 2 ∷ ticks 2 60 ∷ []
 
@@ -101,18 +103,19 @@ last_calls = read_from met_again last_turns
 abbrev pub left : Hosts
 left = after_calls last_calls met_again
 
--- the life is over at both cores, and node 1 has no route any more
+-- the life is over at both cores, and node 1 has lost its route
 pub record HasLeft (hosts : Hosts) : Type 0 where
   pub over : (hosts 1).router.seat.current 2 ≡ None
   pub other_over : (hosts 2).router.seat.current 1 ≡ None
   pub hop : hop_of (hosts 1).router.seat.core 2 ≡ None
 
--- ---- what no host may do: a life number is given again
+-- ---- a host that breaks the rules: a life number is used again
 
--- both routers are made anew with the number of the first life, and its old datagram comes
+-- both routers are new, with the numbers of the first life, and its old datagram comes
 abbrev pub numbers_again : List Reads
 numbers_again =
-    makes 1 2 1 ∷ makes 2 1 1 ∷ ticks 1 0 ∷ ticks 2 0 ∷ polls 1 ∷ hears 2 1 4 ∷ polls 2 ∷ hears 1 2 1 ∷ polls 1 ∷ hears 2 1 5 ∷ hears 2 1 3 ∷ []
+    makes 1 2 1 ∷ makes 2 1 1 ∷ ticks 1 0 ∷ ticks 2 0 ∷ polls 1 ∷ hears 2 1 4 ∷ polls 2 ∷ hears 1 2 1 ∷ polls 1
+    ∷ hears 2 1 5 ∷ hears 2 1 3 ∷ []
 
 abbrev pub given_again : Hosts
 given_again = after_calls (read_from met numbers_again) met

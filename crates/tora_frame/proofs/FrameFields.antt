@@ -17,7 +17,7 @@ use Rattle.tora_frame.specs.declared.parts.Body.TheVariants.{Hello, Data, Ack}
 use Rattle.tora_frame.specs.FrameParts.{IsHeader, batch}
 use Rattle.tora_frame.specs.FrameGrammar.{u16_at, version_number, version_at, version_of, is_version, kind_at, is_kind, is_payload_length, layout_fault, is_bad_pair, is_bad_life, header_fault, fault_or, packets_inside, fault_inside, body_at, body_fault}
 
--- a test that did not hold, and those behind it
+-- a check that found no fault, and the following ones
 pub next_test : (b : Bool) (e : FrameError) (x : Option FrameError) → cond b (Some e) x ≡ None → (b ≡ false) × (x ≡ None)
 next_test true e x h = absurd cc
 next_test false e x h = (refl, h)
@@ -36,7 +36,7 @@ versions v h = grind (arith, nat_tests)
 pub version_back : (v : ℕ) → is_version v ≡ true → version_number (version_of v) ≡ v
 version_back v h = elim (versions v h) [ inl e ↦ rw e refl | inr e ↦ rw e refl ]
 
--- the version of a number that was spelled
+-- the version of an encoded number
 pub version_again : (v : Version) → version_of (version_number v) ≡ v
 version_again One = refl
 version_again Two = refl
@@ -163,7 +163,7 @@ unfolding u16_at
 length_back bytes fits h =
     sym (be_bytes_2 (slice_range bytes 2 4) _ (two_long bytes 2 h) (take_bytes (drop 2 bytes) 2 (drop_bytes bytes 2 fits)) refl)
 
--- bytes behind the length do not change it
+-- bytes after the length do not change it
 pub u16_at-append : (a rest : List ℕ) → 4 ≤ length a → u16_at 2 (a ++ rest) ≡ u16_at 2 a
 unfolding u16_at
 u16_at-append a rest h =

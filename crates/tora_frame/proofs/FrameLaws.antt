@@ -1,4 +1,4 @@
--- The two laws: what is read is spelled so, and what is spelled so is read.
+-- The two laws: the bytes are the encoding of the decoded value, and every encoding decodes to its value.
 use Rattle.std.proofs.Common.{◌≡◌, ◌⊎◌, ℕ, ◌+◌, ◌-◌, ◌*◌, ◌^◌, ◌<◌, ◌≤◌, true, false, not, ltb, List, [], ◌∷◌, ◌++◌, length, get_or, drop, Some, None, Result, Ok, Err, refl, sym, ap, ◌∙◌, arith, inl, inr, MatchOption, IfOk, IsOk, ◌==◌, ◌||◌}
 use Rattle.std.specs.Prelude.{slice_range}
 use Rattle.std.specs.List.{AllByRecursion}
@@ -29,7 +29,7 @@ use Rattle.tora_frame.specs.FrameGrammar.{frame_at, frame_or, frame_reading}
 use Rattle.tora_frame.proofs.FrameFields.{next_test, neither, versions, version_back, version_again, is_version_number, IsLaidOut, laid_out, no_layout_fault, kinds, no_header_fault, body_at_hello, body_at_data, body_at_ack, no_fault_in_hello, no_fault_in_data, no_fault_in_ack, first_two, drop_bytes, length_back, u16_at-append}
 use Rattle.tora_frame.proofs.PacketLists.{length-packets_spelling, packets_length_least, packets_length_most, length-packets_at, packet_spelt, packets_spelt, packet_again, packets_again}
 
--- ---- what is read is spelled so
+-- ---- decoded values are encodings
 
 -- the first 28 bytes are the header
 front : (bytes : List ℕ) (kind n : ℕ) (rest : List ℕ) → IsBytes bytes → IsLaidOut bytes → kind_at bytes ≡ kind → u16_at 2 bytes ≡ n → drop 28 bytes ≡ rest → bytes ≡ header_spelling kind n (header_at bytes) ++ rest
@@ -93,7 +93,7 @@ pub length_behind : (version : Version) (ps : List Packet) → length (batch_siz
 length_behind One ps = omega (arith, length-packets_spelling ps)
 length_behind Two ps = omega (arith, length-packets_spelling ps)
 
--- what stands behind the numbers of a DATA frame
+-- the bytes after the numbers of a DATA frame
 abbrev Behind : List ℕ → Type 0
 Behind bytes = drop 44 bytes ≡ batch_size_spelling (version_of (version_at bytes)) (length (packets_inside bytes)) ++ packets_spelling (packets_inside bytes)
 
@@ -102,7 +102,7 @@ behind_one bytes fits v h =
     let inside = packet_spelt (drop 44 bytes) (drop_bytes bytes 44 fits) (no_fault_of_one bytes v h) in
     rw (one_inside bytes v, v) (inside ∙ sym (append-nil (packet_spelling (whole_packet_at (drop 44 bytes)))))
 
--- the four bytes that tell how many packets there are
+-- the four bytes with the count of packets
 size_back : (bytes : List ℕ) → 48 ≤ length bytes → is_bad_batch_size bytes ≡ false → slice_range bytes 44 48 ≡ batch_size_at bytes ∷ 0 ∷ 0 ∷ 0 ∷ []
 size_back bytes h good =
     let a : get_or bytes 45 0 ≡ 0 = grind (arith, nat_tests) in
@@ -149,7 +149,7 @@ spelt bytes fits h =
       ]
     ]
 
--- ---- what is spelled is read
+-- ---- encodings are decoded
 
 -- a header before any payload
 abbrev spelled : ℕ → ℕ → Header → List ℕ → List ℕ
@@ -351,7 +351,7 @@ is_reading bytes r =
       | Some x ↦ λ h. h
     ]
 
--- no spelling begins another
+-- no encoding is a prefix of another
 pub prefix_free : (a b rest : List ℕ) (f g : FrameParts) → SpellsFrame a f → SpellsFrame b g → a ++ rest ≡ b → (rest ≡ []) × (a ≡ b) × (f ≡ g)
 prefix_free a b rest f g s t e =
     let ra = read_again a f s in

@@ -75,13 +75,13 @@ drop_again (Clr c) rest = refl
 behind_again : (p : Packet) (rest : List ℕ) → behind_first (packet_spelling p ++ rest) ≡ rest
 behind_again p rest = ap (λ (first : List ℕ). drop (length first) (packet_spelling p ++ rest)) (first_again p rest) ∙ drop_again p rest
 
--- ---- what is read is spelled so
+-- ---- decoded values are encodings
 
 no_refusal : (f : Option PacketError) → refused_packet f ≡ None → f ≡ None
 no_refusal None h = refl
 no_refusal (Some e) h = absurd cc
 
--- the packet that all the bytes spell
+-- the packet in all of the bytes
 pub packet_spelt : (bytes : List ℕ) → IsBytes bytes → whole_packet_fault bytes ≡ None → bytes ≡ packet_spelling (whole_packet_at bytes)
 unfolding whole_packet_fault whole_packet_at
 packet_spelt bytes fits h = packets.spelt bytes fits (no_refusal (packet_fault bytes) h)
@@ -101,7 +101,7 @@ unfolding packets_at
 length-packets_at zero bytes = refl
 length-packets_at (suc many) bytes = ap suc (length-packets_at many (behind_first bytes))
 
--- ---- what is spelled is read
+-- ---- encodings are decoded
 
 abbrev pub ReadAgain : List Packet → Type 0
 ReadAgain ps = (packets_fault (length ps) (packets_spelling ps) ≡ None) × (packets_at (length ps) (packets_spelling ps) ≡ ps)

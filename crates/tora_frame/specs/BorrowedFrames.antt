@@ -1,11 +1,11 @@
--- The parts of a frame whose packets stand in a list elsewhere.
+-- The parts of a frame that borrows its packets.
 use Rattle.tora_frame.specs.declared.parts.Body.{Body}
 use Rattle.tora_frame.specs.declared.parts.Body.TheVariants.{Hello, Data, Ack}
 use Rattle.tora_frame.specs.declared.borrowed.BorrowedBody.{BorrowedBody}
 use Rattle.tora_frame.specs.declared.borrowed.BorrowedBody.TheVariants as Borrowed
 use Rattle.tora_frame.specs.FrameParts.{batch}
 
--- the body that it stands for
+-- the body with owned packets
 abbrev pub body_of : BorrowedBody → Body
 body_of Borrowed.Hello = Hello
 body_of (Borrowed.Data number count packets) = Data number count (batch packets.now)

@@ -1,5 +1,5 @@
--- The bytes of frames: the one spelling of each, and why other bytes spell none. The two versions differ in the payload of
--- a DATA frame alone: its lengths, its spelling, its faults and its reading.
+-- The bytes of frames: the only encoding of each, and why other bytes are not a frame. The two versions differ only in
+-- the payload of a DATA frame: its lengths, encoding, faults and decoding.
 use Rattle.std.specs.Prelude.{◌≡◌, ℕ, zero, suc, ◌+◌, ◌-◌, ◌^◌, Bool, nat_lt, nat_le, ◌==◌, ◌||◌, ◌&&◌, if◌then◌else◌, not, List, [], ◌∷◌, ◌++◌, length, drop, slice_index, slice_range, Option, Some, None, Result, Ok, Err}
 use Rattle.std.specs.List.{sum_by, flat_map}
 use Rattle.std.specs.Int.{w16, w32, w64, to_be_bytes, from_be_bytes}
@@ -17,7 +17,7 @@ use Rattle.tora_frame.specs.declared.parts.Body.{Body}
 use Rattle.tora_frame.specs.declared.parts.Body.TheVariants.{Hello, Data, Ack}
 use Rattle.tora_frame.specs.FrameParts.{FrameParts, IsFrame, batch, frame_of}
 
--- ---- what a frame is spelled as
+-- ---- the encoding of a frame
 
 abbrev pub version_number : Version → ℕ
 version_number One = 1
@@ -33,7 +33,7 @@ body_kind (Ack count) = 3
 abbrev pub packets_length : List Packet → ℕ
 packets_length packets = sum_by packet_length packets
 
--- how many bytes of a DATA frame stand between its header and its packets
+-- how many bytes a DATA frame has between its header and its packets
 abbrev pub data_head_length : Version → ℕ
 data_head_length One = PACKET_HEAD
 data_head_length Two = BATCH_HEAD
@@ -52,7 +52,7 @@ header_spelling kind n h = version_number h.version ∷ kind ∷ to_be_bytes w16
     ++ to_be_bytes w64 h.life
     ++ to_be_bytes w64 h.heard
 
--- how many packets follow: version 1 doesn't say it, version 2 says it in a byte before three zeros
+-- the count of packets: version 1 has none, version 2 has a byte and three zeros
 abbrev pub batch_size_spelling : Version → ℕ → List ℕ
 batch_size_spelling One many = []
 batch_size_spelling Two many = many ∷ 0 ∷ 0 ∷ 0 ∷ []
@@ -65,18 +65,20 @@ packets_spelling packets = flat_map packet_spelling packets
 abbrev pub payload_spelling : Version → Body → List ℕ
 payload_spelling version Hello = []
 payload_spelling version (Data number count packets) =
-    to_be_bytes w64 number ++ to_be_bytes w64 count ++ batch_size_spelling version (length packets.items) ++ packets_spelling packets.items
+    to_be_bytes w64 number ++ to_be_bytes w64 count ++ batch_size_spelling version (length packets.items)
+    ++ packets_spelling packets.items
 payload_spelling version (Ack count) = to_be_bytes w64 count
 
 abbrev pub frame_spelling : FrameParts → List ℕ
-frame_spelling f = header_spelling (body_kind f.body) (payload_length f.header.version f.body) f.header ++ payload_spelling f.header.version f.body
+frame_spelling f = header_spelling (body_kind f.body) (payload_length f.header.version f.body) f.header
+    ++ payload_spelling f.header.version f.body
 
--- the bytes spell the frame, all of the bytes
+-- all of the bytes together are the encoding of the frame
 pub record SpellsFrame (bytes : List ℕ) (frame : FrameParts) : Type 0 where
   pub valid : IsFrame frame
   pub bytes_are : bytes ≡ frame_spelling frame
 
--- ---- why bytes spell no frame: the first of eleven tests that holds
+-- ---- why bytes are not a frame: the first of eleven checks that fails
 
 -- two bytes from an offset on
 unfoldable pub u16_at : ℕ → List ℕ → ℕ
@@ -94,8 +96,8 @@ kind_at bytes = slice_index bytes 1
 abbrev pub is_kind : ℕ → Bool
 is_kind kind = (kind == 1) || (kind == 2) || (kind == 3)
 
--- in version 1 number, count and one packet; in version 2 number, count, how many packets, three zeros, and at least the
--- shortest packet, at most sixteen of the longest
+-- in version 1 a number, a count and one packet; in version 2 a number, a count, the count of packets, three zeros, and
+-- from one shortest to sixteen longest packets
 abbrev pub is_data_length : ℕ → ℕ → Bool
 is_data_length version n =
     if version == 1 then is_packet_length (n - PACKET_HEAD)
@@ -119,7 +121,7 @@ layout_fault bytes =
     else if nat_lt (28 + u16_at 2 bytes) (length bytes) then Some Fault.Long
     else None
 
--- the version of a number that is one
+-- the version with this number
 abbrev pub version_of : ℕ → Version
 version_of number = if number == 1 then One else Two
 
@@ -132,13 +134,14 @@ header_at bytes = record {
   heard = u64_at 20 bytes;
 }
 
--- no two different nodes
+-- not two different nodes
 abbrev pub is_bad_pair : Header → Bool
 is_bad_pair h = (h.sender == 0) || (h.receiver == 0) || (h.sender == h.receiver)
 
--- no life of the sender, or no life heard though the kind is no HELLO
+-- no life of the sender, or no life heard in a frame that is not a HELLO
 abbrev pub is_bad_life : ℕ → Header → Bool
-is_bad_life kind h = (h.life == 0) || nat_lt (2 ^ 62) h.life || nat_lt (2 ^ 62) h.heard || (not (kind == 1) && (h.heard == 0))
+is_bad_life kind h =
+    (h.life == 0) || nat_lt (2 ^ 62) h.life || nat_lt (2 ^ 62) h.heard || (not (kind == 1) && (h.heard == 0))
 
 -- tests 7 and 8: the nodes and the lives
 unfoldable pub header_fault : ℕ → Header → Option FrameError
@@ -157,18 +160,19 @@ abbrev pub refused_packet : Option PacketError → Option FrameError
 refused_packet None = None
 refused_packet (Some e) = Some (Fault.Packet e)
 
--- why all the bytes spell no packet, and the packet that they spell otherwise
+-- why the bytes together are not a packet, and the packet if they are
 unfoldable pub whole_packet_fault : List ℕ → Option FrameError
 whole_packet_fault bytes = refused_packet (packet_fault bytes)
 
 unfoldable pub whole_packet_at : List ℕ → Packet
 whole_packet_at bytes = packet_at bytes
 
--- why the bytes are not so many packets one after another
+-- why the bytes are not this many packets one after another
 unfoldable pub packets_fault : ℕ → List ℕ → Option FrameError
 packets_fault zero [] = None
 packets_fault zero (byte ∷ bytes) = Some (Fault.Packet Long)
-packets_fault (suc many) bytes = fault_or (whole_packet_fault (first_packet bytes)) (packets_fault many (behind_first bytes))
+packets_fault (suc many) bytes = fault_or (whole_packet_fault (first_packet bytes))
+    (packets_fault many (behind_first bytes))
 
 -- the packets in bytes that have no fault
 unfoldable pub packets_at : ℕ → List ℕ → List Packet
@@ -179,20 +183,22 @@ packets_at (suc many) bytes = whole_packet_at (first_packet bytes) ∷ packets_a
 abbrev pub batch_size_at : List ℕ → ℕ
 batch_size_at bytes = slice_index bytes 44
 
--- the three bytes that are stated zero are zero
+-- the three reserved bytes are zero
 abbrev pub is_batch_size_zero : List ℕ → Bool
 is_batch_size_zero bytes = is_zero_at 45 bytes && is_zero_at 46 bytes && is_zero_at 47 bytes
 
 -- no packet or too many, a byte that is not zero, or a last packet whose number is out of its range
 abbrev pub is_bad_batch_size : List ℕ → Bool
-is_bad_batch_size bytes = (batch_size_at bytes == 0) || nat_lt 16 (batch_size_at bytes) || not (is_batch_size_zero bytes)
+is_bad_batch_size bytes =
+    (batch_size_at bytes == 0) || nat_lt 16 (batch_size_at bytes) || not (is_batch_size_zero bytes)
     || nat_lt (2 ^ 62) (u64_at 28 bytes + batch_size_at bytes - 1)
 
 -- tests 10 and 11, in version 2: how many packets, and each of them
 unfoldable pub batch_fault : List ℕ → Option FrameError
-batch_fault bytes = if is_bad_batch_size bytes then Some Fault.Count else packets_fault (batch_size_at bytes) (drop 48 bytes)
+batch_fault bytes =
+    if is_bad_batch_size bytes then Some Fault.Count else packets_fault (batch_size_at bytes) (drop 48 bytes)
 
--- in version 1 the one packet, which all the bytes behind the numbers are of
+-- in version 1 the packet, which takes up all of the bytes after the number and the count
 abbrev pub fault_inside : List ℕ → Option FrameError
 fault_inside bytes = if version_at bytes == 1 then whole_packet_fault (drop 44 bytes) else batch_fault bytes
 
@@ -208,7 +214,7 @@ is_bad_number number count = (number == 0) || nat_lt (2 ^ 62) number || nat_lt (
 abbrev pub data_fault : List ℕ → Option FrameError
 data_fault bytes = if is_bad_number (u64_at 28 bytes) (u64_at 36 bytes) then Some Fault.Number else fault_inside bytes
 
--- test 9, the numbers, and those behind it
+-- test 9, the numbers, and the following tests
 unfoldable pub body_fault : List ℕ → Option FrameError
 body_fault bytes =
     if kind_at bytes == 1 then None
@@ -217,7 +223,8 @@ body_fault bytes =
     else None
 
 abbrev pub frame_fault : List ℕ → Option FrameError
-frame_fault bytes = fault_or (layout_fault bytes) (fault_or (header_fault (kind_at bytes) (header_at bytes)) (body_fault bytes))
+frame_fault bytes =
+    fault_or (layout_fault bytes) (fault_or (header_fault (kind_at bytes) (header_at bytes)) (body_fault bytes))
 
 -- ---- both together, as one function
 
@@ -236,7 +243,7 @@ abbrev pub frame_or : Option FrameError → FrameParts → Result FrameParts Fra
 frame_or None frame = Ok frame
 frame_or (Some e) frame = Err e
 
--- the frame that the bytes spell, or why they spell none
+-- the decoded frame, or why the bytes are not one
 unfoldable pub frame_reading : List ℕ → Result FrameParts FrameError
 frame_reading bytes = frame_or (frame_fault bytes) (frame_at bytes)
 

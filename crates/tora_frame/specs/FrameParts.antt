@@ -23,7 +23,7 @@ pub record IsHeader (h : Header) : Type 0 where
   pub life : IsLifeNumber h.life
   pub heard : h.heard ≤ 2 ^ 62
 
--- packets as a frame holds them
+-- packets in the list type of a frame
 abbrev pub batch : List Packet → ArrayVec Packet
 batch packets = record { items = packets }
 

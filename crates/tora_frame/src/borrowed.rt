@@ -1,4 +1,4 @@
-//! Frames whose packets stand in a list that their holder keeps.
+//! Frames that borrow their packets from a list of the caller.
 ghost use Rattle.std.specs.Prelude.{◌≡◌, ◌+◌, ◌<◌, ◌≤◌, ◌^◌, length};
 ghost use Rattle.tora_frame.specs.FrameParts.{IsHeader, IsBatchSize, IsFrame, batch, frame_of};
 ghost use Rattle.tora_frame.specs.BorrowedFrames.{body_of};
@@ -12,7 +12,7 @@ use tora_packet::Packet;
 /// The body of a frame, like `Body`, with borrowed packets.
 #[derive(Clone, Copy, Debug)]
 pub enum BorrowedBody<'a> {
-    /// Nothing: the frame only tells the lives.
+    /// No content: the frame carries only the life numbers of its header.
     Hello,
     /// The number of the first packet, the count of packets that the sender has accepted in this life, and the packets.
     Data(u64, u64, &'a [Packet]),
@@ -20,8 +20,7 @@ pub enum BorrowedBody<'a> {
     Ack(u64),
 }
 
-/// A frame, as `Frame`, whose packets stand in a list elsewhere: it is made and moved without a copy of them. Own
-/// profile.
+/// A frame, as `Frame`, that borrows its packets, so that making and moving it copies none of them.
 #[derive(Debug, Drop)]
 pub struct BorrowedFrame<'a> {
     header: Header,
@@ -81,7 +80,7 @@ impl<'a> BorrowedFrame<'a> {
         BorrowedFrame::of(header, BorrowedBody::Ack(count))
     }
 
-    /// Between whom the frame goes, and in which lives.
+    /// The version, the two nodes and the two life numbers of the frame.
     pub fn header(&self) -> &Header
         ensures value { result.now ≡ self.now.header }
         ensures valid { IsFrame self.now }
@@ -97,7 +96,7 @@ impl<'a> BorrowedFrame<'a> {
         self.body
     }
 
-    /// The same frame with a list of its own.
+    /// The same frame with its own copy of the packets.
     pub fn to_frame(&self) -> Frame
         ensures { result ≡ self.now }
     {

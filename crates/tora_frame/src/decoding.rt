@@ -1,10 +1,14 @@
 //! Bytes to frames.
-ghost use Rattle.std.specs.Prelude.{◌≡◌, ◌≢◌, ℕ, List, [], ◌++◌, ◌+◌, ◌≤◌, ◌<◌, ◌^◌, drop, length, MatchOption, MatchBool, IfOk, OnOk, IsOk, Ok, Err, Some, None};
+ghost use Rattle.std.specs.Prelude.{◌≡◌, ◌≢◌, ℕ, List, [], ◌++◌, ◌+◌, ◌≤◌, ◌<◌, ◌^◌, drop, length, MatchOption};
+ghost use Rattle.std.specs.Prelude.{MatchBool, IfOk, OnOk, IsOk, Ok, Err, Some, None};
 ghost use Rattle.std.specs.List.{AllByRecursion};
 ghost use Rattle.tora_packet.specs.AnyPacket.{IsPacket};
 ghost use Rattle.tora_packet.specs.PacketGrammar.{u32_at, u64_at};
 ghost use Rattle.tora_frame.specs.FrameParts.{FrameParts, IsHeader, IsFrame, batch, frame_of};
-ghost use Rattle.tora_frame.specs.FrameGrammar.{SpellsFrame, u16_at, version_at, version_of, kind_at, version_number, is_version, is_data_length, is_payload_length, layout_fault, header_at, header_fault, body_at, body_fault, is_bad_number, packets_inside, fault_inside, frame_at, frame_fault, frame_spelling, frame_reading};
+ghost use Rattle.tora_frame.specs.FrameGrammar.{SpellsFrame, u16_at, version_at, version_of, kind_at, version_number};
+ghost use Rattle.tora_frame.specs.FrameGrammar.{is_version, is_data_length, is_payload_length, layout_fault, header_at};
+ghost use Rattle.tora_frame.specs.FrameGrammar.{header_fault, body_at, body_fault, is_bad_number, packets_inside};
+ghost use Rattle.tora_frame.specs.FrameGrammar.{fault_inside, frame_at, frame_fault, frame_spelling, frame_reading};
 
 use crate::layout::{
     ACK, DATA, HEADER_LENGTH, HELLO, LONGEST_BATCH, PACKET_HEAD, PACKET_OFFSET, SHORTEST_BATCH,
@@ -74,10 +78,11 @@ fn is_payload_length(version: Version, kind: u8, len: usize) -> bool
     }
 }
 
-/// The version, and the tests of it, of the kind and of the lengths.
+/// Reads and checks the version, the kind and the lengths.
 #[tactic(auto, unfolding(crate::specs::FrameGrammar::layout_fault))]
 fn read_layout(bytes: &[u8]) -> Result<Version, FrameError>
-    ensures exact { MatchOption (layout_fault bytes.now) (result ≡ Ok (version_of (version_at bytes.now))) (λ e. result ≡ Err e) }
+    ensures exact { MatchOption (layout_fault bytes.now) (result ≡ Ok (version_of (version_at bytes.now))) (λ e.
+        result ≡ Err e) }
     ensures header { OnOk result (28 ≤ length bytes.now) }
     ensures count { OnOk result (kind_at bytes.now ≢ 1 → 36 ≤ length bytes.now) }
     ensures packet { OnOk result (kind_at bytes.now ≡ 2 → PACKET_OFFSET + SHORTEST_PACKET ≤ length bytes.now) }
@@ -106,12 +111,13 @@ fn read_layout(bytes: &[u8]) -> Result<Version, FrameError>
     Ok(version)
 }
 
-/// The header, and the tests of its nodes and lives.
+/// Reads the header, and checks its nodes and lives.
 #[tactic(auto, unfolding(crate::specs::FrameGrammar::header_fault))]
 fn read_header(bytes: &[u8], version: Version) -> Result<Header, FrameError>
     requires len { 28 ≤ length bytes.now }
     requires version { version ≡ version_of (version_at bytes.now) }
-    ensures exact { MatchOption (header_fault (kind_at bytes.now) (header_at bytes.now)) (result ≡ Ok (header_at bytes.now)) (λ e. result ≡ Err e) }
+    ensures exact { MatchOption (header_fault (kind_at bytes.now) (header_at bytes.now)) (result
+        ≡ Ok (header_at bytes.now)) (λ e. result ≡ Err e) }
     ensures valid { IfOk result IsHeader }
     ensures heard { IfOk result (λ h. kind_at bytes.now ≢ 1 → 0 < h.heard) }
 {
@@ -135,7 +141,7 @@ fn read_header(bytes: &[u8], version: Version) -> Result<Header, FrameError>
     Ok(header)
 }
 
-/// The number and the count of a DATA frame, and the test of them.
+/// Reads and checks the number and the count of a DATA frame.
 fn read_numbers(bytes: &[u8]) -> Result<(u64, u64), FrameError>
     requires { 44 ≤ length bytes.now }
     ensures exact { MatchBool (is_bad_number (u64_at 28 bytes.now) (u64_at 36 bytes.now))
@@ -149,7 +155,7 @@ fn read_numbers(bytes: &[u8]) -> Result<(u64, u64), FrameError>
     Ok((number, count))
 }
 
-/// A DATA frame whose header has no fault, and the tests of its body.
+/// Reads a DATA frame whose header has no fault, and checks its body.
 #[tactic(auto, unfolding(crate::specs::FrameGrammar::body_fault, crate::specs::FrameGrammar::body_at))]
 fn read_data<'a>(
     bytes: &[u8],
@@ -161,7 +167,8 @@ fn read_data<'a>(
     requires version { header.version ≡ version_of (version_at bytes.now) }
     requires header { IsHeader header }
     requires heard { 0 < header.heard }
-    ensures exact { MatchOption (body_fault bytes.now) (result ≡ Ok (frame_of header (body_at bytes.now))) (λ e. result ≡ Err e) }
+    ensures exact { MatchOption (body_fault bytes.now) (result ≡ Ok (frame_of header (body_at bytes.now))) (λ e.
+        result ≡ Err e) }
     ensures valid { IfOk result IsFrame }
 {
     let (number, count) = read_numbers(bytes)?;
@@ -171,7 +178,7 @@ fn read_data<'a>(
     Ok(BorrowedFrame::of(header, body))
 }
 
-/// A frame whose header has no fault, and the tests of its body.
+/// Reads a frame whose header has no fault, and checks its body.
 #[tactic(auto, unfolding(crate::specs::FrameGrammar::body_fault, crate::specs::FrameGrammar::body_at))]
 fn read_body<'a>(
     bytes: &[u8],
@@ -184,7 +191,8 @@ fn read_body<'a>(
     requires version { header.version ≡ version_of (version_at bytes.now) }
     requires header { IsHeader header }
     requires heard { kind_at bytes.now ≢ 1 → 0 < header.heard }
-    ensures exact { MatchOption (body_fault bytes.now) (result ≡ Ok (frame_of header (body_at bytes.now))) (λ e. result ≡ Err e) }
+    ensures exact { MatchOption (body_fault bytes.now) (result ≡ Ok (frame_of header (body_at bytes.now))) (λ e.
+        result ≡ Err e) }
     ensures valid { IfOk result IsFrame }
 {
     match bytes[1] {
@@ -209,20 +217,20 @@ fn read_frame<'a>(bytes: &[u8], packets: &'a mut Packets) -> Result<BorrowedFram
     read_body(bytes, header, packets)
 }
 
-/// The frame that the bytes spell, all of the bytes.
+/// Decodes a frame that takes up all of the bytes.
 ///
 /// # Errors
-/// The first that stands, in this order: `Short` (under 28 bytes), `Version`, `Kind`, `Length`, `Short` (fewer bytes
-/// than the payload length says), `Long`, `Id`, `Life`, `Number`, in version 2 `Count`, and `Packet` of the first packet
-/// that is refused, or with `Long` where bytes are left behind the last one.
+/// The first that applies, in this order: `Short` (under 28 bytes), `Version`, `Kind`, `Length`, `Short` (fewer bytes
+/// than the payload length says), `Long`, `Id`, `Life`, `Number`, in version 2 `Count`, and `Packet` for the first
+/// packet that is refused, or with `Long` if bytes are left after the last one.
 pub fn decode(bytes: &[u8]) -> Result<Frame, FrameError>
-    // What is read is spelled so.
+    // The bytes are the encoding of the result.
     ensures found { IfOk result (SpellsFrame bytes.now) }
-    // What is spelled so is read.
+    // If the bytes are the encoding of a value, the result is that value.
     ensures only { (frame : FrameParts) → SpellsFrame bytes.now frame → result ≡ Ok frame }
-    // Which fault it is.
+    // A fault is reported exactly if the bytes have one, and it is the first one.
     ensures fault { MatchOption (frame_fault bytes.now) (IsOk result) (λ e. result ≡ Err e) }
-    // The three together, as one function.
+    // The three clauses above as one function.
     ensures exact { result ≡ frame_reading bytes.now }
 {
     let mut packets = Packets::new();
@@ -230,8 +238,8 @@ pub fn decode(bytes: &[u8]) -> Result<Frame, FrameError>
     Ok(frame.to_frame())
 }
 
-/// The frame that the bytes spell, as `decode`. Its packets are put into `packets` in place of what was there, and the
-/// frame borrows them. After an error `packets` may have any packets.
+/// As `decode`, but the frame borrows its packets from `packets`, which is overwritten. After an error `packets` may
+/// have any packets.
 ///
 /// # Errors
 /// Those of `decode`.
@@ -239,19 +247,19 @@ pub fn decode_into<'a>(
     bytes: &[u8],
     packets: &'a mut Packets,
 ) -> Result<BorrowedFrame<'a>, FrameError>
-    // What is read is spelled so.
+    // The bytes are the encoding of the result.
     ensures found { IfOk result (SpellsFrame bytes.now) }
-    // What is spelled so is read.
+    // If the bytes are the encoding of a value, the result is that value.
     ensures only { (frame : FrameParts) → SpellsFrame bytes.now frame → result ≡ Ok frame }
-    // Which fault it is.
+    // A fault is reported exactly if the bytes have one, and it is the first one.
     ensures fault { MatchOption (frame_fault bytes.now) (IsOk result) (λ e. result ≡ Err e) }
-    // The three together, as one function.
+    // The three clauses above as one function.
     ensures exact { result ≡ frame_reading bytes.now }
 {
     read_frame(bytes, packets)
 }
 
-/// Each frame has one spelling, which is read as that frame, and no spelling begins another.
+/// Each frame has exactly one encoding, which decodes to that frame, and no encoding is a prefix of another.
 pub fn one_frame_spelling()
     ensures one { (a b : List ℕ) (f : FrameParts) → SpellsFrame a f → SpellsFrame b f → a ≡ b }
     ensures read { (f : FrameParts) → IsFrame f → frame_reading (frame_spelling f) ≡ Ok f }

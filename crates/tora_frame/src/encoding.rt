@@ -3,7 +3,8 @@ ghost use Rattle.std.specs.Prelude.{◌≡◌, ℕ, ◌+◌, ◌*◌, ◌≤◌,
 ghost use Rattle.arrayvec.specs.ArrayVec.{ArrayVec as Items, array_vec_len};
 ghost use Rattle.tora_packet.specs.declared.Packet.{Packet as AnyPacket};
 ghost use Rattle.tora_packet.specs.PacketParts.{UpdateParts};
-ghost use Rattle.tora_frame.specs.FrameGrammar.{SpellsFrame, frame_spelling, header_spelling, packets_length, packets_spelling, data_head_length, batch_size_spelling};
+ghost use Rattle.tora_frame.specs.FrameGrammar.{SpellsFrame, frame_spelling, header_spelling, packets_length};
+ghost use Rattle.tora_frame.specs.FrameGrammar.{packets_spelling, data_head_length, batch_size_spelling};
 ghost use Rattle.tora_frame.specs.declared.parts.Header.{Header};
 ghost use Rattle.tora_frame.specs.declared.parts.Body.{Body};
 ghost use Rattle.tora_frame.specs.FrameParts.{FrameParts, IsFrame, batch, frame_of};
@@ -15,10 +16,10 @@ use crate::{BorrowedBody, BorrowedFrame, Frame, Header, MOST_PACKETS, Version};
 use arrayvec::ArrayVec;
 use tora_packet::{LONGEST_PACKET, Packet, append, encoded_length};
 
-/// The most bytes that a frame has: those of a DATA frame of version 2 with sixteen updates.
+/// The length of the longest frame in bytes: a DATA frame of version 2 with sixteen updates.
 pub const LONGEST_FRAME: usize = HEADER_LENGTH + LONGEST_BATCH;
 
-/// The bytes of a frame, as far as they are written.
+/// The bytes of a frame that were written so far.
 type Bytes = ArrayVec<u8, LONGEST_FRAME>;
 
 fn put(out: &mut Bytes, bytes: &[u8])
@@ -58,7 +59,7 @@ fn put_header(kind: u8, len: u16, header: &Header, out: &mut Bytes)
     put(out, &header.heard.to_be_bytes());
 }
 
-/// How many bytes of a DATA frame stand between its header and its packets.
+/// How many bytes a DATA frame has between its header and its packets.
 fn data_head_length(version: Version) -> usize
     ensures length { result ≡ data_head_length version }
     ensures most { result ≤ BATCH_HEAD }
@@ -69,7 +70,7 @@ fn data_head_length(version: Version) -> usize
     }
 }
 
-/// Appends how many packets follow, where the version says it.
+/// Appends the count of packets, if the version has such a field.
 fn put_batch_size(version: Version, many: usize, out: &mut Bytes)
     requires many { many ≤ MOST_PACKETS }
     requires room { array_vec_len out.old + 4 ≤ LONGEST_FRAME }
@@ -116,8 +117,8 @@ fn put_ack(header: &Header, count: u64, out: &mut Bytes)
     put(out, &count.to_be_bytes());
 }
 
-/// The bytes of a frame: 28 for a HELLO, 36 for an ACK, and for a DATA frame those of its packets and 44 in version 1, 48
-/// in version 2.
+/// The bytes of a frame: 28 for a HELLO, 36 for an ACK, and for a DATA frame 44 (version 1) or 48 (version 2) and those
+/// of its packets.
 pub fn encode(frame: &Frame) -> ArrayVec<u8, LONGEST_FRAME>
     ensures spells { SpellsFrame result.items frame.now }
     ensures exact { result.items ≡ frame_spelling frame.now }
@@ -127,7 +128,7 @@ pub fn encode(frame: &Frame) -> ArrayVec<u8, LONGEST_FRAME>
     out
 }
 
-/// Puts the bytes of a frame, as `encode`, into `out` in place of what was there.
+/// As `encode`, but writes the bytes to `out`, which is overwritten.
 pub fn encode_into(frame: &BorrowedFrame<'_>, out: &mut ArrayVec<u8, LONGEST_FRAME>)
     ensures spells { SpellsFrame out.new.items frame.now }
     ensures exact { out.new.items ≡ frame_spelling frame.now }
@@ -141,11 +142,11 @@ pub fn encode_into(frame: &BorrowedFrame<'_>, out: &mut ArrayVec<u8, LONGEST_FRA
     }
 }
 
-/// No frame has more bytes than `LONGEST_FRAME`, which are those of a DATA frame of version 2 with sixteen updates. Own
-/// profile.
+/// No frame is longer than `LONGEST_FRAME`, the length of a DATA frame of version 2 with sixteen updates.
 pub fn longest_frame()
     ensures is { LONGEST_FRAME ≡ 560 }
     ensures most { (frame : FrameParts) → IsFrame frame → length (frame_spelling frame) ≤ LONGEST_FRAME }
     ensures reached { (header : Header) (number count : ℕ) (update : UpdateParts) → header.version ≡ Version.Two
-        → length (frame_spelling (frame_of header (Body.Data number count (batch (replicate 16 (Packet.Upd update)))))) ≡ LONGEST_FRAME }
+        → length (frame_spelling (frame_of header (Body.Data number count (batch (replicate 16 (Packet.Upd update))))))
+        ≡ LONGEST_FRAME }
 {}

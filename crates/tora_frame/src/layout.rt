@@ -28,8 +28,8 @@ pub(crate) const PACKET_OFFSET: usize = HEADER_LENGTH + PACKET_HEAD;
 /// The bytes of a DATA frame of version 2 before its packets.
 pub(crate) const BATCH_OFFSET: usize = HEADER_LENGTH + BATCH_HEAD;
 
-/// The fewest bytes of a DATA frame of version 2 behind its header: with the shortest packet.
+/// The least payload of a DATA frame of version 2 in bytes: with one packet, the shortest.
 pub(crate) const SHORTEST_BATCH: usize = BATCH_HEAD + SHORTEST_PACKET;
 
-/// The most bytes of a DATA frame of version 2 behind its header: with as many of the longest packet as a frame carries.
+/// The greatest payload of a DATA frame of version 2 in bytes: with `MOST_PACKETS` packets of the longest kind.
 pub(crate) const LONGEST_BATCH: usize = BATCH_HEAD + MOST_PACKETS * LONGEST_PACKET;

@@ -31,13 +31,13 @@ pub use parts::{Body, Frame, GREATEST_NUMBER, Header, MOST_PACKETS, Packets, Ver
 use thiserror::Error;
 use tora_packet::PacketError;
 
-/// Why bytes spell no frame.
+/// Why bytes are not a frame.
 #[derive(Clone, Copy, Debug, PartialEq, Eq, Hash, Error)]
 pub enum FrameError {
     /// The bytes end before the frame does.
     #[error("too few bytes")]
     Short,
-    /// There are bytes behind the frame.
+    /// There are bytes after the frame.
     #[error("too many bytes")]
     Long,
     /// The version is neither 1 nor 2.
@@ -58,10 +58,10 @@ pub enum FrameError {
     /// The number of a packet, or a count of packets, is out of its range.
     #[error("a number or a count is out of its range")]
     Number,
-    /// The bytes of a packet spell none.
+    /// The bytes of a packet are not a packet.
     #[error("the packet is refused: {0}")]
     Packet(#[source] PacketError),
-    /// How many packets a frame of version 2 has is 0 or above 16, is not followed by three zero bytes, or takes the
+    /// The count of packets in a frame of version 2 is 0 or above 16, is not followed by three zero bytes, or puts the
     /// number of the last packet out of its range.
     #[error("how many packets there are is out of its range")]
     Count,

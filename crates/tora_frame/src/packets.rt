@@ -1,20 +1,24 @@
 //! Bytes to the packets of a DATA frame.
-ghost use Rattle.std.specs.Prelude.{◌≡◌, ◌+◌, ◌<◌, ◌≤◌, ◌^◌, [], ◌∷◌, drop, length, MatchOption, MatchBool, IfOk, OnOk, IsOk, Ok, Err};
+ghost use Rattle.std.specs.Prelude.{◌≡◌, ◌+◌, ◌<◌, ◌≤◌, ◌^◌, [], ◌∷◌, drop, length, MatchOption, MatchBool, IfOk, OnOk};
+ghost use Rattle.std.specs.Prelude.{IsOk, Ok, Err};
 ghost use Rattle.std.specs.List.{AllByRecursion};
 ghost use Rattle.arrayvec.specs.ArrayVec.{array_vec_len};
 ghost use Rattle.tora_packet.specs.AnyPacket.{IsPacket};
 ghost use Rattle.tora_packet.specs.PacketGrammar.{u64_at};
 ghost use Rattle.tora_frame.specs.FrameParts.{IsBatchSize};
-ghost use Rattle.tora_frame.specs.FrameGrammar.{version_at, version_of, whole_packet_fault, whole_packet_at, packets_fault, packets_at, batch_size_at, is_bad_batch_size, batch_fault, fault_inside, packets_inside};
+ghost use Rattle.tora_frame.specs.FrameGrammar.{version_at, version_of, whole_packet_fault, whole_packet_at};
+ghost use Rattle.tora_frame.specs.FrameGrammar.{packets_fault, packets_at, batch_size_at, is_bad_batch_size};
+ghost use Rattle.tora_frame.specs.FrameGrammar.{batch_fault, fault_inside, packets_inside};
 
 use crate::layout::{BATCH_OFFSET, PACKET_OFFSET};
 use crate::{FrameError, GREATEST_NUMBER, MOST_PACKETS, Packets, Version};
 use tora_packet::{Packet, PacketError, cut_packet};
 
-/// The packet that all the bytes spell.
+/// Decodes a packet that takes up all of the bytes.
 #[inline(always)]
 fn read_packet(bytes: &[u8]) -> Result<Packet, FrameError>
-    ensures exact { MatchOption (whole_packet_fault bytes.now) (result ≡ Ok (whole_packet_at bytes.now)) (λ e. result ≡ Err e) }
+    ensures exact { MatchOption (whole_packet_fault bytes.now) (result ≡ Ok (whole_packet_at bytes.now)) (λ e.
+        result ≡ Err e) }
     ensures valid { IfOk result IsPacket }
 {
     match tora_packet::decode(bytes) {
@@ -32,7 +36,7 @@ fn behind(bytes: &[u8], offset: usize) -> &[u8]
     rest
 }
 
-/// So many packets one after another, with no byte behind them. An `Err` may leave some of them.
+/// Decodes exactly `many` packets, one after another, which take up all of the bytes. An `Err` may leave some of them.
 fn read_list(bytes: &[u8], many: usize, packets: &mut Packets) -> Result<(), FrameError>
     requires many { many ≤ MOST_PACKETS }
     requires empty { packets.old.items ≡ [] }
@@ -53,12 +57,13 @@ fn read_list(bytes: &[u8], many: usize, packets: &mut Packets) -> Result<(), Fra
     Ok(())
 }
 
-/// How many packets a frame of version 2 has, where the first one has this number, and the test of it.
+/// Reads and checks the count of packets of a frame of version 2 whose first packet has this number.
 fn read_batch_size(bytes: &[u8], number: u64) -> Result<usize, FrameError>
     requires len { 48 ≤ length bytes.now }
     requires number { number ≡ u64_at 28 bytes.now }
     requires fits { number ≤ 2 ^ 62 }
-    ensures exact { MatchBool (is_bad_batch_size bytes.now) (result ≡ Err FrameError.Count) (result ≡ Ok (batch_size_at bytes.now)) }
+    ensures exact { MatchBool (is_bad_batch_size bytes.now) (result ≡ Err FrameError.Count) (result
+        ≡ Ok (batch_size_at bytes.now)) }
     ensures valid { IfOk result (λ many. (0 < many) × (many ≤ 16) × (number + many ≤ 2 ^ 62 + 1)) }
 {
     let many = bytes[44];
@@ -74,7 +79,7 @@ fn read_batch_size(bytes: &[u8], number: u64) -> Result<usize, FrameError>
     Ok(usize::from(many))
 }
 
-/// The packets of a frame of version 2, and the tests of them.
+/// Reads and checks the packets of a frame of version 2.
 #[tactic(auto, unfolding(crate::specs::FrameGrammar::batch_fault))]
 fn read_batch(bytes: &[u8], number: u64, packets: &mut Packets) -> Result<(), FrameError>
     requires len { 48 ≤ length bytes.now }
@@ -84,13 +89,14 @@ fn read_batch(bytes: &[u8], number: u64, packets: &mut Packets) -> Result<(), Fr
     ensures exact { MatchOption (batch_fault bytes.now) (IsOk result) (λ e. result ≡ Err e) }
     ensures packets { OnOk result (packets.new.items ≡ packets_at (batch_size_at bytes.now) (drop 48 bytes.now)) }
     ensures valid { OnOk result (AllByRecursion IsPacket packets.new.items) }
-    ensures many { OnOk result ((0 < array_vec_len packets.new) × (array_vec_len packets.new ≤ 16) × (number + array_vec_len packets.new ≤ 2 ^ 62 + 1)) }
+    ensures many { OnOk result ((0 < array_vec_len packets.new) × (array_vec_len packets.new ≤ 16)
+        × (number + array_vec_len packets.new ≤ 2 ^ 62 + 1)) }
 {
     let many = read_batch_size(bytes, number)?;
     read_list(behind(bytes, BATCH_OFFSET), many, packets)
 }
 
-/// The packet of a frame of version 1, which all the bytes behind the numbers are of.
+/// Reads the packet of a frame of version 1, which takes up all of the bytes after the number and the count.
 fn read_one(bytes: &[u8], packets: &mut Packets) -> Result<(), FrameError>
     requires len { 44 ≤ length bytes.now }
     requires empty { packets.old.items ≡ [] }
@@ -102,8 +108,8 @@ fn read_one(bytes: &[u8], packets: &mut Packets) -> Result<(), FrameError>
     Ok(())
 }
 
-/// Reads the packets of a DATA frame of this version, where the first one has this number, and tests them. An `Err` may
-/// leave some of them.
+/// Reads and checks the packets of a DATA frame of this version whose first packet has this number. An `Err` may leave
+/// some of them.
 #[tactic(auto, unfolding(crate::specs::FrameGrammar::packets_inside))]
 pub fn read_packets(
     bytes: &[u8],

@@ -30,7 +30,7 @@ pub enum Version {
 }
 
 impl Version {
-    /// The number of the version, as the first byte of a frame tells it.
+    /// The number of the version, which is the first byte of a frame.
     pub fn number(self) -> u8
         ensures { result ≡ version_number self }
     {
@@ -41,14 +41,14 @@ impl Version {
     }
 }
 
-/// The header of a frame: between whom it goes, and in which lives of the link.
+/// The header of a frame: its version, its two nodes, and a life number of each end.
 #[derive(Clone, Copy, Debug, PartialEq, Eq, Hash)]
 pub struct Header {
     /// The version of the frame.
     pub version: Version,
     /// The node that sends the frame.
     pub sender: Id,
-    /// The node that the frame is for, another one than the sender.
+    /// The node that the frame is for. It is not the sender.
     pub receiver: Id,
     /// The life of the sender's link end, 1 to 2^62.
     pub life: u64,
@@ -59,7 +59,7 @@ pub struct Header {
 /// The body of a frame, after its header.
 #[derive(Debug, PartialEq, Eq, Hash, Drop)]
 pub enum Body {
-    /// Nothing: the frame only tells the lives.
+    /// No content: the frame carries only the life numbers of its header.
     Hello,
     /// The number of the first packet, 1 to 2^62, the count of packets that the sender has accepted in this life, 0 to
     /// 2^62, and the packets, numbered on from the first: one in version 1, one to sixteen in version 2.
@@ -68,9 +68,9 @@ pub enum Body {
     Ack(u64),
 }
 
-/// A frame of a neighbour link: its header and its body, both in their ranges.
+/// A frame of a neighbour link: its header and its body, with every field in its range.
 ///
-/// Sender and receiver are two different nodes, and a frame that carries a count has heard a life of the receiver.
+/// The sender and the receiver are different nodes. In a frame that carries a count, `heard` is not 0.
 #[derive(Debug, PartialEq, Eq, Hash, Drop)]
 pub struct Frame {
     header: Header,
@@ -89,7 +89,7 @@ impl Model for Frame {
     ghost inverse = { λ p. record { header = p.header; body = p.body } };
 }
 
-/// The parts of packets are in their ranges, each as its type keeps it.
+/// Every packet has its parts in range, because its type ensures it.
 pub(crate) fn know(packets: &[Packet])
     ensures { AllByRecursion IsPacket packets.now }
 {
@@ -154,7 +154,7 @@ impl Frame {
         Frame::of(header, Body::Ack(count))
     }
 
-    /// Between whom the frame goes, and in which lives.
+    /// The version, the two nodes and the two life numbers of the frame.
     pub fn header(&self) -> &Header
         ensures value { result.now ≡ self.now.header }
         ensures valid { IsFrame self.now }

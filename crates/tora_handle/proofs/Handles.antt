@@ -1,4 +1,5 @@
--- What a struct with one pointer is for the machine that owns what `owned` says: one word, null or the pointer to a block.
+-- What a struct with one pointer is for the machine that owns what `owned` says: one word, null or the pointer to a
+-- block.
 --     open_handle      a value of it is null and holds nothing, or points to the block of what it holds
 --     close_null       null makes one that holds nothing
 --     close_block      a block makes one that holds what lies there
@@ -51,14 +52,14 @@ module _ (Value : RattleType) where
   abbrev pub block : Ptr → Value.Denot → Fml
   block p x = box_owns token Value p x
 
-  -- the fields of such a struct are the pointer alone
+  -- the only field of the struct is the pointer
   abbrev pub Fields : List RattleType
   Fields = RawPtr ∷ []
 
   abbrev fields : Ptr → List Val → Valss Fields → Fml
   fields p vs vss = fsep (feq (List Val) vs (vstruct (of_list (flat Fields vss)) ∷ [])) (owns Fields (p, tt) vss)
 
-  -- what a value of such a struct owns
+  -- what a value of the struct owns
   abbrev pub own : Ptr → Option Value.Denot → List Val → Fml
   own p held vs = fsep (fex (Valss Fields) (fields p vs)) (owned Value p held)
 

@@ -8,11 +8,11 @@ use denote.RawPtr.{Ptr, null_ptr}
 use Rattle.std.specs.contracts.impls.GlobalAllocator.TheImpl.{ghosts}
 use Rattle.std_alloc.specs.Box.Ownership.{box_owns}
 
--- what frees a block of the heap of the C library, whatever `Global` made it
+-- the right to free a block of the C library's heap, for any `Global`
 abbrev pub token : Ty → Ptr → Fml
 token = ghosts.dealloc_token (record { memory = record { seal = tt } })
 
--- nothing where the pointer is null, and else the block that it points to, with the value there
+-- nothing if the pointer is null; otherwise the block that it points to, with the value there
 abbrev pub owned : (Value : RattleType) → Ptr → Option Value.Denot → Fml
 owned Value p None = feq Ptr p null_ptr
 owned Value p (Some x) = box_owns token Value p x

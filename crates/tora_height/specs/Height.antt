@@ -55,7 +55,7 @@ has_originator h = if h.tau == 0 then h.oid == 0 else nat_lt 0 h.oid
 abbrev pub is_below_zero : Quintuple → Bool
 is_below_zero h = (h.tau == 0) && (h.r == 0) && int_lt h.delta (pos 0)
 
--- the first part that is out of range, in the order in which they are tested
+-- the first part that is out of range, in the order of the checks
 unfoldable pub height_fault : Quintuple → Option HeightError
 height_fault h =
     if nat_lt (2 ^ 62) h.tau then Some Fault.Tau

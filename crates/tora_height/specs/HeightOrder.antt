@@ -8,14 +8,14 @@ use Rattle.tora_height.specs.declared.direction.Direction.{Direction}
 use Rattle.tora_height.specs.declared.direction.Direction.TheVariants as Link
 use Rattle.tora_height.specs.Height.{Quintuple, level_of}
 
--- a level is lower than another: by its time, else by its originator, else by its reflection bit
+-- levels are compared by time, then originator, then reflection bit
 abbrev pub IsLowerLevel : Level → Level → Type 0
 IsLowerLevel a b =
     (a.tau < b.tau)
     ⊎ ((a.tau ≡ b.tau) × (a.oid < b.oid))
     ⊎ ((a.tau ≡ b.tau) × (a.oid ≡ b.oid) × (a.r < b.r))
 
--- a height is lower than another: by its level, else by its delta, else by its node
+-- heights are compared by level, then delta, then node
 abbrev pub IsLower : Quintuple → Quintuple → Type 0
 IsLower a b =
     IsLowerLevel (level_of a) (level_of b)
@@ -34,7 +34,7 @@ height_cmp a b =
     (ordering_then (nat_cmp a.r b.r)
     (ordering_then (int_cmp a.delta b.delta) (nat_cmp a.id b.id))))
 
--- the direction of a link to a neighbour whose height compares so to the own height
+-- the direction of a link, by how the neighbour's height compares to the own height
 abbrev pub direction_by : Ordering → Direction
 direction_by Less = Link.Down
 direction_by Equal = Link.Undirected

@@ -10,4 +10,5 @@ written_level l = decimal l.tau ++ codes "," ++ decimal l.oid ++ codes "," ++ de
 
 -- a height as (tau,oid,r,delta,id)
 abbrev pub written_height : Quintuple → List ℕ
-written_height h = codes "(" ++ written_level (level_of h) ++ codes "," ++ signed_decimal h.delta ++ codes "," ++ decimal h.id ++ codes ")"
+written_height h = codes "(" ++ written_level (level_of h) ++ codes "," ++ signed_decimal h.delta ++ codes ","
+    ++ decimal h.id ++ codes ")"

@@ -7,7 +7,7 @@ pub enum Direction {
     Up,
     /// Downstream: the neighbour is lower.
     Down,
-    /// The neighbour's height is not known.
+    /// The neighbour's height is not known, or the two heights are equal.
     #[default]
     Undirected,
 }

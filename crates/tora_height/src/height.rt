@@ -6,7 +6,7 @@ use std::marker::Model;
 
 /// A height whose parts are in range (Park and Corson 1997, section 3.1; the ranges are this project's choice).
 ///
-/// Heights are ordered lexicographically over the five parts, as the derived `Ord` does it.
+/// Heights are ordered lexicographically by their five parts; the derived `Ord` does this.
 #[derive(Clone, Copy, Debug, PartialEq, Eq, PartialOrd, Ord, Hash)]
 pub struct Height {
     tau: u64,
@@ -31,7 +31,8 @@ impl Model for Height {
 impl Height {
     ghost use Rattle.std.specs.Prelude.{◌≡◌, ◌<◌, None, Ok, Err, MatchOption, IfOk};
     ghost use Rattle.std.specs.Ordering.{is_lt};
-    ghost use Rattle.tora_height.specs.Height.{IsHeight, IsLevel, quintuple, destination_height, level_of, height_fault};
+    ghost use Rattle.tora_height.specs.Height.{IsHeight, IsLevel, quintuple, destination_height, level_of};
+    ghost use Rattle.tora_height.specs.Height.{height_fault};
     ghost use Rattle.tora_height.specs.HeightOrder.{level_cmp, height_cmp};
 
     /// The height of these parts.
@@ -68,7 +69,7 @@ impl Height {
         })
     }
 
-    /// The height of a destination, always: (0,0,0,0,`destination`) (Park and Corson 1997, section 3.1).
+    /// The height of every destination for itself: (0,0,0,0,`destination`) (Park and Corson 1997, section 3.1).
     pub fn zero(destination: Id) -> Height
         requires { 0 < destination }
         ensures { result ≡ destination_height destination }
@@ -134,14 +135,14 @@ impl Height {
         }
     }
 
-    /// The order of two heights by their reference levels alone.
+    /// Compares two heights by their reference levels only.
     pub fn level_cmp(&self, other: &Height) -> Ordering
         ensures { result ≡ level_cmp (level_of self.now) (level_of other.now) }
     {
         self.level().cmp(&other.level())
     }
 
-    /// The order of two heights, as the derived `Ord` has it.
+    /// Compares two heights like the derived `Ord`.
     pub fn height_cmp(&self, other: &Height) -> Ordering
         ensures { result ≡ height_cmp self.now other.now }
     {

@@ -1,10 +1,10 @@
-//! Why five parts are no height.
+//! Why five parts are not a height.
 ghost use Rattle.std.specs.Prelude.{◌≡◌};
 ghost use Rattle.tora_height.specs.HeightErrors.{height_error_number};
 
 use thiserror::Error;
 
-/// Why five parts are no height, in the order in which they are tested.
+/// Why five parts are not a height, in the order of the checks.
 #[derive(Clone, Copy, Debug, PartialEq, Eq, Hash, Error)]
 pub enum HeightError {
     /// `tau` is above 2^62.

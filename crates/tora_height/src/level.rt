@@ -3,7 +3,7 @@ use std::fmt;
 
 /// A reference level: the first three parts of a height (Park and Corson 1997, section 3.1).
 ///
-/// Levels are ordered by `tau`, then `oid`, then `r`, as the derived `Ord` has it.
+/// Levels are ordered by `tau`, then `oid`, then `r`; the derived `Ord` does this.
 #[derive(Clone, Copy, Debug, PartialEq, Eq, PartialOrd, Ord, Hash)]
 pub struct Level {
     /// The time tag: when the level was defined, in ticks of 100 ms, 0 to 2^62.

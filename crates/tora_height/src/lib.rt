@@ -45,8 +45,8 @@ pub type Entry = Option<Height>;
 /// The direction of the link to a neighbour, from the own height and the neighbour's
 /// (draft-ietf-manet-tora-spec-04, section 3.3).
 ///
-/// `Undirected` where the entry is NULL, and for two equal heights; `Down` where the own height is NULL and the entry
-/// is not, or where the entry is lower; `Up` where it is higher.
+/// `Undirected` if the entry is NULL or the heights are equal; `Down` if the entry is lower, or if only the own height
+/// is NULL; `Up` if the entry is higher.
 pub fn status(own: Entry, entry: Entry) -> Direction
     ensures { result ≡ link_status own entry }
 {
@@ -61,7 +61,7 @@ pub fn status(own: Entry, entry: Entry) -> Direction
     }
 }
 
-/// Heights and reference levels are totally ordered, part by part, and two that compare alike are one.
+/// Heights and reference levels are totally ordered, part by part, and two that compare as equal are equal.
 pub fn heights_are_totally_ordered()
     ensures total { IsTotalOrder height_cmp }
     ensures lower { (a b : Quintuple) → (height_cmp a b ≡ Less) ↔ IsLower a b }
@@ -71,7 +71,7 @@ pub fn heights_are_totally_ordered()
     ensures level_same { (a b : AnyLevel) → level_cmp a b ≡ Equal → a ≡ b }
 {}
 
-/// The parts of a height are refused exactly where they are out of range.
+/// The parts of a height are refused exactly if one of them is out of range.
 pub fn ranges_are_tested()
     ensures accepted { (h : Quintuple) → IsHeight h → height_fault h ≡ None }
     ensures refused { (h : Quintuple) → h.oid < 2 ^ 32 → h.id < 2 ^ 32 → height_fault h ≡ None → IsHeight h }

@@ -1,4 +1,4 @@
--- Tags are put behind messages and taken off again.
+-- Tags are appended to messages and removed again.
 use Rattle.std.proofs.Common.{◌≡◌, ◌∙◌, refl, sym, ap, arith, ℕ, zero, suc, ◌+◌, ◌-◌, ◌<◌, Bool, true, false, List, [], ◌∷◌, ◌++◌, length, map, filter_map, Some, All, Contains, IsTrue, bytes_eq, take-append-drop, nat_le, length-append, get_or, ◌&&◌}
 use Rattle.std.proofs.lemmas.List.{length-take-le, take_at, drop_at}
 use Rattle.std.proofs.lemmas.List.{get_or-map}

@@ -6,11 +6,11 @@ use Rattle.sha2.specs.Sha256.{sha256}
 abbrev pub shortened : List ℕ → List ℕ
 shortened key = if nat_lt 64 (length key) then sha256 key else key
 
--- the block of a key: zeros follow it, up to 64 bytes
+-- the block of a key: the key, followed by zeros up to 64 bytes
 unfoldable pub padded : List ℕ → List ℕ
 padded key = shortened key ++ replicate (64 - length (shortened key)) 0
 
--- a byte of a block under the byte of a pad
+-- a byte of a block combined with the byte of a pad
 abbrev pub masked_byte : ℕ → ℕ → ℕ
 masked_byte pad byte = bit_xor byte pad
 

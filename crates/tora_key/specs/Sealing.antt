@@ -1,4 +1,4 @@
--- Messages with tags.
+-- Tagged messages.
 use Rattle.std.specs.Prelude.{ℕ, ◌-◌, Bool, ◌&&◌, List, [], ◌∷◌, ◌++◌, length, take, drop, Option, Some, None, nat_le, bytes_eq, if◌then◌else◌}
 use Rattle.tora_key.specs.Hmac.{tag_of}
 
@@ -6,7 +6,7 @@ use Rattle.tora_key.specs.Hmac.{tag_of}
 unfoldable pub sealed : List ℕ → List ℕ → List ℕ
 sealed key message = message ++ tag_of key message
 
--- all but the last 16 bytes, and these
+-- all bytes except the last 16, and those 16
 abbrev pub front_of : List ℕ → List ℕ
 front_of bytes = take (length bytes - 16) bytes
 

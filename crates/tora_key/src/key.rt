@@ -18,9 +18,9 @@ const INNER_PAD: u8 = 0x36;
 
 const OUTER_PAD: u8 = 0x5c;
 
-/// A key, made once from bytes of any length: the block that RFC 2104 pads it to, which contracts see, and the two hashers that
-/// have taken this block under the inner and under the outer pad. A tag begins with copies of these, and so hashes two blocks
-/// less. It takes no memory. `clear` overwrites it.
+/// A key, made from bytes of any length: the block that RFC 2104 pads them to, and two hashers that have hashed this
+/// block under the inner and the outer pad. Each tag starts from copies of these hashers, which saves hashing two
+/// blocks. It takes no memory, and `clear` overwrites it.
 #[derive(Drop)]
 pub struct Key {
     block: [u8; BLOCK],
@@ -37,11 +37,14 @@ impl Model for Key {
 
     ghost view = { λ k. k.block };
 
-    ghost invariant = { λ k. record { inner : Holds256 k.inner (masked 0x36 k.block); outer : Holds256 k.outer (masked 0x5c k.block) } };
+    ghost invariant = { λ k. record {
+      inner : Holds256 k.inner (masked 0x36 k.block);
+      outer : Holds256 k.outer (masked 0x5c k.block);
+    } };
 }
 
 impl Key {
-    /// The key of these bytes. More than 64 of them are hashed first, as the RFC says.
+    /// The key of these bytes. If there are more than 64, their digest is used, as the RFC says.
     #[tactic(auto, unfolding(crate::specs::Hmac::padded))]
     pub fn new(bytes: &[u8]) -> Key
         ensures { result ≡ padded bytes.now }
@@ -52,7 +55,7 @@ impl Key {
         Key::of(block_with(bytes))
     }
 
-    /// The key of a block.
+    /// The key of a padded block.
     fn of(block: [u8; BLOCK]) -> Key
         ensures { result ≡ block }
     {
@@ -65,7 +68,7 @@ impl Key {
         }
     }
 
-    /// Puts the key of no bytes, whose block is 64 zeros, into its place.
+    /// Overwrites the key with the key of no bytes, whose block is 64 zeros.
     pub fn clear(&mut self)
         ensures { self.new ≡ replicate 64 0 }
     {
@@ -93,7 +96,7 @@ impl Key {
     }
 }
 
-// The block that begins with these bytes, and has zeros from there on.
+// The block that begins with these bytes and is filled with zeros.
 fn block_with(bytes: &[u8]) -> [u8; BLOCK]
     requires { length bytes.now ≤ 64 }
     ensures { result ≡ bytes.now ++ replicate (64 - length bytes.now) 0 }
@@ -105,7 +108,7 @@ fn block_with(bytes: &[u8]) -> [u8; BLOCK]
     block
 }
 
-// The digest of what a hasher has taken and a message behind it.
+// The digest of the bytes that a hasher has taken, followed by a message.
 fn digest_behind(hasher: &Sha256, message: &[u8]) -> [u8; 32]
     ensures { (front : List ℕ) → Holds256 hasher.now front → result ≡ sha256 (front ++ message.now) }
 {
@@ -132,7 +135,7 @@ pub fn hmac(key: &[u8], message: &[u8]) -> [u8; 32]
     Key::new(key).hmac(message)
 }
 
-/// Whether two tags are the same. It looks at each byte of both, wherever they differ first.
+/// Whether two tags are the same. It reads all bytes of both, whatever the first difference.
 pub fn is_same(a: &[u8], b: &[u8]) -> bool
     requires a { length a.now ≡ 16 }
     requires b { length b.now ≡ 16 }

@@ -1,4 +1,4 @@
-//! Messages with tags.
+//! Tagged messages.
 ghost use Rattle.std.specs.Prelude.{◌≡◌, ◌+◌, ◌≤◌, length, take, drop, option_map};
 ghost use Rattle.tora_key.specs.Hmac.{tag_of};
 ghost use Rattle.tora_key.specs.Sealing.{sealed, is_authentic, opened};
@@ -6,7 +6,7 @@ ghost use Rattle.tora_key.specs.Sealing.{sealed, is_authentic, opened};
 use crate::key::{Key, TAG, is_same};
 
 impl Key {
-    /// Puts a message and its tag at the front of a room that is long enough, and answers how many bytes these are.
+    /// Writes a message and its tag to the front of a buffer that is long enough, and returns their length in bytes.
     #[tactic(auto, unfolding(crate::specs::Sealing::sealed))]
     pub fn seal(&self, message: &[u8], room: &mut [u8]) -> usize
         requires { length message.now + 16 ≤ length room.old }
@@ -20,7 +20,7 @@ impl Key {
         end + TAG
     }
 
-    /// Whether the last 16 bytes are the tag of the rest. Tags are compared to their end.
+    /// Whether the last 16 bytes are the tag of the bytes before them.
     #[tactic(auto, unfolding(crate::specs::Sealing::is_authentic))]
     pub fn is_authentic(&self, bytes: &[u8]) -> bool
         ensures { result ≡ is_authentic self.now bytes.now }
@@ -32,7 +32,7 @@ impl Key {
         is_same(&bytes[end..], &self.tag(&bytes[..end]))
     }
 
-    /// The message of authentic bytes, without its tag.
+    /// The message without its tag, if the bytes are authentic.
     pub fn open<'a>(&self, bytes: &'a [u8]) -> Option<&'a [u8]>
         ensures { option_map (λ message. message.now) result ≡ opened self.now bytes.now }
     {

@@ -1,4 +1,3 @@
-pub mod Keyed
 pub mod Links
 pub mod KeyFile
 pub mod Notices

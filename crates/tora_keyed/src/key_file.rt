@@ -24,10 +24,12 @@ fn digits_in(bytes: &[u8]) -> &[u8]
     }
 }
 
-/// The key that the bytes of a file say: 64 hexadecimal digits, and perhaps a line feed. `None` where they are no such. The room in
-/// which the key's bytes stood is overwritten once the key is made; who read the file overwrites what was read.
+/// The key that the bytes of a file say: 64 hexadecimal digits, and perhaps a line feed. `None` where they are no such.
+/// The room in which the key's bytes stood is overwritten once the key is made; who read the file overwrites what was
+/// read.
 pub fn key_in(bytes: &[u8]) -> Option<Key>
-    ensures { MatchResult (decode_sized (digits_in bytes.now) 32) (λ key. result ≡ Some (padded key)) (λ _. result ≡ None) }
+    ensures { MatchResult (decode_sized (digits_in bytes.now) 32) (λ key. result ≡ Some (padded key))
+        (λ _. result ≡ None) }
 {
     let mut room = [0; KEY];
     let key = match hex::decode_to_slice(digits_in(bytes), &mut room) {

@@ -1,91 +1,143 @@
 //! The wire of a link, with a key or without one.
-ghost use Rattle.std.specs.Prelude.{◌≡◌, true};
-ghost use Rattle.tora_keyed.specs.Links.{plain, keyed, over, cleared, has_key, unauthenticated_of};
+ghost use Rattle.std.specs.Prelude.{◌≡◌, ◌≢◌, ◌+◌, ◌-◌, ◌^◌, min, length, None};
+ghost use Rattle.tora_keyed.specs.Links.{over, cleared, let_in, after_letting_in, Writes};
+ghost use Rattle.tora_neighbour.specs.Datagrams.{IsCut};
 
-use crate::keyed_wire::KeyedWire;
+use crate::noticed_wire::Notices;
+use log::Log;
 use std::marker::Model;
-use tora_key::Key;
-use tora_neighbour::{Wire, WireError};
+use tora_frame::LONGEST_FRAME;
+use tora_height::Id;
+use tora_key::{Key, TAG};
+use tora_neighbour::{Clock, Wire, WireError};
 
+/// The bytes of the room for a datagram and its tag, and one more, so that one that was cut is seen.
+const ROOM: usize = LONGEST_FRAME + 1 + TAG;
+
+/// The wire of a link over another one: without a key that wire as it is, and with a key the same with a tag behind
+/// each datagram.
+///
+/// With a key, a send puts the tag of the datagram behind it. A datagram of more than 560 bytes, which is no frame, is
+/// not sent: that is counted as a failed call, and from then on contracts are told no datagrams. Calls that the wire
+/// inside fails are counted, too. A receive gives an authentic datagram without its tag. Any other is counted, and the
+/// answer is `None`. What was tagged once may come any number of times. The counts begin at 0 and stay at 2^64 - 1. No
+/// call takes memory.
+///
+/// The log has a line where datagrams come that are not authentic, at most once a minute: `link 2 unauthenticated
+/// datagrams 17`, with the count since the wire was made. Once the link has ended, `close` logs the last count and
+/// overwrites the key.
 #[derive(Drop)]
-enum Way<W: Wire> {
-    Plain(W),
-    Keyed(KeyedWire<W>),
+pub struct LinkWire<'a, W: Wire, C, L> {
+    wire: W,
+    key: Option<Key>,
+    room: [u8; ROOM],
+    told: bool,
+    unauthenticated: u64,
+    failures: u64,
+    notices: Notices<'a, C, L>,
 }
 
-/// The wire of a link: where the link has a key the wire inside with a tag behind each datagram, and else that wire as it is.
-#[derive(Drop)]
-pub struct LinkWire<W: Wire> {
-    way: Way<W>,
-}
-
-impl<W: Wire> Model for LinkWire<W> {
-    ghost use Rattle.tora_keyed.specs.Links.{LinkView, plain, keyed};
-    ghost use Rattle.tora_keyed.specs.declared.link_wire.Way.TheVariants.{Plain, Keyed};
+impl<'a, W: Wire, C, L> Model for LinkWire<'a, W, C, L> {
+    ghost use Rattle.std.specs.Prelude.{◌≡◌, length, None};
+    ghost use Rattle.tora_keyed.specs.Links.{LinkView};
 
     ghost Value = { LinkView W };
 
-    ghost view = { λ f. elim f.way [ Plain w ↦ plain w | Keyed w ↦ keyed w ] };
+    ghost view = { λ f. record
+        { wire = f.wire; key = f.key; told = f.told; unauthenticated = f.unauthenticated; failures = f.failures } };
+
+    ghost invariant = { λ f. (length f.room ≡ 577) × (f.key ≡ None → f.unauthenticated ≡ 0) };
 }
 
-impl<W: Wire> LinkWire<W> {
-    /// The wire of a link without a key.
-    pub fn plain(wire: W) -> LinkWire<W>
-        ensures { result ≡ plain wire }
-    {
-        LinkWire {
-            way: Way::Plain(wire),
-        }
-    }
-
-    /// The wire of a link with this key.
-    pub fn keyed(wire: W, key: Key) -> LinkWire<W>
-        ensures { result ≡ keyed (record { wire = wire; key = key; told = true; unauthenticated = 0; failures = 0 }) }
-    {
-        LinkWire {
-            way: Way::Keyed(KeyedWire::new(wire, key)),
-        }
-    }
-
-    /// The wire of a link with this key, or without one.
-    pub fn over(wire: W, key: Option<Key>) -> LinkWire<W>
+impl<'a, W: Wire, C: Clock, L: Log> LinkWire<'a, W, C, L> {
+    /// The wire of the link to `peer` over this one, with this key or without one. It logs to `log`, and `clock` tells
+    /// when.
+    pub fn new(wire: W, key: Option<Key>, peer: Id, clock: C, log: &'a L) -> LinkWire<'a, W, C, L>
         ensures { result ≡ over wire key }
     {
-        match key {
-            Some(key) => LinkWire::keyed(wire, key),
-            None => LinkWire::plain(wire),
+        LinkWire {
+            wire,
+            key,
+            room: [0; ROOM],
+            told: true,
+            unauthenticated: 0,
+            failures: 0,
+            notices: Notices::new(peer, clock, log),
         }
     }
 
     /// How many datagrams that were not authentic have come, and 2^64 - 1 from there on. Without a key 0.
     pub fn unauthenticated(&self) -> u64
-        ensures { result ≡ unauthenticated_of self.now }
+        ensures count { result ≡ self.now.unauthenticated }
+        ensures plain { self.now.key ≡ None → result ≡ 0 }
     {
-        match &self.way {
-            Way::Plain(_) => 0,
-            Way::Keyed(wire) => wire.unauthenticated(),
-        }
+        self.unauthenticated
     }
 
-    /// Whether the link has a key.
-    pub fn has_key(&self) -> bool
-        ensures { result ≡ has_key self.now }
-    {
-        matches!(self.way, Way::Keyed(_))
-    }
-
-    /// Overwrites the key, where there is one: from then on it is the one whose block is zeros.
-    pub fn clear_key(&mut self)
+    /// Where the link has a key: logs how many datagrams were not authentic, and overwrites the key and the room in
+    /// which datagrams stood. From then on the key is the one whose block is zeros. For the end of a link.
+    pub fn close(&mut self)
         ensures { self.new ≡ cleared self.old }
     {
-        match &mut self.way {
-            Way::Plain(_) => {}
-            Way::Keyed(wire) => wire.clear_key(),
+        if let Some(key) = &mut self.key {
+            self.notices.close(self.unauthenticated);
+            key.clear();
+            self.room = [0; ROOM];
         }
+    }
+
+    fn count(&mut self)
+        ensures { self.new ≡ record self.old { failures = min (self.old.failures + 1) (2 ^ 64 - 1) } }
+    {
+        self.failures = self.failures.saturating_add(1);
+    }
+
+    /// Counts a datagram that was not let in, and logs the count where a line is due.
+    fn note(&mut self, written: Option<usize>)
+        requires { self.old.key ≢ None }
+        ensures { self.new ≡ after_letting_in self.old written self.old.wire }
+    {
+        match written {
+            Some(_) => self.notice(),
+            None => {
+                self.unauthenticated = self.unauthenticated.saturating_add(1);
+                self.notice();
+            }
+        }
+    }
+
+    /// Logs the count where a line is due.
+    fn notice(&mut self)
+        ensures { self.new ≡ self.old }
+    {
+        self.notices.notice(self.unauthenticated);
     }
 }
 
-impl<W: Wire> Wire for LinkWire<W> {
+// Copies as much as fits, and answers how much.
+fn copy_into(datagram: &[u8], buf: &mut [u8]) -> usize
+    ensures count { result ≡ min (length buf.new) (length datagram.now) }
+    ensures cut { IsCut datagram.now (length buf.new) result buf.new }
+{
+    let count = datagram.len().min(buf.len());
+    buf[..count].copy_from_slice(&datagram[..count]);
+    count
+}
+
+// Writes the message of a datagram to the front of a buffer, where it is let in, and answers how many bytes it wrote.
+fn let_in(key: &Key, datagram: &[u8], buf: &mut [u8]) -> Option<usize>
+    ensures { Writes (let_in key.now datagram.now) result buf.new }
+{
+    if datagram.len() >= ROOM {
+        return None;
+    }
+    match key.open(datagram) {
+        Some(message) => Some(copy_into(message, buf)),
+        None => None,
+    }
+}
+
+impl<'a, W: Wire, C: Clock, L: Log> Wire for LinkWire<'a, W, C, L> {
     ghost use Rattle.tora_keyed.specs.Links.{tells_of, coming_of, failures_of, Sends, Receives};
 
     ghost tells = { λ f. tells_of W.tells f };
@@ -101,16 +153,43 @@ impl<W: Wire> Wire for LinkWire<W> {
     ghost did_receive = { λ f answer buffer after. Receives W.did_receive f answer buffer after };
 
     fn send(&mut self, bytes: &[u8]) -> Result<(), WireError> {
-        match &mut self.way {
-            Way::Plain(wire) => wire.send(bytes),
-            Way::Keyed(wire) => wire.send(bytes),
+        let Some(key) = &self.key else {
+            return self.wire.send(bytes);
+        };
+        if bytes.len() > LONGEST_FRAME {
+            self.told = false;
+            self.count();
+            return Err(WireError);
+        }
+        let end = key.seal(bytes, &mut self.room);
+        match self.wire.send(&self.room[..end]) {
+            Ok(()) => Ok(()),
+            Err(error) => {
+                self.count();
+                Err(error)
+            }
         }
     }
 
     fn receive(&mut self, buf: &mut [u8]) -> Result<Option<usize>, WireError> {
-        match &mut self.way {
-            Way::Plain(wire) => wire.receive(buf),
-            Way::Keyed(wire) => wire.receive(buf),
+        let Some(key) = &self.key else {
+            return self.wire.receive(buf);
+        };
+        match self.wire.receive(&mut self.room) {
+            Ok(Some(count)) => {
+                let written = let_in(key, &self.room[..count], buf);
+                self.note(written);
+                Ok(written)
+            }
+            Ok(None) => {
+                self.notice();
+                Ok(None)
+            }
+            Err(error) => {
+                self.count();
+                self.notice();
+                Err(error)
+            }
         }
     }
 }

@@ -1,103 +1,93 @@
-//! A wire of a link that tells how many datagrams were not let in.
-use crate::link_wire::LinkWire;
-use crate::notices::Notices;
+//! What the log says of the datagrams of a link that were not let in. Each of its lines names this module.
+ghost use Rattle.std.specs.Prelude.{◌≡◌, None};
+ghost use Rattle.tora_keyed.specs.Notices.{is_new, has_passed, is_told, after_count};
+
 use log::{Log, info, warn};
 use std::marker::Model;
 use tora_height::Id;
-use tora_neighbour::{Clock, Wire, WireError};
+use tora_neighbour::Clock;
 
-/// The wire of a link, whose log has a line where datagrams come that are not authentic, at most once a minute:
-/// `link 2 unauthenticated datagrams 17`, with the count since the wire was made. Once the link has ended, `close` logs the last
-/// count and overwrites the key.
+/// The ticks of 100 ms of a minute.
+const MINUTE: u64 = 600;
+
+/// What the log says of the link to `peer`, and when a count is told: where it is a new one, and at most once a minute.
 #[derive(Drop)]
-pub struct NoticedWire<'a, W: Wire, C, L> {
-    wire: LinkWire<W>,
+pub(crate) struct Notices<'a, C, L> {
     peer: Id,
     clock: C,
     log: &'a L,
-    notices: Notices,
+    told: u64,
+    last: Option<u64>,
 }
 
-impl<'a, W: Wire, C, L> Model for NoticedWire<'a, W, C, L> {
-    ghost use Rattle.tora_keyed.specs.Links.{LinkView};
+impl<'a, C, L> Model for Notices<'a, C, L> {
+    ghost use Rattle.tora_keyed.specs.Notices.{NoticesView};
 
-    ghost Value = { LinkView W };
+    ghost Value = { NoticesView };
 
-    ghost view = { λ f. f.wire };
+    ghost view = { λ n. record { told = n.told; last = n.last } };
 }
 
-impl<'a, W: Wire, C: Clock, L: Log> NoticedWire<'a, W, C, L> {
-    ghost use Rattle.std.specs.Prelude.{◌≡◌};
-    ghost use Rattle.tora_keyed.specs.Links.{cleared, unauthenticated_of};
-
-    /// The wire of the link to `peer`, which logs to `log`.
-    pub fn new(wire: LinkWire<W>, peer: Id, clock: C, log: &'a L) -> NoticedWire<'a, W, C, L>
-        ensures { result ≡ wire }
+impl<'a, C: Clock, L: Log> Notices<'a, C, L> {
+    /// Nothing was told yet, which is a count of 0.
+    pub(crate) fn new(peer: Id, clock: C, log: &'a L) -> Notices<'a, C, L>
+        ensures { result ≡ record { told = 0; last = None } }
     {
-        NoticedWire {
-            wire,
+        Notices {
             peer,
             clock,
             log,
-            notices: Notices::new(),
+            told: 0,
+            last: None,
         }
     }
 
-    /// How many datagrams that were not authentic have come, and 2^64 - 1 from there on. Without a key 0.
-    pub fn unauthenticated(&self) -> u64
-        ensures { result ≡ unauthenticated_of self.now }
-    {
-        self.wire.unauthenticated()
-    }
-
-    /// Logs how many datagrams were not authentic, where the link has a key, and overwrites the key. For the end of a link.
-    pub fn close(&mut self)
-        ensures { self.new ≡ cleared self.old }
-    {
-        if self.wire.has_key() {
-            let (peer, count) = (self.peer, self.wire.unauthenticated());
-            info!(self.log; "link {peer} unauthenticated datagrams {count}");
-        }
-        self.wire.clear_key();
-    }
-
-    /// Logs the count where a line is due.
-    fn notice(&mut self)
-        ensures { self.new ≡ self.old }
-    {
-        let count = self.wire.unauthenticated();
-        if !self.notices.is_new(count) {
+    /// Logs a count where a line is due.
+    pub(crate) fn notice(&mut self, count: u64) {
+        if !self.is_new(count) {
             return;
         }
-        if self.notices.is_told(count, self.clock.now()) {
+        let now = self.clock.now();
+        if self.is_told(count, now) {
             let peer = self.peer;
             warn!(self.log; "link {peer} unauthenticated datagrams {count}");
         }
     }
-}
 
-impl<'a, W: Wire, C: Clock, L: Log> Wire for NoticedWire<'a, W, C, L> {
-    ghost use Rattle.tora_keyed.specs.Links.{tells_of, coming_of, failures_of, Sends, Receives};
-
-    ghost tells = { λ f. tells_of W.tells f };
-
-    ghost coming = { λ f. coming_of W.coming f };
-
-    ghost tries = { λ f. coming_of W.tries f };
-
-    ghost failures = { λ f. failures_of W.failures f };
-
-    ghost did_send = { λ f bytes answer after. Sends W.did_send f bytes answer after };
-
-    ghost did_receive = { λ f answer buffer after. Receives W.did_receive f answer buffer after };
-
-    fn send(&mut self, bytes: &[u8]) -> Result<(), WireError> {
-        self.wire.send(bytes)
+    /// Logs the last count.
+    pub(crate) fn close(&self, count: u64) {
+        let peer = self.peer;
+        info!(self.log; "link {peer} unauthenticated datagrams {count}");
     }
 
-    fn receive(&mut self, buf: &mut [u8]) -> Result<Option<usize>, WireError> {
-        let answer = self.wire.receive(buf);
-        self.notice();
-        answer
+    /// Whether a count is another one than the last that was told.
+    fn is_new(&self, count: u64) -> bool
+        ensures { result ≡ is_new self.now count }
+    {
+        count != self.told
+    }
+
+    /// Whether a count is told now: it is another one than the last that was told, and a minute has passed since then
+    /// or the clock has gone back.
+    fn is_told(&mut self, count: u64, now: u64) -> bool
+        ensures told { result ≡ is_told self.old count now }
+        ensures after { self.new ≡ after_count self.old count now }
+    {
+        if !self.is_new(count) || !has_passed(self.last, now) {
+            return false;
+        }
+        self.told = count;
+        self.last = Some(now);
+        true
+    }
+}
+
+/// Whether a minute has passed since then, or the clock has gone back.
+fn has_passed(last: Option<u64>, now: u64) -> bool
+    ensures { result ≡ has_passed last now }
+{
+    match last {
+        None => true,
+        Some(last) => now < last || now - last >= MINUTE,
     }
 }

@@ -215,7 +215,7 @@ merges pass made took known other s own items views h at apart there =
           j u e away);
     }
 
--- ---- what is learned of the seat that was taken in last
+-- ---- facts about the seat that was closed last
 pub learns : (pass made : ℕ) (took : List Item) (known : List (ℕ × List Item)) (s : ℕ) (own : List Item)
     → Learns KeepsLanes pass (Core made took ((s, own) ∷ known)) (LastSettled (Core made took ((s, own) ∷ known)))
 learns pass made took known s own items views h at =
@@ -223,7 +223,7 @@ learns pass made took known s own items views h at =
     let last = mine.3 zero s own refl in
     (last.0, ap (λ l. items_of s (l ++ items)) mine.1 ∙ h.in_order s ∙ sym last.2)
 
--- ---- the same of a view that is known
+-- ---- the same for a known view
 pub puts_as : (n pass : ℕ) (v : LaneView) (s : ℕ) (own : List Item) (x : Item) → v ≡ Seat s own → x.seat ≡ s → x.number ≡ length own + 1 → Pushes KeepsLanes n pass v x (λ w. w ≡ after_put v x)
 puts_as n pass v s own x is seat number = subst (λ u. Pushes KeepsLanes n pass u x (λ w. w ≡ after_put u x)) (sym is) (puts n pass s own x seat number)
 

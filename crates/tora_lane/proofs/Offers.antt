@@ -1,4 +1,4 @@
--- Cargoes that are offered to the lanes to the neighbours.
+-- Offers of cargoes to the lanes to the neighbours.
 use Rattle.std.proofs.Common.{◌≡◌, ◌≢◌, ◌⊎◌, ℕ, zero, suc, ◌+◌, ◌<◌, ◌≤◌, ◌==◌, ◌&&◌, cond, Bool, true, false, List, [], ◌∷◌, ◌++◌, length, Some, refl, sym, ap, ◌∙◌, subst, ⊎_elim, arith, get_or}
 use Rattle.std.specs.Prelude.{slice_get, slice_set, if◌then◌else◌}
 use Rattle.std.proofs.lemmas.List.{append-nil, set-get_or, length-set}
@@ -12,7 +12,7 @@ use Rattle.tora_lane.specs.declared.limits.TheConstants.{OUT_LANE_ROOM}
 use Rattle.tora_lane.specs.Out.{SendEnd, with_sent}
 use Rattle.tora_lane.specs.Offering.{DidOffer, sent_by, sent_at, OffersAreSent}
 
--- a cargo that is handed back changes nothing
+-- a cargo that is returned changes nothing
 pub handed_back : (ends : List SendEnd) (place : ℕ) (end new : SendEnd) (cargo : Cargo) → place < length ends → end ≡ get_or ends place end → new ≡ end → (length end.sent < OUT_LANE_ROOM → ⊥)
     → DidOffer ends place cargo false (slice_set ends place new)
 handed_back ends place end new cargo within is same full = (

@@ -1,4 +1,5 @@
--- The rule of the lane into the core: of each seat, what the core has taken and then what the lane holds is what the seat has put.
+-- The rule of the lane into the core: for each seat, the items that the core has taken, followed by those in the lane,
+-- are those that the seat has put.
 use Rattle.std.specs.Prelude.{◌≡◌, ℕ, suc, ◌+◌, ◌<◌, ◌≤◌, ◌==◌, List, [], ◌∷◌, ◌++◌, length, Option, Some, None, slice_get}
 use Rattle.std.specs.List.{filter}
 use mathlib.Core.Option.{some}
@@ -16,21 +17,23 @@ abbrev pub IsNumbered : ℕ → List Item → Type 0
 IsNumbered n [] = Unit {0}
 IsNumbered n (x ∷ xs) = (x.number ≡ n) × IsNumbered (suc n) xs
 
--- seats that are not made yet have no port and have put nothing
+-- seats that don't exist yet have no port and have put nothing
 abbrev pub AreUnmade : ℕ → (ℕ → Option ℕ) → (ℕ → List Item) → Type 0
 AreUnmade made port put = (s : ℕ) → made ≤ s → (port s ≡ None) × (put s ≡ [])
 
--- a settled seat has no port any more, and what it has put is known
+-- a closed seat has no port, and what it has put is known
 abbrev pub AreSettled : ℕ → (ℕ → Option ℕ) → (ℕ → List Item) → List (ℕ × List Item) → Type 0
-AreSettled made port put known = (k s : ℕ) (own : List Item) → slice_get known k ≡ Some (s, own) → (s < made) × (port s ≡ None) × (own ≡ put s)
+AreSettled made port put known =
+    (k s : ℕ) (own : List Item) → slice_get known k ≡ Some (s, own) → (s < made) × (port s ≡ None) × (own ≡ put s)
 
--- what the holder of a pass knows is so
+-- the knowledge of the holder of a pass is true
 abbrev pub Fits : ℕ → (ℕ → Option ℕ) → (ℕ → List Item) → List Item → ℕ → LaneView → Type 0
 Fits core port put taken pass (Seat s own) = (port s ≡ Some pass) × (own ≡ put s)
-Fits core port put taken pass (Core made took known) = (pass ≡ core) × (took ≡ taken) × AreUnmade made port put × AreSettled made port put known
+Fits core port put taken pass (Core made took known) = (pass ≡ core) × (took ≡ taken) × AreUnmade made port put
+    × AreSettled made port put known
 Fits core port put taken pass Spent = Unit {0}
 
--- there is a pass of the core, a pass for each port that is left, what each seat has put and what the core has taken
+-- there is a pass of the core and one for each open port, which know what each seat has put and the core has taken
 pub record KeepsLanes (items : List Item) (views : List LaneView) : Type 0 where
   pub core : ℕ
   pub port : ℕ → Option ℕ
@@ -70,7 +73,7 @@ abbrev pub with_settled : LaneView → LaneView → LaneView
 with_settled (Core made took known) (Seat s own) = Core made took ((s, own) ∷ known)
 with_settled v w = v
 
--- of the seat that was settled last, what was taken and then what the lane holds is what was put
+-- for the seat that was closed last, the items taken, followed by those in the lane, are those put
 abbrev pub LastSettled : LaneView → List Item → Type 0
 LastSettled (Core made took ((s, own) ∷ known)) items = (s < made) × (items_of s (took ++ items) ≡ own)
 LastSettled (Core made took []) items = Unit {0}

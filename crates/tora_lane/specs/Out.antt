@@ -17,7 +17,7 @@ pub record SendEnd : Type 0 where
   pub ring : Ring
   pub sent : List Cargo
 
--- all that the end has received, and those behind them that it has found in the lane, oldest first
+-- all that the end has received, and the following ones that it has seen in the lane, oldest first
 pub record ReceiveEnd : Type 0 where
   pub ring : Ring
   pub received : List Cargo
@@ -28,7 +28,11 @@ module _ {A P : Type 0} where
   send_end p = record { ring = record { words = p.end.words; slots = p.end.slots; names = p.end.names }; sent = sent p }
 
   abbrev pub receive_end : Consumer Cargo A P → ReceiveEnd
-  receive_end c = record { ring = record { words = c.end.words; slots = c.end.slots; names = c.end.names }; received = received c; found = known_items c }
+  receive_end c = record {
+    ring = record { words = c.end.words; slots = c.end.slots; names = c.end.names };
+    received = received c;
+    found = known_items c;
+  }
 
 -- the two ends of one lane
 abbrev pub AreEndsOf : SendEnd → ReceiveEnd → Type 0

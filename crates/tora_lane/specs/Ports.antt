@@ -16,14 +16,14 @@ pub record Lane : Type 0 where
   pub table : TableId
   pub key : Badge (Key Item)
 
--- an in port: its lane, its seat, what it has put, and whether it has answered Gone
+-- the port of a seat: its lane, its seat, what it has put, and whether it has returned Gone
 pub record InEnd : Type 0 where
   pub lane : Lane
   pub seat : ℕ
   pub put : List Item
   pub gone : Bool
 
--- the core's port: its lane, how many seats there are, what was taken, and whether it has answered Gone
+-- the core's port: its lane, the count of seats, what was taken, and whether it has returned Gone
 pub record CoreEnd : Type 0 where
   pub lane : Lane
   pub seats : ℕ
@@ -38,7 +38,8 @@ abbrev pub lane_of : Pass Item LaneView → Lane
 lane_of p = record { table = p.table_id; key = p.me.0.of }
 
 -- the channel is that of the lane
-abbrev pub IsChannelOf : {Q M L A : Type 0} → Lane → Rows (Badge (Key Item)) (Doing Item LaneView) Q M (Key Item) L A → Type 0
+abbrev pub IsChannelOf : {Q M L A : Type 0} → Lane → Rows (Badge (Key Item)) (Doing Item LaneView) Q M (Key Item) L A
+    → Type 0
 IsChannelOf lane c = (c.stamps.shared.table_id ≡ lane.table) × (c.stamps.shared.key ≡ lane.key) × IsKeyed c
 
 abbrev pub new_item : ℕ → ℕ → ℕ → What → Item

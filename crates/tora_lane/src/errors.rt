@@ -1,16 +1,16 @@
-//! Why there are no lanes.
+//! Why lanes can't be made.
 ghost use Rattle.std.specs.Prelude.{◌≡◌};
 ghost use Rattle.tora_lane.specs.Errors.{lane_error_number};
 
 use thiserror::Error;
 
-/// Why there are no lanes.
+/// Why lanes can't be made.
 #[derive(Clone, Copy, Debug, PartialEq, Eq, Hash, Error)]
 pub enum LaneError {
     /// There is not enough memory.
     #[error("there is not enough memory")]
     Memory,
-    /// There is no link, or there are more than `MOST_LINKS`, which are 32.
+    /// There is no link, or there are more than `MOST_LINKS`.
     #[error("there is no link, or there are more than 32")]
     TooMany,
 }

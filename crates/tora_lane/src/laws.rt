@@ -1,8 +1,8 @@
-//! What the definitions of the lanes say together.
+//! How the definitions of the lanes fit together.
 ghost use Rattle.tora_lane.specs.Offering.{OffersAreSent};
 
-/// Where cargoes were offered to the lanes to the neighbours, one after another, each lane has sent what it had sent
-/// before and then the cargoes that were put for its neighbour, in order, and nothing else.
+/// After a sequence of offers, each lane to a neighbour has sent what it had sent before, followed by the cargoes that
+/// were put for its neighbour, in order, and nothing else.
 pub fn what_was_offered_was_sent()
     ensures { OffersAreSent }
 {}

@@ -1,4 +1,4 @@
-//! How much lanes hold.
+//! The limits of lanes.
 use tora_core::MOST_NEIGHBOURS;
 use tora_seat::{MOST_CARGOES, MOST_ITEMS};
 

@@ -4,8 +4,8 @@ use crate::ports::{CorePort, InPort};
 
 /// The ports and lanes of a node with n links: seats 0 to n - 1 are the links in order, seat n is the command seat.
 ///
-/// The lane into the core has a port for each seat and the core's port. Each link has a lane of its own from the core:
-/// the core's end is in `outs`, the link's end beside the link's port in `links`, at the same place.
+/// The lane into the core has a port for each seat and the core's port. Each link has its own lane from the core: the
+/// core's end is in `outs`, the link's end beside the link's port in `links`, at the same place.
 #[derive(Drop)]
 pub struct Lanes {
     /// The core's port of the lane into the core.

@@ -1,5 +1,6 @@
 //! The lane to a neighbour's thread.
-ghost use Rattle.std.specs.Prelude.{◌≡◌, ◌+◌, ◌^◌, ◌<◌, ◌≤◌, ◌++◌, ◌∷◌, [], List, length, IsOk, IsErr, OnOk, IfOk, IfErr, IfSome, IfNone};
+ghost use Rattle.std.specs.Prelude.{◌≡◌, ◌+◌, ◌^◌, ◌<◌, ◌≤◌, ◌++◌, ◌∷◌, [], List, length, IsOk, IsErr, OnOk, IfOk};
+ghost use Rattle.std.specs.Prelude.{IfErr, IfSome, IfNone};
 ghost use Rattle.tora_lane.specs.Out.{AreEndsOf, with_sent};
 ghost use Rattle.tora_seat.specs.declared.cargo.Cargo.{Cargo};
 ghost use mathlib.Core.List.{IsPrefix};
@@ -27,11 +28,12 @@ impl Model for OutPut {
 
     ghost view = { λ o. send_end o.producer };
 
-    ghost invariant = { λ o. (OUT_LANE_ROOM ≤ known_free o.producer + length (sent o.producer)) × (o.count ≡ length (sent o.producer)) × (o.count ≤ 2 ^ 61) };
+    ghost invariant = { λ o. (OUT_LANE_ROOM ≤ known_free o.producer + length (sent o.producer))
+        × (o.count ≡ length (sent o.producer)) × (o.count ≤ 2 ^ 61) };
 }
 
-/// The neighbour's end of the lane from the core. Contracts see all that it has received, oldest first, and which of the
-/// cargoes behind them it has found in the lane.
+/// The neighbour's end of the lane from the core. Contracts see all that it has received, oldest first, and which of
+/// the following cargoes it has seen in the lane.
 #[derive(Drop)]
 pub struct OutTake {
     consumer: Consumer<Cargo>,
@@ -66,12 +68,12 @@ pub(crate) fn out_lane(alloc: Global) -> Result<(OutPut, OutTake), AllocError>
 }
 
 impl OutPut {
-    /// Appends the cargo to what was sent. It waits for nobody, and takes no memory.
+    /// Puts a cargo at the back of the lane. It never waits, and takes no memory.
     ///
     /// # Errors
     ///
-    /// The cargo is handed back, and the lane is as it was, where the lane is full, which it is not before `OUT_LANE_ROOM`
-    /// cargoes were sent, and always once `MOST_IN_ALL` were sent.
+    /// The cargo is returned and nothing changes if the lane is full, which needs at least `OUT_LANE_ROOM` sent
+    /// cargoes, and always once `MOST_IN_ALL` were sent.
     pub fn send(&mut self, cargo: Cargo) -> Result<(), Cargo>
         ensures put { OnOk result (self.new ≡ with_sent self.old cargo) }
         ensures back { IfErr result (λ c. (c ≡ cargo) × (self.new ≡ self.old)) }
@@ -92,16 +94,16 @@ impl OutPut {
 }
 
 impl OutTake {
-    /// Takes the oldest cargo of the lane, or None where none is found there. It waits for nobody, and takes no memory.
+    /// Takes the oldest cargo of the lane, or `None` if it sees none. It never waits, and takes no memory.
     ///
-    /// It looks for cargoes once it has taken all that it had found, and then finds all that it sees in the lane. So what was
-    /// found is taken next, and None is answered only where nothing is found. No clause says when a cargo that another thread
-    /// has sent is seen.
+    /// It looks into the lane when it has taken all cargoes that it saw before, and then sees all that are visible to
+    /// this thread. No clause says when a cargo that another thread has sent becomes visible.
     pub fn take(&mut self) -> Option<Cargo>
         ensures lane { self.new.ring ≡ self.old.ring }
         ensures taken { IfSome result (λ c. self.new.received ≡ self.old.received ++ c ∷ []) }
         ensures found { IfSome result (λ c. IsPrefix self.old.found (c ∷ self.new.found)) }
-        ensures none { IfNone result ((self.new.received ≡ self.old.received) × (self.old.found ≡ []) × (self.new.found ≡ [])) }
+        ensures none { IfNone result ((self.new.received ≡ self.old.received) × (self.old.found ≡ [])
+            × (self.new.found ≡ [])) }
     {
         match self.consumer.pop() {
             Ok(cargo) => Some(cargo),
@@ -114,7 +116,9 @@ impl OutTake {
 /// those left in the lane, are all that were sent. Cargoes that were seen but not received are the first ones left.
 pub fn settle_out(put: OutPut, take: OutTake) -> OutEnd
     requires { AreEndsOf put take }
-    ensures { (waiting : List Cargo) × (take.received ++ waiting ≡ put.sent) × IsPrefix take.found waiting × (result.sent ≡ length put.sent) × (result.received ≡ length take.received) × (result.waiting ≡ length waiting) }
+    ensures { (waiting : List Cargo) × (take.received ++ waiting ≡ put.sent) × IsPrefix take.found waiting
+        × (result.sent ≡ length put.sent) × (result.received ≡ length take.received)
+        × (result.waiting ≡ length waiting) }
 {
     let OutPut {
         mut producer,

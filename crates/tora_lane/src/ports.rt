@@ -1,5 +1,6 @@
 //! The lane into the core: an in port for each seat, and the core's port.
-ghost use Rattle.std.specs.Prelude.{◌≡◌, ◌+◌, ◌^◌, ◌<◌, ◌≤◌, ◌++◌, ◌∷◌, [], true, false, List, length, IsErr, OnOk, OnErr, IfOk};
+ghost use Rattle.std.specs.Prelude.{◌≡◌, ◌+◌, ◌^◌, ◌<◌, ◌≤◌, ◌++◌, ◌∷◌, [], true, false, List, length, IsErr, OnOk};
+ghost use Rattle.std.specs.Prelude.{OnErr, IfOk};
 ghost use Rattle.crossbeam_channel.specs.Ends.{sends_on};
 ghost use Rattle.tora_lane.specs.LaneRule.{items_of};
 ghost use Rattle.tora_lane.specs.Ports.{IsPortOf, IsChannelOf, new_item, new_port, new_core};
@@ -14,7 +15,7 @@ use std::sync::Wait;
 use thiserror::Error;
 use tora_seat::{Item, What};
 
-/// The other side of the lane has ended, or the seat was used up. A port that answers it answers it for good.
+/// The other side of the lane has ended, or the seat is used up. A port that has returned it always returns it.
 #[derive(Clone, Copy, Debug, PartialEq, Eq, Hash, Error)]
 #[error("the lane has ended")]
 pub struct Gone;
@@ -25,8 +26,8 @@ type Receiver = RuledReceiver<Item, LaneView, LaneRule>;
 
 type LanePass = Pass<Item, LaneView>;
 
-/// The port of one seat of the lane into the core. Contracts see its lane, its seat, all that it has put, and whether it
-/// has answered `Gone`.
+/// The port of one seat of the lane into the core. Contracts see its lane, its seat, all that it has put, and whether
+/// it has returned `Gone`.
 #[derive(Drop)]
 pub struct InPort {
     sender: Sender,
@@ -47,11 +48,13 @@ impl Model for InPort {
 
     ghost view = { λ p. record { lane = lane_of p.pass; seat = p.seat; put = own_of (lane_view p.pass); gone = p.gone } };
 
-    ghost invariant = { λ p. IsSeatAt (sends_on p.sender) p.pass × (lane_view p.pass ≡ Seat p.seat (own_of (lane_view p.pass))) × (p.count ≡ length (own_of (lane_view p.pass))) × (p.count ≤ 2 ^ 61) };
+    ghost invariant = { λ p. IsSeatAt (sends_on p.sender) p.pass
+        × (lane_view p.pass ≡ Seat p.seat (own_of (lane_view p.pass))) × (p.count ≡ length (own_of (lane_view p.pass)))
+        × (p.count ≤ 2 ^ 61) };
 }
 
-/// The core's port of the lane into the core. Contracts see its lane, how many seats there are, all that it has taken, and
-/// whether it has answered `Gone`.
+/// The core's port of the lane into the core. Contracts see its lane, the count of seats, all that it has taken, and
+/// whether it has returned `Gone`.
 #[derive(Drop)]
 pub struct CorePort {
     receiver: Receiver,
@@ -70,12 +73,20 @@ impl Model for CorePort {
 
     ghost Value = { CoreEnd };
 
-    ghost view = { λ p. record { lane = lane_of p.pass; seats = length p.counts.items; taken = took_of (lane_view p.pass); gone = p.gone } };
+    ghost view = { λ p. record {
+      lane = lane_of p.pass;
+      seats = length p.counts.items;
+      taken = took_of (lane_view p.pass);
+      gone = p.gone;
+    } };
 
-    ghost invariant = { λ p. IsSeatAt (receives_on p.receiver) p.pass × (lane_view p.pass ≡ Core (length p.counts.items) (took_of (lane_view p.pass)) (known_of (lane_view p.pass))) × ((s : ℕ) → s < length p.counts.items → slice_index p.counts.items s ≡ length (items_of s (took_of (lane_view p.pass)))) };
+    ghost invariant = { λ p. IsSeatAt (receives_on p.receiver) p.pass
+        × (lane_view p.pass ≡ Core (length p.counts.items) (took_of (lane_view p.pass)) (known_of (lane_view p.pass)))
+        × ((s : ℕ) → s < length p.counts.items → slice_index p.counts.items s
+        ≡ length (items_of s (took_of (lane_view p.pass)))) };
 }
 
-/// What the core has taken, once its port has ended: seats can still be settled. Contracts see what they see of the port.
+/// The core's port after its end: the ports of seats can still be closed. Contracts see what they see of the port.
 #[derive(Drop)]
 pub struct Settling {
     pass: LanePass,
@@ -91,12 +102,20 @@ impl Model for Settling {
 
     ghost Value = { CoreEnd };
 
-    ghost view = { λ p. record { lane = lane_of p.pass; seats = length p.counts.items; taken = took_of (lane_view p.pass); gone = p.gone } };
+    ghost view = { λ p. record {
+      lane = lane_of p.pass;
+      seats = length p.counts.items;
+      taken = took_of (lane_view p.pass);
+      gone = p.gone;
+    } };
 
-    ghost invariant = { λ p. (p.pass.me.1 ≡ []) × (lane_view p.pass ≡ Core (length p.counts.items) (took_of (lane_view p.pass)) (known_of (lane_view p.pass))) × ((s : ℕ) → s < length p.counts.items → slice_index p.counts.items s ≡ length (items_of s (took_of (lane_view p.pass)))) };
+    ghost invariant = { λ p. (p.pass.me.1 ≡ []) × (lane_view p.pass
+        ≡ Core (length p.counts.items) (took_of (lane_view p.pass)) (known_of (lane_view p.pass)))
+        × ((s : ℕ) → s < length p.counts.items → slice_index p.counts.items s
+        ≡ length (items_of s (took_of (lane_view p.pass)))) };
 }
 
-/// What a seat has put, and what became of it.
+/// The counts of a seat's items.
 #[derive(Clone, Copy, Debug, PartialEq, Eq, Hash)]
 pub struct Settled {
     /// The seat.
@@ -116,11 +135,11 @@ impl InPort {
     ///
     /// # Errors
     ///
-    /// `Gone` where the core's port has ended, or where the seat has put 2^61 items, and from then on. What was put is as
-    /// it was.
+    /// `Gone` if the core's port has ended, or if the seat has put `MOST_IN_ALL` items. Nothing is put then.
     pub fn put<R: Wait>(&mut self, rt: &R, now: u64, what: What) -> Result<(), Gone>
         ensures lane { (self.new.lane ≡ self.old.lane) × (self.new.seat ≡ self.old.seat) }
-        ensures put { OnOk result (self.new.put ≡ self.old.put ++ new_item self.old.seat (length self.old.put + 1) now what ∷ []) }
+        ensures put { OnOk result (self.new.put ≡ self.old.put ++ new_item self.old.seat (length self.old.put + 1) now
+            what ∷ []) }
         ensures open { OnOk result (self.new.gone ≡ false) }
         ensures gone { OnErr result ((self.new.put ≡ self.old.put) × (self.new.gone ≡ true)) }
         ensures stays { self.old.gone ≡ true → IsErr result }
@@ -171,7 +190,8 @@ impl CorePort {
     pub(crate) fn new_seat(&mut self, sender: &Sender) -> Result<InPort, AllocError>
         requires channel { IsChannelOf self.old.lane (sends_on sender.now) }
         requires empty { self.old.taken ≡ [] }
-        ensures { IfOk result (λ p. (self.new ≡ record self.old { seats = self.old.seats + 1 }) × (p ≡ new_port self.old.lane self.old.seats)) }
+        ensures { IfOk result (λ p. (self.new ≡ record self.old { seats = self.old.seats + 1 })
+            × (p ≡ new_port self.old.lane self.old.seats)) }
     {
         self.counts.reserve(1)?;
         let theirs = sender.try_clone()?;
@@ -191,10 +211,11 @@ impl CorePort {
     ///
     /// # Errors
     ///
-    /// `Gone` where all ports of seats have ended, and from then on. What was taken is as it was.
+    /// `Gone` if the ports of all seats have ended. Nothing is taken then.
     pub fn take<R: Wait>(&mut self, rt: &R) -> Result<Item, Gone>
         ensures lane { (self.new.lane ≡ self.old.lane) × (self.new.seats ≡ self.old.seats) }
-        ensures taken { IfOk result (λ x. (self.new.taken ≡ self.old.taken ++ x ∷ []) × (x.seat < self.old.seats) × (x.number ≡ length (items_of x.seat self.old.taken) + 1)) }
+        ensures taken { IfOk result (λ x. (self.new.taken ≡ self.old.taken ++ x ∷ []) × (x.seat < self.old.seats)
+            × (x.number ≡ length (items_of x.seat self.old.taken) + 1)) }
         ensures open { OnOk result (self.new.gone ≡ false) }
         ensures gone { OnErr result ((self.new.taken ≡ self.old.taken) × (self.new.gone ≡ true)) }
         ensures stays { self.old.gone ≡ true → IsErr result }
@@ -219,7 +240,9 @@ impl CorePort {
     pub fn settle<R: Wait>(&mut self, _rt: &R, port: InPort) -> Settled
         requires { IsPortOf self.old port }
         ensures same { self.new ≡ self.old }
-        ensures settled { (left : List Item) × (items_of port.seat self.old.taken ++ left ≡ port.put) × (result.seat ≡ port.seat) × (result.put ≡ length port.put) × (result.taken ≡ length (items_of port.seat self.old.taken)) × (result.left ≡ length left) }
+        ensures settled { (left : List Item) × (items_of port.seat self.old.taken ++ left ≡ port.put)
+            × (result.seat ≡ port.seat) × (result.put ≡ length port.put)
+            × (result.taken ≡ length (items_of port.seat self.old.taken)) × (result.left ≡ length left) }
     {
         let InPort {
             sender,
@@ -239,8 +262,8 @@ impl CorePort {
         }
     }
 
-    /// Ends the port. No item is taken after this, and every put that waits or follows returns `Gone`. The items that
-    /// were taken stay known to contracts.
+    /// Ends the port. No item is taken after this, and every put that waits or follows returns `Gone`. Contracts still
+    /// see the items that were taken.
     pub fn end(self) -> Settling
         ensures { result ≡ self }
     {
@@ -259,7 +282,9 @@ impl Settling {
     pub fn settle(&mut self, port: InPort) -> Settled
         requires { IsPortOf self.old port }
         ensures same { self.new ≡ self.old }
-        ensures settled { (left : List Item) × (items_of port.seat self.old.taken ++ left ≡ port.put) × (result.seat ≡ port.seat) × (result.put ≡ length port.put) × (result.taken ≡ length (items_of port.seat self.old.taken)) × (result.left ≡ length left) }
+        ensures settled { (left : List Item) × (items_of port.seat self.old.taken ++ left ≡ port.put)
+            × (result.seat ≡ port.seat) × (result.put ≡ length port.put)
+            × (result.taken ≡ length (items_of port.seat self.old.taken)) × (result.left ≡ length left) }
     {
         let InPort {
             sender,

@@ -1,15 +1,15 @@
-//! The rule of the lane into the core. The types here are for the proofs alone.
+//! The rule of the lane into the core. The types here are for proofs only.
 use crossbeam_channel::protocol::{Join, Lesson, Outcome, Protocol, Split};
 use std::collections::LinkedList;
 use tora_seat::Item;
 
-/// What the holder of a pass knows. No value of it is made.
+/// What the holder of a pass knows. It has no values at run time.
 pub enum LaneView {
     /// A seat, and what it has put.
     Seat(usize, LinkedList<Item>),
-    /// The core: how many seats there are, what it has taken, and what each settled seat has put.
+    /// The core: the count of seats, what it has taken, and what each closed seat has put.
     Core(usize, LinkedList<Item>, LinkedList<(usize, LinkedList<Item>)>),
-    /// A pass that was taken in.
+    /// A pass that was given up.
     Spent,
 }
 
@@ -65,7 +65,7 @@ impl Split<LaneView> for NewSeat {
     ghost right = { new_seat };
 }
 
-/// The core takes in a seat, and learns what became of its items.
+/// The core closes the port of a seat, and learns what became of its items.
 pub struct Settles;
 
 impl Join<LaneView> for Settles {

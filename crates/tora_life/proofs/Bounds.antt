@@ -79,7 +79,7 @@ torn_covers : (owner : Owner) (slot : Slot) (old new : List ℕ) → drop 32 old
 torn_covers owner slot old new tag torn =
     record { value = subst (λ (k : ℕ). k ≤ file_value new) (torn_keeps slot old new torn) (kept_below slot new); tag = torn_tag slot old new torn ∙ tag }
 
--- after the write of a slot, whatever a crash makes of it
+-- after the write of a slot, whatever a crash leaves of it
 pub images_keep : (owner : Owner) (slot : Slot) (file : List ℕ) (at n : ℕ) (old : List ℕ → Type 0) → at ≡ place_of slot → n ≡ 16 → drop 32 file ≡ tag_of owner → IsOnlyImage file old → (c : List ℕ) → IsTornFrom at n old c → Covers owner (kept_bound slot file) c
 images_keep owner slot file at n old here is tag only c from =
     let torn : Torn (place_of slot) 16 file c = subst (λ (f : List ℕ). Torn (place_of slot) 16 f c) (only from.0 from.1) (subst (λ (k : ℕ). Torn (place_of slot) k from.0 c) is (subst (λ (p : ℕ). Torn p n from.0 c) here from.2)) in
@@ -139,7 +139,7 @@ lesser_is a b = elim (le_or_lt a b) [
   | inr lt ↦ let second : (if nat_le a b then First else Second) ≡ Second = grind (arith, nat_tests) in (rw second (omega arith), inl lt)
 ]
 
--- the lesser slot begins within the file
+-- the slot with the smaller bound begins within the file
 pub lesser_place : (numbers : Numbers) (file : List ℕ) → numbers.first ≡ slot_value file 0 → place_of (lesser_slot numbers) ≤ length file
 lesser_place numbers file is =
     let which = lesser_is numbers.first numbers.second in

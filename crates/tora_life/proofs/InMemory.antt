@@ -1,4 +1,4 @@
--- The calls of a disk in memory that open a life file fix the answer and the disk's state.
+-- The calls of a disk in memory that open a life file determine the result and the disk's state.
 use Rattle.std.proofs.Common.{◌≡◌, ℕ, Bool, true, false, List, Result, Ok, Err, is_ok, MatchResult, sym, ◌∙◌, ap, replicate}
 use Rattle.tora_life.specs.declared.disk.DiskError.{DiskError}
 use Rattle.tora_life.specs.declared.migration.Version.{Version}
@@ -14,7 +14,7 @@ use Rattle.tora_life.specs.InMemory.{by_result, count_read, buffer_read, migrati
 use Rattle.tora_life.specs.Numbers.{numbers_of}
 use Rattle.tora_life.specs.State.{read_answer, bytes_read, after_read, write_answer, after_write, sync_answer, after_sync}
 
--- what the calls of a disk in memory make of it
+-- the effect of the calls of a disk in memory
 abbrev pub Reads : DiskView → ℕ → List ℕ → Result ℕ DiskError → List ℕ → DiskView → Type 0
 Reads d at buf answer bytes new = (answer ≡ read_answer d.state at buf) × (bytes ≡ bytes_read d.state at buf) × (new.state ≡ after_read d.state)
 

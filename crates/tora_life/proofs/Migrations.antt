@@ -236,7 +236,7 @@ module _ (owner : Owner) (file : List ℕ) where
         )
   ]
 
-  -- what stands in the file stays
+  -- the contents of the file stay
   pub migration_keeps : take (migration_place file) (migrated owner file) ≡ take (migration_place file) file
   migration_keeps =
       ap (λ (l : List ℕ). take (migration_place file) l) goes_on.1 ∙ take_at (take 32 file) goes_on.0 (migration_place file) (omega (arith, length-take 32 file)) ∙ sym (take_min 32 file)
@@ -259,7 +259,7 @@ module _ (owner : Owner) (file : List ℕ) where
       let q : b ≡ two = filled_whole two two_fits (omega (arith, length-take 16 (drop 16 file), length-drop 16 file, long)) in
       (λ i. p i ++ q i ++ sym is i) ∙ ap (λ (l : List ℕ). l ++ drop 32 file) (sym front) ∙ take-append-drop 32 file
 
--- ---- whatever a crash makes of the migration
+-- ---- a crash during the migration
 
 at_least : (x y : ℕ) → (0 < x → x ≡ y) → x ≤ y
 at_least zero y same = omega arith

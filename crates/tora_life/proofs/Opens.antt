@@ -1,4 +1,4 @@
--- What a read answers of a life file.
+-- The result of a read of a life file.
 use Rattle.std.proofs.Common.{◌≡◌, ◌≤◌, ◌<◌, ◌+◌, inl, inr, ℕ, Bool, List, take, drop, replicate, length, min, max, refl, sym, subst, ◌∙◌, ap, arith, length-append, length-take, Ok, Err, true, false, IsTrue, nat_lt}
 use Rattle.tora_life.specs.declared.numbers.Numbers.{Numbers}
 use Rattle.std.proofs.lemmas.Bool.Decides.{nat_tests}
@@ -20,7 +20,7 @@ read_numbers file first second drawn a b d =
     let d' : drawn ≡ file_value file = d ∙ (λ i. max (a' i) (b' i)) in
     λ i. record { first = a' i; second = b' i; drawn = d' i; failed = false }
 
--- what is kept once a file is opened, of which these bytes were read
+-- the invariant of an opened file, of which these bytes were read
 pub opened_kept : {D : Type 0} (tells : D → Bool) (seen : D → List ℕ) (may_leave : D → List ℕ → Type 0) (owner : Owner) (numbers : Numbers) (disk : D) (bytes : List ℕ) → numbers.drawn ≡ value_of numbers → (IsTrue (tells disk) → numbers ≡ numbers_of bytes) → (IsTrue (tells disk) → seen disk ≡ migrated owner bytes) → (IsTrue (tells disk) → IsOnlyImage (seen disk) (may_leave disk))
     → IsKept tells seen may_leave owner numbers disk
 opened_kept tells seen may_leave owner numbers disk bytes used is whole only = record {
@@ -38,7 +38,7 @@ opened_kept tells seen may_leave owner numbers disk bytes used is whole only = r
 long_version : (owner : Owner) (file : List ℕ) → 64 < length file → version_of owner file ≡ Err Damaged
 long_version owner file lt = let long : nat_lt 64 (length file) ≡ true = grind (arith, nat_tests) in rw long refl
 
--- a read into 65 bytes tells the version of the file
+-- a read into 65 bytes determines the version of the file
 pub read_version : (owner : Owner) (seen buf : List ℕ) (n : ℕ) → IsRead seen 0 (replicate 65 0) n buf → version_of owner (take n buf) ≡ version_of owner seen
 read_version owner seen buf n read = elim (le_or_lt 65 n) [
   | inl le ↦

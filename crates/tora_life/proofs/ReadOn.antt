@@ -1,11 +1,11 @@
--- A read that goes on behind what was read before.
+-- A read that continues after earlier reads.
 use Rattle.std.proofs.Common.{◌≡◌, ◌⊎◌, ⊎_elim, ℕ, ◌+◌, ◌-◌, ◌^◌, ◌<◌, ◌≤◌, min, List, ◌++◌, length, take, drop, sym, ◌∙◌, ap, subst, subst₂, arith, append_assoc, length-take}
 use Rattle.std.proofs.lemmas.List.{take_at, drop_at, take_all, drop_all, drop-drop, append-nil, length-drop, take-append-drop}
 use Rattle.std.proofs.Math.Seq.{take-add}
 use borrow.Rule.Slice.PartMut.{put_mid, mid_of}
 use Rattle.tora_life.specs.Disk.{IsRead, IsReadInPart}
 
--- what was read so far, ahead of what was in the buffer behind it
+-- the bytes read so far, followed by the old contents of the buffer
 abbrev pub IsSoFar : List ℕ → List ℕ → ℕ → List ℕ → Type 0
 IsSoFar there old count buf = buf ≡ take count there ++ drop count old
 
@@ -23,7 +23,7 @@ module _ (there old buf : List ℕ) (count : ℕ) (long : length buf ≡ length 
   pub left_is : mid_of count (length buf - count) buf ≡ drop count old
   left_is = take_all (length buf - count) (drop count buf) (omega (arith, length-drop count buf)) ∙ back
 
-  -- what was read is put behind what was read before
+  -- the bytes read are appended to those read before
   pub put_more : (n : ℕ) (sub : List ℕ) → sub ≡ take n (drop count there) ++ drop n (drop count old) → IsSoFar there old (count + n) (put_mid count (length buf - count) buf sub)
   put_more n sub is =
       ap (λ (l : List ℕ). take count buf ++ (sub ++ l)) (drop_all (length buf - count) (drop count buf) (omega (arith, length-drop count buf)))
@@ -54,7 +54,7 @@ ends_read seen at old count new fits within end so_far = ⊎_elim
     })
     end
 
--- what lies behind what was read
+-- the buffer after the bytes read
 pub behind : (seen : List ℕ) (at count place : ℕ) → place ≡ at + count → drop place seen ≡ drop count (drop at seen)
 behind seen at count place is = ap (λ (n : ℕ). drop n seen) is ∙ sym (drop-drop count at seen)
 

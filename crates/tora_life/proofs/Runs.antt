@@ -111,7 +111,7 @@ module _ (n : ℕ) (owner : Owner) (s : State) (floor : IsFloorOfDisk n s) where
   pub opened_floor : IsFloor n (opened owner s)
   opened_floor = open_floor s.sync_fails
 
--- the disk alone
+-- only the disk
 pub below : (n : ℕ) (disk : LifeDisk) → IsFloor n disk → IsFloorOfDisk n (state_in disk)
 below n (Opened owner numbers s) floor = record { whole = floor.whole; images = λ c may. omega (arith, (floor.kept.images refl c may).value, floor.drawn) }
 below n (Unopened owner s) floor = floor

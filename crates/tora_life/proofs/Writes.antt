@@ -1,4 +1,4 @@
--- What a write and a sync make of a disk in memory.
+-- The effect of a write and a sync on a disk in memory.
 use Rattle.std.proofs.Common.{◌≡◌, inl, inr, ℕ, zero, suc, ◌+◌, ◌-◌, ◌≤◌, max, Bool, true, false, List, [], ◌∷◌, ◌++◌, length, take, drop, replicate, refl, sym, ◌∙◌, ap, subst, arith, append_assoc, length-append, length-take, Result, Ok, Err, OnOk, nat_lt, if◌then◌else◌, ◌||◌}
 use Rattle.std.proofs.lemmas.List.{take_at, drop_at, drop_all, take-take, drop-take, length-replicate, length-drop}
 use Rattle.std.proofs.Math.Seq.{take-append-add}

@@ -2,11 +2,11 @@
 use Rattle.std.specs.Prelude.{◌≡◌, ◌⊎◌, ℕ, ◌+◌, ◌-◌, ◌^◌, ◌<◌, ◌≤◌, min, max, List, ◌++◌, length, take, drop, Result, is_err, if◌then◌else◌}
 use Rattle.tora_life.specs.declared.disk.DiskError.{DiskError}
 
--- new is old with these bytes written over it at this place
+-- new is old with these bytes written over it at this offset
 abbrev pub Holds : List ℕ → ℕ → List ℕ → List ℕ → Type 0
 Holds old at bytes new = new ≡ take at old ++ bytes ++ drop (at + length bytes) old
 
--- a write of n bytes that a crash cuts short: any bytes in the range, cut anywhere past the old end, all else as it was
+-- a write of n bytes that a crash tears: any bytes in the range, cut anywhere past the old end, the rest unchanged
 pub record Torn (at n : ℕ) (old new : List ℕ) : Type 0 where
   pub before : take at new ≡ take at old
   pub after : drop (at + n) new ≡ drop (at + n) old
@@ -25,24 +25,25 @@ Follows step old new = (c : List ℕ) → new c → (d : List ℕ) × old d × s
 abbrev pub IsOnlyImage : List ℕ → (List ℕ → Type 0) → Type 0
 IsOnlyImage file images = (c : List ℕ) → images c → c ≡ file
 
--- Time goes on: a crash since t might have left what it might have left before, or what it may leave now.
+-- Time passes: a crash since t may have left what it may have left before, or what it may leave now.
 pub record Elapses (before now : ℕ) (past since : ℕ → List ℕ → Type 0) (may_leave : List ℕ → Type 0) : Type 0 where
   pub later : before ≤ now
   pub nothing_else : (t : ℕ) (c : List ℕ) → t ≤ before → since t c → past t c ⊎ may_leave c
   pub keeps : (t : ℕ) (c : List ℕ) → t ≤ before → past t c → since t c
 
 -- A crash at any moment since old leaves a file that has P.
-pub record LeavesOnly {D : Type 0} (moment : D → ℕ) (left_since : D → ℕ → List ℕ → Type 0) (old new : D) (P : List ℕ → Type 0) : Type 0 where
+pub record LeavesOnly {D : Type 0} (moment : D → ℕ) (left_since : D → ℕ → List ℕ → Type 0) (old new : D) (P : List ℕ
+    → Type 0) : Type 0 where
   pub later : moment old ≤ moment new
   pub each : (c : List ℕ) → left_since new (moment old) c → P c
   -- for a run that began earlier
   pub before : (t : ℕ) (c : List ℕ) → t ≤ moment old → left_since new t c → left_since old t c ⊎ P c
 
--- one more where the call failed; the greatest number stays
+-- one more if the call failed; the count stops at the greatest number
 abbrev pub failures_after : {T : Type 0} → Result T DiskError → ℕ → ℕ
 failures_after result before = if is_err result then min (before + 1) (2 ^ 64 - 1) else before
 
--- the device has failed since then: the count rose, or stands at the greatest number
+-- the device has failed since then: the count rose, or is the greatest number
 abbrev pub HasCause : ℕ → ℕ → Type 0
 HasCause before now = before < now ⊎ (now ≡ 2 ^ 64 - 1)
 
@@ -51,7 +52,7 @@ pub record IsRead (seen : List ℕ) (at : ℕ) (old : List ℕ) (n : ℕ) (new :
   pub count : n ≡ min (length old) (length (drop at seen))
   pub bytes : new ≡ take (length old) (drop at seen) ++ drop n old
 
--- n bytes were read into the front of a buffer: no more than there are and fit, and at least one where there is one and one fits
+-- n bytes were read into the front of a buffer: at most as many as there are and fit, and at least one if possible
 pub record IsReadInPart (seen : List ℕ) (at : ℕ) (old : List ℕ) (n : ℕ) (new : List ℕ) : Type 0 where
   pub few : n ≤ length (drop at seen)
   pub fits : n ≤ length old

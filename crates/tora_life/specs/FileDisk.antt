@@ -1,4 +1,4 @@
--- What contracts see of a disk over a file of the system, and which calls of the system make its own.
+-- What contracts see of a disk over a file of the system, and the system calls that each of its calls makes.
 use Rattle.std.specs.Prelude.{◌≡◌, ◌==◌, ℕ, List, length, Option, Some, None, Result, Ok, Err, IsErr, MatchResult, if◌then◌else◌, codes}
 use Rattle.std.specs.Path.{path_parent}
 use Rattle.std.specs.declared.io.Error.{Error}
@@ -10,17 +10,19 @@ pub record FileDiskView (F : Type 0) : Type 0 where
   pub file : F
   pub failures : ℕ
 
--- a disk answers what the system has answered, and no more of an error than that there is one
+-- the result of a disk is that of the system, with any error as the one error of a disk
 abbrev pub Answers : {T : Type 0} → Result T Error → Result T DiskError → Type 0
 Answers (Ok value) answer = answer ≡ Ok value
 Answers (Err _) answer = IsErr answer
 
--- one call of the file, which has answered so, and is counted where it has failed
-abbrev pub MakesCall : {F T : Type 0} → (F → Result T Error → F → Type 0) → FileDiskView F → Result T DiskError → FileDiskView F → Type 0
+-- one call of the file with this result, counted if it failed
+abbrev pub MakesCall : {F T : Type 0} → (F → Result T Error → F → Type 0) → FileDiskView F → Result T DiskError
+    → FileDiskView F → Type 0
 MakesCall {T = T} call disk answer after =
-    (said : Result T Error) × call disk.file said after.file × Answers said answer × (after.failures ≡ failures_after answer disk.failures)
+    (said : Result T Error) × call disk.file said after.file × Answers said answer
+    × (after.failures ≡ failures_after answer disk.failures)
 
--- the folder where a path names none
+-- the folder of a path that names none
 abbrev pub here : List ℕ
 here = codes "."
 
@@ -32,21 +34,29 @@ named_or_here (Some folder) = if length folder == 0 then here else folder
 abbrev pub folder_of : List ℕ → List ℕ
 folder_of path = named_or_here (path_parent path)
 
--- goes on with what a call of the system has given, or answers its error
+-- continues with the result of a system call, or returns its error
 abbrev pub GoesOn : {T D : Type 0} → Result T Error → Result D Error → (T → Type 0) → Type 0
 GoesOn said answer next = MatchResult said next (λ error. answer ≡ Err error)
 
 -- the folder at a path is opened and synced, and then the disk over a file is there
-abbrev pub SyncsFolder : {S F : Type 0} → (S → List ℕ → Result F Error → S → Type 0) → (S → F → Result (Unit {0}) Error → F → S → Type 0) → S → List ℕ → F → Result (FileDiskView F) Error → Type 0
+abbrev pub SyncsFolder : {S F : Type 0} → (S → List ℕ → Result F Error → S → Type 0)
+    → (S → F → Result (Unit {0}) Error → F → S → Type 0) → S → List ℕ → F → Result (FileDiskView F) Error → Type 0
 SyncsFolder {S = S} {F = F} open_folder sync_all files path file answer =
-    (opened : Result F Error) × (with_folder : S) × open_folder files path opened with_folder × GoesOn opened answer (λ folder.
-    (synced : Result (Unit {0}) Error) × (left : F) × (after : S) × sync_all with_folder folder synced left after × GoesOn synced answer (λ _.
+    (opened : Result F Error) × (with_folder : S) × open_folder files path opened with_folder
+    × GoesOn opened answer (λ folder.
+    (synced : Result (Unit {0}) Error) × (left : F) × (after : S) × sync_all with_folder folder synced left after
+    × GoesOn synced answer (λ _.
     answer ≡ Ok (record { file = file; failures = 0 })))
 
--- the file at a path is opened or made, locked and synced, and then its folder is opened and synced, each where the call before has succeeded
-abbrev pub OpensFile : {S F : Type 0} → (S → List ℕ → Result F Error → S → Type 0) → (S → List ℕ → Result F Error → S → Type 0) → (S → F → Result (Unit {0}) Error → F → S → Type 0) → (S → F → Result (Unit {0}) Error → F → S → Type 0) → S → List ℕ → Result (FileDiskView F) Error → Type 0
+-- the file at a path is opened or created, locked and synced, and then its folder is opened and synced, each if the
+-- call before succeeded
+abbrev pub OpensFile : {S F : Type 0} → (S → List ℕ → Result F Error → S → Type 0)
+    → (S → List ℕ → Result F Error → S → Type 0) → (S → F → Result (Unit {0}) Error → F → S → Type 0)
+    → (S → F → Result (Unit {0}) Error → F → S → Type 0) → S → List ℕ → Result (FileDiskView F) Error → Type 0
 OpensFile {S = S} {F = F} open_file open_folder lock sync_all files path answer =
     (opened : Result F Error) × (with_file : S) × open_file files path opened with_file × GoesOn opened answer (λ file.
-    (locked : Result (Unit {0}) Error) × (held : F) × (with_lock : S) × lock with_file file locked held with_lock × GoesOn locked answer (λ _.
-    (synced : Result (Unit {0}) Error) × (kept : F) × (after : S) × sync_all with_lock held synced kept after × GoesOn synced answer (λ _.
+    (locked : Result (Unit {0}) Error) × (held : F) × (with_lock : S) × lock with_file file locked held with_lock
+    × GoesOn locked answer (λ _.
+    (synced : Result (Unit {0}) Error) × (kept : F) × (after : S) × sync_all with_lock held synced kept after
+    × GoesOn synced answer (λ _.
     SyncsFolder open_folder sync_all after (folder_of path) kept answer)))

@@ -1,10 +1,10 @@
--- A fuse: so many calls pass, and then one fails, or all do.
+-- A fuse: a number of calls pass, and then one fails, or all do.
 use Rattle.std.specs.Prelude.{ℕ, ◌-◌, Bool, false, ◌==◌, if◌then◌else◌, Option, Some, None}
 use Rattle.tora_life.specs.declared.fuse.Fuse.{Fuse}
 use Rattle.tora_life.specs.declared.fuse.FuseMode.{FuseMode}
 use Rattle.tora_life.specs.declared.fuse.FuseMode.TheVariants.{Once, Always}
 
--- so many calls pass until one fails, and for None none fails any more: the next one fails
+-- the next call fails; the number counts the calls that pass before a failure, and None means that none will fail
 abbrev pub is_blown_at : Option ℕ → Bool
 is_blown_at None = false
 is_blown_at (Some n) = n == 0

@@ -1,4 +1,5 @@
--- A life file on a disk in memory: what its calls answer and leave, as functions of its numbers and the state of the disk.
+-- A life file on a disk in memory: the results and effects of its calls, as functions of its numbers and the state of
+-- the disk.
 use Rattle.std.specs.Prelude.{ℕ, ◌+◌, ◌^◌, List, Result, Ok, Err, if◌then◌else◌, ◌==◌, nat_lt, true, replicate}
 use Rattle.tora_life.specs.declared.numbers.Numbers.{Numbers}
 use Rattle.tora_life.specs.declared.numbers.LifeError.{LifeError}
@@ -14,7 +15,7 @@ use Rattle.tora_life.specs.Numbers.{value_of, lesser_slot, numbers_of, IsKept}
 use Rattle.tora_life.specs.Calls.{place_of, file_read, version_read}
 use Rattle.tora_life.specs.State.{read_answer, bytes_read, after_read, write_answer, after_write, sync_answer, after_sync, seen_of, MayLeave}
 
--- the first where the device call has succeeded, the second where it has failed
+-- the first if the device call succeeded, the second if it failed
 abbrev pub by_result : {A T : Type 0} → Result T DiskError → A → A → A
 by_result (Ok _) ok err = ok
 by_result (Err _) ok err = err
@@ -37,25 +38,29 @@ migration_state owner file s = after_write s (migration_place file) (migration_b
 abbrev pub version_answer : Owner → List ℕ → Result Version LifeError → State → Result Numbers LifeError
 version_answer owner file (Err error) s = Err error
 version_answer owner file (Ok Tagged) s = Ok (numbers_of file)
-version_answer owner file (Ok Untagged) s = by_result (migration_answer owner file s) (by_result (sync_answer (migration_state owner file s)) (Ok (numbers_of file)) (Err Disk)) (Err Disk)
+version_answer owner file (Ok Untagged) s = by_result (migration_answer owner file s)
+    (by_result (sync_answer (migration_state owner file s)) (Ok (numbers_of file)) (Err Disk)) (Err Disk)
 
 abbrev pub version_state : Owner → List ℕ → Result Version LifeError → State → State
 version_state owner file (Err error) s = s
 version_state owner file (Ok Tagged) s = s
-version_state owner file (Ok Untagged) s = by_result (migration_answer owner file s) (after_sync (migration_state owner file s)) (migration_state owner file s)
+version_state owner file (Ok Untagged) s = by_result (migration_answer owner file s)
+    (after_sync (migration_state owner file s)) (migration_state owner file s)
 
 -- `open`: a sync, then one read of 65 bytes, and then the migration of a file without a tag
 abbrev pub open_answer : Owner → State → Result Numbers LifeError
 open_answer owner s =
     let synced = after_sync s in
     let count = count_read synced in
-    let bytes = buffer_read synced in by_result (sync_answer s) (version_answer owner (file_read count bytes) (version_read owner count bytes) (after_read synced)) (Err Disk)
+    let bytes = buffer_read synced in by_result (sync_answer s) (version_answer owner (file_read count bytes)
+    (version_read owner count bytes) (after_read synced)) (Err Disk)
 
 abbrev pub open_state : Owner → State → State
 open_state owner s =
     let synced = after_sync s in
     let count = count_read synced in
-    let bytes = buffer_read synced in by_result (sync_answer s) (version_state owner (file_read count bytes) (version_read owner count bytes) (after_read synced)) synced
+    let bytes = buffer_read synced in by_result (sync_answer s) (version_state owner (file_read count bytes)
+    (version_read owner count bytes) (after_read synced)) synced
 
 -- the write of a draw that reserves numbers
 abbrev pub slot_answer : Numbers → State → Result (Unit {0}) DiskError
@@ -64,13 +69,14 @@ slot_answer numbers s = write_answer s (place_of (lesser_slot numbers)) (slot_of
 abbrev pub slot_state : Numbers → State → State
 slot_state numbers s = after_write s (place_of (lesser_slot numbers)) (slot_of (value_of numbers + 16))
 
--- `draw`: the next number, which takes a write and then a sync where the reserved numbers are used up
+-- `draw`: the next number; if the reserved numbers are used up, a write and then a sync come first
 abbrev pub draw_answer : Numbers → State → Result ℕ LifeError
 draw_answer numbers s =
     if numbers.failed then Err Failed
     else if numbers.drawn == value_of numbers then
     (if nat_lt (2 ^ 62) (value_of numbers + 16) then Err Spent
-    else by_result (slot_answer numbers s) (by_result (sync_answer (slot_state numbers s)) (Ok (numbers.drawn + 1)) (Err Disk)) (Err Disk))
+    else by_result (slot_answer numbers s) (by_result (sync_answer (slot_state numbers s)) (Ok (numbers.drawn + 1))
+    (Err Disk)) (Err Disk))
     else Ok (numbers.drawn + 1)
 
 abbrev pub draw_state : Numbers → State → State
@@ -81,6 +87,6 @@ draw_state numbers s =
     else by_result (slot_answer numbers s) (after_sync (slot_state numbers s)) (slot_state numbers s))
     else s
 
--- what an open life file keeps of its owner, its numbers and such a disk
+-- the invariant of an open life file on such a disk
 abbrev pub IsKeptOn : Owner → Numbers → State → Type 0
 IsKeptOn owner numbers s = IsKept (λ _. true) seen_of MayLeave owner numbers s

@@ -1,18 +1,19 @@
--- What the bytes of a life file stand for.
+-- The meaning of the bytes of a life file.
 use Rattle.std.specs.Prelude.{◌≡◌, ℕ, ◌+◌, ◌-◌, ◌^◌, ◌≤◌, zero, suc, max, List, ◌++◌, length, take, drop, if◌then◌else◌, ◌&&◌, ◌==◌, nat_le}
 use Rattle.std.specs.Int.{w64, from_be_bytes, to_be_bytes}
 use Rattle.tora_life.specs.declared.tags.Owner.{Owner}
 use Rattle.tora_life.specs.Tags.{tag_of}
 
--- the number that eight bytes spell, the greatest byte first
+-- the number in eight bytes, highest byte first
 unfoldable pub number_of : List ℕ → ℕ
 number_of bytes = from_be_bytes w64 bytes
 
--- the bound that a slot spells: eight bytes and their bitwise complement, which add up to 2^64 - 1. A slot that is not complementary, or
--- not wholly there, counts as 0
+-- the bound in a slot: eight bytes and their bitwise complement, which add up to 2^64 - 1. A slot that is not
+-- complementary, or is incomplete, counts as 0
 unfoldable pub slot_bound : List ℕ → ℕ
 slot_bound slot =
-    if nat_le 16 (length slot) && (number_of (take 8 slot) + number_of (take 8 (drop 8 slot)) == 2 ^ 64 - 1) then number_of (take 8 slot) else 0
+    if nat_le 16 (length slot) && (number_of (take 8 slot) + number_of (take 8 (drop 8 slot)) == 2 ^ 64 - 1)
+    then number_of (take 8 slot) else 0
 
 -- slot i of a file: slot 0 is its first sixteen bytes
 abbrev pub slot_value : List ℕ → ℕ → ℕ
@@ -23,11 +24,11 @@ slot_value file (suc i) = slot_value (drop 16 file) i
 abbrev pub file_value : List ℕ → ℕ
 file_value file = max (slot_value file 0) (slot_value file 1)
 
--- the slot that spells a bound
+-- the bytes of a slot with this bound
 unfoldable pub slot_of : ℕ → List ℕ
 slot_of bound = to_be_bytes w64 bound ++ to_be_bytes w64 (2 ^ 64 - 1 - bound)
 
--- a file that opens for its owner, has its tag, and draws no number again up to n
+-- a file that opens for its owner, has its tag, and draws only numbers above n
 pub record Covers (owner : Owner) (n : ℕ) (file : List ℕ) : Type 0 where
   pub value : n ≤ file_value file
   pub tag : drop 32 file ≡ tag_of owner

@@ -31,25 +31,27 @@ opened_as owner (Err _) s = Unopened owner s
 abbrev pub opened : Owner → State → LifeDisk
 opened owner s = opened_as owner (open_answer owner s) (open_state owner s)
 
--- a draw; the next such call of the disk is made to fail; a crash leaves the disk so, and the file is opened again for its owner
+-- a draw; a call of the disk that is armed to fail; a crash that leaves this disk, after which the file is opened again
+-- for its owner
 pub data LifeEvent : Type 0 where
   Draw : LifeEvent
   Arm : DiskCall → LifeEvent
   Restart : State → LifeEvent
 
--- the new disk leaves nothing in a crash that the old one might not have left
+-- a crash of the new disk leaves only files that a crash of the old one may have left
 pub record IsLeftBy (old new : State) : Type 0 where
   pub whole : IsWhole new
   pub images : (c : List ℕ) → MayLeave new c → MayLeave old c
 
--- a crash may leave any disk that this one might have left
+-- a crash may leave any disk that is possible for this one
 abbrev pub MayHappen : LifeEvent → LifeDisk → Type 0
 MayHappen Draw disk = ⊤
 MayHappen (Arm call) disk = ⊤
 MayHappen (Restart new) disk = IsLeftBy (state_in disk) new
 
 abbrev pub after_event : LifeEvent → LifeDisk → LifeDisk
-after_event Draw (Opened owner numbers s) = Opened owner (numbers_after (draw_answer numbers s) numbers) (draw_state numbers s)
+after_event Draw (Opened owner numbers s) = Opened owner (numbers_after (draw_answer numbers s) numbers)
+    (draw_state numbers s)
 after_event Draw (Unopened owner s) = Unopened owner s
 after_event (Arm call) (Opened owner numbers s) = Opened owner numbers (armed call s)
 after_event (Arm call) (Unopened owner s) = Unopened owner (armed call s)
@@ -70,7 +72,7 @@ abbrev pub IsRun : LifeDisk → List LifeEvent → Type 0
 IsRun disk [] = ⊤
 IsRun disk (event ∷ events) = MayHappen event disk × IsRun (after_event event disk) events
 
--- all numbers drawn in a run, the first of them first
+-- all numbers drawn in a run, in order
 abbrev pub drawn_numbers : LifeDisk → List LifeEvent → List ℕ
 drawn_numbers disk [] = []
 drawn_numbers disk (event ∷ events) = drawn_by event disk ++ drawn_numbers (after_event event disk) events
@@ -89,7 +91,7 @@ pub record IsFloorOfDisk (n : ℕ) (s : State) : Type 0 where
   pub whole : IsWhole s
   pub images : (c : List ℕ) → MayLeave s c → n ≤ file_value c
 
--- n or a lesser number is never drawn again
+-- no number up to n is ever drawn again
 abbrev pub IsFloor : ℕ → LifeDisk → Type 0
 IsFloor n (Opened owner numbers s) = IsFloorOfOpen n owner numbers s
 IsFloor n (Unopened owner s) = IsFloorOfDisk n s

@@ -1,4 +1,4 @@
--- Life files of both versions: whether a file has its tag, and what a file without one becomes.
+-- Life files of both versions, and the migration of a file without a tag.
 use Rattle.std.specs.Prelude.{ℕ, ◌-◌, min, List, ◌++◌, length, take, drop, replicate, if◌then◌else◌, nat_lt, Result, Ok, Err}
 use Rattle.std.specs.Str.{bytes_eq}
 use Rattle.tora_life.specs.declared.numbers.LifeError.{LifeError}
@@ -10,27 +10,29 @@ use Rattle.tora_life.specs.declared.tags.Tag.{Tag}
 use Rattle.tora_life.specs.declared.tags.Tag.TheVariants.{Absent, Strange, Of}
 use Rattle.tora_life.specs.Tags.{tag_of, tag_read}
 
--- without the tag of its owner: a file of version 1, or one that was torn while it was migrated, is to be migrated; a tag of another kind
--- or of another owner refuses the file
+-- a file without a tag (of version 1, or torn while it was migrated) has to be migrated; a file with a tag of another
+-- kind or of another owner is refused
 abbrev pub version_by : Tag → Result Version LifeError
 version_by Absent = Ok Untagged
 version_by Strange = Err Damaged
 version_by (Of other) = Err Foreign
 
--- what opening a file of these bytes for an owner comes to: two slots, and the tag behind them
+-- the version of a file with these bytes, opened for an owner: two slots, and then the tag
 abbrev pub version_of : Owner → List ℕ → Result Version LifeError
-version_of owner file = if nat_lt 64 (length file) then Err Damaged else if bytes_eq (drop 32 file) (tag_of owner) then Ok Tagged else version_by (tag_read (drop 32 file))
+version_of owner file = if nat_lt 64 (length file) then Err Damaged
+    else if bytes_eq (drop 32 file) (tag_of owner) then Ok Tagged else version_by (tag_read (drop 32 file))
 
--- a slot filled up to sixteen bytes: zeros in its first half, and in its second half the bytes of the first. So it is not complementary,
--- and counts as 0. A whole slot stays
+-- a slot filled up to sixteen bytes: zeros in its first half, and in its second half the bytes of the first. So it is
+-- not complementary, and counts as 0. A whole slot stays as it is
 unfoldable pub slot_filled : List ℕ → List ℕ
-slot_filled slot = let first = take 8 slot ++ replicate (8 - length slot) 0 in first ++ drop 8 slot ++ drop (length slot - 8) first
+slot_filled slot =
+    let first = take 8 slot ++ replicate (8 - length slot) 0 in first ++ drop 8 slot ++ drop (length slot - 8) first
 
--- the file of an owner once it is migrated: the first 32 bytes filled up, and the tag
+-- the file of an owner after the migration: the first 32 bytes filled up, and the tag
 abbrev pub migrated : Owner → List ℕ → List ℕ
 migrated owner file = slot_filled (take 16 file) ++ slot_filled (take 16 (drop 16 file)) ++ tag_of owner
 
--- what of it is written: all from the lower of the file's length and 32 on
+-- the offset from which it is written: 32, or the end of the file if that is lower
 abbrev pub migration_place : List ℕ → ℕ
 migration_place file = min (length file) 32
 

@@ -1,4 +1,4 @@
--- The slot that a write goes to, and the one that it leaves as it is.
+-- The slot that a write replaces, and the other one.
 use Rattle.std.specs.Prelude.{◌≡◌, ℕ, List}
 use Rattle.tora_life.specs.declared.slots.Slot.{Slot}
 use Rattle.tora_life.specs.declared.slots.Slot.TheVariants.{First, Second}

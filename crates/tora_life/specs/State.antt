@@ -1,4 +1,4 @@
--- A disk in memory: what a crash may leave of it, and what its calls answer and make of it.
+-- A disk in memory: what a crash may leave, and the results and effects of its calls.
 use Rattle.std.specs.Prelude.{◌≡◌, ◌⊎◌, ℕ, ◌+◌, ◌-◌, ◌^◌, ◌≤◌, min, max, Bool, true, false, List, [], ◌∷◌, ◌++◌, length, take, drop, replicate, Result, Ok, Err, if◌then◌else◌, nat_lt, IsFalse, ◌||◌, Option, Some, None}
 use Rattle.tora_life.specs.TornBytes.{torn_over}
 use Rattle.tora_life.specs.declared.state.State.{State}
@@ -6,7 +6,7 @@ use Rattle.tora_life.specs.declared.state.DiskCall.{DiskCall}
 use Rattle.tora_life.specs.declared.state.DiskCall.TheVariants.{Read, Write, Sync}
 use Rattle.tora_life.specs.declared.disk.DiskError.{DiskError}
 
--- what a read gives
+-- the bytes that a read returns
 abbrev pub seen_of : State → List ℕ
 seen_of s = take s.len s.bytes
 
@@ -18,7 +18,7 @@ synced_of s = take s.synced_len s.synced
 abbrev pub marks_of : State → List Bool
 marks_of s = take s.reach s.written
 
--- of a synced file and marks: the bytes that were not written stay, the others may be any, and the file may end anywhere from its old end
+-- a crash keeps the bytes that were not written, may change the others, and may end the file anywhere from its old end
 -- to the furthest write
 abbrev pub IsImage : List ℕ → List Bool → List ℕ → Type 0
 IsImage [] marks file = length file ≤ length marks
@@ -26,11 +26,12 @@ IsImage (s ∷ synced) marks [] = ⊥
 IsImage (s ∷ synced) [] (x ∷ file) = (x ≡ s) × IsImage synced [] file
 IsImage (s ∷ synced) (m ∷ marks) (x ∷ file) = (IsFalse m → x ≡ s) × IsImage synced marks file
 
--- what a crash may leave: what a read gives, or the file of the last sync with what was written since torn
+-- what a crash may leave: the bytes that a read returns, or the file of the last sync with the bytes written since then
+-- torn
 abbrev pub MayLeave : State → List ℕ → Type 0
 MayLeave s file = (file ≡ seen_of s) ⊎ IsImage (synced_of s) (marks_of s) file
 
--- what holds of each disk in memory
+-- the invariant of a disk in memory
 pub record IsWhole (s : State) : Type 0 where
   pub len : s.len ≤ s.reach
   pub synced_len : s.synced_len ≤ s.reach
@@ -45,13 +46,25 @@ filled file = file ++ replicate (80 - length file) 0
 
 -- a disk that has a file on it, nothing written since, and no call armed to fail
 abbrev pub fresh_state : List ℕ → State
-fresh_state file = record { bytes = filled file; len = length file; synced = filled file; synced_len = length file; written = replicate 80 false; reach = length file; read_fails = false; write_fails = false; sync_fails = false; failures = 0 }
+fresh_state file = record {
+  bytes = filled file;
+  len = length file;
+  synced = filled file;
+  synced_len = length file;
+  written =
+      replicate 80 false;
+  reach = length file;
+  read_fails = false;
+  write_fails = false;
+  sync_fails = false;
+  failures = 0;
+}
 
--- these in the place of those that stand there
+-- the list with these items written over it at an offset
 abbrev pub over : {A : Type 0} → ℕ → List A → List A → List A
 over at new old = take at old ++ new ++ drop (at + length new) old
 
--- a failed call more; the greatest number stays
+-- one more failed call; the count stops at the greatest number
 abbrev pub failures_more : ℕ → ℕ
 failures_more failures = min (failures + 1) (2 ^ 64 - 1)
 
@@ -59,15 +72,16 @@ failures_more failures = min (failures + 1) (2 ^ 64 - 1)
 abbrev pub read_answer : State → ℕ → List ℕ → Result ℕ DiskError
 read_answer s at buf = if s.read_fails then Err (record {}) else Ok (min (length buf) (length (drop at (seen_of s))))
 
--- what it leaves in the buffer: those bytes, and behind them what was there
+-- the buffer after it: those bytes, followed by its old contents
 abbrev pub bytes_read : State → ℕ → List ℕ → List ℕ
-bytes_read s at buf = if s.read_fails then buf else take (length buf) (drop at (seen_of s)) ++ drop (min (length buf) (length (drop at (seen_of s)))) buf
+bytes_read s at buf = if s.read_fails then buf else take (length buf) (drop at (seen_of s))
+    ++ drop (min (length buf) (length (drop at (seen_of s)))) buf
 
 -- an armed read fails and changes nothing else
 abbrev pub after_read : State → State
 after_read s = if s.read_fails then record s { read_fails = false; failures = failures_more s.failures } else s
 
--- n bytes from a place on count as written
+-- n bytes from an offset on count as written
 abbrev pub marked : State → ℕ → ℕ → State
 marked s at n = record s { written = over at (replicate n true) s.written; reach = max s.reach (at + n) }
 
@@ -79,20 +93,23 @@ write_answer s at bytes = if nat_lt 80 (at + length bytes) || s.write_fails then
 abbrev pub after_write : State → ℕ → List ℕ → State
 after_write s at bytes =
     if nat_lt 80 (at + length bytes) then record s { write_fails = false; failures = failures_more s.failures }
-    else if s.write_fails then record (marked s at (length bytes)) { write_fails = false; failures = failures_more s.failures }
+    else if s.write_fails then record (marked s at (length bytes)) {
+      write_fails = false;
+      failures = failures_more s.failures;
+    }
     else record (marked s at (length bytes)) { bytes = over at bytes s.bytes; len = max s.len (at + length bytes) }
 
 -- an armed sync fails
 abbrev pub sync_answer : State → Result (Unit {0}) DiskError
 sync_answer s = if s.sync_fails then Err (record {}) else Ok tt
 
--- a sync that succeeds puts all on the disk, and nothing counts as written any more
+-- a successful sync puts all bytes on the disk, and none counts as written any more
 abbrev pub after_sync : State → State
 after_sync s =
     if s.sync_fails then record s { sync_fails = false; failures = failures_more s.failures }
     else record s { synced = s.bytes; synced_len = s.len; written = replicate 80 false; reach = s.len }
 
--- the next such call fails
+-- the next call of this kind fails
 abbrev pub armed : DiskCall → State → State
 armed Read s = record s { read_fails = true }
 armed Write s = record s { write_fails = true }

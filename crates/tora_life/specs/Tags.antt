@@ -1,4 +1,4 @@
--- The tag of a life file: the node and the peer that the file is of.
+-- The tag of a life file: the node and the peer to which the file belongs.
 use Rattle.std.specs.Prelude.{ℕ, ◌-◌, ◌^◌, List, ◌++◌, length, take, drop, Bool, if◌then◌else◌, ◌&&◌, ◌==◌, nat_lt}
 use Rattle.std.specs.Int.{w32, w64, from_be_bytes, to_be_bytes}
 use Rattle.tora_life.specs.declared.tags.Owner.{Owner}
@@ -9,30 +9,35 @@ use Rattle.tora_life.specs.declared.tags.Tag.TheVariants.{Absent, Strange, Of}
 abbrev pub tag_beginning : ℕ
 tag_beginning = 6075164862752310834
 
--- the number that four bytes spell, the greatest byte first
+-- the number in four bytes, highest byte first
 unfoldable pub word_of : List ℕ → ℕ
 word_of bytes = from_be_bytes w32 bytes
 
--- the number that eight bytes spell
+-- the number in eight bytes
 unfoldable pub long_of : List ℕ → ℕ
 long_of bytes = from_be_bytes w64 bytes
 
 -- the second half of a tag is the complement of the first: the beginning, the node and the peer, bit by bit
 abbrev pub is_complementary : List ℕ → Bool
 is_complementary tag =
-    (long_of (take 8 (drop 16 tag)) == 2 ^ 64 - 1 - long_of (take 8 tag)) && (word_of (take 4 (drop 24 tag)) == 2 ^ 32 - 1 - word_of (take 4 (drop 8 tag)))
+    (long_of (take 8 (drop 16 tag)) == 2 ^ 64 - 1 - long_of (take 8 tag)) &&
+    (word_of (take 4 (drop 24 tag)) == 2 ^ 32 - 1 - word_of (take 4 (drop 8 tag)))
     && (word_of (take 4 (drop 28 tag)) == 2 ^ 32 - 1 - word_of (take 4 (drop 12 tag)))
 
--- whose the 32 bytes of a tag say that the file is; absent where they aren't all there or aren't complementary
+-- the owner that the 32 bytes of a tag name; absent if there are fewer bytes, or they aren't complementary
 unfoldable pub tag_read : List ℕ → Tag
 tag_read tag =
     if nat_lt (length tag) 32 then Absent
     else if is_complementary tag then
-    (if long_of (take 8 tag) == tag_beginning then Of (record { node = word_of (take 4 (drop 8 tag)); peer = word_of (take 4 (drop 12 tag)) }) else Strange)
+    (if long_of (take 8 tag) == tag_beginning then Of (record {
+      node = word_of (take 4 (drop 8 tag));
+      peer = word_of (take 4 (drop 12 tag));
+    }) else Strange)
     else Absent
 
 -- the tag of an owner
 unfoldable pub tag_of : Owner → List ℕ
 tag_of owner =
     to_be_bytes w64 tag_beginning ++ to_be_bytes w32 owner.node ++ to_be_bytes w32 owner.peer
-    ++ to_be_bytes w64 (2 ^ 64 - 1 - tag_beginning) ++ to_be_bytes w32 (2 ^ 32 - 1 - owner.node) ++ to_be_bytes w32 (2 ^ 32 - 1 - owner.peer)
+    ++ to_be_bytes w64 (2 ^ 64 - 1 - tag_beginning) ++ to_be_bytes w32 (2 ^ 32 - 1 - owner.node)
+    ++ to_be_bytes w32 (2 ^ 32 - 1 - owner.peer)

@@ -5,4 +5,5 @@ use Rattle.std.specs.Prelude.{ℕ, ◌+◌, ◌%◌, Bool, List, [], ◌∷◌, 
 abbrev pub torn_over : ℕ → List ℕ → List Bool → List ℕ → List ℕ
 torn_over i torn [] bytes = bytes
 torn_over i torn (m ∷ marks) [] = []
-torn_over i torn (m ∷ marks) (b ∷ bytes) = (if m then get_or torn (i % 16) 0 else b) ∷ torn_over (i + 1) torn marks bytes
+torn_over i torn (m ∷ marks) (b ∷ bytes) = (if m then get_or torn (i % 16) 0
+    else b) ∷ torn_over (i + 1) torn marks bytes

@@ -1,4 +1,4 @@
-//! The states that a disk has had. It takes no bytes, and only contracts read it.
+//! The earlier states of a disk, for contracts only. It takes no memory.
 ghost use Rattle.std.specs.Prelude.{◌≡◌, List, [], ◌∷◌, ◌++◌};
 ghost use Rattle.std.specs.Borrow.{ftrue};
 ghost use Rattle.tora_life.specs.declared.state.State.{State};
@@ -6,7 +6,7 @@ ghost use Rattle.tora_life.specs.declared.state.State.{State};
 use crate::state::State;
 use std::marker::Model;
 
-/// The states before each call, the first of them first. No memory holds them.
+/// The state before each call, oldest first. It takes no memory.
 #[derive(Debug, Drop)]
 pub(crate) struct CallRecord {
     pub ghost states: { List State },
@@ -23,7 +23,7 @@ impl CallRecord {
         CallRecord {}
     }
 
-    /// With one state more.
+    /// The record with one more state.
     pub fn with(_before: &CallRecord, _state: &State) -> CallRecord
         ensures { result.states ≡ _before.now.states ++ _state.now ∷ [] }
     {

@@ -1,57 +1,56 @@
-//! A file on a disk: what a read gives, and what a crash may leave.
+//! A file on a disk: what a read returns, and what a crash may leave.
 ghost use Rattle.std.specs.Prelude.{◌≡◌, ◌≤◌, ℕ, Bool, List, length, Result, IfOk, OnOk, OnErr, IsTrue};
 ghost use Rattle.tora_life.specs.declared.disk.DiskError.{DiskError};
 ghost use Rattle.tora_life.specs.Disk.{Holds, Torn, Follows, IsOnlyImage, Elapses, failures_after, IsRead};
 
 use thiserror::Error;
 
-/// A call of a disk has failed, and is counted.
+/// A call of a disk has failed, and was counted.
 #[derive(Clone, Copy, Debug, PartialEq, Eq, Hash, Error)]
 #[error("a call of the disk failed")]
 pub struct DiskError;
 
-/// One file on a disk, as bytes from place 0 on, which nobody else writes.
+/// One file on a disk, as bytes from offset 0 on, which nobody else writes.
 ///
-/// A disk either tells contracts its bytes, as `MemDisk` does, or tells none, as `FileDisk`. No call changes
-/// which. Of one that tells, contracts know what a read gives and the images that a crash may leave:
-/// between two syncs each range that a write was given may hold any bytes, and may be cut anywhere past the
-/// old end of the file. All other bytes stay. After a sync that succeeds the one image is what a read gives.
-/// A failed call may have done its work or a part of it.
+/// A disk may make its bytes visible to contracts, as `MemDisk` does and `FileDisk` does not. Contracts then know what
+/// a read returns and the images that a crash may leave: between two syncs each written range may hold any bytes, and
+/// may be cut anywhere past the old end of the file; all other bytes stay. After a successful sync the only image is
+/// what a read returns. A failed call may have done its work, or a part of it.
 ///
-/// A crash may come at any moment, also inside a call: `left_since` names what a crash at some moment
-/// since an earlier one might have left.
+/// A crash may come at any moment, also inside a call: `left_since` is what a crash at some moment since an earlier
+/// moment may have left.
 ///
-/// Each disk counts its failed calls. The count stays at 2^64 - 1 once there.
+/// Each disk counts its failed calls. The count stops at 2^64 - 1.
 pub trait Disk {
-    /// Whether contracts are told the bytes.
+    /// Whether contracts see the bytes.
     ghost tells: { Self → Bool };
 
-    /// The bytes that a read gives.
+    /// The bytes that a read returns.
     ghost seen: { Self → List ℕ };
 
-    /// The images: what a crash at this moment may leave.
+    /// The images, which are the files that a crash at this moment may leave.
     ghost may_leave: { Self → List ℕ → Type 0 };
 
-    /// The moment, as a number that doesn't fall.
+    /// The moment, as a number that never falls.
     ghost moment: { Self → ℕ };
 
-    /// What a crash at some moment since this one may have left, during a call or between two.
+    /// The files that a crash at some moment since this one may have left, during a call or between two.
     ghost left_since: { Self → ℕ → List ℕ → Type 0 };
 
-    /// How often a call has failed, and 2^64 - 1 from there on.
+    /// How many calls have failed; the count stops at 2^64 - 1.
     ghost failures: { Self → ℕ };
 
-    /// What a read made of a disk: place, buffer, answer, new buffer, new disk.
+    /// A read: old disk, offset, buffer, result, new buffer, new disk.
     ghost reads: { Self → ℕ → List ℕ → Result ℕ DiskError → List ℕ → Self → Type 0 };
 
-    /// What a write made of a disk: place, bytes, answer, new disk.
+    /// A write: old disk, offset, bytes, result, new disk.
     ghost writes: { Self → ℕ → List ℕ → Result (Unit {0}) DiskError → Self → Type 0 };
 
-    /// What a sync made of a disk: answer, new disk.
+    /// A sync: old disk, result, new disk.
     ghost syncs: { Self → Result (Unit {0}) DiskError → Self → Type 0 };
 
-    /// Reads from the place `at` on into the front of `buf`: as many bytes as there are and fit. Answers their
-    /// count, which is 0 at the end of the file and past it. The rest of `buf` stays.
+    /// Reads from the offset `at` on into the front of `buf`, as many bytes as there are and fit. Returns their count,
+    /// which is 0 at the end of the file and past it. The rest of `buf` stays.
     fn read(&mut self, at: usize, buf: &mut [u8]) -> Result<usize, DiskError>
         ensures call { reads self.old at buf.old result buf.new self.new }
         ensures failures { failures self.new ≡ failures_after result (failures self.old) }
@@ -60,21 +59,27 @@ pub trait Disk {
         ensures bytes { IsTrue (tells self.old) → IfOk result (λ n. IsRead (seen self.old) at buf.old n buf.new) }
         ensures seen { IsTrue (tells self.old) → seen self.new ≡ seen self.old }
         ensures crash { IsTrue (tells self.old) → (c : List ℕ) → may_leave self.new c → may_leave self.old c }
-        ensures time { IsTrue (tells self.old) → Elapses (moment self.old) (moment self.new) (left_since self.old) (left_since self.new) (may_leave self.new) };
+        ensures time { IsTrue (tells self.old)
+            → Elapses (moment self.old) (moment self.new) (left_since self.old) (left_since self.new)
+            (may_leave self.new) };
 
-    /// Writes `bytes` from the place `at` on, over what is there and past the end of the file, which `at` must
-    /// not be beyond. Until a sync, a crash may leave any bytes in that range, also where the write has failed.
+    /// Writes `bytes` from the offset `at` on, over what is there and past the end of the file; `at` must not be beyond
+    /// the end. Until a sync, a crash may leave any bytes in that range, even if the write failed.
     fn write_at(&mut self, at: usize, bytes: &[u8]) -> Result<(), DiskError>
         requires { IsTrue (tells self.old) → at ≤ length (seen self.old) }
         ensures call { writes self.old at bytes.now result self.new }
         ensures failures { failures self.new ≡ failures_after result (failures self.old) }
         ensures tells { tells self.new ≡ tells self.old }
         ensures written { IsTrue (tells self.old) → OnOk result (Holds (seen self.old) at bytes.now (seen self.new)) }
-        ensures err { IsTrue (tells self.old) → OnErr result (Torn at (length bytes.now) (seen self.old) (seen self.new)) }
-        ensures crash { IsTrue (tells self.old) → Follows (Torn at (length bytes.now)) (may_leave self.old) (may_leave self.new) }
-        ensures time { IsTrue (tells self.old) → Elapses (moment self.old) (moment self.new) (left_since self.old) (left_since self.new) (may_leave self.new) };
+        ensures err { IsTrue (tells self.old)
+            → OnErr result (Torn at (length bytes.now) (seen self.old) (seen self.new)) }
+        ensures crash { IsTrue (tells self.old)
+            → Follows (Torn at (length bytes.now)) (may_leave self.old) (may_leave self.new) }
+        ensures time { IsTrue (tells self.old)
+            → Elapses (moment self.old) (moment self.new) (left_since self.old) (left_since self.new)
+            (may_leave self.new) };
 
-    /// Puts all that was written on the disk: at `Ok` a crash leaves what a read gives.
+    /// Puts all written bytes on the disk: after `Ok` a crash leaves what a read returns.
     fn sync(&mut self) -> Result<(), DiskError>
         ensures call { syncs self.old result self.new }
         ensures failures { failures self.new ≡ failures_after result (failures self.old) }
@@ -82,14 +87,16 @@ pub trait Disk {
         ensures durable { IsTrue (tells self.old) → OnOk result (IsOnlyImage (seen self.old) (may_leave self.new)) }
         ensures seen { IsTrue (tells self.old) → seen self.new ≡ seen self.old }
         ensures crash { IsTrue (tells self.old) → (c : List ℕ) → may_leave self.new c → may_leave self.old c }
-        ensures time { IsTrue (tells self.old) → Elapses (moment self.old) (moment self.new) (left_since self.old) (left_since self.new) (may_leave self.new) };
+        ensures time { IsTrue (tells self.old)
+            → Elapses (moment self.old) (moment self.new) (left_since self.old) (left_since self.new)
+            (may_leave self.new) };
 
-    /// It reads as one of its images.
+    /// What a read returns is one of the images.
     ghost seen_may_stay: { (disk : Self) → IsTrue (tells disk) → may_leave disk (seen disk) };
 
-    /// What a crash may leave now is among what crashes since an earlier moment may have left.
+    /// What a crash may leave now, crashes since any earlier moment may have left, too.
     ghost counts_now: { (disk : Self) (t : ℕ) (c : List ℕ) → t ≤ moment disk → may_leave disk c → left_since disk t c };
 
-    /// Since this moment there is no other.
+    /// Since this moment, crashes may have left only what a crash may leave now.
     ghost only_now: { (disk : Self) (c : List ℕ) → left_since disk (moment disk) c → may_leave disk c };
 }

@@ -13,10 +13,10 @@ use std::path::Path;
 
 /// A file of the operating system as a disk. It is read and written at places, and synced with its length.
 ///
-/// It tells contracts no bytes. So clauses say of it which calls of the system it makes, which numbers are drawn, when each error
-/// comes and that each failed call is counted, and nothing of what a crash leaves. That the file keeps what was synced, and that
-/// nobody else writes it, are premises of the program. The file is locked as long as its disk lives, so that no
-/// second node on this machine draws from it; a process that is killed leaves no lock behind.
+/// Contracts do not see its bytes. They say which system calls it makes, which numbers are drawn, when each error comes
+/// and that failed calls are counted, but not what a crash leaves. That the file keeps what was synced, and that nobody
+/// else writes it, are premises of the program. The file is locked while its disk lives, so that no second node on this
+/// machine draws from it; a killed process leaves no lock.
 #[derive(Debug, Drop)]
 pub struct FileDisk<F = File> {
     file: F,
@@ -31,7 +31,7 @@ impl<F> Model for FileDisk<F> {
     ghost view = { λ d. record { file = d.file; failures = d.failures } };
 }
 
-/// The folder of the file at a path, which is `.` where the path names none.
+/// The folder of the file at a path; `.` if the path names none.
 fn folder_of(path: &str) -> &str
     ensures { result.now ≡ folder_of path.now }
 {
@@ -42,12 +42,12 @@ fn folder_of(path: &str) -> &str
 }
 
 impl<F: SystemFile> FileDisk<F> {
-    /// Opens the file at this path, to read and write. One that is missing is made, empty, and its folder is synced
-    /// too, so that the file itself is there after a crash.
+    /// Opens the file at this path for reading and writing. A missing file is created empty, and its folder is synced,
+    /// so that the file exists after a crash.
     ///
     /// # Errors
     ///
-    /// Those of the operating system, and `WouldBlock` where another disk has the file, of this process or of another.
+    /// Those of the operating system, and `WouldBlock` if this or another process has the file open as a disk.
     pub fn open<S: SystemFiles<File = F>>(files: S, path: &str) -> io::Result<FileDisk<F>>
         ensures { OpensFile S.did_open_file S.did_open_folder S.did_lock S.did_sync_all files path.now result }
     {
@@ -66,7 +66,7 @@ impl<F: SystemFile> FileDisk<F> {
         }
     }
 
-    /// Syncs the folder at this path, in which a file was made. Answers the disk over that file.
+    /// Syncs the folder at this path, in which a file was created. Returns the disk over that file.
     fn in_folder<S: SystemFiles<File = F>>(files: S, path: &str, file: F) -> io::Result<FileDisk<F>>
         ensures { SyncsFolder S.did_open_folder S.did_sync_all files path.now file result }
     {
@@ -81,7 +81,7 @@ impl<F: SystemFile> FileDisk<F> {
         }
     }
 
-    /// The answer of a call, which is counted where it has failed.
+    /// The result of a call, which is counted if it failed.
     fn counted<T: Drop>(&mut self, answer: io::Result<T>) -> Result<T, DiskError>
         ensures failures { self.new ≡ record self.old { failures = failures_after result self.old.failures } }
         ensures value { Answers answer result }
@@ -114,9 +114,11 @@ impl<F: SystemFile> Disk for FileDisk<F> {
 
     ghost failures = { λ d. d.failures };
 
-    ghost reads = { λ d at buf answer bytes new. MakesCall (λ file said after. ReadsWhole F.did_read_at at file buf said after bytes) d answer new };
+    ghost reads = { λ d at buf answer bytes new. MakesCall (λ file said after.
+        ReadsWhole F.did_read_at at file buf said after bytes) d answer new };
 
-    ghost writes = { λ d at bytes answer new. MakesCall (λ file said after. F.did_write_all_at file at bytes said after) d answer new };
+    ghost writes = { λ d at bytes answer new. MakesCall (λ file said after. F.did_write_all_at file at bytes said after)
+        d answer new };
 
     ghost syncs = { λ d answer new. MakesCall F.did_sync_all d answer new };
 

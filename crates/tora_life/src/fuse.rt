@@ -1,21 +1,21 @@
-//! A fuse for tests: some calls succeed, then one call fails, or all following calls do.
+//! A fuse for tests: some calls succeed, and then one call or all following calls fail.
 ghost use Rattle.std.specs.Prelude.{◌≡◌, ◌-◌, not, Some};
 ghost use Rattle.tora_life.specs.Fuse.{is_blown, after_call};
 
-/// How long a fuse lets calls fail, once it has blown.
+/// How many calls fail once a fuse has blown.
 #[derive(Clone, Copy, Debug, PartialEq, Eq, Hash)]
 pub enum FuseMode {
     /// One call fails.
     Once,
-    /// Each call fails from then on.
+    /// Each call fails from the first failure on.
     Always,
 }
 
-/// What says of each call of a device whether it passes, for devices that fail on purpose.
+/// Decides for each call of a device whether it succeeds, for devices that fail on purpose.
 #[derive(Clone, Copy, Debug, PartialEq, Eq, Hash)]
 pub struct Fuse {
     pub mode: FuseMode,
-    /// How many calls pass until one fails, and `None` where none fails any more.
+    /// How many calls pass until one fails; `None` if none will fail.
     pub left: Option<u64>,
 }
 
@@ -30,7 +30,7 @@ impl Fuse {
         }
     }
 
-    /// Whether the next call passes. It counts as made.
+    /// Returns whether the next call passes, and counts that call.
     pub fn passes(&mut self) -> bool
         ensures answer { result ≡ not (is_blown self.old) }
         ensures left { self.new ≡ after_call self.old }

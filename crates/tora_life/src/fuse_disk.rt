@@ -5,10 +5,10 @@ use crate::disk::{Disk, DiskError};
 use crate::fuse::{Fuse, FuseMode};
 use std::marker::Model;
 
-/// For tests alone, a disk around another one: so many calls pass, and then one fails, or all do.
+/// For tests only: a disk around another one. A given number of calls pass, and then one fails, or all do.
 ///
-/// A call that fails so is counted, and makes no call of the disk inside. Calls that the disk inside fails are counted
-/// too. The count begins at 0. It tells contracts its bytes where the disk inside does.
+/// A call that the fuse fails is counted, and makes no call of the inner disk. Failed calls of the inner disk are
+/// counted too. The count begins at 0. Contracts see its bytes if they see those of the inner disk.
 #[derive(Drop)]
 pub struct FuseDisk<D: Disk> {
     disk: D,
@@ -25,7 +25,7 @@ impl<D: Disk> Model for FuseDisk<D> {
 }
 
 impl<D: Disk> FuseDisk<D> {
-    /// A disk over which `k` calls pass, reads, writes and syncs together.
+    /// A disk around `disk` that lets `k` calls pass, reads, writes and syncs together.
     pub fn new(disk: D, k: u64, mode: FuseMode) -> FuseDisk<D>
         ensures { result ≡ record { disk = disk; fuse = record { mode = mode; left = Some k }; failures = 0 } }
     {
@@ -36,7 +36,7 @@ impl<D: Disk> FuseDisk<D> {
         }
     }
 
-    /// The disk inside.
+    /// The inner disk.
     pub fn into_inner(self) -> D
         ensures { result ≡ self.disk }
     {

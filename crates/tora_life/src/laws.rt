@@ -7,38 +7,49 @@ ghost use Rattle.tora_life.specs.LifeFile.{file_value};
 ghost use Rattle.tora_life.specs.Migration.{version_of};
 ghost use Rattle.tora_life.specs.State.{fresh_state, after_crash};
 ghost use Rattle.tora_life.specs.Tags.{tag_of, tag_read};
-ghost use Rattle.tora_life.specs.LifeRun.{LifeDisk, LifeEvent, Draw, MayHappen, IsLeftBy, IsRun, IsFloor, RisesAbove, opened, state_in, after_event, drawn_by, drawn_numbers};
+ghost use Rattle.tora_life.specs.LifeRun.{LifeDisk, LifeEvent, Draw, MayHappen, IsLeftBy, IsRun, IsFloor, RisesAbove};
+ghost use Rattle.tora_life.specs.LifeRun.{opened, state_in, after_event, drawn_by, drawn_numbers};
 
 /// Drawn life numbers rise across crashes. The function does nothing: its contract is a law.
 ///
-/// In every run of draws, failing calls of the disk, and crashes that leave whatever the disk might have left, each
-/// number drawn is greater than all numbers drawn before it, and than the value of the file at first. The file may be any at
-/// first: one of version 1, one that was torn while it was migrated, or one with a tag. A crash
-/// inside a draw is one after a draw whose write or sync was armed to fail: the same bytes may be torn.
+/// In every run of draws, failing calls of the disk, and crashes that leave whatever the disk may have left, each
+/// number drawn is greater than all numbers drawn before it and than the value of the first file. That file may be any:
+/// of version 1, torn while it was migrated, or with a tag. A crash inside a draw counts as a crash after a draw whose
+/// write or sync was armed to fail: the same bytes may be torn.
 ///
-/// The law is stated over the functions that `open` and `draw` of a `LifeFile` over a `MemDisk` compute, as
-/// their clauses on the calls of the disk say. It goes by a floor, a number such that neither it nor a lesser one
-/// is drawn again. The other clauses are its steps, for a law over many life files.
+/// The law is stated over the functions that `open` and `draw` of a `LifeFile` over a `MemDisk` compute, as their
+/// clauses on the calls of the disk say. Its proof uses a floor, a number such that neither it nor a smaller one is
+/// drawn again. The other clauses are its steps, for a law over many life files.
 pub fn drawn_life_numbers_rise()
-    ensures rise { (owner : Owner) (file : List ℕ) (events : List LifeEvent) → length file ≤ 80 → IsRun (opened owner (fresh_state file)) events → RisesAbove (file_value file) (drawn_numbers (opened owner (fresh_state file)) events) }
+    ensures rise { (owner : Owner) (file : List ℕ) (events : List LifeEvent) → length file ≤ 80
+        → IsRun (opened owner (fresh_state file)) events → RisesAbove (file_value file)
+        (drawn_numbers (opened owner (fresh_state file)) events) }
 
-    // The value of the file is the first floor, and a number drawn is the next. No event lowers it.
-    ensures first { (owner : Owner) (file : List ℕ) → length file ≤ 80 → IsFloor (file_value file) (opened owner (fresh_state file)) }
-    ensures draw { (n x : ℕ) (disk : LifeDisk) → IsFloor n disk → drawn_by Draw disk ≡ x ∷ [] → (n < x) × IsFloor x (after_event Draw disk) }
-    ensures keep { (n : ℕ) (event : LifeEvent) (disk : LifeDisk) → IsFloor n disk → MayHappen event disk → IsFloor n (after_event event disk) }
+    // The value of the file is the first floor, and a number drawn is the next. No event lowers the floor.
+    ensures first { (owner : Owner) (file : List ℕ) → length file ≤ 80
+        → IsFloor (file_value file) (opened owner (fresh_state file)) }
+    ensures draw { (n x : ℕ) (disk : LifeDisk) → IsFloor n disk → drawn_by Draw disk ≡ x ∷ []
+        → (n < x) × IsFloor x (after_event Draw disk) }
+    ensures keep { (n : ℕ) (event : LifeEvent) (disk : LifeDisk) → IsFloor n disk → MayHappen event disk
+        → IsFloor n (after_event event disk) }
 
-    // An event draws one number at most.
-    ensures one { (event : LifeEvent) (disk : LifeDisk) → (drawn_by event disk ≡ []) ⊎ ((x : ℕ) × (drawn_by event disk ≡ x ∷ [])) }
+    // An event draws at most one number.
+    ensures one { (event : LifeEvent) (disk : LifeDisk) → (drawn_by event disk ≡ [])
+        ⊎ ((x : ℕ) × (drawn_by event disk ≡ x ∷ [])) }
 
-    // What a disk in memory is after its crash is one that it might have left.
-    ensures crash { (n : ℕ) (torn : Option (List ℕ)) (disk : LifeDisk) → IsFloor n disk → IsLeftBy (state_in disk) (after_crash torn (state_in disk)) }
+    // A crash of a disk in memory leaves a file that a crash may leave.
+    ensures crash { (n : ℕ) (torn : Option (List ℕ)) (disk : LifeDisk) → IsFloor n disk
+        → IsLeftBy (state_in disk) (after_crash torn (state_in disk)) }
 {}
 
 /// A tag names its owner. The function does nothing: its contract is a law.
 ///
-/// What is written as the tag of an owner is read as that owner's, no other bytes are read so, and a file with the tag of
-/// another owner is foreign. So a file that was copied to another node, or to another link, is refused.
+/// The bytes of an owner's tag are read as the tag of that owner, no other bytes are, and a file with the tag of
+/// another owner is foreign. So a file that was copied to another node or another link is refused.
 pub fn tags_name_their_owners()
-    ensures read { (owner : Owner) → owner.node < 2 ^ 32 → owner.peer < 2 ^ 32 → tag_read (tag_of owner) ≡ Tags.Of owner }
-    ensures foreign { (owner other : Owner) (slots : List ℕ) → other.node < 2 ^ 32 → other.peer < 2 ^ 32 → owner.node < 2 ^ 32 → owner.peer < 2 ^ 32 → owner ≢ other → length slots ≡ 32 → version_of owner (slots ++ tag_of other) ≡ Err LifeErrors.Foreign }
+    ensures read { (owner : Owner) → owner.node < 2 ^ 32 → owner.peer < 2 ^ 32
+        → tag_read (tag_of owner) ≡ Tags.Of owner }
+    ensures foreign { (owner other : Owner) (slots : List ℕ) → other.node < 2 ^ 32 → other.peer < 2 ^ 32
+        → owner.node < 2 ^ 32 → owner.peer < 2 ^ 32 → owner ≢ other → length slots ≡ 32
+        → version_of owner (slots ++ tag_of other) ≡ Err LifeErrors.Foreign }
 {}

@@ -6,7 +6,7 @@
 //! the disk.
 //!
 //! `LifeFile` is generic over `Disk`, whose clauses say what a read returns and what a crash may leave at each moment.
-//! `MemDisk` makes its bytes visible to contracts, so all clauses apply to it, and it can be torn at will. `FileDisk`
+//! `MemDisk` makes its bytes visible to contracts, so all clauses apply to it, and tests can tear its bytes. `FileDisk`
 //! is a file of the operating system: contracts see only which system calls it makes (`SystemFile`, `SystemFiles`).
 //! That a real disk keeps what was synced is a premise of the program.
 //!

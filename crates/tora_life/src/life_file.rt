@@ -1,5 +1,6 @@
 //! A life file: numbers that rise across crashes.
-ghost use Rattle.std.specs.Prelude.{◌≡◌, ◌≢◌, ◌⊎◌, ◌↔◌, ◌+◌, ◌^◌, ◌<◌, ◌≤◌, ℕ, List, Ok, Err, is_ok, IsOk, IfOk, IfErr, OnOk, IsErrOf, IsTrue, IsFalse};
+ghost use Rattle.std.specs.Prelude.{◌≡◌, ◌≢◌, ◌⊎◌, ◌↔◌, ◌+◌, ◌^◌, ◌<◌, ◌≤◌, ℕ, List, Ok, Err, is_ok, IsOk, IfOk, IfErr};
+ghost use Rattle.std.specs.Prelude.{OnOk, IsErrOf, IsTrue, IsFalse};
 ghost use Rattle.tora_life.specs.Disk.{HasCause, IsOnlyImage, LeavesOnly};
 ghost use Rattle.tora_life.specs.LifeFile.{Covers, file_value, slot_of};
 ghost use Rattle.tora_life.specs.Migration.{version_of, migrated};
@@ -16,13 +17,13 @@ use crate::writing::replace_slot;
 use std::marker::Model;
 use thiserror::Error;
 
-/// Why a life file did not open, and its disk. Where only the error is wanted, `?` makes a `LifeError` of it.
+/// Why a life file did not open, and its disk. `?` converts it to a `LifeError` if only the error is wanted.
 #[derive(Debug, Drop, Error)]
 #[error("the life file did not open: {error}")]
 pub struct OpenFault<D> {
     /// `Disk`, `Damaged` or `Foreign`.
     pub error: LifeError,
-    /// The disk after the calls that were made of it.
+    /// The disk after the calls that `open` made.
     pub disk: D,
 }
 
@@ -38,15 +39,14 @@ impl<D: Drop> From<OpenFault<D>> for LifeError {
 
 /// An open life file on a disk, which draws numbers from 1 to 2^62.
 ///
-/// It is of one end of a link: behind its two slots stands a tag with the node and the peer, so that a file that was copied
-/// to another node is refused before a number is drawn from it.
+/// It belongs to one end of a link: its two slots are followed by a tag with the node and the peer, so that a file that
+/// was copied to another node is refused before a number is drawn from it.
 ///
-/// Its value is the greater of the two bounds that its slots spell. Numbers are reserved sixteen at a time: with
-/// value v, and none left up to v, the lesser slot (slot 0 at a tie) is written with v + 16 and synced, and
-/// only then v + 1 to v + 16 are drawn. The other slot stays whole meanwhile, so that a torn
-/// write can't lower the value.
+/// Its value is the greater of the two bounds in its slots. Numbers are reserved sixteen at a time: once all numbers up
+/// to the value v are drawn, v + 16 is written to the slot with the smaller bound (slot 0 at a tie) and synced, and
+/// only then v + 1 to v + 16 are drawn. The other slot is untouched meanwhile, so a torn write can't lower the value.
 ///
-/// Contracts see its disk, its owner and its numbers, and of a disk that tells its bytes they know `IsKept`: whatever a
+/// Contracts see its disk, its owner and its numbers. If they see the bytes of the disk, `IsKept` holds: whatever a
 /// crash leaves opens for the owner, and has a value at least the greatest number drawn.
 #[derive(Debug, Drop)]
 pub struct LifeFile<D: Disk> {
@@ -68,48 +68,62 @@ impl<D: Disk> Model for LifeFile<D> {
 }
 
 impl<D: Disk> LifeFile<D> {
-    /// Opens the life file of the node `me` for its link to `peer`, both not 0 and not the same: a sync, and then one read of
-    /// 65 bytes. The first number to draw is the one after the file's value, 1 for an empty file. The sync comes first
-    /// since what was read and isn't on the disk might be gone after a crash.
+    /// Opens the life file of the node `me` for its link to `peer`, both not 0 and not the same: a sync, and then one
+    /// read of 65 bytes. The first number to draw is the one after the file's value, 1 for an empty file. The sync
+    /// comes first because bytes that are read but not on the disk could be lost in a crash.
     ///
-    /// A file without a tag is of version 1, or was torn while it was migrated. It is migrated: one write from the lower of
-    /// its length and 32 to the end of the tag, and then a sync. Slots that are not wholly there are filled up so that they
-    /// count as 0, as before. No file that a crash leaves meanwhile has a lesser value.
+    /// A file without a tag is of version 1, or was torn while it was migrated. It is migrated: one write from offset
+    /// 32, or from its end if that is lower, to the end of the tag, and then a sync. Incomplete slots are filled up so
+    /// that they count as 0, as before. No file that a crash leaves meanwhile has a smaller value.
     ///
     /// # Errors
     ///
-    /// With the disk given back, in this order: `Disk` where the sync or the read fails; `Damaged` for a file longer than 64
-    /// bytes or with a tag of another kind; `Foreign` for one with the tag of another node or another peer; `Disk` where the
-    /// write of the migration or its sync fails. At `Damaged` and `Foreign` nothing was written.
+    /// The error returns the disk. In this order: `Disk` if the sync or the read fails; `Damaged` for a file longer
+    /// than 64 bytes or with a tag of another kind; `Foreign` for one with the tag of another node or another peer;
+    /// `Disk` if the write of the migration or its sync fails. At `Damaged` and `Foreign` nothing was written.
     pub fn open(disk: D, me: u32, peer: u32) -> Result<LifeFile<D>, OpenFault<D>>
         requires me { 0 < me }
         requires peer { 0 < peer }
         requires distinct { me ≢ peer }
 
-        // The file's only image is the first 32 bytes of what was read, filled up, and the tag.
+        // The only image of the file is the first 32 bytes that were read, filled up, and the tag.
         ensures numbers { IsTrue (D.tells disk) → IfOk result (λ file. file.numbers ≡ numbers_of (D.seen disk)) }
         ensures owner { IfOk result (λ file. file.owner ≡ record { node = me; peer = peer }) }
-        ensures seen { IsTrue (D.tells disk) → IfOk result (λ file. D.seen file.disk ≡ migrated (record { node = me; peer = peer }) (D.seen disk)) }
-        ensures only { IsTrue (D.tells disk) → IfOk result (λ file. IsOnlyImage (D.seen file.disk) (D.may_leave file.disk)) }
+        ensures seen { IsTrue (D.tells disk) → IfOk result (λ file.
+            D.seen file.disk ≡ migrated (record { node = me; peer = peer }) (D.seen disk)) }
+        ensures only { IsTrue (D.tells disk) → IfOk result (λ file.
+            IsOnlyImage (D.seen file.disk) (D.may_leave file.disk)) }
         ensures kept { IfOk result (λ file. IsKept D.tells D.seen D.may_leave file.owner file.numbers file.disk) }
         ensures sound { IfOk result (λ file. IsFalse file.numbers.failed) }
 
-        // A crash at any moment of the call leaves one of the images from before it, or a file whose value is no less than
-        // that of what was read.
-        ensures any_moment { IsTrue (D.tells disk) → IfOk result (λ file. LeavesOnly D.moment D.left_since disk file.disk (λ c. D.may_leave disk c ⊎ (file_value (D.seen disk) ≤ file_value c))) }
-        ensures any_moment_err { IsTrue (D.tells disk) → IfErr result (λ fault. LeavesOnly D.moment D.left_since disk fault.disk (λ c. D.may_leave disk c ⊎ (file_value (D.seen disk) ≤ file_value c))) }
+        // A crash at any moment of the call leaves one of the images from before the call, or a file whose value is at
+        // least that of the bytes read.
+        ensures any_moment { IsTrue (D.tells disk) → IfOk result (λ file.
+            LeavesOnly D.moment D.left_since disk file.disk (λ c. D.may_leave disk c
+            ⊎ (file_value (D.seen disk) ≤ file_value c))) }
+        ensures any_moment_err { IsTrue (D.tells disk) → IfErr result (λ fault.
+            LeavesOnly D.moment D.left_since disk fault.disk (λ c. D.may_leave disk c
+            ⊎ (file_value (D.seen disk) ≤ file_value c))) }
         ensures tells { IfOk result (λ file. D.tells file.disk ≡ D.tells disk) }
         ensures tells_err { IfErr result (λ fault. D.tells fault.disk ≡ D.tells disk) }
 
-        // When each error comes: `Damaged` and `Foreign` exactly where the file's bytes say so, and then nothing was written.
-        ensures errors { IfErr result (λ fault. (fault.error ≡ LifeError.Disk) ⊎ ((fault.error ≡ LifeError.Damaged) ⊎ (fault.error ≡ LifeError.Foreign))) }
-        ensures opens { IsTrue (D.tells disk) → OnOk result (IsOk (version_of (record { node = me; peer = peer }) (D.seen disk))) }
-        ensures refused { IsTrue (D.tells disk) → IfErr result (λ fault. fault.error ≢ LifeError.Disk → (version_of (record { node = me; peer = peer }) (D.seen disk) ≡ Err fault.error) × IsOnlyImage (D.seen disk) (D.may_leave fault.disk)) }
-        ensures disk { IfErr result (λ fault. fault.error ≡ LifeError.Disk → HasCause (D.failures disk) (D.failures fault.disk)) }
+        // When each error comes: `Damaged` and `Foreign` exactly if the bytes of the file say so, and then nothing was
+        // written.
+        ensures errors { IfErr result (λ fault. (fault.error ≡ LifeError.Disk)
+            ⊎ ((fault.error ≡ LifeError.Damaged) ⊎ (fault.error ≡ LifeError.Foreign))) }
+        ensures opens { IsTrue (D.tells disk) → OnOk result (IsOk
+            (version_of (record { node = me; peer = peer }) (D.seen disk))) }
+        ensures refused { IsTrue (D.tells disk) → IfErr result (λ fault. fault.error ≢ LifeError.Disk
+            → (version_of (record { node = me; peer = peer }) (D.seen disk) ≡ Err fault.error)
+            × IsOnlyImage (D.seen disk) (D.may_leave fault.disk)) }
+        ensures disk { IfErr result (λ fault. fault.error ≡ LifeError.Disk
+            → HasCause (D.failures disk) (D.failures fault.disk)) }
 
-        // The calls of the disk: a sync, a read, and of a file without a tag a write and a sync.
-        ensures calls { IfOk result (λ file. OpensBy D.syncs D.reads D.writes (record { node = me; peer = peer }) disk (Ok file.numbers) file.disk) }
-        ensures calls_err { IfErr result (λ fault. OpensBy D.syncs D.reads D.writes (record { node = me; peer = peer }) disk (Err fault.error) fault.disk) }
+        // The calls of the disk: a sync, a read, and for a file without a tag a write and a sync.
+        ensures calls { IfOk result (λ file. OpensBy D.syncs D.reads D.writes (record { node = me; peer = peer }) disk
+            (Ok file.numbers) file.disk) }
+        ensures calls_err { IfErr result (λ fault. OpensBy D.syncs D.reads D.writes (record { node = me; peer = peer })
+            disk (Err fault.error) fault.disk) }
     {
         let mut disk = disk;
         let owner = Owner { node: me, peer };
@@ -123,8 +137,8 @@ impl<D: Disk> LifeFile<D> {
         }
     }
 
-    /// Gives the disk back, with no call of it. Whatever a crash leaves of it has a value at least the greatest
-    /// number that was drawn.
+    /// Returns the disk, without a call of it. Whatever a crash leaves on it has a value at least the greatest number
+    /// drawn.
     pub fn close(self) -> D
         ensures disk { result ≡ self.disk }
         ensures kept { IsKept D.tells D.seen D.may_leave self.owner self.numbers result }
@@ -137,14 +151,14 @@ impl<D: Disk> LifeFile<D> {
         disk
     }
 
-    /// Draws the next number: the one after the last drawn, or after the value as the file was opened. From `Ok`
-    /// on a crash leaves only files whose numbers are greater. With sixteen reserved numbers used up it makes
-    /// one write of a slot and then a sync, and otherwise no call of the disk.
+    /// Draws the next number: the one after the last number drawn, or after the value with which the file was opened.
+    /// After `Ok` a crash leaves only files that draw greater numbers. If the reserved numbers are used up it writes
+    /// one slot and syncs; otherwise it makes no call of the disk.
     ///
     /// # Errors
     ///
-    /// In this order: `Failed` where an earlier draw answered `Disk`, `Spent` where the numbers up to 2^62 are used up,
-    /// `Disk` where the write or the sync fails. An error draws no number. After `Disk` the file has failed for good.
+    /// In this order: `Failed` if an earlier draw returned `Disk`, `Spent` if the numbers up to 2^62 are used up,
+    /// `Disk` if the write or the sync fails. An error draws no number. After `Disk` every further draw fails.
     pub fn draw(&mut self) -> Result<u64, LifeError>
         ensures drawn { IfOk result (λ n. n ≡ self.old.numbers.drawn + 1) }
         ensures numbers { self.new.numbers ≡ numbers_after result self.old.numbers }
@@ -152,21 +166,27 @@ impl<D: Disk> LifeFile<D> {
         ensures failures { OnOk result (D.failures self.new.disk ≡ D.failures self.old.disk) }
         ensures within { IfOk result (λ n. n ≤ 2 ^ 62) }
 
-        // After `Ok(n)` each image covers n. At each moment until then each one covers what was drawn before.
-        ensures after { IsTrue (D.tells self.old.disk) → IfOk result (λ n. (c : List ℕ) → D.may_leave self.new.disk c → Covers self.old.owner n c) }
-        ensures any_moment { IsTrue (D.tells self.old.disk) → LeavesOnly D.moment D.left_since self.old.disk self.new.disk (Covers self.old.owner self.old.numbers.drawn) }
+        // After `Ok(n)` the value of each image is at least n. At each moment until then it is at least the numbers
+        // drawn before.
+        ensures after { IsTrue (D.tells self.old.disk) → IfOk result (λ n. (c : List ℕ) → D.may_leave self.new.disk c
+            → Covers self.old.owner n c) }
+        ensures any_moment { IsTrue (D.tells self.old.disk) → LeavesOnly D.moment D.left_since self.old.disk
+            self.new.disk (Covers self.old.owner self.old.numbers.drawn) }
         ensures tells { D.tells self.new.disk ≡ D.tells self.old.disk }
         ensures kept { IsKept D.tells D.seen D.may_leave self.new.owner self.new.numbers self.new.disk }
 
         // When each error comes.
         ensures failed { IsErrOf result LifeError.Failed ↔ IsTrue self.old.numbers.failed }
         ensures spent { IsErrOf result LifeError.Spent ↔ IsSpent self.old.numbers }
-        ensures disk { IsErrOf result LifeError.Disk → Reserves self.old.numbers × HasCause (D.failures self.old.disk) (D.failures self.new.disk) }
+        ensures disk { IsErrOf result LifeError.Disk → Reserves self.old.numbers
+            × HasCause (D.failures self.old.disk) (D.failures self.new.disk) }
         ensures damaged { IsErrOf result LifeError.Damaged → ⊥ }
         ensures foreign { IsErrOf result LifeError.Foreign → ⊥ }
 
-        // The calls of the disk: none while there are reserved numbers, and otherwise a write and a sync.
-        ensures calls { Reserves self.old.numbers → WritesAndSyncs D.writes D.syncs (place_of (lesser_slot self.old.numbers)) (slot_of (value_of self.old.numbers + 16)) self.old.disk (is_ok result) self.new.disk }
+        // The calls of the disk: none while there are reserved numbers, otherwise a write and a sync.
+        ensures calls { Reserves self.old.numbers → WritesAndSyncs D.writes D.syncs
+            (place_of (lesser_slot self.old.numbers)) (slot_of (value_of self.old.numbers + 16)) self.old.disk
+            (is_ok result) self.new.disk }
         ensures no_calls { (Reserves self.old.numbers → ⊥) → self.new.disk ≡ self.old.disk }
     {
         if self.numbers.failed {
@@ -198,7 +218,7 @@ impl LifeFile<MemDisk> {
     ghost use Rattle.std.specs.Prelude.{◌≡◌};
     ghost use Rattle.tora_life.specs.State.{armed};
 
-    /// Makes the next such call of the disk fail, as `MemDisk::arm` does.
+    /// Makes the next call of this kind fail, as `MemDisk::arm` does.
     pub fn arm(&mut self, call: DiskCall)
         ensures disk { self.new.disk.state ≡ armed call self.old.disk.state }
         ensures numbers { self.new.numbers ≡ self.old.numbers }

@@ -6,15 +6,15 @@ use crate::disk::{Disk, DiskError};
 use crate::state::{DiskCall, State};
 use std::marker::Model;
 
-/// A disk of at most 80 bytes in memory, which tells contracts its bytes. Its calls may be armed to fail, and it
-/// may be crashed. It takes no memory.
+/// A disk of at most 80 bytes in memory, whose bytes contracts see. Its calls can be armed to fail, and it can be
+/// crashed. It takes no memory.
 ///
 /// A write past 80 bytes fails, marks nothing as written, and uses up an armed write. A write that is armed to fail
-/// keeps the old bytes, but its range counts as written: a later crash tears it. A crash settles nothing: what
-/// stands after it is again torn from the last sync that succeeded, where a second crash follows.
+/// keeps the old bytes, but its range counts as written: a later crash tears it. A crash is no sync: a second crash
+/// again tears all that was written since the last successful sync.
 ///
-/// Contracts see its state, and the states before each of its calls. The latter take no memory. They are there for
-/// clauses of code that is generic over `Disk`, which speak of each moment of a call.
+/// Contracts see its state, and the states before each of its calls, for the clauses of `Disk` that speak of each
+/// moment of a call. The earlier states take no memory.
 #[derive(Debug, Drop)]
 pub struct MemDisk {
     state: State,
@@ -64,16 +64,16 @@ impl MemDisk {
         })
     }
 
-    /// Makes the next such call fail. It stays armed until then, also over a crash. To arm a call twice is to arm
-    /// it once.
+    /// Makes the next call of this kind fail. It stays armed until then, also over a crash. Arming a call twice is the
+    /// same as arming it once.
     pub fn arm(&mut self, call: DiskCall)
         ensures { self.new.state ≡ armed call self.old.state }
     {
         self.state.arm(call);
     }
 
-    /// Crashes: each byte that was written since the last sync holds the torn byte at its place modulo 16, and the
-    /// file reaches the last of them; or for `None` bytes and length are those of the last sync.
+    /// Crashes: each byte that was written since the last sync becomes the torn byte at its offset modulo 16, and the
+    /// file ends after the last of them. For `None` the bytes and the length are those of the last sync.
     pub fn crash(&mut self, torn: Option<[u8; 16]>)
         ensures after { self.new.state ≡ after_crash torn self.old.state }
         ensures left { MayLeave self.old.state (seen_of self.new.state) }
@@ -83,7 +83,7 @@ impl MemDisk {
         self.state.crash(torn);
     }
 
-    /// The bytes that a read gives, at most 80.
+    /// The bytes that a read returns, at most 80.
     pub fn bytes(&self) -> &[u8]
         ensures { result.now ≡ seen_of self.now.state }
     {
@@ -95,7 +95,8 @@ impl Disk for MemDisk {
     ghost use Rattle.std.specs.Prelude.{◌≡◌, ◌≤◌, length, true, refl};
     ghost use Rattle.std.proofs.Common.{inl};
     ghost use Rattle.tora_life.specs.Past.{LeftSince, only_left};
-    ghost use Rattle.tora_life.specs.State.{seen_of, MayLeave, read_answer, bytes_read, after_read, write_answer, after_write, sync_answer, after_sync};
+    ghost use Rattle.tora_life.specs.State.{seen_of, MayLeave, read_answer, bytes_read, after_read, write_answer};
+    ghost use Rattle.tora_life.specs.State.{after_write, sync_answer, after_sync};
 
     ghost tells = { λ d. true };
 
@@ -109,9 +110,11 @@ impl Disk for MemDisk {
 
     ghost failures = { λ d. d.state.failures };
 
-    ghost reads = { λ d at buf answer bytes new. (answer ≡ read_answer d.state at buf) × (bytes ≡ bytes_read d.state at buf) × (new.state ≡ after_read d.state) };
+    ghost reads = { λ d at buf answer bytes new. (answer ≡ read_answer d.state at buf)
+        × (bytes ≡ bytes_read d.state at buf) × (new.state ≡ after_read d.state) };
 
-    ghost writes = { λ d at bytes answer new. (answer ≡ write_answer d.state at bytes) × (new.state ≡ after_write d.state at bytes) };
+    ghost writes = { λ d at bytes answer new. (answer ≡ write_answer d.state at bytes)
+        × (new.state ≡ after_write d.state at bytes) };
 
     ghost syncs = { λ d answer new. (answer ≡ sync_answer d.state) × (new.state ≡ after_sync d.state) };
 

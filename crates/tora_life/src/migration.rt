@@ -1,4 +1,4 @@
-//! Life files of both versions: whether a file has its tag, and what a file without one becomes.
+//! Life files of both versions, and the migration of a file without a tag.
 ghost use Rattle.std.specs.Prelude.{◌≡◌, ◌≤◌, length};
 ghost use Rattle.tora_life.specs.Migration.{version_of, version_by, slot_filled, migrated};
 
@@ -8,13 +8,13 @@ use crate::tags::{Owner, Tag, tag_bytes};
 /// Whether a life file has the tag of its owner.
 #[derive(Clone, Copy, Debug, PartialEq, Eq, Hash)]
 pub enum Version {
-    /// It has none: it is of version 1, or was torn while it was migrated.
+    /// It has no tag: it is of version 1, or was torn while it was migrated.
     Untagged,
-    /// It is of version 2.
+    /// It has the tag of its owner: it is of version 2.
     Tagged,
 }
 
-/// What opening a file of these bytes for an owner comes to.
+/// The version of a file with these bytes, opened for an owner.
 ///
 /// # Errors
 ///
@@ -33,7 +33,7 @@ pub fn found_version(owner: Owner, file: &[u8]) -> Result<Version, LifeError>
     version_by_tag(Tag::read(tag))
 }
 
-/// What a tag that is not the owner's comes to.
+/// The version, or the error, that a tag says.
 fn version_by_tag(tag: Tag) -> Result<Version, LifeError>
     ensures { result ≡ version_by tag }
 {
@@ -44,8 +44,7 @@ fn version_by_tag(tag: Tag) -> Result<Version, LifeError>
     }
 }
 
-/// A slot filled up to its sixteen bytes, so that it counts as 0: zeros in its first half, and in its second half the bytes
-/// of the first. A whole slot stays.
+/// A slot filled up to its sixteen bytes, so that it counts as 0. A whole slot stays as it is.
 #[tactic(auto, unfolding(crate::specs::Migration::slot_filled))]
 fn filled_slot(slot: &[u8]) -> [u8; 16]
     requires { length slot.now ≤ 16 }
@@ -62,7 +61,7 @@ fn filled_slot(slot: &[u8]) -> [u8; 16]
     filled
 }
 
-/// The file of an owner once it is migrated: its first 32 bytes filled up, and the tag.
+/// The file of an owner after the migration: its first 32 bytes filled up, and the tag.
 pub fn migrated_bytes(owner: Owner, file: &[u8]) -> [u8; 64]
     ensures { result ≡ migrated owner file.now }
 {

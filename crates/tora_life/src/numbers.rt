@@ -4,16 +4,16 @@ ghost use Rattle.std.specs.Prelude.{◌≡◌, ◌+◌, ◌^◌, ◌<◌, ◌≤
 use crate::slots::{Slot, bound_of};
 use thiserror::Error;
 
-/// Why a life file did not open, or drew no number.
+/// Why a life file did not open, or did not draw a number.
 #[derive(Clone, Copy, Debug, PartialEq, Eq, Hash, Error)]
 pub enum LifeError {
-    /// A call of the disk has failed in this call. From a draw on, the file draws no number until it is opened again.
+    /// A call of the disk failed. After a draw with this error, the file draws no number until it is opened again.
     #[error("the disk failed")]
     Disk,
-    /// An earlier draw has answered `Disk`. Nothing changes.
+    /// An earlier draw returned `Disk`. Nothing changes.
     #[error("an earlier draw failed: the file is to be opened again")]
     Failed,
-    /// The numbers up to 2^62 are used up: the value plus 16 is above it. Nothing changes.
+    /// The numbers up to 2^62 are used up: the value plus 16 is above 2^62. Nothing changes.
     #[error("no number is left")]
     Spent,
     /// The file is longer than the 64 bytes of its two slots and its tag, or has a tag of another kind.
@@ -47,8 +47,8 @@ pub const LAST_NUMBER: u64 = 1 << 62;
 /// How many numbers a write reserves.
 pub const RESERVED: u64 = 16;
 
-/// The bounds that the two slots spell, the last number drawn (the file's value, where none was drawn since it
-/// was opened), and whether a draw has answered `Disk`.
+/// The bounds in the two slots, the last number drawn (the file's value if none was drawn since it was opened), and
+/// whether a draw has returned `Disk`.
 #[derive(Clone, Copy, Debug)]
 pub struct Numbers {
     pub first: u64,
@@ -61,7 +61,7 @@ impl Numbers {
     ghost use Rattle.std.specs.Prelude.{◌≡◌, ◌+◌, ◌^◌, ◌<◌, ◌≤◌};
     ghost use Rattle.tora_life.specs.Numbers.{value_of, lesser_slot, reserved, numbers_of};
 
-    /// Those that the bytes of a file stand for.
+    /// The numbers of a file with these bytes.
     pub fn read(bytes: &[u8]) -> Numbers
         ensures { result ≡ numbers_of bytes.now }
     {
@@ -83,7 +83,7 @@ impl Numbers {
         self.first.max(self.second)
     }
 
-    /// The slot with the lesser bound, the first one at a tie.
+    /// The slot with the smaller bound, the first one at a tie.
     pub fn lesser(self) -> Slot
         ensures { result ≡ lesser_slot self }
     {
@@ -94,7 +94,7 @@ impl Numbers {
         }
     }
 
-    /// With sixteen more numbers, once their bound is on the disk.
+    /// The numbers after sixteen more are reserved and their bound is on the disk.
     pub fn with_more(self) -> Numbers
         requires { value_of self + 16 ≤ 2 ^ 62 }
         ensures { result ≡ reserved self }

@@ -1,4 +1,4 @@
-//! A life file is opened on a disk.
+//! How a life file is opened on a disk.
 ghost use Rattle.std.specs.Prelude.{◌≡◌, ◌≢◌, ◌⊎◌, ◌≤◌, List, ℕ, Ok, Err, IsOk, IfOk, IfErr, OnOk, IsTrue, IsFalse};
 ghost use Rattle.tora_life.specs.Calls.{Migrates, OpensBy};
 ghost use Rattle.tora_life.specs.Disk.{HasCause, IsOnlyImage, LeavesOnly};
@@ -12,19 +12,23 @@ use crate::numbers::{LifeError, Numbers};
 use crate::tags::Owner;
 use crate::writing::migrate;
 
-/// Opens the life file of an owner on a disk, and answers its numbers: a sync, then one read of 65 bytes, and then, where there
-/// is no tag, one write and a sync.
+/// Opens the life file of an owner on a disk, and returns its numbers: a sync, then one read of 65 bytes, and then, if
+/// there is no tag, one write and a sync.
 pub fn open_file<D: Disk>(disk: &mut D, owner: Owner) -> Result<Numbers, LifeError>
     ensures numbers { IsTrue (D.tells disk.old) → IfOk result (λ numbers. numbers ≡ numbers_of (D.seen disk.old)) }
     ensures used { IfOk result (λ numbers. numbers.drawn ≡ value_of numbers) }
     ensures sound { IfOk result (λ numbers. IsFalse numbers.failed) }
     ensures seen { IsTrue (D.tells disk.old) → OnOk result (D.seen disk.new ≡ migrated owner (D.seen disk.old)) }
     ensures only { IsTrue (D.tells disk.old) → OnOk result (IsOnlyImage (D.seen disk.new) (D.may_leave disk.new)) }
-    ensures any_moment { IsTrue (D.tells disk.old) → LeavesOnly D.moment D.left_since disk.old disk.new (λ c. D.may_leave disk.old c ⊎ (file_value (D.seen disk.old) ≤ file_value c)) }
+    ensures any_moment { IsTrue (D.tells disk.old) → LeavesOnly D.moment D.left_since disk.old disk.new (λ c.
+        D.may_leave disk.old c ⊎ (file_value (D.seen disk.old) ≤ file_value c)) }
     ensures opens { IsTrue (D.tells disk.old) → OnOk result (IsOk (version_of owner (D.seen disk.old))) }
-    ensures refused { IsTrue (D.tells disk.old) → IfErr result (λ error. error ≢ LifeError.Disk → (version_of owner (D.seen disk.old) ≡ Err error) × IsOnlyImage (D.seen disk.old) (D.may_leave disk.new)) }
-    ensures errors { IfErr result (λ error. (error ≡ LifeError.Disk) ⊎ ((error ≡ LifeError.Damaged) ⊎ (error ≡ LifeError.Foreign))) }
-    ensures disk { IfErr result (λ error. error ≡ LifeError.Disk → HasCause (D.failures disk.old) (D.failures disk.new)) }
+    ensures refused { IsTrue (D.tells disk.old) → IfErr result (λ error. error ≢ LifeError.Disk
+        → (version_of owner (D.seen disk.old) ≡ Err error) × IsOnlyImage (D.seen disk.old) (D.may_leave disk.new)) }
+    ensures errors { IfErr result (λ error. (error ≡ LifeError.Disk)
+        ⊎ ((error ≡ LifeError.Damaged) ⊎ (error ≡ LifeError.Foreign))) }
+    ensures disk { IfErr result (λ error. error ≡ LifeError.Disk
+        → HasCause (D.failures disk.old) (D.failures disk.new)) }
     ensures tells { D.tells disk.new ≡ D.tells disk.old }
     ensures calls { OpensBy D.syncs D.reads D.writes owner disk.old result disk.new }
 {
@@ -42,7 +46,7 @@ pub fn open_file<D: Disk>(disk: &mut D, owner: Owner) -> Result<Numbers, LifeErr
     }
 }
 
-/// Opens the life file of an owner that was read, and is of this version.
+/// Opens a life file that was read and is of this version.
 fn open_version<D: Disk>(
     disk: &mut D,
     owner: Owner,
@@ -57,8 +61,10 @@ fn open_version<D: Disk>(
     ensures sound { IfOk result (λ numbers. IsFalse numbers.failed) }
     ensures seen { IsTrue (D.tells disk.old) → OnOk result (D.seen disk.new ≡ migrated owner file.now) }
     ensures only { IsTrue (D.tells disk.old) → OnOk result (IsOnlyImage (D.seen disk.new) (D.may_leave disk.new)) }
-    ensures any_moment { IsTrue (D.tells disk.old) → LeavesOnly D.moment D.left_since disk.old disk.new (λ c. file_value file.now ≤ file_value c) }
-    ensures errors { IfErr result (λ error. (error ≡ LifeError.Disk) × HasCause (D.failures disk.old) (D.failures disk.new)) }
+    ensures any_moment { IsTrue (D.tells disk.old) → LeavesOnly D.moment D.left_since disk.old disk.new (λ c.
+        file_value file.now ≤ file_value c) }
+    ensures errors { IfErr result (λ error. (error ≡ LifeError.Disk)
+        × HasCause (D.failures disk.old) (D.failures disk.new)) }
     ensures tells { D.tells disk.new ≡ D.tells disk.old }
     ensures calls { Migrates D.writes D.syncs owner file.now (Ok version) disk.old result disk.new }
 {

@@ -12,7 +12,7 @@ pub enum Slot {
 impl Slot {
     ghost use Rattle.tora_life.specs.Calls.{place_of};
 
-    /// Where it begins.
+    /// The offset at which the slot begins.
     pub fn place(self) -> usize
         ensures { result ≡ place_of self }
     {
@@ -23,8 +23,8 @@ impl Slot {
     }
 }
 
-/// The bound that a slot's bytes spell: 8 bytes in network byte order, and then their bitwise complement. 0 where they
-/// aren't complements, or there are fewer than 16 bytes.
+/// The bound in a slot: 8 bytes in network byte order, and then their bitwise complement. 0 if these differ, or there
+/// are fewer than 16 bytes.
 #[tactic(auto, unfolding(crate::specs::LifeFile::slot_bound, crate::specs::LifeFile::number_of))]
 pub fn bound_of(slot: &[u8]) -> u64
     ensures { result ≡ slot_bound slot.now }
@@ -43,7 +43,7 @@ pub fn bound_of(slot: &[u8]) -> u64
     }
 }
 
-/// The slot that spells a bound.
+/// The bytes of a slot with this bound.
 #[tactic(auto, unfolding(crate::specs::LifeFile::slot_of))]
 pub fn slot_bytes(bound: u64) -> [u8; 16]
     ensures { result ≡ slot_of bound }

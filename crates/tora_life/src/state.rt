@@ -1,4 +1,4 @@
-//! The bytes of a disk in memory, and what its calls make of them.
+//! The state of a disk in memory, and the effect of its calls.
 use crate::disk::DiskError;
 use crate::tearing::tear;
 
@@ -13,7 +13,7 @@ pub enum DiskCall {
     Sync,
 }
 
-/// What a disk in memory has: the file is the first `len` of `bytes`, and was the first `synced_len` of `synced` at
+/// The state of a disk in memory: the file is the first `len` of `bytes`, and was the first `synced_len` of `synced` at
 /// the last sync. `written` marks the bytes that were written since, up to `reach`, where the furthest write ended.
 #[derive(Clone, Copy, Debug)]
 pub struct State {
@@ -35,11 +35,23 @@ pub struct State {
 
 impl State {
     ghost use Rattle.std.specs.Prelude.{◌≡◌, ◌≤◌, take, length, List, ◌++◌, replicate, false};
-    ghost use Rattle.tora_life.specs.State.{IsWhole, read_answer, bytes_read, after_read, write_answer, after_write, sync_answer, after_sync, armed, after_crash};
+    ghost use Rattle.tora_life.specs.State.{IsWhole, read_answer, bytes_read, after_read, write_answer, after_write};
+    ghost use Rattle.tora_life.specs.State.{sync_answer, after_sync, armed, after_crash};
 
-    /// All on the disk, with no call armed.
+    /// The state of a file that is wholly on the disk, with no call armed.
     pub fn fresh(bytes: [u8; 80], len: usize) -> State
-        ensures { result ≡ record { bytes = bytes; len = len; synced = bytes; synced_len = len; written = replicate 80 false; reach = len; read_fails = false; write_fails = false; sync_fails = false; failures = 0 } }
+        ensures { result ≡ record {
+          bytes = bytes;
+          len = len;
+          synced = bytes;
+          synced_len = len;
+          written = replicate 80 false;
+          reach = len;
+          read_fails = false;
+          write_fails = false;
+          sync_fails = false;
+          failures = 0;
+        } }
     {
         State {
             bytes,

@@ -1,4 +1,4 @@
-//! Files of the operating system, whose calls contracts tell.
+//! Files of the operating system, with calls that contracts see.
 ghost use Rattle.std.specs.Prelude.{ℕ, List, Result};
 ghost use Rattle.std.specs.declared.io.Error.{Error};
 
@@ -7,20 +7,20 @@ use std::fs::{File, Files, OpenOptions};
 use std::io;
 use std::os::unix::fs::FileExt;
 
-/// An open file of the system, whose calls contracts tell: what each was given, how it was answered, and the file after it. Only a
-/// real call gives one. That a file keeps what was synced is no clause here.
+/// An open file of the system. Contracts see each call: its arguments, its result, and the file after it. Only a real
+/// call gives evidence of a call. No clause here says that a file keeps what was synced.
 pub trait SystemFile: ReadFrom + Drop {
-    /// What writing all of some bytes made of it: place, bytes, answer, file after it.
+    /// A write of all bytes: old file, offset, bytes, result, new file.
     ghost did_write_all_at: { Self → ℕ → List ℕ → Result (Unit {0}) Error → Self → Type 0 };
 
-    /// What putting all that was written on the disk made of it: answer, file after it.
+    /// A sync: old file, result, new file.
     ghost did_sync_all: { Self → Result (Unit {0}) Error → Self → Type 0 };
 
-    /// Writes all of some bytes from the place `at` on.
+    /// Writes all of `bytes` from the offset `at` on.
     fn write_all_at(&mut self, at: u64, bytes: &[u8]) -> io::Result<()>
         ensures { did_write_all_at self.old at bytes.now result self.new };
 
-    /// Puts all that was written on the disk, and the length of the file.
+    /// Syncs the bytes and the length of the file.
     fn sync_all(&mut self) -> io::Result<()>
         ensures { did_sync_all self.old result self.new };
 }
@@ -39,25 +39,25 @@ impl SystemFile for File {
     }
 }
 
-/// The files of the system, whose calls contracts tell as those of a `SystemFile`. Each leaves the next state, in which the next one
-/// is made: so contracts see their order. Every `Files` with files of the system is one.
+/// The files of the system. Contracts see each call, as with `SystemFile`. Each call leads to the next state, so
+/// contracts also see the order of the calls. Every `Files` with files of the system implements it.
 pub trait SystemFiles: Drop {
     /// An open file.
     type File: SystemFile;
 
-    /// What opening a file to read and write, or making it, made of the files: path, answer, files after it.
+    /// Opening or creating a file: old files, path, result, new files.
     ghost did_open_file: { Self → List ℕ → Result Self.File Error → Self → Type 0 };
 
-    /// What opening a folder made of them: path, answer, files after it.
+    /// Opening a folder: old files, path, result, new files.
     ghost did_open_folder: { Self → List ℕ → Result Self.File Error → Self → Type 0 };
 
-    /// What locking a file made of them: file, answer, file and files after it.
+    /// Locking a file: old files, old file, result, new file, new files.
     ghost did_lock: { Self → Self.File → Result (Unit {0}) Error → Self.File → Self → Type 0 };
 
-    /// What putting all of a file or a folder on the disk made of them: file, answer, file and files after it.
+    /// Syncing a file or a folder: old files, old file, result, new file, new files.
     ghost did_sync_all: { Self → Self.File → Result (Unit {0}) Error → Self.File → Self → Type 0 };
 
-    /// Opens the file at a path, to read and write. One that is missing is made, empty.
+    /// Opens the file at a path for reading and writing. A missing file is created empty.
     fn open_file_at(&mut self, path: &str) -> io::Result<Self::File>
         ensures { did_open_file self.old path.now result self.new };
 
@@ -65,11 +65,11 @@ pub trait SystemFiles: Drop {
     fn open_folder_at(&mut self, path: &str) -> io::Result<Self::File>
         ensures { did_open_folder self.old path.now result self.new };
 
-    /// Locks a file as long as it is open, and waits for nobody who has it.
+    /// Locks a file for as long as it is open. It does not wait for another holder of the lock.
     fn lock(&mut self, file: &mut Self::File) -> io::Result<()>
         ensures { did_lock self.old file.old result file.new self.new };
 
-    /// Puts all of a file, or of a folder, on the disk.
+    /// Syncs a file or a folder.
     fn sync_all_of(&mut self, file: &mut Self::File) -> io::Result<()>
         ensures { did_sync_all self.old file.old result file.new self.new };
 }

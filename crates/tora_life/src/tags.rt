@@ -1,8 +1,8 @@
-//! The tag of a life file: the node and the peer that the file is of.
+//! The tag of a life file: the node and the peer to which the file belongs.
 ghost use Rattle.std.specs.Prelude.{◌≡◌, ◌+◌, ◌≤◌, length, take, drop};
 ghost use Rattle.tora_life.specs.Tags.{tag_of, tag_read, word_of, long_of};
 
-/// The end of a link that a life file is of: the link's node, and its peer.
+/// The link end to which a life file belongs: its node, and its peer.
 #[derive(Clone, Copy, Debug, PartialEq, Eq, Hash)]
 pub struct Owner {
     /// The node.
@@ -11,7 +11,7 @@ pub struct Owner {
     pub peer: u32,
 }
 
-/// What the bytes behind the two slots of a life file are.
+/// What the bytes after the two slots of a life file are.
 #[derive(Clone, Copy, Debug, PartialEq, Eq, Hash)]
 pub enum Tag {
     /// No tag: fewer than 32 bytes, or the last 16 aren't the complement of the first 16. The file is of version 1, or
@@ -27,8 +27,8 @@ pub enum Tag {
 const BEGINNING: u64 = 0x544f_5241_4c49_4632;
 
 impl Tag {
-    /// What 32 bytes say: the beginning "TORALIF2", the node and the peer (4 bytes each, in network byte order), and then
-    /// the complement of these 16 bytes. Bytes after the 32 are passed over.
+    /// The tag in 32 bytes: the beginning "TORALIF2", the node and the peer (4 bytes each, in network byte order), and
+    /// then the complement of these 16 bytes. Bytes after the 32 are ignored.
     #[tactic(auto, unfolding(crate::specs::Tags::tag_read))]
     pub fn read(bytes: &[u8]) -> Tag
         ensures { result ≡ tag_read bytes.now }
@@ -57,7 +57,7 @@ impl Tag {
     }
 }
 
-/// The number of eight bytes at a place.
+/// The number in eight bytes at an offset.
 #[tactic(auto, unfolding(crate::specs::Tags::long_of))]
 fn long_at(bytes: &[u8], at: usize) -> u64
     requires { at + 8 ≤ length bytes.now }
@@ -69,7 +69,7 @@ fn long_at(bytes: &[u8], at: usize) -> u64
     }
 }
 
-/// The number of four bytes at a place.
+/// The number in four bytes at an offset.
 #[tactic(auto, unfolding(crate::specs::Tags::word_of))]
 fn word_at(bytes: &[u8], at: usize) -> u32
     requires { at + 4 ≤ length bytes.now }

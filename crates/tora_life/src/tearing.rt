@@ -1,8 +1,8 @@
-//! What a crash makes of bytes that were written and not synced.
+//! The effect of a crash on bytes that were written and not synced.
 ghost use Rattle.std.specs.Prelude.{◌≡◌, ◌≤◌, length};
 ghost use Rattle.tora_life.specs.TornBytes.{torn_over};
 
-/// Puts the torn byte at its place modulo 16 over each byte that is marked as written.
+/// Replaces each byte that is marked as written by the torn byte at its offset modulo 16.
 pub fn tear(torn: &[u8; 16], written: &[bool], bytes: &mut [u8])
     requires { length written.now ≤ length bytes.old }
     ensures { bytes.new ≡ torn_over 0 torn.now written.now bytes.old }

@@ -1,4 +1,4 @@
-//! Reads of a file until all is read that there is and fits.
+//! Reads a file until its end, or until the buffer is full.
 ghost use Rattle.std.specs.Prelude.{◌≡◌, ◌<◌, ◌≤◌, ◌^◌, ℕ, Bool, List, Result, length, IfOk, OnErr, IsTrue};
 ghost use Rattle.std.specs.declared.io.Error.{Error};
 ghost use Rattle.tora_life.specs.Disk.{IsRead, IsReadInPart};
@@ -8,22 +8,21 @@ use std::fs::File;
 use std::io::{self, ErrorKind};
 use std::os::unix::fs::FileExt;
 
-/// Bytes that are read from a place on, as many at a time as the reader pleases.
+/// Bytes that are read from an offset on, any number of them at a time.
 ///
-/// A reader either tells contracts its bytes, or tells none, as a file of the operating system. Each tells its calls, which only a
-/// real call gives.
+/// Contracts may see its bytes, but not those of a file of the operating system. They always see its calls.
 pub trait ReadFrom {
-    /// Whether contracts are told the bytes.
+    /// Whether contracts see the bytes.
     ghost tells: { Self → Bool };
 
-    /// The bytes.
+    /// The bytes that can be read.
     ghost bytes: { Self → List ℕ };
 
-    /// What a read made of it: place, buffer, answer, new buffer, reader after it.
+    /// A read: old reader, offset, buffer, result, new buffer, new reader.
     ghost did_read_at: { Self → ℕ → List ℕ → Result ℕ Error → List ℕ → Self → Type 0 };
 
-    /// Reads some of the bytes from the place `at` on into the front of `buf`, at least one where there is one and one
-    /// fits, and answers their count. The rest of `buf` stays.
+    /// Reads some of the bytes from the offset `at` on into the front of `buf`, at least one if there is one and one
+    /// fits. Returns their count. The rest of `buf` stays.
     ///
     /// # Errors
     ///
@@ -52,8 +51,8 @@ impl ReadFrom for File {
     }
 }
 
-/// Reads until the buffer is full or nothing is left, and answers how many bytes were read. A read that was interrupted
-/// is made again.
+/// Reads until the buffer is full or nothing is left, and returns how many bytes were read. An interrupted read is
+/// repeated.
 ///
 /// # Errors
 ///

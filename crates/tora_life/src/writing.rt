@@ -1,4 +1,4 @@
-//! Bytes are written on a disk, and synced.
+//! Writes to a disk, each followed by a sync.
 ghost use Rattle.std.specs.Prelude.{◌≡◌, ◌≤◌, List, ℕ, length, drop, is_ok, IsTrue, IsErr, OnOk};
 ghost use Rattle.tora_life.specs.LifeFile.{file_value, slot_of, Covers};
 ghost use Rattle.tora_life.specs.Migration.{migrated, migration_place, migration_bytes};
@@ -13,13 +13,15 @@ use crate::migration::migrated_bytes;
 use crate::slots::{Slot, slot_bytes};
 use crate::tags::Owner;
 
-/// Puts bytes at a place, on the disk: one write, and then a sync.
+/// Writes bytes at an offset of the disk: one write, and then a sync.
 fn write_through<D: Disk>(disk: &mut D, at: usize, bytes: &[u8]) -> Result<(), DiskError>
     requires { IsTrue (D.tells disk.old) → at ≤ length (D.seen disk.old) }
     ensures held { IsTrue (D.tells disk.old) → OnOk result (Holds (D.seen disk.old) at bytes.now (D.seen disk.new)) }
     ensures only { IsTrue (D.tells disk.old) → OnOk result (IsOnlyImage (D.seen disk.new) (D.may_leave disk.new)) }
-    ensures images { IsTrue (D.tells disk.old) → (c : List ℕ) → D.may_leave disk.new c → IsTornFrom at (length bytes.now) (D.may_leave disk.old) c }
-    ensures any_moment { IsTrue (D.tells disk.old) → LeavesOnly D.moment D.left_since disk.old disk.new (IsTornFrom at (length bytes.now) (D.may_leave disk.old)) }
+    ensures images { IsTrue (D.tells disk.old) → (c : List ℕ) → D.may_leave disk.new c
+        → IsTornFrom at (length bytes.now) (D.may_leave disk.old) c }
+    ensures any_moment { IsTrue (D.tells disk.old) → LeavesOnly D.moment D.left_since disk.old disk.new
+        (IsTornFrom at (length bytes.now) (D.may_leave disk.old)) }
     ensures tells { D.tells disk.new ≡ D.tells disk.old }
     ensures calls { WritesAndSyncs D.writes D.syncs at bytes.now disk.old (is_ok result) disk.new }
     ensures counted { OnOk result (D.failures disk.new ≡ D.failures disk.old) }
@@ -31,13 +33,17 @@ fn write_through<D: Disk>(disk: &mut D, at: usize, bytes: &[u8]) -> Result<(), D
     }
 }
 
-/// Puts a bound into a slot, on the disk: one write, and then a sync. The other slot and the tag stay, whatever happens.
+/// Writes a bound to a slot on the disk: one write, and then a sync. Even if a call fails, the other slot and the tag
+/// stay.
 pub fn replace_slot<D: Disk>(disk: &mut D, slot: Slot, bound: u64) -> Result<(), DiskError>
     requires only { IsTrue (D.tells disk.old) → IsOnlyImage (D.seen disk.old) (D.may_leave disk.old) }
     requires place { IsTrue (D.tells disk.old) → place_of slot ≤ length (D.seen disk.old) }
-    ensures ok { IsTrue (D.tells disk.old) → OnOk result (IsReplaced slot bound (D.seen disk.old) (D.seen disk.new) (D.may_leave disk.new)) }
-    ensures images { IsTrue (D.tells disk.old) → (owner : Whose) → drop 32 (D.seen disk.old) ≡ tag_of owner → (c : List ℕ) → D.may_leave disk.new c → Covers owner (kept_bound slot (D.seen disk.old)) c }
-    ensures any_moment { IsTrue (D.tells disk.old) → (owner : Whose) → drop 32 (D.seen disk.old) ≡ tag_of owner → LeavesOnly D.moment D.left_since disk.old disk.new (Covers owner (kept_bound slot (D.seen disk.old))) }
+    ensures ok { IsTrue (D.tells disk.old) → OnOk result (IsReplaced slot bound (D.seen disk.old) (D.seen disk.new)
+        (D.may_leave disk.new)) }
+    ensures images { IsTrue (D.tells disk.old) → (owner : Whose) → drop 32 (D.seen disk.old) ≡ tag_of owner
+        → (c : List ℕ) → D.may_leave disk.new c → Covers owner (kept_bound slot (D.seen disk.old)) c }
+    ensures any_moment { IsTrue (D.tells disk.old) → (owner : Whose) → drop 32 (D.seen disk.old) ≡ tag_of owner
+        → LeavesOnly D.moment D.left_since disk.old disk.new (Covers owner (kept_bound slot (D.seen disk.old))) }
     ensures tells { D.tells disk.new ≡ D.tells disk.old }
     ensures calls { WritesAndSyncs D.writes D.syncs (place_of slot) (slot_of bound) disk.old (is_ok result) disk.new }
     ensures counted { OnOk result (D.failures disk.new ≡ D.failures disk.old) }
@@ -46,18 +52,20 @@ pub fn replace_slot<D: Disk>(disk: &mut D, slot: Slot, bound: u64) -> Result<(),
     write_through(disk, slot.place(), &slot_bytes(bound))
 }
 
-/// Makes the life file of an owner one of version 2, on the disk: one write from the lower of its length and 32 to the end
-/// of the tag, and then a sync. A slot that is not wholly there counts as 0 before and after, and one that is stays, so no
-/// file that a crash leaves meanwhile has a lesser value.
+/// Migrates the life file of an owner to version 2: one write from offset 32, or from its end if that is lower, to the
+/// end of the tag, and then a sync. An incomplete slot counts as 0 before and after, and a whole one stays, so no file
+/// that a crash leaves meanwhile has a smaller value.
 pub fn migrate<D: Disk>(disk: &mut D, owner: Owner, file: &[u8]) -> Result<(), DiskError>
     requires file { IsTrue (D.tells disk.old) → file.now ≡ D.seen disk.old }
     requires fits { length file.now ≤ 64 }
     requires only { IsTrue (D.tells disk.old) → IsOnlyImage (D.seen disk.old) (D.may_leave disk.old) }
     ensures seen { IsTrue (D.tells disk.old) → OnOk result (D.seen disk.new ≡ migrated owner file.now) }
     ensures ok { IsTrue (D.tells disk.old) → OnOk result (IsOnlyImage (D.seen disk.new) (D.may_leave disk.new)) }
-    ensures any_moment { IsTrue (D.tells disk.old) → LeavesOnly D.moment D.left_since disk.old disk.new (λ c. file_value file.now ≤ file_value c) }
+    ensures any_moment { IsTrue (D.tells disk.old) → LeavesOnly D.moment D.left_since disk.old disk.new (λ c.
+        file_value file.now ≤ file_value c) }
     ensures tells { D.tells disk.new ≡ D.tells disk.old }
-    ensures calls { WritesAndSyncs D.writes D.syncs (migration_place file.now) (migration_bytes owner file.now) disk.old (is_ok result) disk.new }
+    ensures calls { WritesAndSyncs D.writes D.syncs (migration_place file.now) (migration_bytes owner file.now) disk.old
+        (is_ok result) disk.new }
     ensures counted { OnOk result (D.failures disk.new ≡ D.failures disk.old) }
     ensures failures { IsErr result → HasCause (D.failures disk.old) (D.failures disk.new) }
 {

@@ -16,9 +16,11 @@ IsFaultIn text state line = (n : ℕ) (lines : List (List ℕ)) → text state n
 
 -- a line leaves a state and prints a text, whatever comes behind it
 abbrev pub GoesOnIn : {S : Type 0} → (S → ℕ → List (List ℕ) → Text) → S → List ℕ → S → List ℕ → Type 0
-GoesOnIn text state line next out = (n : ℕ) (lines : List (List ℕ)) → text state n (line ∷ lines) ≡ prepend out (text next (n + 1) lines)
+GoesOnIn text state line next out =
+    (n : ℕ) (lines : List (List ℕ)) → text state n (line ∷ lines) ≡ prepend out (text next (n + 1) lines)
 
--- what is printed for the lines from line n on in each state, and how that ends; a line of more than 4,096 bytes is a fault
+-- what is printed for the lines from line n on in each state, and how that ends; a line of more than 4,096 bytes is a
+-- fault
 pub record Kind (S : Type 0) : Type 0 where
   pub text : S → ℕ → List (List ℕ) → Text
   pub long : (state : S) (line : List ℕ) → 4096 < length line → IsFaultIn text state line
@@ -36,26 +38,29 @@ text_of kind state n bytes = kind.text state n (pieces_of bytes)
 -- ---- what is promised of an input
 
 -- Known bytes grew by the text of the input, and the input ends so.
-pub record IsWholeText (text : List ℕ → Text) (input : List ℕ) (old new : Option (List ℕ)) (ended : Ended) : Type 0 where
-  pub written : Appends old new (text input).0
-  pub ends : ended ≡ (text input).1
+pub record IsWholeText (text : List ℕ → Text) (input : List ℕ) (old new : Option (List ℕ)) (ended : Ended) : Type 0
+  where
+    pub written : Appends old new (text input).0
+    pub ends : ended ≡ (text input).1
 
 -- s is the front of t
 abbrev pub Begins : List ℕ → List ℕ → Type 0
 Begins s t = (rest : List ℕ) × (t ≡ s ++ rest)
 
 -- The reader gave some bytes, and the writer got a front of their text.
-pub record IsFrontOfText (text : List ℕ → Text) (old_reader new_reader old_writer new_writer : Option (List ℕ)) : Type 0 where
-  pub given : List ℕ
-  pub written : List ℕ
-  pub read : Consumes old_reader new_reader given
-  pub grown : Appends old_writer new_writer written
-  pub begins : Begins written (text given).0
+pub record IsFrontOfText (text : List ℕ → Text) (old_reader new_reader old_writer new_writer : Option (List ℕ)) : Type 0
+  where
+    pub given : List ℕ
+    pub written : List ℕ
+    pub read : Consumes old_reader new_reader given
+    pub grown : Appends old_writer new_writer written
+    pub begins : Begins written (text given).0
 
 -- ---- steps of the engine
 
 -- The text of these bytes, whatever follows them, is what was written and then a text that goes on.
-pub record Prints {S : Type 0} (kind : Kind S) (state : S) (n : ℕ) (bytes : List ℕ) (old new : Option (List ℕ)) (onward : List ℕ → Text) : Type 0 where
+pub record Prints {S : Type 0} (kind : Kind S) (state : S) (n : ℕ) (bytes : List ℕ) (old new : Option (List ℕ))
+    (onward : List ℕ → Text) : Type 0 where
   pub written : List ℕ
   pub grown : Appends old new written
   pub goes : (more : List ℕ) → text_of kind state n (bytes ++ more) ≡ prepend written (onward more)
@@ -65,12 +70,14 @@ abbrev pub IsOpen : List ℕ → Type 0
 IsOpen bytes = position (λ x. x == 10) bytes ≡ None
 
 -- One line was taken (true), or it is a fault (false).
-pub record IsAnswered {S : Type 0} (kind : Kind S) (state : S) (line : List ℕ) (next : S) (old new : Option (List ℕ)) : Type 0 where
+pub record IsAnswered {S : Type 0} (kind : Kind S) (state : S) (line : List ℕ) (next : S) (old new : Option (List ℕ)) :
+    Type 0 where
   pub text : List ℕ
   pub goes_on : GoesOn kind state line next text
   pub grown : Appends old new text
 
-abbrev pub Answers : {S : Type 0} → Kind S → S → List ℕ → S → Option (List ℕ) → Option (List ℕ) → Result Bool ReplayError → Type 0
+abbrev pub Answers : {S : Type 0} → Kind S → S → List ℕ → S → Option (List ℕ) → Option (List ℕ)
+    → Result Bool ReplayError → Type 0
 Answers kind state line next old new (Ok true) = IsAnswered kind state line next old new
 Answers kind state line next old new (Ok false) = IsFault kind state line × Appends old new []
 Answers kind state line next old new (Err Memory) = Appends old new []
@@ -92,34 +99,42 @@ Stops kind state n bytes old new Read = ⊥
 Stops kind state n bytes old new Write = Unit {0}
 
 -- Whole lines were taken from the front of the bytes, and these are left.
-pub record IsDrained {S : Type 0} (kind : Kind S) (state : S) (n : ℕ) (bytes : List ℕ) (old new : Option (List ℕ)) (next : S) (m : ℕ) (left : List ℕ) : Type 0 where
+pub record IsDrained {S : Type 0} (kind : Kind S) (state : S) (n : ℕ) (bytes : List ℕ) (old new : Option (List ℕ))
+    (next : S) (m : ℕ) (left : List ℕ) : Type 0 where
   pub prints : Prints kind state n bytes old new (λ more. text_of kind next m (left ++ more))
   pub is_open : IsOpen left
   pub count : m + length left ≤ n + length bytes
 
-abbrev pub Drains : {S : Type 0} → Kind S → S → ℕ → List ℕ → Option (List ℕ) → Option (List ℕ) → S → ℕ → Result (Option ℕ) ReplayError → Type 0
-Drains kind state n bytes old new next m (Ok (Some left)) = (left ≤ length bytes) × IsDrained kind state n bytes old new next m (drop (length bytes - left) bytes)
+abbrev pub Drains : {S : Type 0} → Kind S → S → ℕ → List ℕ → Option (List ℕ) → Option (List ℕ) → S → ℕ
+    → Result (Option ℕ) ReplayError → Type 0
+Drains kind state n bytes old new next m (Ok (Some left)) = (left ≤ length bytes)
+    × IsDrained kind state n bytes old new next m (drop (length bytes - left) bytes)
 Drains kind state n bytes old new next m (Ok None) = Prints kind state n bytes old new (λ more. faulty m)
 Drains kind state n bytes old new next m (Err e) = Stops kind state n bytes old new e
 
 -- A chunk went behind what was left, and its whole lines were taken (true), or one is a fault (false).
-abbrev pub TakesChunk : {S : Type 0} → Kind S → S → ℕ → List ℕ → Option (List ℕ) → Option (List ℕ) → S → ℕ → List ℕ → Result Bool ReplayError → Type 0
-TakesChunk kind state n bytes old new next m left (Ok true) = IsDrained kind state n bytes old new next m left × (length left ≤ 4096)
+abbrev pub TakesChunk : {S : Type 0} → Kind S → S → ℕ → List ℕ → Option (List ℕ) → Option (List ℕ) → S → ℕ → List ℕ
+    → Result Bool ReplayError → Type 0
+TakesChunk kind state n bytes old new next m left (Ok true) = IsDrained kind state n bytes old new next m left
+    × (length left ≤ 4096)
 TakesChunk kind state n bytes old new next m left (Ok false) = Prints kind state n bytes old new (λ more. faulty m)
 TakesChunk kind state n bytes old new next m left (Err e) = Stops kind state n bytes old new e
 
 -- The end of the input: the text of the bytes, and how it ends.
-pub record IsFinished {S : Type 0} (kind : Kind S) (state : S) (n : ℕ) (bytes : List ℕ) (old new : Option (List ℕ)) (ended : Ended) : Type 0 where
+pub record IsFinished {S : Type 0} (kind : Kind S) (state : S) (n : ℕ) (bytes : List ℕ) (old new : Option (List ℕ))
+    (ended : Ended) : Type 0 where
   pub grown : Appends old new (text_of kind state n bytes).0
   pub ends : ended ≡ (text_of kind state n bytes).1
 
 -- where memory was refused at the end, after a front of the text
-pub record IsCutOff {S : Type 0} (kind : Kind S) (state : S) (n : ℕ) (bytes : List ℕ) (old new : Option (List ℕ)) : Type 0 where
+pub record IsCutOff {S : Type 0} (kind : Kind S) (state : S) (n : ℕ) (bytes : List ℕ) (old new : Option (List ℕ)) :
+    Type 0 where
   pub written : List ℕ
   pub grown : Appends old new written
   pub begins : Begins written (text_of kind state n bytes).0
 
-abbrev pub Finishes : {S : Type 0} → Kind S → S → ℕ → List ℕ → Option (List ℕ) → Option (List ℕ) → Result Ended ReplayError → Type 0
+abbrev pub Finishes : {S : Type 0} → Kind S → S → ℕ → List ℕ → Option (List ℕ) → Option (List ℕ)
+    → Result Ended ReplayError → Type 0
 Finishes kind state n bytes old new (Ok ended) = IsFinished kind state n bytes old new ended
 Finishes kind state n bytes old new (Err Memory) = IsCutOff kind state n bytes old new
 Finishes kind state n bytes old new (Err Read) = ⊥
@@ -133,7 +148,8 @@ Ends text old new (Err Read) = ⊥
 Ends text old new (Err Write) = Unit {0}
 
 -- Between two reads: what was given, and what is left of it.
-pub record IsUnderway {S : Type 0} (kind : Kind S) (start state : S) (n : ℕ) (left : List ℕ) (old_reader reader old_writer writer : Option (List ℕ)) (most : ℕ) : Type 0 where
+pub record IsUnderway {S : Type 0} (kind : Kind S) (start state : S) (n : ℕ) (left : List ℕ)
+    (old_reader reader old_writer writer : Option (List ℕ)) (most : ℕ) : Type 0 where
   pub given : List ℕ
   pub read : Consumes old_reader reader given
   pub drained : IsDrained kind start 1 given old_writer writer state n left

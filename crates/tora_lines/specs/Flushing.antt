@@ -11,7 +11,8 @@ after_flush false (Ok ended) = Err Write
 after_flush false (Err error) = Err error
 
 -- All that was written was handed on last, and the run ended without a failure only where that succeeded.
-pub record IsFlushed {W : Type 0} (did_flush : W → Bool → W → Type 0) (ended : Result Ended ReplayError) (new : W) : Type 0 where
+pub record IsFlushed {W : Type 0} (did_flush : W → Bool → W → Type 0) (ended : Result Ended ReplayError) (new : W) :
+    Type 0 where
   pub before : W
   pub ok : Bool
   pub call : did_flush before ok new

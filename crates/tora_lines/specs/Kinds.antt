@@ -5,9 +5,11 @@ use Rattle.tora_lines.specs.LineText.{Rules, reply, text_from}
 use Rattle.tora_lines.specs.Engine.{Kind, IsFaultIn}
 
 -- a line of more than 4,096 bytes is a fault
-pub long_lines_are_faults : {S : Type 0} (rules : Rules S) (state : S) (line : List ℕ) → 4096 < length line → IsFaultIn (text_from rules) state line
+pub long_lines_are_faults : {S : Type 0} (rules : Rules S) (state : S) (line : List ℕ) → 4096 < length line
+    → IsFaultIn (text_from rules) state line
 unfolding text_from reply
-long_lines_are_faults rules state line long n lines = let over : nat_lt 4096 (length line) ≡ true = lt-ltb _ _ long in rw over refl
+long_lines_are_faults rules state line long n lines =
+    let over : nat_lt 4096 (length line) ≡ true = lt-ltb _ _ long in rw over refl
 
 abbrev pub kind_of : {S : Type 0} → Rules S → Kind S
 kind_of rules = record { text = text_from rules; long = long_lines_are_faults rules }

@@ -47,7 +47,8 @@ ending (Some n) = faulty n
 -- the text of lines from line n on, up to the first that is a fault
 unfoldable pub text_from : {S : Type 0} → Rules S → S → ℕ → List (List ℕ) → Text
 text_from rules state n [] = ending (rules.at_end state n)
-text_from rules state n (line ∷ lines) = option_map_or (λ r. prepend r.1 (text_from rules r.0 (n + 1) lines)) (reply rules state line) (faulty n)
+text_from rules state n (line ∷ lines) = option_map_or (λ r. prepend r.1 (text_from rules r.0 (n + 1) lines))
+    (reply rules state line) (faulty n)
 
 -- the text of an input
 abbrev pub whole_text : {S : Type 0} → Rules S → List ℕ → Text
@@ -70,10 +71,11 @@ IsFaultNext rules state n (line ∷ lines) m = (reply rules state line ≡ None)
 IsFaultNext rules state n [] m = rules.at_end state n ≡ Some m
 
 -- of lines from line n on, line m is a fault, and all before it are taken
-pub record IsFirstFaultBy {S : Type 0} (rules : Rules S) (state : S) (n : ℕ) (lines : List (List ℕ)) (m : ℕ) : Type 0 where
-  pub before : List (List ℕ)
-  pub rest : List (List ℕ)
-  pub last : S
-  pub lines_are : lines ≡ before ++ rest
-  pub taken : state_behind rules state before ≡ Some last
-  pub fault : IsFaultNext rules last (n + length before) rest m
+pub record IsFirstFaultBy {S : Type 0} (rules : Rules S) (state : S) (n : ℕ) (lines : List (List ℕ)) (m : ℕ) : Type 0
+  where
+    pub before : List (List ℕ)
+    pub rest : List (List ℕ)
+    pub last : S
+    pub lines_are : lines ≡ before ++ rest
+    pub taken : state_behind rules state before ≡ Some last
+    pub fault : IsFaultNext rules last (n + length before) rest m

@@ -26,7 +26,8 @@ Gives old (Err error) new = Keeps old new
 -- From one reader to another by these reads, the last of them first.
 abbrev pub AreReads : {R : Type 0} → (R → Given → R → Type 0) → R → List Given → R → Type 0
 AreReads did_read old [] new = new ≡ old
-AreReads {R} did_read old (given ∷ earlier) new = (before : R) × AreReads did_read old earlier before × did_read before given new
+AreReads {R} did_read old (given ∷ earlier) new = (before : R) × AreReads did_read old earlier before
+    × did_read before given new
 
 -- the read was interrupted, if it gave an error, so that it is made again
 abbrev pub GoesOn : Given → Type 0
@@ -44,7 +45,8 @@ AreToTheEnd reads = (earlier : List Given) × (reads ≡ Ok [] ∷ earlier) × N
 
 -- the last read failed, and none before it
 abbrev pub FailedLast : List Given → Type 0
-FailedLast reads = (error : Error) × (earlier : List Given) × (reads ≡ Err error ∷ earlier) × (error_kind error ≢ Interrupted) × NoneFailed earlier
+FailedLast reads = (error : Error) × (earlier : List Given) × (reads ≡ Err error ∷ earlier)
+    × (error_kind error ≢ Interrupted) × NoneFailed earlier
 
 -- 2^32 reads came to no end
 abbrev pub AreTooMany : List Given → Type 0
@@ -59,7 +61,8 @@ EndsReading reads (Err Read) = FailedLast reads ⊎ AreTooMany reads
 EndsReading reads (Err Write) = NoneFailed reads
 
 -- A run over lines left this reader by its reads, and ends by them.
-pub record IsReadSo {R : Type 0} (did_read : R → Given → R → Type 0) (old new : R) (ended : Result Ended ReplayError) : Type 0 where
+pub record IsReadSo {R : Type 0} (did_read : R → Given → R → Type 0) (old new : R) (ended : Result Ended ReplayError) :
+    Type 0 where
   pub reads : List Given
   pub are : AreReads did_read old reads new
   pub ends : EndsReading reads ended

@@ -18,10 +18,12 @@ shortened_text_of kind state n bytes = kind.text state n (map shortened (pieces_
 
 -- what is kept of a line of which this was read
 abbrev pub Holds : Held → List ℕ → Type 0
-Holds held text = ((held.is_too_long ≡ false) × (held.bytes.items ≡ text) × (length text ≤ 4096)) ⊎ ((held.is_too_long ≡ true) × (4096 < length text))
+Holds held text = ((held.is_too_long ≡ false) × (held.bytes.items ≡ text) × (length text ≤ 4096))
+    ⊎ ((held.is_too_long ≡ true) × (4096 < length text))
 
 -- The text of these bytes, whatever follows them, is what was written and then a text that goes on.
-pub record Goes (text : List ℕ → Text) (bytes : List ℕ) (old new : Option (List ℕ)) (onward : List ℕ → Text) : Type 0 where
+pub record Goes (text : List ℕ → Text) (bytes : List ℕ) (old new : Option (List ℕ)) (onward : List ℕ
+    → Text) : Type 0 where
   pub written : List ℕ
   pub grown : Appends old new written
   pub goes : (more : List ℕ) → text (bytes ++ more) ≡ prepend written (onward more)
@@ -31,17 +33,22 @@ abbrev pub text_behind : {S : Type 0} → Kind S → S → ℕ → List ℕ → 
 text_behind kind state n front bytes = shortened_text_of kind state n (front ++ bytes)
 
 -- Behind the front of a line, whole lines of the bytes were taken, and a front of one is held; these bytes are left.
-pub record Takes {S : Type 0} (kind : Kind S) (start : S) (n : ℕ) (front bytes : List ℕ) (old new : Option (List ℕ)) (state : S) (m : ℕ) (held : Held) (left : List ℕ) : Type 0 where
+pub record Takes {S : Type 0} (kind : Kind S) (start : S) (n : ℕ) (front bytes : List ℕ) (old new : Option (List ℕ))
+    (state : S) (m : ℕ) (held : Held) (left : List ℕ) : Type 0 where
   pub rest : List ℕ
   pub holds : Holds held rest
   pub is_open : IsOpen rest
   pub goes : Goes (text_behind kind start n front) bytes old new (λ more. text_behind kind state m rest (left ++ more))
 
 -- The bytes were taken (true), or one of their lines is a fault (false).
-abbrev pub TakesBytes : {S : Type 0} → Kind S → S → ℕ → List ℕ → List ℕ → Option (List ℕ) → Option (List ℕ) → S → ℕ → Held → Result Bool ReplayError → Type 0
-TakesBytes kind start n front bytes old new state m held (Ok true) = Takes kind start n front bytes old new state m held []
-TakesBytes kind start n front bytes old new state m held (Ok false) = Goes (text_behind kind start n front) bytes old new (λ more. faulty m)
-TakesBytes kind start n front bytes old new state m held (Err Memory) = (onward : List ℕ → Text) × Goes (text_behind kind start n front) bytes old new onward
+abbrev pub TakesBytes : {S : Type 0} → Kind S → S → ℕ → List ℕ → List ℕ → Option (List ℕ) → Option (List ℕ) → S → ℕ
+    → Held → Result Bool ReplayError → Type 0
+TakesBytes kind start n front bytes old new state m held (Ok true) =
+    Takes kind start n front bytes old new state m held []
+TakesBytes kind start n front bytes old new state m held (Ok false) =
+    Goes (text_behind kind start n front) bytes old new (λ more. faulty m)
+TakesBytes kind start n front bytes old new state m held (Err Memory) = (onward : List ℕ → Text)
+    × Goes (text_behind kind start n front) bytes old new onward
 TakesBytes kind start n front bytes old new state m held (Err Read) = ⊥
 TakesBytes kind start n front bytes old new state m held (Err Write) = Unit {0}
 
@@ -53,7 +60,8 @@ WritesText text old new (Err Read) = ⊥
 WritesText text old new (Err Write) = Unit {0}
 
 -- Between two reads: what was given, and what is held of it.
-pub record IsBetweenReads {S : Type 0} (kind : Kind S) (start state : S) (n : ℕ) (held : Held) (old_reader reader old_writer writer : Option (List ℕ)) : Type 0 where
+pub record IsBetweenReads {S : Type 0} (kind : Kind S) (start state : S) (n : ℕ) (held : Held)
+    (old_reader reader old_writer writer : Option (List ℕ)) : Type 0 where
   pub given : List ℕ
   pub read : Consumes old_reader reader given
   pub rest : List ℕ

@@ -13,7 +13,8 @@ cut separator text = halves text (position (λ x. x == separator) text)
 
 -- decimal digits, without a leading zero
 abbrev pub is_numeral : List ℕ → Bool
-is_numeral text = nat_lt 0 (length text) && list_all is_ascii_digit text && (not (slice_index text 0 == 48) || (length text == 1))
+is_numeral text =
+    nat_lt 0 (length text) && list_all is_ascii_digit text && (not (slice_index text 0 == 48) || (length text == 1))
 
 -- what digits go on to stand for, after the number so far
 unfoldable pub value_from : ℕ → List ℕ → ℕ

@@ -1,9 +1,11 @@
 //! From a reader of lines to a writer of answers.
-ghost use Rattle.std.specs.Prelude.{◌≡◌, ◌≢◌, ◌+◌, ◌-◌, ◌^◌, ◌<◌, ◌≤◌, ◌++◌, [], length, drop, OnOk, IfOk, IfErr, IfSome, None, Ok, true, vec_len, ℕ, List, Some};
+ghost use Rattle.std.specs.Prelude.{◌≡◌, ◌≢◌, ◌+◌, ◌-◌, ◌^◌, ◌<◌, ◌≤◌, ◌++◌, [], length, drop, OnOk, IfOk, IfErr};
+ghost use Rattle.std.specs.Prelude.{IfSome, None, Ok, true, vec_len, ℕ, List, Some};
 ghost use Rattle.std.specs.Io.KnownBytes.{Appends, IsAtEnd, ReadConsumes};
 ghost use Rattle.tora_lines.specs.LineText.{faulty};
 ghost use Rattle.tora_lines.specs.Reads.{given_by, IsReadSo, IsUnwritten};
-ghost use Rattle.tora_lines.specs.Engine.{text_of, IsOpen, Answers, Keeps, Drains, TakesChunk, Finishes, Ends, IsWholeText, IsFrontOfText};
+ghost use Rattle.tora_lines.specs.Engine.{text_of, IsOpen, Answers, Keeps, Drains, TakesChunk, Finishes, Ends};
+ghost use Rattle.tora_lines.specs.Engine.{IsWholeText, IsFrontOfText};
 
 use crate::ended::{Ended, ReplayError};
 use crate::input::Input;
@@ -39,7 +41,8 @@ pub fn answer<K: FileKind, W: Output>(
     writer: &mut W,
     line: &[u8],
 ) -> Result<bool, ReplayError>
-    ensures text { Answers K.kind session.old.state line.now session.new.state (W.contents writer.old) (W.contents writer.new) result }
+    ensures text { Answers K.kind session.old.state line.now session.new.state (W.contents writer.old)
+        (W.contents writer.new) result }
     ensures failed { IfErr result (λ e. e ≡ ReplayError.Write → IsUnwritten W.did_write writer.new) }
 {
     match session.take(alloc, line) {
@@ -62,7 +65,8 @@ fn drain<K: FileKind, W: Output>(
     text: &[u8],
 ) -> Result<Option<usize>, ReplayError>
     requires { number.old + length text.now < 2 ^ 64 }
-    ensures text { Drains K.kind session.old.state number.old text.now (W.contents writer.old) (W.contents writer.new) session.new.state number.new result }
+    ensures text { Drains K.kind session.old.state number.old text.now (W.contents writer.old) (W.contents writer.new)
+        session.new.state number.new result }
     ensures failed { IfErr result (λ e. e ≡ ReplayError.Write → IsUnwritten W.did_write writer.new) }
 {
     let mut rest = text;
@@ -99,7 +103,8 @@ fn end_line<K: FileKind, W: Output>(
     end: &[u8],
 ) -> Result<bool, ReplayError>
     requires { vec_len pending.old ≤ LONGEST_LINE }
-    ensures line { Answers K.kind session.old.state (pending.old.items ++ end.now) session.new.state (W.contents writer.old) (W.contents writer.new) result }
+    ensures line { Answers K.kind session.old.state (pending.old.items ++ end.now) session.new.state
+        (W.contents writer.old) (W.contents writer.new) result }
     ensures empty { result ≡ Ok true → (pending.new.items ≡ []) × (vec_len pending.new ≡ 0) }
     ensures failed { IfErr result (λ e. e ≡ ReplayError.Write → IsUnwritten W.did_write writer.new) }
 {
@@ -123,7 +128,8 @@ fn take_rest<K: FileKind, W: Output>(
     requires room { number.old + length text.now < 2 ^ 64 }
     requires empty { pending.old.items ≡ [] }
     requires len { vec_len pending.old ≡ 0 }
-    ensures text { TakesChunk K.kind session.old.state number.old text.now (W.contents writer.old) (W.contents writer.new)
+    ensures text { TakesChunk K.kind session.old.state number.old text.now (W.contents writer.old)
+        (W.contents writer.new)
         session.new.state number.new pending.new.items result }
     ensures failed { IfErr result (λ e. e ≡ ReplayError.Write → IsUnwritten W.did_write writer.new) }
 {
@@ -145,7 +151,8 @@ fn take_chunk<K: FileKind, W: Output>(
     requires room { number.old + length pending.old.items + length chunk.now < 2 ^ 64 }
     requires is_open { IsOpen pending.old.items }
     requires short { vec_len pending.old ≤ LONGEST_LINE }
-    ensures text { TakesChunk K.kind session.old.state number.old (pending.old.items ++ chunk.now) (W.contents writer.old) (W.contents writer.new)
+    ensures text { TakesChunk K.kind session.old.state number.old (pending.old.items ++ chunk.now)
+        (W.contents writer.old) (W.contents writer.new)
         session.new.state number.new pending.new.items result }
     ensures failed { IfErr result (λ e. e ≡ ReplayError.Write → IsUnwritten W.did_write writer.new) }
 {
@@ -199,7 +206,8 @@ fn finish<K: FileKind, W: Output>(
 ) -> Result<Ended, ReplayError>
     requires is_open { IsOpen last.now }
     requires room { number + 1 < 2 ^ 64 }
-    ensures text { Finishes K.kind session.old.state number last.now (W.contents writer.old) (W.contents writer.new) result }
+    ensures text { Finishes K.kind session.old.state number last.now (W.contents writer.old) (W.contents writer.new)
+        result }
     ensures failed { IfErr result (λ e. e ≡ ReplayError.Write → IsUnwritten W.did_write writer.new) }
 {
     if last.is_empty() {
@@ -247,7 +255,8 @@ pub fn read_lines<K: FileKind, R: Input, W: Output>(
     ensures at_end { result ≡ Ok Ended.Whole → IsAtEnd (R.remaining reader.new) }
     // What was written begins the text of what was read.
     ensures begun { IfErr result (λ e. e ≢ ReplayError.Write →
-        IsFrontOfText (text_of K.kind state 1) (R.remaining reader.old) (R.remaining reader.new) (W.contents writer.old) (W.contents writer.new)) }
+        IsFrontOfText (text_of K.kind state 1) (R.remaining reader.old) (R.remaining reader.new) (W.contents writer.old)
+        (W.contents writer.new)) }
     ensures reads { IsReadSo R.did_read reader.old reader.new result }
     ensures failed { IfErr result (λ e. e ≡ ReplayError.Write → IsUnwritten W.did_write writer.new) }
 {
@@ -255,8 +264,8 @@ pub fn read_lines<K: FileKind, R: Input, W: Output>(
     read_session(alloc, &mut session, reader, writer)
 }
 
-/// Reads the lines of a file as `read_lines` does, for a program that ends behind it: what the state took is left to the system, and not given
-/// back piece by piece, which takes time where it is much.
+/// Reads the lines of a file as `read_lines` does, for a program that ends behind it: what the state took is left to
+/// the system, and not given back piece by piece, which takes time where it is much.
 ///
 /// # Errors
 /// Those of `read_lines`.
@@ -270,7 +279,8 @@ pub fn read_last_lines<K: FileKind, R: Input, W: Output>(
         IsWholeText (text_of K.kind state 1) input (W.contents writer.old) (W.contents writer.new) ended)) }
     ensures at_end { result ≡ Ok Ended.Whole → IsAtEnd (R.remaining reader.new) }
     ensures begun { IfErr result (λ e. e ≢ ReplayError.Write →
-        IsFrontOfText (text_of K.kind state 1) (R.remaining reader.old) (R.remaining reader.new) (W.contents writer.old) (W.contents writer.new)) }
+        IsFrontOfText (text_of K.kind state 1) (R.remaining reader.old) (R.remaining reader.new) (W.contents writer.old)
+        (W.contents writer.new)) }
     ensures reads { IsReadSo R.did_read reader.old reader.new result }
     ensures failed { IfErr result (λ e. e ≡ ReplayError.Write → IsUnwritten W.did_write writer.new) }
 {
@@ -297,7 +307,8 @@ fn read_session<K: FileKind, R: Input, W: Output>(
     ensures at_end { result ≡ Ok Ended.Whole → IsAtEnd (R.remaining reader.new) }
     // What was written begins the text of what was read.
     ensures begun { IfErr result (λ e. e ≢ ReplayError.Write →
-        IsFrontOfText (text_of K.kind session.old.state 1) (R.remaining reader.old) (R.remaining reader.new) (W.contents writer.old) (W.contents writer.new)) }
+        IsFrontOfText (text_of K.kind session.old.state 1) (R.remaining reader.old) (R.remaining reader.new)
+        (W.contents writer.old) (W.contents writer.new)) }
     ensures reads { IsReadSo R.did_read reader.old reader.new result }
     ensures failed { IfErr result (λ e. e ≡ ReplayError.Write → IsUnwritten W.did_write writer.new) }
 {

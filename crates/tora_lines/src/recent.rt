@@ -17,8 +17,8 @@ fn ends_in_piece(piece: &[u8]) -> u8 {
     ends
 }
 
-/// How many line ends some bytes have. What is read is counted whole, and a sum of bytes without a branch, piece by piece, costs
-/// a twentieth of an iterator's `filter` and `count`.
+/// How many line ends some bytes have. What is read is counted whole, and a sum of bytes without a branch, piece by
+/// piece, costs a twentieth of an iterator's `filter` and `count`.
 fn line_ends(bytes: &[u8]) -> u64 {
     let mut ends = 0u64;
     for piece in bytes.chunks(PIECE) {

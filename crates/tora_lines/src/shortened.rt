@@ -1,5 +1,6 @@
 //! Lines of any length: one of more than 4,096 bytes is taken as an empty one.
-ghost use Rattle.std.specs.Prelude.{◌≡◌, ◌≢◌, ◌+◌, ◌^◌, ◌<◌, ◌≤◌, ◌++◌, ◌∷◌, [], ℕ, List, length, OnOk, IfOk, IfErr, IfSome, Ok, true, false};
+ghost use Rattle.std.specs.Prelude.{◌≡◌, ◌≢◌, ◌+◌, ◌^◌, ◌<◌, ◌≤◌, ◌++◌, ◌∷◌, [], ℕ, List, length, OnOk, IfOk, IfErr};
+ghost use Rattle.std.specs.Prelude.{IfSome, Ok, true, false};
 ghost use Rattle.std.specs.Io.KnownBytes.{IsAtEnd};
 ghost use Rattle.tora_lines.specs.Reads.{IsReadSo, IsUnwritten};
 ghost use Rattle.tora_lines.specs.Engine.{IsOpen, IsWholeText, IsFrontOfText};
@@ -83,7 +84,8 @@ fn take_bytes<K: FileKind, W: Output>(
 ) -> Result<bool, ReplayError>
     requires { number.old + length bytes.now < 2 ^ 64 }
     ensures text { (text : List ℕ) → Holds held.old text → IsOpen text →
-        TakesBytes K.kind session.old.state number.old text bytes.now (W.contents writer.old) (W.contents writer.new) session.new.state number.new held.new result }
+        TakesBytes K.kind session.old.state number.old text bytes.now (W.contents writer.old) (W.contents writer.new)
+        session.new.state number.new held.new result }
     ensures count { number.new ≤ number.old + length bytes.now }
     ensures failed { IfErr result (λ e. e ≡ ReplayError.Write → IsUnwritten W.did_write writer.new) }
 {
@@ -111,7 +113,8 @@ fn finish_held<K: FileKind, W: Output>(
 ) -> Result<Ended, ReplayError>
     requires { number + 1 < 2 ^ 64 }
     ensures text { (text : List ℕ) → Holds held.now text → IsOpen text →
-        WritesText (shortened_text_of K.kind session.old.state number text) (W.contents writer.old) (W.contents writer.new) result }
+        WritesText (shortened_text_of K.kind session.old.state number text) (W.contents writer.old)
+        (W.contents writer.new) result }
     ensures failed { IfErr result (λ e. e ≡ ReplayError.Write → IsUnwritten W.did_write writer.new) }
 {
     if held.is_empty() {
@@ -124,8 +127,8 @@ fn finish_held<K: FileKind, W: Output>(
     }
 }
 
-/// Reads lines as `read_lines` does, but takes a line of more than 4,096 bytes as an empty one: it is a fault only where an empty
-/// line is one.
+/// Reads lines as `read_lines` does, but takes a line of more than 4,096 bytes as an empty one: it is a fault only
+/// where an empty line is one.
 ///
 /// # Errors
 /// `Memory` where memory was refused; `Read` where a read failed, or 2^32 reads came to no end; `Write` where a write
@@ -142,7 +145,8 @@ pub fn read_shortened_lines<K: FileKind, R: Input, W: Output>(
     ensures at_end { result ≡ Ok Ended.Whole → IsAtEnd (R.remaining reader.new) }
     // What was written begins the text of what was read.
     ensures begun { IfErr result (λ e. e ≢ ReplayError.Write →
-        IsFrontOfText (shortened_text_of K.kind state 1) (R.remaining reader.old) (R.remaining reader.new) (W.contents writer.old) (W.contents writer.new)) }
+        IsFrontOfText (shortened_text_of K.kind state 1) (R.remaining reader.old) (R.remaining reader.new)
+        (W.contents writer.old) (W.contents writer.new)) }
     ensures reads { IsReadSo R.did_read reader.old reader.new result }
     ensures failed { IfErr result (λ e. e ≡ ReplayError.Write → IsUnwritten W.did_write writer.new) }
 {

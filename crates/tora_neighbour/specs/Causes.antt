@@ -33,13 +33,15 @@ IsLifeCause Fault.Damaged before after failed now = ⊥
 IsLifeCause Fault.Foreign before after failed now = ⊥
 
 -- these frames were sent, this came, if a datagram did, and this was made of it; and the end after it
-abbrev pub IsExchange : Settings → EndState → ℕ → List FrameParts → Option Reading → Option Intake → Result (Unit {0}) BrokenAt → EndState → Type 0
+abbrev pub IsExchange : Settings → EndState → ℕ → List FrameParts → Option Reading → Option Intake
+    → Result (Unit {0}) BrokenAt → EndState → Type 0
 IsExchange s e now frames came intake (Ok done) after =
     AreDue s e now frames
     × (frame_due s (after_frames s e now frames) now ≡ None)
     × (intake ≡ intake_in s (after_transmit s (after_frames s e now frames) now) now came)
     × (after ≡ after_came s (after_transmit s (after_frames s e now frames) now) now came)
-IsExchange s e now frames came intake (Err Send) after = AreDue s e now frames × (came ≡ None) × (intake ≡ None) × (after ≡ after_frames s e now frames)
+IsExchange s e now frames came intake (Err Send) after = AreDue s e now frames × (came ≡ None) × (intake ≡ None)
+    × (after ≡ after_frames s e now frames)
 IsExchange s e now frames came intake (Err Receive) after =
     AreDue s e now frames
     × (frame_due s (after_frames s e now frames) now ≡ None)
@@ -47,7 +49,8 @@ IsExchange s e now frames came intake (Err Receive) after =
     × (intake ≡ None)
     × (after ≡ after_transmit s (after_frames s e now frames) now)
 
--- why a turn is the last one: the file draws no number, a hundred calls of the wire in a row have failed, or the hub has answered Gone
+-- why a turn is the last one: the file draws no number, a hundred calls of the wire in a row have failed, or the hub
+-- has answered Gone
 abbrev pub IsCause : Ending → Numbers → Numbers → ℕ → ℕ → ℕ → Bool → Type 0
 IsCause (Because.NoNumber error) before after failed now row gone = IsLifeCause error before after failed now
 IsCause (Because.Broken at) before after failed now row gone = row ≡ MOST_FAILURES
@@ -59,8 +62,11 @@ fault_of (Because.NoNumber error) = Some (Life error)
 fault_of (Because.Broken at) = Some Wire
 fault_of Because.Refused = None
 
--- why a thread has ended. None: its hub has answered Gone. Wire: the count of failures of its wire rose by a hundred at least. Life: as its file says
+-- why a thread has ended. None: its hub has answered Gone. Wire: the count of failures of its wire rose by a hundred at
+-- least. Life: as its file says
 abbrev pub IsEndOf : Option LinkFault → Numbers → Numbers → ℕ → ℕ → ℕ → ℕ → Bool → Type 0
 IsEndOf None before after disk_failed disk_now wire_failed wire_now gone = gone ≡ true
-IsEndOf (Some Wire) before after disk_failed disk_now wire_failed wire_now gone = RoseBy MOST_FAILURES wire_failed wire_now
-IsEndOf (Some (Life error)) before after disk_failed disk_now wire_failed wire_now gone = IsLifeCause error before after disk_failed disk_now
+IsEndOf (Some Wire) before after disk_failed disk_now wire_failed wire_now gone =
+    RoseBy MOST_FAILURES wire_failed wire_now
+IsEndOf (Some (Life error)) before after disk_failed disk_now wire_failed wire_now gone =
+    IsLifeCause error before after disk_failed disk_now

@@ -17,6 +17,7 @@ pub record IsCut (datagram : List ℕ) (size n : ℕ) (buffer : List ℕ) : Type
 
 -- what a receive makes of the datagrams to come: the first of them is received, or none
 abbrev pub IsReceived : List (List ℕ) → ℕ → Result (Option ℕ) WireError → List ℕ → List (List ℕ) → Type 0
-IsReceived coming size (Ok (Some n)) buffer rest = (datagram : List ℕ) × (coming ≡ datagram ∷ rest) × IsCut datagram size n buffer
+IsReceived coming size (Ok (Some n)) buffer rest = (datagram : List ℕ) × (coming ≡ datagram ∷ rest)
+    × IsCut datagram size n buffer
 IsReceived coming size (Ok None) buffer rest = rest ≡ coming
 IsReceived coming size (Err _) buffer rest = rest ≡ coming

@@ -12,14 +12,28 @@ pub record FuseView (W : Type 0) : Type 0 where
   pub failures : ℕ
 
 -- a call that fails on purpose makes no call of the wire; any other is that call
-abbrev pub SendsThroughFuse : {W : Type 0} → (W → List ℕ → Result (Unit {0}) WireError → W → Type 0) → FuseView W → List ℕ → Result (Unit {0}) WireError → FuseView W → Type 0
+abbrev pub SendsThroughFuse : {W : Type 0} → (W → List ℕ → Result (Unit {0}) WireError → W → Type 0) → FuseView W
+    → List ℕ → Result (Unit {0}) WireError → FuseView W → Type 0
 SendsThroughFuse send f bytes answer after =
     MatchBool (is_blown f.fuse)
-    (IsErr answer × (after ≡ record f { fuse = after_call f.fuse; told = false; failures = failures_after answer f.failures }))
-    (send f.wire bytes answer after.wire × (after ≡ record f { wire = after.wire; fuse = after_call f.fuse; failures = failures_after answer f.failures }))
+    (IsErr answer × (after ≡ record f {
+      fuse = after_call f.fuse;
+      told = false;
+      failures = failures_after answer f.failures;
+    }))
+    (send f.wire bytes answer after.wire × (after ≡ record f {
+      wire = after.wire;
+      fuse = after_call f.fuse;
+      failures = failures_after answer f.failures;
+    }))
 
-abbrev pub ReceivesThroughFuse : {W : Type 0} → (W → Result (Option ℕ) WireError → List ℕ → W → Type 0) → FuseView W → Result (Option ℕ) WireError → List ℕ → FuseView W → Type 0
+abbrev pub ReceivesThroughFuse : {W : Type 0} → (W → Result (Option ℕ) WireError → List ℕ → W → Type 0) → FuseView W
+    → Result (Option ℕ) WireError → List ℕ → FuseView W → Type 0
 ReceivesThroughFuse receive f answer buffer after =
     MatchBool (is_blown f.fuse)
     (IsErr answer × (after ≡ record f { fuse = after_call f.fuse; failures = failures_after answer f.failures }))
-    (receive f.wire answer buffer after.wire × (after ≡ record f { wire = after.wire; fuse = after_call f.fuse; failures = failures_after answer f.failures }))
+    (receive f.wire answer buffer after.wire × (after ≡ record f {
+      wire = after.wire;
+      fuse = after_call f.fuse;
+      failures = failures_after answer f.failures;
+    }))

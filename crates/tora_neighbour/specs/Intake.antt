@@ -30,7 +30,8 @@ abbrev pub after_came : Settings → EndState → ℕ → Option Reading → End
 after_came s e now None = e
 after_came s e now (Some reading) = after_reading s e now reading
 
--- what came in by a receive, if one was made: what the bytes spell that it has put at the front of its buffer, as many as it answered, or nothing
+-- what came in by a receive, if one was made: what the bytes spell that it has put at the front of its buffer, as many
+-- as it answered, or nothing
 abbrev pub came_in : Option (Result (Option ℕ) WireError) → List ℕ → Option Reading
 came_in None buffer = None
 came_in (Some (Ok (Some n))) buffer = Some (frame_reading (take n buffer))

@@ -13,10 +13,12 @@ IsSamePort before after = (after.lane ≡ before.lane) × (after.seat ≡ before
 
 -- one item more of the seat, with its next number, or none and the port has answered `Gone`
 abbrev pub PutsAtPort : InEnd → ℕ → What → Result (Unit {0}) Gone → InEnd → Type 0
-PutsAtPort p now what (Ok done) after = IsSamePort p after × (after.put ≡ p.put ++ new_item p.seat (length p.put + 1) now what ∷ []) × (after.gone ≡ false)
+PutsAtPort p now what (Ok done) after = IsSamePort p after × (after.put
+    ≡ p.put ++ new_item p.seat (length p.put + 1) now what ∷ []) × (after.gone ≡ false)
 PutsAtPort p now what (Err gone) after = IsSamePort p after × (after.put ≡ p.put) × (after.gone ≡ true)
 
 -- one cargo more was received, the first of those that were found in the lane, or none, where none was found
 abbrev pub TakesFromLane : ReceiveEnd → Option Cargo → ReceiveEnd → Type 0
-TakesFromLane o (Some cargo) after = (after.ring ≡ o.ring) × (after.received ≡ o.received ++ cargo ∷ []) × IsPrefix o.found (cargo ∷ after.found)
+TakesFromLane o (Some cargo) after = (after.ring ≡ o.ring) × (after.received ≡ o.received ++ cargo ∷ [])
+    × IsPrefix o.found (cargo ∷ after.found)
 TakesFromLane o None after = (after.ring ≡ o.ring) × (after.received ≡ o.received) × (o.found ≡ []) × (after.found ≡ [])

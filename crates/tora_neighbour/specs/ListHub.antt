@@ -15,10 +15,13 @@ pub record ListHubView : Type 0 where
 
 -- it is put where there is room, and `Gone` was not answered yet
 abbrev pub PutsInList : ListHubView → ℕ → What → Result (Unit {0}) Gone → ListHubView → Type 0
-PutsInList h now what (Ok done) after = (h.gone ≡ false) × (length h.puts < h.room) × (after ≡ record h { puts = h.puts ++ put_of now what ∷ [] })
-PutsInList h now what (Err gone) after = ((h.gone ≡ true) ⊎ (h.room ≤ length h.puts)) × (after ≡ record h { gone = true })
+PutsInList h now what (Ok done) after = (h.gone ≡ false) × (length h.puts < h.room)
+    × (after ≡ record h { puts = h.puts ++ put_of now what ∷ [] })
+PutsInList h now what (Err gone) after = ((h.gone ≡ true) ⊎ (h.room ≤ length h.puts))
+    × (after ≡ record h { gone = true })
 
 -- the first cargo is taken, and none only where all were taken
 abbrev pub TakesFromList : ListHubView → Option Cargo → ListHubView → Type 0
-TakesFromList h (Some cargo) after = (h.cargoes ≡ cargo ∷ after.cargoes) × (after ≡ record h { takes = h.takes ++ cargo ∷ []; cargoes = after.cargoes })
+TakesFromList h (Some cargo) after = (h.cargoes ≡ cargo ∷ after.cargoes)
+    × (after ≡ record h { takes = h.takes ++ cargo ∷ []; cargoes = after.cargoes })
 TakesFromList h None after = (h.cargoes ≡ []) × (after ≡ h)

@@ -23,9 +23,17 @@ pub record Outside : Type 0 where
   pub coming : List (List ℕ)
   pub tries : List (List ℕ)
 
-abbrev pub outside : {D W H : Type 0} → (H → List Entry) → (H → List Cargo) → (W → Bool) → (W → List (List ℕ)) → (W → List (List ℕ)) → Link D W → H → Outside
+abbrev pub outside : {D W H : Type 0} → (H → List Entry) → (H → List Cargo) → (W → Bool) → (W → List (List ℕ))
+    → (W → List (List ℕ)) → Link D W → H → Outside
 outside puts takes tells coming tries link hub =
-    record { drawn = link.file.numbers.drawn; puts = puts hub; takes = takes hub; tells = tells link.wire; coming = coming link.wire; tries = tries link.wire }
+    record {
+      drawn = link.file.numbers.drawn;
+      puts = puts hub;
+      takes = takes hub;
+      tells = tells link.wire;
+      coming = coming link.wire;
+      tries = tries link.wire;
+    }
 
 -- an event, as it is put
 abbrev pub entry_of : ℕ → LinkEvent → Entry

@@ -97,7 +97,8 @@ pub record Tells (e : EndState) (told : List LinkEvent) (refused : Option LinkEv
   pub all : refused ≡ None → left ≡ []
   pub after_is : after ≡ record e { events = left }
 
--- a whole turn: cargoes, then frames until none is due, then one receive, of which at most one datagram comes, then all events
+-- a whole turn: cargoes, then frames until none is due, then one receive, of which at most one datagram comes, then all
+-- events
 pub record IsTurn (s : Settings) (e : EndState) (t : Turn) (after : EndState) : Type 0 where
   pub begins : Begins s e t
   pub none_due : frame_due s (when_sent s e t) t.now ≡ None
@@ -125,7 +126,8 @@ AreBeats last (t ∷ turns) after = (t.beat ≡ is_beat_due last t.now) × AreBe
 -- each of these ticks was read of its own, one after another
 abbrev pub AreRead : {C : Type 0} → (C → ℕ → C → Type 0) → C → List ℕ → C → Type 0
 AreRead tell clock [] after = after ≡ clock
-AreRead {C = C} tell clock (tick ∷ ticks) after = (between : C) × tell clock tick between × AreRead tell between ticks after
+AreRead {C = C} tell clock (tick ∷ ticks) after = (between : C) × tell clock tick between
+    × AreRead tell between ticks after
 
 abbrev pub ticks_of : List Turn → List ℕ
 ticks_of turns = map (λ t. t.now) turns
@@ -141,7 +143,19 @@ tally_after tally (t ∷ turns) = tally_after (counted_in t.intake tally) turns
 
 -- nothing came to the end, and it gave nothing
 abbrev pub idle_turn : ℕ → Turn
-idle_turn now = record { now = now; opened = None; cargoes = []; sent = []; answers = []; answer = None; buffer = []; intake = None; told = []; refused = None; beat = false }
+idle_turn now = record {
+  now = now;
+  opened = None;
+  cargoes = [];
+  sent = [];
+  answers = [];
+  answer = None;
+  buffer = [];
+  intake = None;
+  told = [];
+  refused = None;
+  beat = false;
+}
 
 -- no number: nothing else is done
 pub record EndsWithNoNumber (e : EndState) (t : Turn) (after : EndState) : Type 0 where
@@ -217,7 +231,8 @@ AreTurns s e [] after = after ≡ e
 AreTurns s e (t ∷ turns) after = (between : EndState) × IsTurn s e t between × AreTurns s between turns after
 
 -- whole turns, and then the last one, which may end early
-pub record IsTurnRun (s : Settings) (e : EndState) (turns : List Turn) (last : Turn) (ending : Ending) (after : EndState) : Type 0 where
+pub record IsTurnRun (s : Settings) (e : EndState) (turns : List Turn) (last : Turn) (ending : Ending)
+    (after : EndState) : Type 0 where
   pub before : EndState
   pub turns_are : AreTurns s e turns before
   pub last_beat : Option ℕ

@@ -7,9 +7,9 @@ use tora_life::{Fuse, FuseMode};
 
 /// For tests alone, a wire around another one: so many calls pass, and then one fails, or all do.
 ///
-/// A call that fails so is counted, and makes no call of the wire inside; a datagram that was to be sent by it did not go
-/// out, and from then on contracts are told no datagrams. Calls that the wire inside fails are counted too. The count
-/// begins at 0.
+/// A call that fails so is counted, and makes no call of the wire inside; a datagram that was to be sent by it did not
+/// go out, and from then on contracts are told no datagrams. Calls that the wire inside fails are counted too. The
+/// count begins at 0.
 #[derive(Drop)]
 pub struct FuseWire<W: Wire> {
     wire: W,
@@ -29,7 +29,8 @@ impl<W: Wire> Model for FuseWire<W> {
 impl<W: Wire> FuseWire<W> {
     /// A wire over which `k` calls pass, sends and receives together.
     pub fn new(wire: W, k: u64, mode: FuseMode) -> FuseWire<W>
-        ensures { result ≡ record { wire = wire; fuse = record { mode = mode; left = Some k }; told = true; failures = 0 } }
+        ensures { result
+            ≡ record { wire = wire; fuse = record { mode = mode; left = Some k }; told = true; failures = 0 } }
     {
         FuseWire {
             wire,

@@ -19,11 +19,12 @@ pub enum Intake {
 
 /// Takes in a datagram of any bytes at the tick `now`, of 100 ms.
 ///
-/// Where the bytes spell a frame, the end is as after `LinkEnd::on_frame` of it; otherwise the end is unchanged. Exactly one
-/// count of the tally is one more. It takes no memory.
+/// Where the bytes spell a frame, the end is as after `LinkEnd::on_frame` of it; otherwise the end is unchanged.
+/// Exactly one count of the tally is one more. It takes no memory.
 pub fn take_in(end: &mut LinkEnd, tally: &mut Tally, datagram: &[u8], now: u64) -> Intake
     ensures intake { result ≡ intake_of end.old.settings end.old.state now (frame_reading datagram.now) }
-    ensures end { end.new ≡ record end.old { state = after_reading end.old.settings end.old.state now (frame_reading datagram.now) } }
+    ensures end { end.new
+        ≡ record end.old { state = after_reading end.old.settings end.old.state now (frame_reading datagram.now) } }
     ensures tally { tally.new ≡ counted result tally.old }
 {
     let mut packets = Packets::new();

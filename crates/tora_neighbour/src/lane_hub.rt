@@ -3,8 +3,8 @@ use crate::hub::Hub;
 use std::sync::Wait;
 use tora_lane::{Cargo, Gone, InPort, OutTake, What};
 
-/// The hub over the lanes: the port of the link's seat, and the lane of its cargoes. It takes a cargo without waiting, and
-/// none where none is there.
+/// The hub over the lanes: the port of the link's seat, and the lane of its cargoes. It takes a cargo without waiting,
+/// and none where none is there.
 #[derive(Drop)]
 pub struct LaneHub {
     /// The port.

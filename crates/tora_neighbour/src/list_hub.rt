@@ -7,7 +7,8 @@ use std::marker::Model;
 use std::sync::Wait;
 use tora_lane::{Cargo, Gone, What};
 
-/// For tests alone, a hub that gives its cargoes in turn, and keeps what is put, up to a room. From then on it answers `Gone`.
+/// For tests alone, a hub that gives its cargoes in turn, and keeps what is put, up to a room. From then on it answers
+/// `Gone`.
 #[derive(Drop)]
 pub struct ListHub {
     kept: Vec<Put>,
@@ -23,18 +24,27 @@ impl Model for ListHub {
 
     ghost Value = { ListHubView };
 
-    ghost view = { λ h. record { puts = h.kept.items; room = h.room; takes = take h.next h.cargoes.items; cargoes = drop h.next h.cargoes.items; gone = h.gone } };
+    ghost view = { λ h. record {
+      puts = h.kept.items;
+      room = h.room;
+      takes = take h.next h.cargoes.items;
+      cargoes = drop h.next h.cargoes.items;
+      gone = h.gone;
+    } };
 
-    ghost invariant = { λ h. (length h.kept.items ≤ h.room) × (h.room ≤ vec_capacity h.kept) × (h.next ≤ length h.cargoes.items) };
+    ghost invariant = { λ h. (length h.kept.items ≤ h.room) × (h.room ≤ vec_capacity h.kept)
+        × (h.next ≤ length h.cargoes.items) };
 }
 
 impl ListHub {
-    /// A hub with these cargoes to be taken, which keeps up to `room` things that are put. It makes room for them at once.
+    /// A hub with these cargoes to be taken, which keeps up to `room` things that are put. It makes room for them at
+    /// once.
     ///
     /// # Errors
     /// Want of memory.
     pub fn new(alloc: Global, room: usize, cargoes: Vec<Cargo>) -> Result<ListHub, AllocError>
-        ensures { IfOk result (λ h. h ≡ record { puts = []; room = room; takes = []; cargoes = cargoes.items; gone = false }) }
+        ensures { IfOk result
+            (λ h. h ≡ record { puts = []; room = room; takes = []; cargoes = cargoes.items; gone = false }) }
     {
         Ok(ListHub {
             kept: Vec::with_capacity(alloc, room)?,

@@ -43,8 +43,9 @@ fn kept(bytes: &[u8]) -> Sent
     }
 }
 
-/// For tests alone, a wire that gives its datagrams in turn, and then none. It keeps up to N datagrams that are sent, of at most 560
-/// bytes each, and takes no memory for them. Any other send fails, and from then on it tells contracts no datagrams.
+/// For tests alone, a wire that gives its datagrams in turn, and then none. It keeps up to N datagrams that are sent,
+/// of at most 560 bytes each, and takes no memory for them. Any other send fails, and from then on it tells contracts
+/// no datagrams.
 #[derive(Drop)]
 pub struct MemWire<const N: usize> {
     coming: Vec<Vec<u8>>,
@@ -60,7 +61,12 @@ impl<const N: usize> Model for MemWire<N> {
 
     ghost Value = { MemoryWireView };
 
-    ghost view = { λ w. record { tells = w.told; coming = map bytes_of (drop w.next w.coming.items); tries = map sent_of w.sent.items; failures = w.failures } };
+    ghost view = { λ w. record {
+      tells = w.told;
+      coming = map bytes_of (drop w.next w.coming.items);
+      tries = map sent_of w.sent.items;
+      failures = w.failures;
+    } };
 
     ghost invariant = { λ w. w.next ≤ length w.coming.items };
 }

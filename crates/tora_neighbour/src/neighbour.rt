@@ -36,16 +36,17 @@ fn fault_of(ending: Ending) -> Option<LinkFault>
 /// In each turn, with one tick of 100 ms, it
 /// 1. draws a number for a closed end, and opens it;
 /// 2. hands the tick to the end;
-/// 3. takes the cargoes that wait, at most as many as a lane holds, and submits or cuts each in its own life (a packet of
-///    another life than the bound one is dropped);
+/// 3. takes the cargoes that wait, at most as many as a lane holds, and submits or cuts each in its own life (a packet
+///    of another life than the bound one is dropped);
 /// 4. sends each frame that is due, until none is;
 /// 5. receives once, and takes in the datagram that came, if one did;
 /// 6. puts each event of the end;
 /// 7. puts a beat in the first turn, and where ten ticks have passed since the last one.
 ///
-/// It ends where the life file draws no number (`Life`), where a hundred calls of the wire in a row have failed (`Wire`;
-/// it makes no further call of the wire, cuts the bound life, if there is one, and puts the events that are left), and
-/// where the hub answers `Gone` (no fault). A failed send counts as a try of its frame; a failed receive gives nothing.
+/// It ends where the life file draws no number (`Life`), where a hundred calls of the wire in a row have failed
+/// (`Wire`; it makes no further call of the wire, cuts the bound life, if there is one, and puts the events that are
+/// left), and where the hub answers `Gone` (no fault). A failed send counts as a try of its frame; a failed receive
+/// gives nothing.
 pub fn run_neighbour<R: Wait, D: Disk, W: Wire, C: Clock, H: Hub>(
     rt: &R,
     link: Link<D, W>,
@@ -53,8 +54,17 @@ pub fn run_neighbour<R: Wait, D: Disk, W: Wire, C: Clock, H: Hub>(
     hub: H,
 ) -> Finished<D, W, H>
     requires new { link.end.state ≡ first_end }
-    ensures turns { (turns : List Turn) × (last : Turn) × (ending : Ending) × (result.fault ≡ fault_of ending) × IsTurnRun link.end.settings link.end.state turns last ending result.link.end.state × Traffic (outside H.puts H.takes W.tells W.coming W.tries link hub) (turns ++ last ∷ []) (outside H.puts H.takes W.tells W.coming W.tries result.link result.hub) × (result.tally ≡ tally_after first_tally (turns ++ last ∷ [])) × AreRead C.did_tell clock.old (ticks_of (turns ++ last ∷ [])) clock.new × ((before : H) × (wire : W) × AreCalls H.did_take H.did_put W.did_send W.did_receive hub link.wire turns before wire × LastCalls H.did_take H.did_put W.did_send W.did_receive before wire last ending result.hub result.link.wire) }
-    ensures cause { IsEndOf result.fault link.file.numbers result.link.file.numbers (D.failures link.file.disk) (D.failures result.link.file.disk) (W.failures link.wire) (W.failures result.link.wire) (H.gone result.hub) }
+    ensures turns { (turns : List Turn) × (last : Turn) × (ending : Ending) × (result.fault ≡ fault_of ending)
+        × IsTurnRun link.end.settings link.end.state turns last ending result.link.end.state
+        × Traffic (outside H.puts H.takes W.tells W.coming W.tries link hub) (turns ++ last ∷ [])
+        (outside H.puts H.takes W.tells W.coming W.tries result.link result.hub)
+        × (result.tally ≡ tally_after first_tally (turns ++ last ∷ []))
+        × AreRead C.did_tell clock.old (ticks_of (turns ++ last ∷ [])) clock.new
+        × ((before : H) × (wire : W)
+        × AreCalls H.did_take H.did_put W.did_send W.did_receive hub link.wire turns before wire
+        × LastCalls H.did_take H.did_put W.did_send W.did_receive before wire last ending result.hub result.link.wire) }
+    ensures cause { IsEndOf result.fault link.file.numbers result.link.file.numbers (D.failures link.file.disk)
+        (D.failures result.link.file.disk) (W.failures link.wire) (W.failures result.link.wire) (H.gone result.hub) }
 {
     let mut link = link;
     let mut hub = hub;

@@ -17,11 +17,13 @@ fn rest_of_tick(moment: u128) -> u64
     TICK - (moment % 100) as u64
 }
 
-/// The clock of a node: Unix time in ticks of 100 ms, and the last tick that there is, 2^64 - 1, once its core has ended.
+/// The clock of a node: Unix time in ticks of 100 ms, and the last tick that there is, 2^64 - 1, once its core has
+/// ended.
 ///
-/// The thread of a link ends where the core takes nothing any more and a put is refused. By the last tick a beat is due, so that its
-/// next turn is its last. All threads of a node share it by reference, and each reference is a clock. Contracts see that each tick is the last one or that of a reading of the system's clock, and not which of
-/// the two: that the core has ended is told by another thread.
+/// The thread of a link ends where the core takes nothing any more and a put is refused. By the last tick a beat is
+/// due, so that its next turn is its last. All threads of a node share it by reference, and each reference is a clock.
+/// Contracts see that each tick is the last one or that of a reading of the system's clock, and not which of the two:
+/// that the core has ended is told by another thread.
 #[derive(Drop)]
 pub struct NodeClock<R> {
     rt: R,

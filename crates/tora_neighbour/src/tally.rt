@@ -1,6 +1,7 @@
 //! Counts of what was made of the datagrams that came in.
 ghost use Rattle.std.specs.Prelude.{◌≡◌};
-ghost use Rattle.tora_neighbour.specs.Tally.{first_tally, with_verdict, with_fault, counted, count_of_verdict, count_of_fault};
+ghost use Rattle.tora_neighbour.specs.Tally.{first_tally, with_verdict, with_fault, counted, count_of_verdict};
+ghost use Rattle.tora_neighbour.specs.Tally.{count_of_fault};
 
 use crate::intake::Intake;
 use tora_arq::Verdict;
@@ -80,8 +81,8 @@ impl Tally {
         }
     }
 
-    /// How many datagrams spelt no frame for the fault with this number (`FrameError::number`, 1 to 10), at most 2^64 - 1.
-    /// It is 0 for any other number.
+    /// How many datagrams spelt no frame for the fault with this number (`FrameError::number`, 1 to 10), at most 2^64 -
+    /// 1. It is 0 for any other number.
     pub fn of_bad(&self, n: u8) -> u64
         ensures { result ≡ count_of_fault n self.now }
     {

@@ -1,5 +1,6 @@
 //! The stages of a turn: it begins, exchanges datagrams, and tells its events.
-ghost use Rattle.std.specs.Prelude.{◌≡◌, [], ◌∷◌, ◌++◌, ◌+◌, ℕ, ◌≤◌, ◌<◌, List, Option, Result, Err, Some, None, length, map, true, false, IsTrue, IfErr, OnOk, OnErr, if◌then◌else◌};
+ghost use Rattle.std.specs.Prelude.{◌≡◌, [], ◌∷◌, ◌++◌, ◌+◌, ℕ, ◌≤◌, ◌<◌, List, Option, Result, Err, Some, None};
+ghost use Rattle.std.specs.Prelude.{length, map, true, false, IsTrue, IfErr, OnOk, OnErr, if◌then◌else◌};
 ghost use Rattle.tora_frame.specs.FrameParts.{FrameParts};
 ghost use Rattle.tora_frame.specs.FrameGrammar.{frame_spelling};
 ghost use Rattle.tora_arq.specs.declared.link_event.LinkEvent.{LinkEvent};
@@ -15,9 +16,11 @@ ghost use Rattle.tora_neighbour.specs.declared.intake.Intake.{Intake};
 ghost use Rattle.tora_neighbour.specs.Intake.{came_in};
 ghost use Rattle.tora_neighbour.specs.Tally.{counted_in};
 ghost use Rattle.tora_seat.specs.Between.{after_cut_of_bound};
-ghost use Rattle.tora_neighbour.specs.Turns.{after_opening, after_cargoes, IsOpening, Tells, is_beat_due, failed_calls, IsRow};
+ghost use Rattle.tora_neighbour.specs.Turns.{after_opening, after_cargoes, IsOpening, Tells, is_beat_due, failed_calls};
+ghost use Rattle.tora_neighbour.specs.Turns.{IsRow};
 ghost use Rattle.tora_neighbour.specs.Traffic.{AreDrawn, Came, entry_of, beat_of};
-ghost use Rattle.tora_neighbour.specs.Calls.{TakesAll, SendsSome, ReceivesOnce, PutsSome, PutsBeat, PutsUpTo, PutsNoMore, ExchangesUpTo};
+ghost use Rattle.tora_neighbour.specs.Calls.{TakesAll, SendsSome, ReceivesOnce, PutsSome, PutsBeat, PutsUpTo};
+ghost use Rattle.tora_neighbour.specs.Calls.{PutsNoMore, ExchangesUpTo};
 ghost use Rattle.tora_neighbour.specs.Causes.{IsReady, IsLifeCause, IsExchange};
 
 use crate::ending::BrokenAt;
@@ -47,12 +50,20 @@ pub fn begin<R: Wait, D: Disk, H: Hub>(
     requires { IsReady end.old.state file.old.numbers }
     ensures puts { H.puts hub.new ≡ H.puts hub.old }
     ensures ready { OnOk result (IsReady end.new.state file.new.numbers) }
-    ensures begun { OnOk result ((opened : Option ℕ) × (cargoes : List Cargo) × IsOpening end.old.state opened × (length cargoes ≤ MOST_CARGOES) × (end.new ≡ record end.old { state = after_cargoes (after_tick end.old.settings (after_opening end.old.state opened now) now) cargoes }) × AreDrawn file.old.numbers.drawn (list_of opened) file.new.numbers.drawn × (H.takes hub.new ≡ H.takes hub.old ++ cargoes) × TakesAll H.did_take hub.old cargoes hub.new) }
+    ensures begun { OnOk result ((opened : Option ℕ) × (cargoes : List Cargo) × IsOpening end.old.state opened
+        × (length cargoes ≤ MOST_CARGOES)
+        × (end.new ≡ record end.old {
+          state = after_cargoes (after_tick end.old.settings (after_opening end.old.state opened now) now) cargoes;
+        })
+        × AreDrawn file.old.numbers.drawn (list_of opened) file.new.numbers.drawn
+        × (H.takes hub.new ≡ H.takes hub.old ++ cargoes) × TakesAll H.did_take hub.old cargoes hub.new) }
     ensures failed { OnOk result (file.new.numbers.failed ≡ file.old.numbers.failed) }
     ensures disk { OnOk result (D.failures file.new.disk ≡ D.failures file.old.disk) }
     ensures closed { OnErr result (IsTrue (is_closed end.old.state)) }
-    ensures same { OnErr result ((end.new ≡ end.old) × (file.new.numbers.drawn ≡ file.old.numbers.drawn) × (H.takes hub.new ≡ H.takes hub.old) × (hub.new ≡ hub.old)) }
-    ensures cause { IfErr result (λ error. IsLifeCause error file.old.numbers file.new.numbers (D.failures file.old.disk) (D.failures file.new.disk)) }
+    ensures same { OnErr result ((end.new ≡ end.old) × (file.new.numbers.drawn ≡ file.old.numbers.drawn)
+        × (H.takes hub.new ≡ H.takes hub.old) × (hub.new ≡ hub.old)) }
+    ensures cause { IfErr result (λ error. IsLifeCause error file.old.numbers file.new.numbers
+        (D.failures file.old.disk) (D.failures file.new.disk)) }
 {
     lives_are_bound_once();
     open_closed(end, file, now)?;
@@ -74,9 +85,20 @@ pub fn exchange<R: Wait, W: Wire>(
     ensures tells { IsTrue (W.tells wire.new) → IsTrue (W.tells wire.old) }
     ensures row { OnOk result (row.new < MOST_FAILURES) }
     ensures broken { OnErr result (row.new ≡ MOST_FAILURES) }
-    ensures failures { (base : ℕ) → RoseBy row.old base (W.failures wire.old) → RoseBy row.new base (W.failures wire.new) }
+    ensures failures { (base : ℕ) → RoseBy row.old base (W.failures wire.old)
+        → RoseBy row.new base (W.failures wire.new) }
     ensures last { OnOk result (end.new.state.last_life ≡ end.old.state.last_life) }
-    ensures exchange { (frames : List FrameParts) × (intake : Option Intake) × (answers : List (Result (Unit {0}) WireError)) × (answer : Option (Result (Option ℕ) WireError)) × (buffer : List ℕ) × IsExchange end.old.settings end.old.state now frames (came_in answer buffer) intake result end.new.state × (end.new.settings ≡ end.old.settings) × (tally.new ≡ counted_in intake tally.old) × (IsTrue (W.tells wire.new) → W.tries wire.new ≡ W.tries wire.old ++ map frame_spelling frames) × (IsTrue (W.tells wire.new) → Came (W.coming wire.old) (list_of (came_in answer buffer)) (W.coming wire.new)) × OnOk result ((sent : W) × SendsSome W.did_send wire.old frames answers sent × ReceivesOnce W.did_receive sent answer buffer wire.new) × IfErr result (λ at. ExchangesUpTo W.did_send W.did_receive wire.old frames answers answer buffer at wire.new) × IsRow row.old (failed_calls answers answer) row.new }
+    ensures exchange { (frames : List FrameParts) × (intake : Option Intake)
+        × (answers : List (Result (Unit {0}) WireError)) × (answer : Option (Result (Option ℕ) WireError))
+        × (buffer : List ℕ)
+        × IsExchange end.old.settings end.old.state now frames (came_in answer buffer) intake result end.new.state
+        × (end.new.settings ≡ end.old.settings) × (tally.new ≡ counted_in intake tally.old)
+        × (IsTrue (W.tells wire.new) → W.tries wire.new ≡ W.tries wire.old ++ map frame_spelling frames)
+        × (IsTrue (W.tells wire.new) → Came (W.coming wire.old) (list_of (came_in answer buffer)) (W.coming wire.new))
+        × OnOk result ((sent : W) × SendsSome W.did_send wire.old frames answers sent
+        × ReceivesOnce W.did_receive sent answer buffer wire.new)
+        × IfErr result (λ at. ExchangesUpTo W.did_send W.did_receive wire.old frames answers answer buffer at wire.new)
+        × IsRow row.old (failed_calls answers answer) row.new }
 {
     lives_are_bound_once();
     if let Err(_) = send_frames(rt, end, wire, row, now) {
@@ -92,7 +114,10 @@ pub fn exchange<R: Wait, W: Wire>(
 pub fn give_up<R: Wait, H: Hub>(rt: &R, end: &mut LinkEnd, hub: &mut H, now: u64)
     ensures settings { end.new.settings ≡ end.old.settings }
     ensures takes { H.takes hub.new ≡ H.takes hub.old }
-    ensures told { (told : List LinkEvent) × (refused : Option LinkEvent) × Tells (after_cut_of_bound end.old.state (bound_life end.old.state)) told refused end.new.state × (H.puts hub.new ≡ H.puts hub.old ++ map (entry_of now) told) × PutsUpTo H.did_put now hub.old told refused hub.new }
+    ensures told { (told : List LinkEvent) × (refused : Option LinkEvent)
+        × Tells (after_cut_of_bound end.old.state (bound_life end.old.state)) told refused end.new.state
+        × (H.puts hub.new ≡ H.puts hub.old ++ map (entry_of now) told)
+        × PutsUpTo H.did_put now hub.old told refused hub.new }
 {
     cut_bound(end);
     match put_events(rt, end, hub, now) {
@@ -139,8 +164,14 @@ pub fn tell<R: Wait, H: Hub>(
     ensures settings { end.new.settings ≡ end.old.settings }
     ensures takes { H.takes hub.new ≡ H.takes hub.old }
     ensures last { OnOk result (last_beat.new ≡ (if is_beat_due last_beat.old now then Some now else last_beat.old)) }
-    ensures all { OnOk result ((told : List LinkEvent) × Tells end.old.state told None end.new.state × (H.puts hub.new ≡ H.puts hub.old ++ (map (entry_of now) told ++ beat_of (is_beat_due last_beat.old now) now)) × ((mid : H) × PutsSome H.did_put now hub.old told mid × PutsBeat H.did_put now (is_beat_due last_beat.old now) mid hub.new)) }
-    ensures some { OnErr result ((told : List LinkEvent) × (refused : Option LinkEvent) × Tells end.old.state told refused end.new.state × (H.puts hub.new ≡ H.puts hub.old ++ map (entry_of now) told) × PutsNoMore H.did_put now hub.old told refused hub.new × (refused ≡ None → IsTrue (is_beat_due last_beat.old now))) }
+    ensures all { OnOk result ((told : List LinkEvent) × Tells end.old.state told None end.new.state
+        × (H.puts hub.new ≡ H.puts hub.old ++ (map (entry_of now) told ++ beat_of (is_beat_due last_beat.old now) now))
+        × ((mid : H) × PutsSome H.did_put now hub.old told mid
+        × PutsBeat H.did_put now (is_beat_due last_beat.old now) mid hub.new)) }
+    ensures some { OnErr result ((told : List LinkEvent) × (refused : Option LinkEvent)
+        × Tells end.old.state told refused end.new.state × (H.puts hub.new ≡ H.puts hub.old ++ map (entry_of now) told)
+        × PutsNoMore H.did_put now hub.old told refused hub.new
+        × (refused ≡ None → IsTrue (is_beat_due last_beat.old now))) }
     ensures gone { OnErr result (H.gone hub.new ≡ true) }
 {
     if let Err(gone) = put_events(rt, end, hub, now) {

@@ -19,8 +19,8 @@ const WAKE_UP: Token = Token(1);
 /// The most events of one wait: one of the socket and one of the wake-up.
 const MOST_EVENTS: usize = 2;
 
-/// A socket for datagrams that is waited for, whose calls contracts tell: what each was given, how it was answered, and the socket
-/// after it. Only a real call gives one.
+/// A socket for datagrams that is waited for, whose calls contracts tell: what each was given, how it was answered, and
+/// the socket after it. Only a real call gives one.
 pub trait WaitedSocket {
     /// What sending a datagram made of it: bytes, address, answer, socket after it.
     ghost did_send_to: { Self → List ℕ → Address → Result ℕ Error → Self → Type 0 };
@@ -35,7 +35,8 @@ pub trait WaitedSocket {
     fn send_datagram(&mut self, bytes: &[u8], to: SocketAddr) -> io::Result<usize>
         ensures { did_send_to self.old bytes.now to result self.new };
 
-    /// Receives a datagram into the front of a buffer, cut to it, and answers how many bytes and from where. It waits for none.
+    /// Receives a datagram into the front of a buffer, cut to it, and answers how many bytes and from where. It waits
+    /// for none.
     fn receive_datagram(&mut self, buf: &mut [u8]) -> io::Result<(usize, SocketAddr)>
         ensures call { did_receive_from self.old buf.old result buf.new self.new }
         ensures count { IfOk result (λ came. came.0 ≤ length buf.old) };

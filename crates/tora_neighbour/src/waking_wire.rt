@@ -14,7 +14,8 @@ use std::io::ErrorKind;
 use std::marker::Model;
 use std::net::{Net, SocketAddr};
 
-/// Ends the wait of the wire that it was made with, and the clock of the node with its core. A wake-up that fails is passed over.
+/// Ends the wait of the wire that it was made with, and the clock of the node with its core. A wake-up that fails is
+/// passed over.
 #[derive(Drop)]
 pub struct SocketWaker<'a, R> {
     waker: Waker,
@@ -34,12 +35,14 @@ impl<'a, R: SystemClock> Wake for SocketWaker<'a, R> {
 
 /// A wire over a UDP socket between two addresses. It tells contracts no datagrams. It doesn't look at who sent one.
 ///
-/// A receive gives a datagram that has come, and waits for none. Where there is none, it waits for one or for a wake-up, at most
-/// until the clock's next tick of 100 ms begins, and no time at all once the core of the node has ended. A wait that a wake-up or a
-/// signal has ended or that was in vain gives no datagram; one of no bytes is a datagram too.
+/// A receive gives a datagram that has come, and waits for none. Where there is none, it waits for one or for a
+/// wake-up, at most until the clock's next tick of 100 ms begins, and no time at all once the core of the node has
+/// ended. A wait that a wake-up or a signal has ended or that was in vain gives no datagram; one of no bytes is a
+/// datagram too.
 ///
-/// A send waits for nothing, and one that takes fewer bytes than it is given has failed. Where the system has no room for the
-/// datagram, or no way leads to the other end, as long as an interface is down, the datagram is lost, and the call has not failed.
+/// A send waits for nothing, and one that takes fewer bytes than it is given has failed. Where the system has no room
+/// for the datagram, or no way leads to the other end, as long as an interface is down, the datagram is lost, and the
+/// call has not failed.
 #[derive(Drop)]
 pub struct WakingWire<'a, R, S = PolledSocket> {
     socket: S,
@@ -58,8 +61,8 @@ impl<'a, R, S> Model for WakingWire<'a, R, S> {
     ghost view = { λ w. record { socket = w.socket; remote = w.remote; has_more = w.has_more; failures = w.failures } };
 }
 
-/// Whether a datagram that could not be sent for this reason is lost as the network loses datagrams: the system has no room for it
-/// now, or no way leads to the other end for now.
+/// Whether a datagram that could not be sent for this reason is lost as the network loses datagrams: the system has no
+/// room for it now, or no way leads to the other end for now.
 fn is_lost(kind: ErrorKind) -> bool
     ensures { IsTrue result ↔ IsLost kind }
 {
@@ -73,8 +76,8 @@ fn is_lost(kind: ErrorKind) -> bool
 }
 
 impl<'a, R: SystemClock> WakingWire<'a, R> {
-    /// Binds the local address, and sends to the remote one. The socket is not connected. `clock` is that of the node, and tells when a
-    /// tick begins; the waker ends it. It takes memory once.
+    /// Binds the local address, and sends to the remote one. The socket is not connected. `clock` is that of the node,
+    /// and tells when a tick begins; the waker ends it. It takes memory once.
     pub fn bind<N: Net>(
         net: &N,
         alloc: Global,

@@ -1,5 +1,6 @@
 //! What datagrams go over.
-ghost use Rattle.std.specs.Prelude.{◌≡◌, ◌++◌, ◌∷◌, [], ◌≤◌, ℕ, Bool, Option, Result, List, IsTrue, IfOk, IfSome, length};
+ghost use Rattle.std.specs.Prelude.{◌≡◌, ◌++◌, ◌∷◌, [], ◌≤◌, ℕ, Bool, Option, Result, List, IsTrue, IfOk, IfSome};
+ghost use Rattle.std.specs.Prelude.{length};
 ghost use Rattle.tora_neighbour.specs.declared.wire.WireError.{WireError};
 ghost use Rattle.tora_neighbour.specs.Datagrams.{failures_after, IsReceived};
 
@@ -49,7 +50,8 @@ pub trait Wire {
         ensures tells { IsTrue (tells self.new) → IsTrue (tells self.old) }
         ensures tries { IsTrue (tells self.new) → tries self.new ≡ tries self.old }
         ensures count { IfOk result (λ n. IfSome n (λ k. k ≤ length buf.old)) }
-        ensures came { IsTrue (tells self.new) → IsReceived (coming self.old) (length buf.old) result buf.new (coming self.new) };
+        ensures came { IsTrue (tells self.new)
+            → IsReceived (coming self.old) (length buf.old) result buf.new (coming self.new) };
 }
 
 /// A wire that is lent: each call is one of the wire itself, which its owner has back once the link has ended.

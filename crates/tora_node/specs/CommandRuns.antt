@@ -29,11 +29,12 @@ put_for (Asks.Status status) behind = Tells.Status status ∷ behind
 put_for Asks.Quit behind = Tells.Quit ∷ []
 put_for Asks.Unknown behind = behind
 
--- What is put for the bytes of an input, behind these bytes of a line that has not ended. Each LF ends a line, and so does the end
--- of the input, which puts Quit
+-- What is put for the bytes of an input, behind these bytes of a line that has not ended. Each LF ends a line, and so
+-- does the end of the input, which puts Quit
 abbrev pub put_from : List ℕ → List ℕ → List What
 put_from line [] = put_for (asked_in line) (Tells.Quit ∷ [])
-put_from line (c ∷ bytes) = if c == 10 then put_for (asked_in line) (put_from [] bytes) else put_from (line ++ c ∷ []) bytes
+put_from line (c ∷ bytes) = if c == 10 then put_for (asked_in line) (put_from [] bytes)
+    else put_from (line ++ c ∷ []) bytes
 
 -- no byte of it ends a line
 abbrev pub IsLine : List ℕ → Type 0
@@ -48,31 +49,37 @@ whats items = map (λ x. x.what) items
 abbrev pub ticks_put : List Item → List ℕ
 ticks_put items = map (λ x. x.now) items
 
--- These items were put at this port, each with a tick that was read of this clock for it, one after another; it is the same port.
+-- These items were put at this port, each with a tick that was read of this clock for it, one after another; it is the
+-- same port.
 abbrev pub HasPut : {C : Type 0} → (C → ℕ → C → Type 0) → InEnd × C → List Item → InEnd × C → Type 0
-HasPut tell before items after = (after.0.put ≡ before.0.put ++ items) × AreRead tell before.1 (ticks_put items) after.1 × IsSamePort before.0 after.0
+HasPut tell before items after = (after.0.put ≡ before.0.put ++ items) × AreRead tell before.1 (ticks_put items) after.1
+    × IsSamePort before.0 after.0
 
 -- one tick more was read, as for an item that was refused
 abbrev pub ReadsMore : {C : Type 0} → (C → ℕ → C → Type 0) → C → C → Type 0
 ReadsMore tell clock after = (now : ℕ) × tell clock now after
 
--- The clock that is left, by why it has ended: the one behind the last item that was put, of which one tick more was read where the port has answered Gone.
+-- The clock that is left, by why it has ended: the one behind the last item that was put, of which one tick more was
+-- read where the port has answered Gone.
 abbrev pub LeavesClock : {C : Type 0} → (C → ℕ → C → Type 0) → CommandsEnd → C → C → Type 0
 LeavesClock tell Ends.Quit last after = after ≡ last
 LeavesClock tell Ends.End last after = after ≡ last
 LeavesClock tell Ends.Read last after = after ≡ last
 LeavesClock tell Ends.Gone last after = ReadsMore tell last after
 
--- Why it has ended, where an input that begins so had these items put: a line is quit, whatever comes behind it; the input is
--- at its end; a read has failed, which is taken for the end of the input; or the port has answered Gone, with some left to put
+-- Why it has ended, where an input that begins so had these items put: a line is quit, whatever comes behind it; the
+-- input is at its end; a read has failed, which is taken for the end of the input; or the port has answered Gone, with
+-- some left to put
 abbrev pub EndsAt : CommandsEnd → List ℕ → List Item → Option (List ℕ) → Bool → Type 0
 EndsAt Ends.Quit given items remaining gone = (more : List ℕ) → put_from [] (given ++ more) ≡ whats items
 EndsAt Ends.End given items remaining gone = (put_from [] given ≡ whats items) × IsAtEnd remaining
 EndsAt Ends.Read given items remaining gone = put_from [] given ≡ whats items
-EndsAt Ends.Gone given items remaining gone = (left : List What) × (put_from [] given ≡ whats items ++ left) × (gone ≡ true)
+EndsAt Ends.Gone given items remaining gone =
+    (left : List What) × (put_from [] given ≡ whats items ++ left) × (gone ≡ true)
 
 -- Some bytes were read, and what they ask was put at the port, with ticks of the clock
-pub record Commands {C : Type 0} (tell : C → ℕ → C → Type 0) (old_reader new_reader : Option (List ℕ)) (before after : InEnd × C) (end : CommandsEnd) : Type 0 where
+pub record Commands {C : Type 0} (tell : C → ℕ → C → Type 0) (old_reader new_reader : Option (List ℕ))
+    (before after : InEnd × C) (end : CommandsEnd) : Type 0 where
   pub given : List ℕ
   pub items : List Item
   pub read : Consumes old_reader new_reader given
@@ -81,8 +88,9 @@ pub record Commands {C : Type 0} (tell : C → ℕ → C → Type 0) (old_reader
   pub clock : LeavesClock tell end last after.1
   pub ends : EndsAt end given items new_reader after.0.gone
 
--- why it has ended by these reads, the last of them first: with End where the last one gave nothing, with Read where it failed, and none
--- before it did; a line that asks for the end, and a port that has answered Gone, may end it at any read
+-- why it has ended by these reads, the last of them first: with End where the last one gave nothing, with Read where it
+-- failed, and none before it did; a line that asks for the end, and a port that has answered Gone, may end it at any
+-- read
 abbrev pub EndsByReads : CommandsEnd → List Given → Type 0
 EndsByReads Ends.Quit reads = NoneFailed reads
 EndsByReads Ends.End reads = AreToTheEnd reads
@@ -94,6 +102,8 @@ abbrev pub AreReadBy : {R : Type 0} → (R → Given → R → Type 0) → R →
 AreReadBy did_read old new end = (reads : List Given) × AreReads did_read old reads new × EndsByReads end reads
 
 -- and what has become of the input and of the clock is not said
-abbrev pub CommandsFrom : {C : Type 0} → (C → ℕ → C → Type 0) → C → Option (List ℕ) → InEnd → InEnd → CommandsEnd → Type 0
+abbrev pub CommandsFrom : {C : Type 0} → (C → ℕ → C → Type 0) → C → Option (List ℕ) → InEnd → InEnd → CommandsEnd
+    → Type 0
 CommandsFrom {C = C} tell clock old_reader before after end =
-    (new_reader : Option (List ℕ)) × (clock_after : C) × Commands tell old_reader new_reader (before, clock) (after, clock_after) end
+    (new_reader : Option (List ℕ)) × (clock_after : C) × Commands tell old_reader new_reader (before, clock)
+    (after, clock_after) end

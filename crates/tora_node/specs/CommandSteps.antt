@@ -16,18 +16,23 @@ use Rattle.tora_node.specs.CommandRuns.{put_for, put_from, whats, HasPut, ReadsM
 
 -- what is kept of a line of which this was read
 abbrev pub Holds : Line → List ℕ → Type 0
-Holds line text = ((line.is_too_long ≡ false) × (line.bytes.items ≡ text)) ⊎ ((line.is_too_long ≡ true) × (4096 < length text))
+Holds line text =
+    ((line.is_too_long ≡ false) × (line.bytes.items ≡ text)) ⊎ ((line.is_too_long ≡ true) × (4096 < length text))
 
 -- what a command asks was put, and the next line follows, or nothing does
 abbrev pub DidPut : {C : Type 0} → (C → ℕ → C → Type 0) → Command → InEnd × C → InEnd × C → Option CommandsEnd → Type 0
-DidPut tell command before after None = (items : List Item) × HasPut tell before items after × ((behind : List What) → put_for command behind ≡ whats items ++ behind)
-DidPut tell command before after (Some Ends.Quit) = (items : List Item) × HasPut tell before items after × ((behind : List What) → put_for command behind ≡ whats items)
+DidPut tell command before after None = (items : List Item) × HasPut tell before items after
+    × ((behind : List What) → put_for command behind ≡ whats items ++ behind)
+DidPut tell command before after (Some Ends.Quit) = (items : List Item) × HasPut tell before items after
+    × ((behind : List What) → put_for command behind ≡ whats items)
 DidPut tell command before after (Some Ends.End) = ⊥
 DidPut tell command before after (Some Ends.Read) = ⊥
-DidPut tell command before after (Some Ends.Gone) = HasPut tell before [] (after.0, before.1) × (after.0.gone ≡ true) × ReadsMore tell before.1 after.1
+DidPut tell command before after (Some Ends.Gone) = HasPut tell before [] (after.0, before.1) × (after.0.gone ≡ true)
+    × ReadsMore tell before.1 after.1
 
 -- behind this line the bytes had these items put, and what is put for the bytes that are left goes on so
-pub record Putting {C : Type 0} (tell : C → ℕ → C → Type 0) (text bytes : List ℕ) (before after : InEnd × C) (line : Line) (left : List ℕ) : Type 0 where
+pub record Putting {C : Type 0} (tell : C → ℕ → C → Type 0) (text bytes : List ℕ) (before after : InEnd
+    × C) (line : Line) (left : List ℕ) : Type 0 where
   pub items : List Item
   pub rest : List ℕ
   pub put : HasPut tell before items after
@@ -35,24 +40,29 @@ pub record Putting {C : Type 0} (tell : C → ℕ → C → Type 0) (text bytes 
   pub goes : (more : List ℕ) → put_from text (bytes ++ more) ≡ whats items ++ put_from rest (left ++ more)
 
 -- what the bytes ask behind this line was put, as far as lines end in them
-abbrev pub PutsAll : {C : Type 0} → (C → ℕ → C → Type 0) → List ℕ → List ℕ → InEnd × C → InEnd × C → Line → Option CommandsEnd → Type 0
+abbrev pub PutsAll : {C : Type 0} → (C → ℕ → C → Type 0) → List ℕ → List ℕ → InEnd × C → InEnd × C → Line
+    → Option CommandsEnd → Type 0
 PutsAll tell text bytes before after line None = Putting tell text bytes before after line []
 PutsAll tell text bytes before after line (Some Ends.Quit) =
-    (items : List Item) × HasPut tell before items after × ((more : List ℕ) → put_from text (bytes ++ more) ≡ whats items)
+    (items : List Item) × HasPut tell before items after × ((more : List ℕ)
+    → put_from text (bytes ++ more) ≡ whats items)
 PutsAll tell text bytes before after line (Some Ends.End) = ⊥
 PutsAll tell text bytes before after line (Some Ends.Read) = ⊥
 PutsAll {C = C} tell text bytes before after line (Some Ends.Gone) =
-    (items : List Item) × (last : C) × HasPut tell before items (after.0, last) × (after.0.gone ≡ true) × ReadsMore tell last after.1
+    (items : List Item) × (last : C) × HasPut tell before items (after.0, last) × (after.0.gone ≡ true)
+    × ReadsMore tell last after.1
     × ((more : List ℕ) → (left : List What) × (put_from text (bytes ++ more) ≡ whats items ++ left))
 
 -- what a last line asks was put, and then Quit
 abbrev pub PutsLast : {C : Type 0} → (C → ℕ → C → Type 0) → List ℕ → InEnd × C → InEnd × C → Option CommandsEnd → Type 0
 PutsLast tell text before after None = ⊥
-PutsLast tell text before after (Some Ends.Quit) = (items : List Item) × HasPut tell before items after × (put_from text [] ≡ whats items)
+PutsLast tell text before after (Some Ends.Quit) = (items : List Item) × HasPut tell before items after
+    × (put_from text [] ≡ whats items)
 PutsLast tell text before after (Some Ends.End) = ⊥
 PutsLast tell text before after (Some Ends.Read) = ⊥
 PutsLast {C = C} tell text before after (Some Ends.Gone) =
-    (items : List Item) × (last : C) × HasPut tell before items (after.0, last) × (after.0.gone ≡ true) × ReadsMore tell last after.1
+    (items : List Item) × (last : C) × HasPut tell before items (after.0, last) × (after.0.gone ≡ true)
+    × ReadsMore tell last after.1
     × (left : List What) × (put_from text [] ≡ whats items ++ left)
 
 abbrev pub is_gone : Option CommandsEnd → Bool
@@ -74,5 +84,6 @@ abbrev pub ReadsOnce : {R : Type 0} → (R → Given → R → Type 0) → R →
 ReadsOnce did_read old new (Ok n) = (given : Given) × did_read old given new × GoesOn given
 ReadsOnce did_read old new (Err Ends.Quit) = ⊥
 ReadsOnce did_read old new (Err Ends.End) = did_read old (Ok []) new
-ReadsOnce did_read old new (Err Ends.Read) = (error : Error) × did_read old (Err error) new × (error_kind error ≢ Interrupted)
+ReadsOnce did_read old new (Err Ends.Read) = (error : Error) × did_read old (Err error) new
+    × (error_kind error ≢ Interrupted)
 ReadsOnce did_read old new (Err Ends.Gone) = ⊥

@@ -35,7 +35,8 @@ answers_told offers before k = was_put (slice_get offers (length before))
 abbrev pub serving_told : List ℕ → SeatState → ServedItem → Serving
 serving_told neighbours s x = serving_of (answers_told x.offers) neighbours s x.item
 
--- these items were served one after another: in each just these cargoes were offered, and the seat goes on as serving leaves it
+-- these items were served one after another: in each just these cargoes were offered, and the seat goes on as serving
+-- leaves it
 abbrev pub AreServed : List ℕ → SeatState → List ServedItem → SeatState → Type 0
 AreServed neighbours s [] after = after ≡ s
 AreServed neighbours s (x ∷ xs) after =
@@ -52,7 +53,8 @@ offers_made (x ∷ xs) = x.offers ++ offers_made xs
 -- the inputs that the core accepted, each with the tick of its item
 abbrev pub inputs_stepped : List ℕ → SeatState → List ServedItem → List (Input × ℕ)
 inputs_stepped neighbours s [] = []
-inputs_stepped neighbours s (x ∷ xs) = (serving_told neighbours s x).inputs ++ inputs_stepped neighbours (serving_told neighbours s x).seat xs
+inputs_stepped neighbours s (x ∷ xs) = (serving_told neighbours s x).inputs
+    ++ inputs_stepped neighbours (serving_told neighbours s x).seat xs
 
 -- ---- what is printed
 
@@ -156,7 +158,8 @@ GoOn (x ∷ xs) = (x.item.what ≢ Tells.Quit) × GoOn xs
 
 -- the last of the items is so behind those before it, and none of these is Quit
 abbrev pub EndsWith : (List ServedItem → What → Type 0) → List ServedItem → Type 0
-EndsWith Is xs = (front : List ServedItem) × (x : ServedItem) × (xs ≡ front ++ x ∷ []) × GoOn front × Is front x.item.what
+EndsWith Is xs =
+    (front : List ServedItem) × (x : ServedItem) × (xs ≡ front ++ x ∷ []) × GoOn front × Is front x.item.what
 
 -- without a fault with the first Quit, or before any of them, where the port has answered Gone
 abbrev pub EndsSo : Option NodeError → List ServedItem → Bool → Type 0

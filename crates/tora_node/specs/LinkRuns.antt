@@ -49,7 +49,8 @@ module _ {D W : Type 0} {disk : Disk.Ghosts D} {wire : Wire.Ghosts W} where
 
   -- its life file was opened on this disk
   abbrev pub OpenedOn : (ℕ → ℕ → D → Result ℕ LifeError → Type 0) → D → NewLink D W disk wire → Type 0
-  OpenedOn opened of new = opened new.link.end.settings.me new.link.end.settings.peer of (Ok new.link.file.numbers.drawn)
+  OpenedOn opened of new =
+      opened new.link.end.settings.me new.link.end.settings.peer of (Ok new.link.file.numbers.drawn)
 
 -- the links of a node whose core begins as this one, in ascending order of their peers
 abbrev pub links_of : CoreView → List LinkName
@@ -57,8 +58,8 @@ links_of first = map (name_of first.me) first.neighbours
 
 -- ---- what its thread comes to
 
--- The thread of a link: whole turns and a last one, of an end of version 2 with the standard times that was never opened. It has
--- counted the datagrams that came in them, and its fault is that of the way in which the last one ends
+-- The thread of a link: whole turns and a last one, of an end of version 2 with the standard times that was never
+-- opened. It has counted the datagrams that came in them, and its fault is that of the way in which the last one ends
 pub record IsLinkRun (me peer : ℕ) (fault : Option LinkFault) (tally : Tally) : Type 0 where
   pub turns : List Turn
   pub last : Turn
@@ -73,7 +74,8 @@ abbrev pub AreLinkRuns : List LinkName → List Outcome → Type 0
 AreLinkRuns [] [] = Unit {0}
 AreLinkRuns [] (outcome ∷ outcomes) = ⊥
 AreLinkRuns (link ∷ links) [] = ⊥
-AreLinkRuns (link ∷ links) (outcome ∷ outcomes) = IsLinkRun link.me link.peer outcome.fault outcome.tally × AreLinkRuns links outcomes
+AreLinkRuns (link ∷ links) (outcome ∷ outcomes) = IsLinkRun link.me link.peer outcome.fault outcome.tally
+    × AreLinkRuns links outcomes
 
 -- each link had a thread, which ended without a fault, and these are their tallies, in the same order
 abbrev pub AreFaultless : List LinkName → List Tally → Type 0
@@ -88,12 +90,14 @@ AreFaultless (link ∷ links) (tally ∷ tallies) = IsLinkRun link.me link.peer 
 abbrev pub IsOpening : List LinkName → NodeError → Type 0
 IsOpening links Fault.Memory = Unit {0}
 IsOpening links Fault.Lane = ⊥
-IsOpening links (Fault.Life peer error) = (place : ℕ) × (link : LinkName) × (slice_get links place ≡ Some link) × (link.peer ≡ peer)
+IsOpening links (Fault.Life peer error) = (place : ℕ) × (link : LinkName) × (slice_get links place ≡ Some link)
+    × (link.peer ≡ peer)
 IsOpening links (Fault.Wire peer) = ⊥
 IsOpening links Fault.Output = ⊥
 
 -- the life file of the link to this peer did not open on its disk, for this reason; those of the links before it did
-pub record LifeFailed {D : Type 0} (opened : ℕ → ℕ → D → Result ℕ LifeError → Type 0) (links : List LinkName) (disks : List D) (peer : ℕ) (error : LifeError) : Type 0 where
+pub record LifeFailed {D : Type 0} (opened : ℕ → ℕ → D → Result ℕ LifeError
+    → Type 0) (links : List LinkName) (disks : List D) (peer : ℕ) (error : LifeError) : Type 0 where
   pub place : ℕ
   pub link : LinkName
   pub disk : D
@@ -101,10 +105,12 @@ pub record LifeFailed {D : Type 0} (opened : ℕ → ℕ → D → Result ℕ Li
   pub at_disk : slice_get disks place ≡ Some disk
   pub peer_is : link.peer ≡ peer
   pub failed : opened link.me link.peer disk (Err error)
-  pub before : (k : ℕ) (other : LinkName) (file : D) → k < place → slice_get links k ≡ Some other → slice_get disks k ≡ Some file → (drawn : ℕ) × opened other.me other.peer file (Ok drawn)
+  pub before : (k : ℕ) (other : LinkName) (file : D) → k < place → slice_get links k ≡ Some other
+      → slice_get disks k ≡ Some file → (drawn : ℕ) × opened other.me other.peer file (Ok drawn)
 
 -- memory is gone, or the life file of one of these links did not open on its disk
-abbrev pub FailsToOpen : {D : Type 0} → (ℕ → ℕ → D → Result ℕ LifeError → Type 0) → List LinkName → List D → NodeError → Type 0
+abbrev pub FailsToOpen : {D : Type 0} → (ℕ → ℕ → D → Result ℕ LifeError → Type 0) → List LinkName → List D → NodeError
+    → Type 0
 FailsToOpen opened links disks Fault.Memory = Unit {0}
 FailsToOpen opened links disks Fault.Lane = ⊥
 FailsToOpen opened links disks (Fault.Life peer error) = LifeFailed opened links disks peer error
@@ -112,7 +118,8 @@ FailsToOpen opened links disks (Fault.Wire peer) = ⊥
 FailsToOpen opened links disks Fault.Output = ⊥
 
 -- before its threads were started, or because one could not be, with these disks for the life files of its links
-abbrev pub FailsToStart : {D : Type 0} → (ℕ → ℕ → D → Result ℕ LifeError → Type 0) → CoreView → List D → NodeError → Type 0
+abbrev pub FailsToStart : {D : Type 0} → (ℕ → ℕ → D → Result ℕ LifeError → Type 0) → CoreView → List D → NodeError
+    → Type 0
 FailsToStart opened first disks Fault.Memory = Unit {0}
 FailsToStart opened first disks Fault.Lane = IsNodeFault first.neighbours Fault.Lane
 FailsToStart opened first disks (Fault.Life peer error) = LifeFailed opened (links_of first) disks peer error

@@ -19,7 +19,12 @@ new_end me peer = link_end_of (settings_of Two me peer STANDARD) first_end
 abbrev pub owner_of : ℕ → ℕ → Owner
 owner_of me peer = record { node = me; peer = peer }
 
--- Opening the file of this node for its link to this peer on this disk answered so, by these calls of the disk: this is the number that counts as its last, or this is why it did not open
-abbrev pub IsOpened : {D : Type 0} → (D → Result (Unit {0}) DiskError → D → Type 0) → (D → ℕ → List ℕ → Result ℕ DiskError → List ℕ → D → Type 0) → (D → ℕ → List ℕ → Result (Unit {0}) DiskError → D → Type 0) → ℕ → ℕ → D → Result ℕ LifeError → Type 0
-IsOpened {D = D} syncs reads writes me peer disk (Ok drawn) = (numbers : Numbers) × (after : D) × OpensBy syncs reads writes (owner_of me peer) disk (Ok numbers) after × (numbers.drawn ≡ drawn)
-IsOpened {D = D} syncs reads writes me peer disk (Err error) = (after : D) × OpensBy syncs reads writes (owner_of me peer) disk (Err error) after
+-- Opening the file of this node for its link to this peer on this disk answered so, by these calls of the disk: this is
+-- the number that counts as its last, or this is why it did not open
+abbrev pub IsOpened : {D : Type 0} → (D → Result (Unit {0}) DiskError → D → Type 0)
+    → (D → ℕ → List ℕ → Result ℕ DiskError → List ℕ → D → Type 0)
+    → (D → ℕ → List ℕ → Result (Unit {0}) DiskError → D → Type 0) → ℕ → ℕ → D → Result ℕ LifeError → Type 0
+IsOpened {D = D} syncs reads writes me peer disk (Ok drawn) = (numbers : Numbers) × (after : D)
+    × OpensBy syncs reads writes (owner_of me peer) disk (Ok numbers) after × (numbers.drawn ≡ drawn)
+IsOpened {D = D} syncs reads writes me peer disk (Err error) = (after : D)
+    × OpensBy syncs reads writes (owner_of me peer) disk (Err error) after

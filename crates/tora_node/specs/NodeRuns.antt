@@ -14,8 +14,8 @@ use Rattle.tora_neighbour.specs.declared.fault.LinkFault.TheVariants as Of
 use Rattle.tora_node.specs.declared.link_task.Outcome.{Outcome}
 use Rattle.tora_node.specs.CoreRuns.{ServedItem, AreServed, inputs_stepped, EndsSo}
 
--- the core as the node left it, the tally of each neighbour, in ascending order, the items that the core has taken, and whether its
--- port has answered Gone
+-- the core as the node left it, the tally of each neighbour, in ascending order, the items that the core has taken, and
+-- whether its port has answered Gone
 pub record EndedView : Type 0 where
   pub core : CoreView
   pub tallies : List Tally
@@ -77,17 +77,19 @@ IsCoreFault (Some (Fault.Life peer error)) = ⊥
 IsCoreFault (Some (Fault.Wire peer)) = ⊥
 IsCoreFault (Some Fault.Output) = Unit {0}
 
--- Some items were served one after another from a seat on, and the core is the run of the inputs that serving made of them. Only the
--- last item may be Quit, and what it is fits the fault
+-- Some items were served one after another from a seat on, and the core is the run of the inputs that serving made of
+-- them. Only the last item may be Quit, and what it is fits the fault
 abbrev pub IsServedCore : SeatView → Option NodeError → CoreView → Type 0
 IsServedCore first fault core =
-    (xs : List ServedItem) × (after : SeatState) × (gone : Bool) × AreServed first.core.neighbours (state_of first) xs after
+    (xs : List ServedItem) × (after : SeatState) × (gone : Bool)
+    × AreServed first.core.neighbours (state_of first) xs after
     × (core ≡ core_after_all first.core (inputs_stepped first.core.neighbours (state_of first) xs))
     × EndsSo fault xs gone
 
 -- what a core's thread comes to
 abbrev pub IsCoreRun : SeatView → SeatView → Option NodeError → Type 0
-IsCoreRun first last fault = IsServedCore first fault last.core × (last.core.neighbours ≡ first.core.neighbours) × IsCoreFault fault
+IsCoreRun first last fault =
+    IsServedCore first fault last.core × (last.core.neighbours ≡ first.core.neighbours) × IsCoreFault fault
 
 -- the core of a node that began with this one and has ended without a fault
 abbrev pub IsRunOf : CoreView → CoreView → Type 0

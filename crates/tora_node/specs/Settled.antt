@@ -13,13 +13,20 @@ use Rattle.tora_node.specs.Threads.{Each, IsSettled, outcome_of}
 -- the lanes of each link, and the seat of the commands
 abbrev pub AreSettled : {Wr : Type 0} → CoreRest Wr → List LinkRest → InEnd → Type 0
 AreSettled core links command =
-    Each (IsSettled core.port.taken) links core.outs.ends.items × (left : List Item) × (items_of command.seat core.port.taken ++ left ≡ command.put)
+    Each (IsSettled core.port.taken) links core.outs.ends.items × (left : List Item)
+    × (items_of command.seat core.port.taken ++ left ≡ command.put)
 
 -- all are settled, and the first fault is answered; or memory is gone
 abbrev pub SettlesTo : {Wr : Type 0} → CoreRest Wr → List LinkRest → InEnd → Result EndedView NodeError → Type 0
 SettlesTo core links command (Ok ended) =
     AreSettled core links command
     × (first_fault core.fault core.seat.core.neighbours (map outcome_of links) ≡ None)
-    × (ended ≡ record { core = core.seat.core; tallies = map (λ o. o.tally) (map outcome_of links); taken = core.port.taken; gone = core.port.gone })
+    × (ended ≡ record {
+      core = core.seat.core;
+      tallies = map (λ o. o.tally) (map outcome_of links);
+      taken = core.port.taken;
+      gone = core.port.gone;
+    })
 SettlesTo core links command (Err e) =
-    (e ≡ Fault.Memory) ⊎ (AreSettled core links command × (first_fault core.fault core.seat.core.neighbours (map outcome_of links) ≡ Some e))
+    (e ≡ Fault.Memory) ⊎ (AreSettled core links command × (first_fault core.fault core.seat.core.neighbours
+    (map outcome_of links) ≡ Some e))

@@ -29,7 +29,8 @@ truth_json false = codes "false"
 abbrev pub height_json : Option Quintuple → List ℕ
 height_json None = codes "null"
 height_json (Some h) =
-    codes "[" ++ decimal h.tau ++ codes "," ++ decimal h.oid ++ codes "," ++ decimal h.r ++ codes "," ++ signed_decimal h.delta ++ codes "," ++ decimal h.id ++ codes "]"
+    codes "[" ++ decimal h.tau ++ codes "," ++ decimal h.oid ++ codes "," ++ decimal h.r ++ codes ","
+    ++ signed_decimal h.delta ++ codes "," ++ decimal h.id ++ codes "]"
 
 -- a life by the numbers of this end and of the other one
 abbrev pub life_json : Option Life → List ℕ
@@ -68,10 +69,12 @@ route_json core d =
 unfoldable pub destination_json : CoreView → ℕ → List ℕ
 destination_json core d = own_json core d ++ route_json core d
 
--- the life of a link that is current at the core, and one that is over there and whose cut still waits for room in its lane
+-- the life of a link that is current at the core, and one that is over there and whose cut still waits for room in its
+-- lane
 unfoldable pub link_json : SeatState → ℕ → List ℕ
 link_json s k =
-    codes "{\"peer\":" ++ decimal k ++ codes ",\"life\":" ++ life_json (s.current k) ++ codes ",\"cut\":" ++ life_json (s.pending k) ++ codes "}"
+    codes "{\"peer\":" ++ decimal k ++ codes ",\"life\":" ++ life_json (s.current k) ++ codes ",\"cut\":"
+    ++ life_json (s.pending k) ++ codes "}"
 
 -- what the node makes of erased levels, where that is not plain
 abbrev pub erasure_json : Erasure → List ℕ

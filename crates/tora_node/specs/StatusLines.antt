@@ -1,4 +1,5 @@
--- What a node tells a program that watches it: a line for each height and each next hop, and then for each one that has changed.
+-- What a node tells a program that watches it: a line for each height and each next hop, and then for each one that has
+-- changed.
 use Rattle.std.specs.Prelude.{ℕ, ◌==◌, Bool, true, false, codes, if◌then◌else◌, List, [], ◌∷◌, ◌++◌, map, Option, None, Some, option_map}
 use Rattle.std.specs.List.{flat_map}
 use Rattle.std.specs.Ordering.{is_eq}
@@ -50,7 +51,8 @@ is_same_hop (Some a) (Some b) = a == b
 -- the lines of what has changed for a destination since this was told of it
 abbrev pub change_text : Told → Told → List ℕ
 change_text old new =
-    (if is_same_height old.height new.height then [] else height_line new) ++ (if is_same_hop old.hop new.hop then [] else hop_line new)
+    (if is_same_height old.height new.height then [] else height_line new) ++ (if is_same_hop old.hop new.hop then []
+    else hop_line new)
 
 abbrev pub news_of : CoreView → Told → List ℕ
 news_of core old = change_text old (told_of core old.to)

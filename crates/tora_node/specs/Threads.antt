@@ -66,9 +66,11 @@ module _ {D W C : Type 0} {disk : Disk.Ghosts D} {wire : Wire.Ghosts W} where
   abbrev pub clock_started : Start D W C disk wire → C
   clock_started start = start.clock
 
--- It has run this link with this wire, each turn at a tick that it has read of this clock, under the numbers behind this one. What it has put and taken is what its turns did, by the same
--- port and out of the same lane
-pub record LinkLeaves {W C : Type 0} (send : W → List ℕ → Result (Unit {0}) WireError → W → Type 0) (receive : W → Result (Option ℕ) WireError → List ℕ → W → Type 0) (tell : C → ℕ → C → Type 0) (link : LinkName) (wire : W) (clock : C) (drawn : ℕ) (hub : LaneHub) (rest : LinkRest) : Type 0 where
+-- It has run this link with this wire, each turn at a tick that it has read of this clock, under the numbers behind
+-- this one. What it has put and taken is what its turns did, by the same port and out of the same lane
+pub record LinkLeaves {W C : Type 0} (send : W → List ℕ → Result (Unit {0}) WireError → W → Type 0) (receive : W
+    → Result (Option ℕ) WireError → List ℕ → W → Type 0) (tell : C → ℕ → C
+    → Type 0) (link : LinkName) (wire : W) (clock : C) (drawn : ℕ) (hub : LaneHub) (rest : LinkRest) : Type 0 where
   pub run : IsLinkRun link.me link.peer rest.outcome.fault rest.outcome.tally
   pub called : HasCalled send receive tell wire clock run.turns run.last run.ending
   pub last_drawn : ℕ
@@ -80,8 +82,10 @@ pub record LinkLeaves {W C : Type 0} (send : W → List ℕ → Result (Unit {0}
 
 -- ---- the core's thread
 
--- It has served the items that it took, and its cargoes were offered to these lanes. Where nothing has failed, it has written the text of these items behind what the writer held
-pub record CoreLeaves {Wr : Type 0} (contents : Wr → Option (List ℕ)) (first : SeatView) (port : CoreEnd) (outs : List SendEnd) (writer : Wr) (rest : CoreRest Wr) : Type 0 where
+-- It has served the items that it took, and its cargoes were offered to these lanes. Where nothing has failed, it has
+-- written the text of these items behind what the writer held
+pub record CoreLeaves {Wr : Type 0} (contents : Wr → Option (List ℕ)) (first : SeatView) (port : CoreEnd)
+    (outs : List SendEnd) (writer : Wr) (rest : CoreRest Wr) : Type 0 where
   pub xs : List ServedItem
   pub taken : rest.port.taken ≡ port.taken ++ items_served xs
   pub lane : rest.port.lane ≡ port.lane
@@ -91,7 +95,8 @@ pub record CoreLeaves {Wr : Type 0} (contents : Wr → Option (List ℕ)) (first
   pub ends : EndsSo rest.fault xs rest.port.gone
   pub neighbours : rest.seat.core.neighbours ≡ first.core.neighbours
   pub fault : IsCoreFault rest.fault
-  pub written : rest.fault ≡ None → Appends (contents writer) (contents rest.writer) (text_served first.core.neighbours None (state_of first) xs)
+  pub written : rest.fault ≡ None → Appends (contents writer) (contents rest.writer)
+      (text_served first.core.neighbours None (state_of first) xs)
 
 -- ---- what is left in the lanes
 
@@ -102,7 +107,8 @@ outcome_of rest = rest.outcome
 abbrev pub HasEnds : Lane → LinkRest → SendEnd → Type 0
 HasEnds lane rest out = (rest.hub.port.lane ≡ lane) × (out.ring ≡ rest.hub.outs.ring)
 
--- what was taken of its seat and then some items is what it put; and what it took and then some cargoes is what was sent to it
+-- what was taken of its seat and then some items is what it put; and what it took and then some cargoes is what was
+-- sent to it
 abbrev pub IsSettled : List Item → LinkRest → SendEnd → Type 0
 IsSettled taken rest out =
     (left : List Item) × (items_of rest.hub.port.seat taken ++ left ≡ rest.hub.port.put)

@@ -24,8 +24,9 @@ use Rattle.tora_node.specs.LinkRuns.{IsLinkRun, FailsToStart, AreFaultless, IsCa
 use Rattle.tora_node.specs.NodeRuns.{EndedView, IsNodeFault, IsRunOf, first_fault}
 use Rattle.tora_node.specs.WireCalls.{HasCalled}
 
--- The thread of the link at a place has run it. The items of its seat that the core served, and then those left in the lane, are what its
--- turns put. The cargoes that its turns took, and then those left in its lane, are what serving put for it
+-- The thread of the link at a place has run it. The items of its seat that the core served, and then those left in the
+-- lane, are what its turns put. The cargoes that its turns took, and then those left in its lane, are what serving put
+-- for it
 pub record LinkExchanged (me : ℕ) (xs : List ServedItem) (place peer : ℕ) (outcome : Outcome) : Type 0 where
   pub run : IsLinkRun me peer outcome.fault outcome.tally
   pub left : List Item
@@ -33,8 +34,11 @@ pub record LinkExchanged (me : ℕ) (xs : List ServedItem) (place peer : ℕ) (o
   pub waiting : List Cargo
   pub cargoes : cargoes_taken (run.turns ++ run.last ∷ []) ++ waiting ≡ put_to peer (offers_made xs)
 
--- and it has run it with this wire, each turn at a tick that it has read of this clock, under the numbers behind the last one of its life file, each the next
-pub record LinkRan {W C : Type 0} (send : W → List ℕ → Result (Unit {0}) WireError → W → Type 0) (receive : W → Result (Option ℕ) WireError → List ℕ → W → Type 0) (tell : C → ℕ → C → Type 0) (opened : Result ℕ LifeError → Type 0) (me : ℕ) (xs : List ServedItem) (place peer : ℕ) (wire : W) (clock : C) (outcome : Outcome) : Type 0 where
+-- and it has run it with this wire, each turn at a tick that it has read of this clock, under the numbers behind the
+-- last one of its life file, each the next
+pub record LinkRan {W C : Type 0} (send : W → List ℕ → Result (Unit {0}) WireError → W → Type 0) (receive : W
+    → Result (Option ℕ) WireError → List ℕ → W → Type 0) (tell : C → ℕ → C → Type 0) (opened : Result ℕ LifeError
+    → Type 0) (me : ℕ) (xs : List ServedItem) (place peer : ℕ) (wire : W) (clock : C) (outcome : Outcome) : Type 0 where
   pub exchanged : LinkExchanged me xs place peer outcome
   pub called : HasCalled send receive tell wire clock exchanged.run.turns exchanged.run.last exchanged.run.ending
   pub drawn : ℕ
@@ -42,8 +46,10 @@ pub record LinkRan {W C : Type 0} (send : W → List ℕ → Result (Unit {0}) W
   pub last_drawn : ℕ
   pub numbers : AreDrawn drawn (numbers_opened (exchanged.run.turns ++ exchanged.run.last ∷ [])) last_drawn
 
--- Some bytes were read, and the items of the last seat that the core served, and then those left in the lane, are what they ask, each with a tick that was read of this clock for it
-pub record CommandsRan {C : Type 0} (tell : C → ℕ → C → Type 0) (clock : C) (input : Option (List ℕ)) (seat : ℕ) (served : List Item) : Type 0 where
+-- Some bytes were read, and the items of the last seat that the core served, and then those left in the lane, are what
+-- they ask, each with a tick that was read of this clock for it
+pub record CommandsRan {C : Type 0} (tell : C → ℕ → C → Type 0) (clock : C) (input : Option (List ℕ)) (seat : ℕ)
+    (served : List Item) : Type 0 where
   pub given : List ℕ
   pub rest : Option (List ℕ)
   pub put : List Item
@@ -56,38 +62,54 @@ pub record CommandsRan {C : Type 0} (tell : C → ℕ → C → Type 0) (clock :
   pub ends : EndsAt end given put rest gone
   pub items : items_of seat served ++ left ≡ put
 
--- The threads of a node that began with this core, these wires, these disks, these clocks of the links and one of the commands, this input, and a writer that held these bytes. Items were served one
--- after another, the core is the run of the inputs that serving made of them, and each link and the commands had a thread that put them. Where the core had no fault, the text of these
--- items was written behind what the writer held. The first of their faults is the answer
-pub record NodeRan {W D C : Type 0} (send : W → List ℕ → Result (Unit {0}) WireError → W → Type 0) (receive : W → Result (Option ℕ) WireError → List ℕ → W → Type 0) (tell : C → ℕ → C → Type 0) (opened : ℕ → ℕ → D → Result ℕ LifeError → Type 0) (first : CoreView) (wires : List W) (disks : List D) (clocks : List C) (clock : C) (input held holds : Option (List ℕ))
-    (answer : Option NodeError) (core : CoreView) (tallies : List Tally) (taken : List Item) (gone : Bool) : Type 0 where
-  pub xs : List ServedItem
-  pub after : SeatState
-  pub fault : Option NodeError
-  pub outcomes : List Outcome
-  pub taken_is : taken ≡ items_served xs
-  pub served : AreServed first.neighbours (state_of (first_seat first)) xs after
-  pub core_is : core ≡ core_after_all first (inputs_stepped first.neighbours (state_of (first_seat first)) xs)
-  pub ends : EndsSo fault xs gone
-  pub written : fault ≡ None → Appends held holds (text_served first.neighbours None (state_of (first_seat first)) xs)
-  pub count : length outcomes ≡ length first.neighbours
-  pub links : (place peer : ℕ) (wire : W) (disk : D) (own : C) (outcome : Outcome) → slice_get first.neighbours place ≡ Some peer → slice_get wires place ≡ Some wire → slice_get disks place ≡ Some disk → slice_get clocks place ≡ Some own → slice_get outcomes place ≡ Some outcome
-      → LinkRan send receive tell (opened first.me peer disk) first.me xs place peer wire own outcome
-  pub commands : CommandsRan tell clock input (length first.neighbours) taken
-  pub answer_is : first_fault fault first.neighbours outcomes ≡ answer
-  pub tallies_are : tallies ≡ map (λ o. o.tally) outcomes
+-- The threads of a node that began with this core, these wires, these disks, these clocks of the links and one of the
+-- commands, this input, and a writer that held these bytes. Items were served one after another, the core is the run of
+-- the inputs that serving made of them, and each link and the commands had a thread that put them. Where the core had
+-- no fault, the text of these items was written behind what the writer held. The first of their faults is the answer
+pub record NodeRan {W D C : Type 0} (send : W → List ℕ → Result (Unit {0}) WireError → W → Type 0) (receive : W
+    → Result (Option ℕ) WireError → List ℕ → W → Type 0) (tell : C → ℕ → C → Type 0) (opened : ℕ → ℕ → D
+    → Result ℕ LifeError → Type 0) (first : CoreView) (wires : List W) (disks : List D) (clocks : List C) (clock : C)
+    (input held holds : Option (List ℕ))
+    (answer : Option NodeError) (core : CoreView) (tallies : List Tally) (taken : List Item) (gone : Bool) : Type 0
+  where
+    pub xs : List ServedItem
+    pub after : SeatState
+    pub fault : Option NodeError
+    pub outcomes : List Outcome
+    pub taken_is : taken ≡ items_served xs
+    pub served : AreServed first.neighbours (state_of (first_seat first)) xs after
+    pub core_is : core ≡ core_after_all first (inputs_stepped first.neighbours (state_of (first_seat first)) xs)
+    pub ends : EndsSo fault xs gone
+    pub written : fault ≡ None → Appends held holds (text_served first.neighbours None (state_of (first_seat first)) xs)
+    pub count : length outcomes ≡ length first.neighbours
+    pub links : (place peer : ℕ) (wire : W) (disk : D) (own : C) (outcome : Outcome)
+        → slice_get first.neighbours place ≡ Some peer → slice_get wires place ≡ Some wire
+        → slice_get disks place ≡ Some disk → slice_get clocks place ≡ Some own → slice_get outcomes place ≡ Some outcome
+        → LinkRan send receive tell (opened first.me peer disk) first.me xs place peer wire own outcome
+    pub commands : CommandsRan tell clock input (length first.neighbours) taken
+    pub answer_is : first_fault fault first.neighbours outcomes ≡ answer
+    pub tallies_are : tallies ≡ map (λ o. o.tally) outcomes
 
--- a node that ends with a fault: one of its start, where nothing is written or memory is gone, or the first one of its threads
-abbrev pub EndsWithFault : {W D C Wr : Type 0} → (W → List ℕ → Result (Unit {0}) WireError → W → Type 0) → (W → Result (Option ℕ) WireError → List ℕ → W → Type 0) → (C → ℕ → C → Type 0)
-    → (ℕ → ℕ → D → Result ℕ LifeError → Type 0) → (Wr → Option (List ℕ)) → CoreView → List W → List D → List C → C → Option (List ℕ) → Wr → Option Wr → NodeError → Type 0
+-- a node that ends with a fault: one of its start, where nothing is written or memory is gone, or the first one of its
+-- threads
+abbrev pub EndsWithFault : {W D C Wr : Type 0} → (W → List ℕ → Result (Unit {0}) WireError → W → Type 0)
+    → (W → Result (Option ℕ) WireError → List ℕ → W → Type 0) → (C → ℕ → C → Type 0)
+    → (ℕ → ℕ → D → Result ℕ LifeError → Type 0) → (Wr → Option (List ℕ)) → CoreView → List W → List D → List C → C
+    → Option (List ℕ) → Wr → Option Wr → NodeError → Type 0
 EndsWithFault {Wr = Wr} send receive tell opened contents first wires disks clocks clock input writer left e =
     (FailsToStart opened first disks e × ((left ≡ Some writer) ⊎ (e ≡ Fault.Memory)))
-    ⊎ ((core : CoreView) × (tallies : List Tally) × (taken : List Item) × (gone : Bool) × (after : Wr) × (left ≡ Some after)
-    × NodeRan send receive tell opened first wires disks clocks clock input (contents writer) (contents after) (Some e) core tallies taken gone)
+    ⊎ ((core : CoreView) × (tallies : List Tally) × (taken : List Item) × (gone : Bool) × (after : Wr)
+    × (left ≡ Some after)
+    × NodeRan send receive tell opened first wires disks clocks clock input (contents writer) (contents after) (Some e)
+    core tallies taken gone)
 
--- What a node answers that began with this core, these wires, these disks, these clocks of the links and one of the commands, this input and this writer, which is given back so
-pub record NodeAnswers {W D C Wr : Type 0} (send : W → List ℕ → Result (Unit {0}) WireError → W → Type 0) (receive : W → Result (Option ℕ) WireError → List ℕ → W → Type 0) (tell : C → ℕ → C → Type 0) (opened : ℕ → ℕ → D → Result ℕ LifeError → Type 0)
-    (contents : Wr → Option (List ℕ)) (first : CoreView) (wires : List W) (disks : List D) (clocks : List C) (clock : C) (input : Option (List ℕ)) (writer : Wr) (left : Option Wr)
+-- What a node answers that began with this core, these wires, these disks, these clocks of the links and one of the
+-- commands, this input and this writer, which is given back so
+pub record NodeAnswers {W D C Wr : Type 0} (send : W → List ℕ → Result (Unit {0}) WireError → W → Type 0) (receive : W
+    → Result (Option ℕ) WireError → List ℕ → W → Type 0) (tell : C → ℕ → C → Type 0) (opened : ℕ → ℕ → D
+    → Result ℕ LifeError → Type 0)
+    (contents : Wr → Option (List ℕ)) (first : CoreView) (wires : List W) (disks : List D) (clocks : List C) (clock : C)
+    (input : Option (List ℕ)) (writer : Wr) (left : Option Wr)
     (answer : Result EndedView NodeError) : Type 0 where
   -- where it ends without a fault, the core is the run of what serving makes of some items from the first core on
   pub core : IfOk answer (λ ended. IsRunOf first ended.core)
@@ -99,8 +121,10 @@ pub record NodeAnswers {W D C Wr : Type 0} (send : W → List ℕ → Result (Un
   pub cause : IfErr answer (IsCause first)
   -- then it has neighbours, and no more than lanes are made for
   pub count : IfOk answer (λ ended. (0 < length first.neighbours) × (length first.neighbours ≤ MOST_LINKS))
-  -- what its threads did: the runs of its links with their wires and life files, the commands that were read, and the items that the core
-  -- served, which are what these have put, as the lanes carry it, and whose text was written
+  -- what its threads did: the runs of its links with their wires and life files, the commands that were read, and the
+  -- items that the core served, which are what these have put, as the lanes carry it, and whose text was written
   pub ran : IfOk answer (λ ended. (after : Wr) × (left ≡ Some after)
-      × NodeRan send receive tell opened first wires disks clocks clock input (contents writer) (contents after) None ended.core ended.tallies ended.taken ended.gone)
-  pub failed : IfErr answer (EndsWithFault send receive tell opened contents first wires disks clocks clock input writer left)
+      × NodeRan send receive tell opened first wires disks clocks clock input (contents writer) (contents after) None
+      ended.core ended.tallies ended.taken ended.gone)
+  pub failed : IfErr answer (EndsWithFault send receive tell opened contents first wires disks clocks clock input writer
+      left)

@@ -7,19 +7,26 @@ use Rattle.tora_neighbour.specs.declared.ending.Ending.TheVariants.{NoNumber, Br
 use Rattle.tora_neighbour.specs.declared.wire.WireError.{WireError}
 
 -- in whole turns: the sends, and then one receive, by whose answer and buffer it is what came in (`came_of`)
-abbrev pub AreWireCalls : {W : Type 0} → (W → List ℕ → Result (Unit {0}) WireError → W → Type 0) → (W → Result (Option ℕ) WireError → List ℕ → W → Type 0) → W → List Turn → W → Type 0
+abbrev pub AreWireCalls : {W : Type 0} → (W → List ℕ → Result (Unit {0}) WireError → W → Type 0)
+    → (W → Result (Option ℕ) WireError → List ℕ → W → Type 0) → W → List Turn → W → Type 0
 AreWireCalls send receive wire [] after = after ≡ wire
 AreWireCalls {W = W} send receive wire (t ∷ turns) after =
-    (sent between : W) × SendsSome send wire t.sent t.answers sent × ReceivesOnce receive sent t.answer t.buffer between × AreWireCalls send receive between turns after
+    (sent between : W) × SendsSome send wire t.sent t.answers sent × ReceivesOnce receive sent t.answer t.buffer between
+    × AreWireCalls send receive between turns after
 
 -- in the last turn, by how it ends
-abbrev pub LastWireCalls : {W : Type 0} → (W → List ℕ → Result (Unit {0}) WireError → W → Type 0) → (W → Result (Option ℕ) WireError → List ℕ → W → Type 0) → W → Turn → Ending → W → Type 0
+abbrev pub LastWireCalls : {W : Type 0} → (W → List ℕ → Result (Unit {0}) WireError → W → Type 0)
+    → (W → Result (Option ℕ) WireError → List ℕ → W → Type 0) → W → Turn → Ending → W → Type 0
 LastWireCalls send receive wire t (NoNumber error) after = after ≡ wire
-LastWireCalls send receive wire t (Broken at) after = ExchangesUpTo send receive wire t.sent t.answers t.answer t.buffer at after
-LastWireCalls {W = W} send receive wire t Refused after = (sent : W) × SendsSome send wire t.sent t.answers sent × ReceivesOnce receive sent t.answer t.buffer after
+LastWireCalls send receive wire t (Broken at) after = ExchangesUpTo send receive wire t.sent t.answers t.answer t.buffer
+    at after
+LastWireCalls {W = W} send receive wire t Refused after = (sent : W) × SendsSome send wire t.sent t.answers sent
+    × ReceivesOnce receive sent t.answer t.buffer after
 
 -- the calls of this wire in these turns, each of which has read its own tick of this clock, one after another
-pub record HasCalled {W C : Type 0} (send : W → List ℕ → Result (Unit {0}) WireError → W → Type 0) (receive : W → Result (Option ℕ) WireError → List ℕ → W → Type 0) (tell : C → ℕ → C → Type 0) (wire : W) (clock : C) (turns : List Turn) (last : Turn) (ending : Ending) : Type 0 where
+pub record HasCalled {W C : Type 0} (send : W → List ℕ → Result (Unit {0}) WireError → W → Type 0) (receive : W
+    → Result (Option ℕ) WireError → List ℕ → W → Type 0) (tell : C → ℕ → C
+    → Type 0) (wire : W) (clock : C) (turns : List Turn) (last : Turn) (ending : Ending) : Type 0 where
   pub between : W
   pub after : W
   pub calls : AreWireCalls send receive wire turns between

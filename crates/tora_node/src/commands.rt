@@ -1,5 +1,6 @@
 //! The commands of a running node, one a line.
-ghost use Rattle.std.specs.Prelude.{◌≡◌, ◌<◌, ◌≤◌, ◌++◌, ◌∷◌, [], ℕ, List, IfOk, IfErr, IfSome, true, length, take, codes};
+ghost use Rattle.std.specs.Prelude.{◌≡◌, ◌<◌, ◌≤◌, ◌++◌, ◌∷◌, [], ℕ, List, IfOk, IfErr, IfSome, true, length, take};
+ghost use Rattle.std.specs.Prelude.{codes};
 ghost use Rattle.tora_lines.specs.Fronts.{after};
 ghost use Rattle.std.specs.Io.KnownBytes.{Consumes};
 ghost use Rattle.tora_node.specs.CommandText.{asked_by, cut_in};
@@ -45,8 +46,8 @@ pub enum Command {
     Unknown,
 }
 
-/// What a line asks: `show`, `json`, `watch`, `quit`, `need D` or `cut K`, where D and K are numbers from 1 to 2^32 - 1 in decimal digits,
-/// without a sign and without leading zeros.
+/// What a line asks: `show`, `json`, `watch`, `quit`, `need D` or `cut K`, where D and K are numbers from 1 to 2^32 - 1
+/// in decimal digits, without a sign and without leading zeros.
 #[tactic(auto, unfolding(crate::specs::CommandText::asked_by))]
 pub fn command_of(line: &[u8]) -> Command
     ensures exact { result ≡ asked_by line.now }
@@ -227,8 +228,8 @@ fn read<Rd: Input>(reader: &mut Rd, chunk: &mut [u8; CHUNK]) -> Result<usize, Co
     }
 }
 
-/// Puts what the lines ask that end in the bytes, and keeps the rest of them. Nothing follows `quit`, and where nobody takes
-/// items any more.
+/// Puts what the lines ask that end in the bytes, and keeps the rest of them. Nothing follows `quit`, and where nobody
+/// takes items any more.
 fn put_all<R: Wait + Log, C: Clock>(
     rt: &R,
     clock: &mut C,
@@ -236,7 +237,8 @@ fn put_all<R: Wait + Log, C: Clock>(
     line: &mut Line,
     bytes: &[u8],
 ) -> Option<CommandsEnd>
-    ensures { (text : List ℕ) → Holds line.old text → PutsAll C.did_tell text bytes.now (port.old, clock.old) (port.new, clock.new) line.new result }
+    ensures { (text : List ℕ) → Holds line.old text
+        → PutsAll C.did_tell text bytes.now (port.old, clock.old) (port.new, clock.new) line.new result }
 {
     for byte in bytes {
         if *byte == b'\n' {
@@ -259,7 +261,8 @@ fn put_last<R: Wait + Log, C: Clock>(
     port: &mut InPort,
     line: &mut Line,
 ) -> Option<CommandsEnd>
-    ensures { (text : List ℕ) → Holds line.old text → PutsLast C.did_tell text (port.old, clock.old) (port.new, clock.new) result }
+    ensures { (text : List ℕ) → Holds line.old text
+        → PutsLast C.did_tell text (port.old, clock.old) (port.new, clock.new) result }
 {
     if !line.is_empty() {
         line.tell(rt);
@@ -281,18 +284,20 @@ fn is_gone(end: Option<CommandsEnd>) -> bool
     }
 }
 
-/// Reads commands and puts what they ask, until `quit`, the end of the input, a read that fails, or `Gone`. Answers why it
-/// has ended.
+/// Reads commands and puts what they ask, until `quit`, the end of the input, a read that fails, or `Gone`. Answers why
+/// it has ended.
 ///
-/// A line that is no command is logged and passed over; so is `help`, which logs the commands. The end of the input and a failed read put `Quit`, and a last
-/// line without its end counts. Each item has a tick that is read of the clock when it is put. It may wait.
+/// A line that is no command is logged and passed over; so is `help`, which logs the commands. The end of the input and
+/// a failed read put `Quit`, and a last line without its end counts. Each item has a tick that is read of the clock
+/// when it is put. It may wait.
 pub fn run_commands<R: Wait + Log, Rd: Input, C: Clock>(
     rt: &R,
     reader: &mut Rd,
     clock: &mut C,
     port: &mut InPort,
 ) -> CommandsEnd
-    ensures put { Commands C.did_tell (Rd.remaining reader.old) (Rd.remaining reader.new) (port.old, clock.old) (port.new, clock.new) result }
+    ensures put { Commands C.did_tell (Rd.remaining reader.old) (Rd.remaining reader.new) (port.old, clock.old)
+        (port.new, clock.new) result }
     // It ends by its reads: with `Read` where one failed, and with `End` where one gave nothing.
     ensures reads { AreReadBy Rd.did_read reader.old reader.new result }
 {
@@ -317,9 +322,11 @@ pub fn run_commands<R: Wait + Log, Rd: Input, C: Clock>(
     unreachable!()
 }
 
-/// What is put for an input is what its lines ask, one after another; and behind a last line without its end, `Quit`. This says
-/// it of lines that are short enough for a command; `command_of` says what a line asks.
+/// What is put for an input is what its lines ask, one after another; and behind a last line without its end, `Quit`.
+/// This says it of lines that are short enough for a command; `command_of` says what a line asks.
 pub fn commands_are_put_line_by_line()
-    ensures line { (line rest : List ℕ) → IsLine line → length line ≤ 4096 → put_from [] (line ++ 10 ∷ rest) ≡ put_for (asked_by line) (put_from [] rest) }
-    ensures last { (line : List ℕ) → IsLine line → length line ≤ 4096 → put_from [] line ≡ put_for (asked_by line) (What.Quit ∷ []) }
+    ensures line { (line rest : List ℕ) → IsLine line → length line ≤ 4096
+        → put_from [] (line ++ 10 ∷ rest) ≡ put_for (asked_by line) (put_from [] rest) }
+    ensures last { (line : List ℕ) → IsLine line → length line ≤ 4096
+        → put_from [] line ≡ put_for (asked_by line) (What.Quit ∷ []) }
 {}

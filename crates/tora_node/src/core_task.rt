@@ -15,8 +15,8 @@ use tora_lane::{CorePort, OutPut, OutPuts, Settling};
 use tora_neighbour::Wake;
 use tora_seat::CoreSeat;
 
-/// What the core's thread leaves: its seat, what its port has taken, its ends of the lanes to the neighbours, and what it
-/// has written to.
+/// What the core's thread leaves: its seat, what its port has taken, its ends of the lanes to the neighbours, and what
+/// it has written to.
 #[derive(Drop)]
 pub(crate) struct CoreRest<Wr> {
     pub(crate) seat: CoreSeat,
@@ -82,7 +82,8 @@ pub(crate) fn new_core_start<K: Drop, Wr: Drop>(
     writer: Wr,
 ) -> Result<CoreStart<K, Wr>, Wr>
     requires { length core.neighbours ≤ length outs.items }
-    ensures made { IfOk result (λ start. (start.seat ≡ first_seat core) × (start.port ≡ port) × (start.outs.ends.items ≡ outs.items) × (start.writer ≡ writer)) }
+    ensures made { IfOk result (λ start. (start.seat ≡ first_seat core) × (start.port ≡ port)
+        × (start.outs.ends.items ≡ outs.items) × (start.writer ≡ writer)) }
     ensures same { IfErr result (λ back. back ≡ writer) }
 {
     let Ok(seat) = CoreSeat::new(alloc, core) else {

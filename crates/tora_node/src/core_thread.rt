@@ -1,12 +1,15 @@
 //! The core's thread.
-ghost use Rattle.std.specs.Prelude.{◌≡◌, ◌≢◌, ◌≤◌, ◌++◌, ◌∷◌, ◌⊎◌, [], List, length, true, false, Err, Option, None, Some, is_some, IfErr, IfOk, OnOk, string_bytes};
+ghost use Rattle.std.specs.Prelude.{◌≡◌, ◌≢◌, ◌≤◌, ◌++◌, ◌∷◌, ◌⊎◌, [], List, length, true, false, Err, Option, None};
+ghost use Rattle.std.specs.Prelude.{Some, is_some, IfErr, IfOk, OnOk, string_bytes};
 ghost use Rattle.std.specs.Io.KnownBytes.{Appends};
 ghost use Rattle.tora_core.specs.CoreRun.{core_after_all};
 ghost use Rattle.tora_core.specs.ShowText.{show_text};
 ghost use Rattle.tora_node.specs.declared.fault.NodeError.{NodeError};
 ghost use Rattle.tora_seat.specs.Offers.{AreOffered};
 ghost use Rattle.tora_seat.specs.Rows.{state_of};
-ghost use Rattle.tora_node.specs.CoreRuns.{ServedItem, AreServed, items_served, offers_made, inputs_stepped, refused_text, news_text, reply_text, told_anew, told_after, text_served, IsTextFault, MayFail, EndsSo};
+ghost use Rattle.tora_node.specs.CoreRuns.{ServedItem, AreServed, items_served, offers_made, inputs_stepped};
+ghost use Rattle.tora_node.specs.CoreRuns.{refused_text, news_text, reply_text, told_anew, told_after, text_served};
+ghost use Rattle.tora_node.specs.CoreRuns.{IsTextFault, MayFail, EndsSo};
 ghost use Rattle.tora_node.specs.StatusJson.{json_text};
 ghost use Rattle.tora_node.specs.StatusLines.{all_told, changes_text, state_text, told_in};
 
@@ -74,7 +77,8 @@ fn print_json<W: Write>(
     now: u64,
     writer: &mut W,
 ) -> Result<(), NodeError>
-    ensures ok { OnOk result (Appends (W.contents writer.old) (W.contents writer.new) (json_text now (state_of seat.now))) }
+    ensures ok { OnOk result (Appends (W.contents writer.old) (W.contents writer.new)
+        (json_text now (state_of seat.now))) }
     ensures err { IfErr result IsTextFault }
 {
     let Ok(text) = json(alloc, seat, now) else {
@@ -124,7 +128,8 @@ fn print_changes<W: Write>(
     told: &mut Vec<Told>,
     writer: &mut W,
 ) -> Result<(), NodeError>
-    ensures ok { OnOk result (Appends (W.contents writer.old) (W.contents writer.new) (changes_text told.old.items seat.now.core)) }
+    ensures ok { OnOk result (Appends (W.contents writer.old) (W.contents writer.new)
+        (changes_text told.old.items seat.now.core)) }
     ensures told { OnOk result (told.new.items ≡ all_told seat.now.core) }
     ensures err { IfErr result IsTextFault }
 {
@@ -145,7 +150,8 @@ fn print_news<W: Write>(
     watch: &mut Option<Vec<Told>>,
     writer: &mut W,
 ) -> Result<(), NodeError>
-    ensures ok { OnOk result (Appends (W.contents writer.old) (W.contents writer.new) (news_text (told_in watch.old) seat.now.core)) }
+    ensures ok { OnOk result (Appends (W.contents writer.old) (W.contents writer.new)
+        (news_text (told_in watch.old) seat.now.core)) }
     ensures told { OnOk result (told_in watch.new ≡ told_anew (told_in watch.old) seat.now.core) }
     ensures err { IfErr result (λ e. IsTextFault e × (is_some watch.old ≡ true)) }
 {
@@ -163,7 +169,8 @@ fn answer_need<W: Write>(
     watch: &mut Option<Vec<Told>>,
     writer: &mut W,
 ) -> Result<(), NodeError>
-    ensures ok { OnOk result (Appends (W.contents writer.old) (W.contents writer.new) (refused_text answer.now ++ news_text (told_in watch.old) seat.now.core)) }
+    ensures ok { OnOk result (Appends (W.contents writer.old) (W.contents writer.new)
+        (refused_text answer.now ++ news_text (told_in watch.old) seat.now.core)) }
     ensures told { OnOk result (told_in watch.new ≡ told_anew (told_in watch.old) seat.now.core) }
     ensures err { IfErr result (λ e. (e ≡ NodeError.Output) ⊎ (IsTextFault e × (is_some watch.old ≡ true))) }
 {
@@ -210,12 +217,12 @@ fn is_quit(what: &What) -> bool
 }
 
 /// Takes items and serves them one after another, until `Quit`, `Gone` or a fault, and prints what they ask for: the
-/// table of the core for `Show`, a line of JSON for `Status(Json)`, all heights and next hops for `Status(Watch)` and each
-/// change of them from then on, and `refused N` for a `Need` that the core refuses with the number N. What is printed is
-/// flushed at once.
+/// table of the core for `Show`, a line of JSON for `Status(Json)`, all heights and next hops for `Status(Watch)` and
+/// each change of them from then on, and `refused N` for a `Need` that the core refuses with the number N. What is
+/// printed is flushed at once.
 ///
-/// Memory is asked for only where the table, a line of JSON, or heights and next hops are printed, and behind each item that
-/// may have changed these while they are watched.
+/// Memory is asked for only where the table, a line of JSON, or heights and next hops are printed, and behind each item
+/// that may have changed these while they are watched.
 pub fn run_core<R: Wait, O: OutLanes, W: Write>(
     rt: &R,
     alloc: Global,
@@ -230,7 +237,9 @@ pub fn run_core<R: Wait, O: OutLanes, W: Write>(
         × AreServed seat.core.neighbours (state_of seat) xs (state_of result.seat)
         × AreOffered O.did_offer seat.core.neighbours outs (offers_made xs) result.outs
         × (result.seat.core ≡ core_after_all seat.core (inputs_stepped seat.core.neighbours (state_of seat) xs))
-        × (result.fault ≡ None → Appends (W.contents writer.old) (W.contents writer.new) (text_served seat.core.neighbours None (state_of seat) xs))
+        × (result.fault ≡ None
+        → Appends (W.contents writer.old) (W.contents writer.new)
+        (text_served seat.core.neighbours None (state_of seat) xs))
         × EndsSo result.fault xs result.port.gone }
     ensures neighbours { result.seat.core.neighbours ≡ seat.core.neighbours }
     ensures lane { result.port.lane ≡ port.lane }

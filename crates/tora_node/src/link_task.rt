@@ -26,7 +26,8 @@ impl<D: Disk + Drop, W: Wire + Drop, C: Clock + Drop> Task<LinkRest> for Start<D
     ghost use Rattle.tora_node.specs.LinkRuns.{link_made};
     ghost use Rattle.tora_node.specs.Threads.{LinkLeaves};
 
-    ghost leaves = { λ t rest. LinkLeaves W.did_send W.did_receive C.did_tell (link_made t.new) t.new.link.wire t.clock t.new.link.file.numbers.drawn t.hub rest };
+    ghost leaves = { λ t rest. LinkLeaves W.did_send W.did_receive C.did_tell (link_made t.new) t.new.link.wire t.clock
+        t.new.link.file.numbers.drawn t.hub rest };
 
     fn run<R: Wait + Log>(self, rt: &R) -> LinkRest {
         let Start { new, hub, clock } = self;

@@ -27,8 +27,8 @@ use tora_life::Disk;
 use tora_neighbour::{Clock, LinkFault, Tally, Wake, Wire};
 use tora_seat::CoreSeat;
 
-/// What a node has ended with. Contracts see its core, the tally of each neighbour in ascending order, the items that the
-/// core has taken, and whether its port has answered `Gone`.
+/// What a node has ended with. Contracts see its core, the tally of each neighbour in ascending order, the items that
+/// the core has taken, and whether its port has answered `Gone`.
 #[derive(Drop)]
 pub struct Ended {
     seat: CoreSeat,
@@ -42,7 +42,12 @@ impl Model for Ended {
 
     ghost Value = { EndedView };
 
-    ghost view = { λ e. record { core = e.seat.core; tallies = map (λ o. o.tally) e.outcomes.items; taken = e.port.taken; gone = e.port.gone } };
+    ghost view = { λ e. record {
+      core = e.seat.core;
+      tallies = map (λ o. o.tally) e.outcomes.items;
+      taken = e.port.taken;
+      gone = e.port.gone;
+    } };
 }
 
 impl Ended {
@@ -110,8 +115,8 @@ fn first_fault(
     }
 }
 
-/// Brings all lanes of a node together, once its threads have ended, behind no outcomes; the first fault is answered, and
-/// the writer is given back.
+/// Brings all lanes of a node together, once its threads have ended, behind no outcomes; the first fault is answered,
+/// and the writer is given back.
 fn settled<Wr: Drop>(
     rests: Rests<CoreRest<Wr>, LinkRest>,
     outcomes: Vec<Outcome>,
@@ -154,23 +159,23 @@ fn settled<Wr: Drop>(
     }
 }
 
-/// Runs a node until its commands or a fault of its core end it, and gives the writer back. The writer is `None` only where the
-/// answer is `Memory`.
+/// Runs a node until its commands or a fault of its core end it, and gives the writer back. The writer is `None` only
+/// where the answer is `Memory`.
 ///
-/// It takes one wire, one disk and one clock for each link, by ascending neighbour, and a clock for the commands. First it
-/// makes the core, the link ends and the lanes, then it opens the life files by ascending neighbour; the first fault there
-/// is answered, and no thread starts. Then the core and each neighbour have a thread, and the commands are read by this
-/// one: `need D`, `show` and `quit`, one a line; any other line is logged and passed over, and the end of the input is a
-/// `quit`. The core's thread writes the lines of `show`, and `refused N` for a need that is refused. A link whose thread
-/// has ended with a fault is down from then on, and the others go on.
+/// It takes one wire, one disk and one clock for each link, by ascending neighbour, and a clock for the commands. First
+/// it makes the core, the link ends and the lanes, then it opens the life files by ascending neighbour; the first fault
+/// there is answered, and no thread starts. Then the core and each neighbour have a thread, and the commands are read
+/// by this one: `need D`, `show` and `quit`, one a line; any other line is logged and passed over, and the end of the
+/// input is a `quit`. The core's thread writes the lines of `show`, and `refused N` for a need that is refused. A link
+/// whose thread has ended with a fault is down from then on, and the others go on.
 ///
-/// The thread of a neighbour is woken once a cargo was put into its lane: the wakers stand in the order of the wires, and where
-/// there is none, nobody is woken. No clause says that anybody is.
+/// The thread of a neighbour is woken once a cargo was put into its lane: the wakers stand in the order of the wires,
+/// and where there is none, nobody is woken. No clause says that anybody is.
 ///
 /// # Errors
-/// `Lane` where there are no neighbours or more than lanes are made for; `Memory`, also where a thread can't be started;
-/// `Life` with the neighbour where its life file does not open. Once all threads have ended: the fault of the core
-/// (`Memory`, `Output`), otherwise that of the least neighbour (`Life`, `Wire`).
+/// `Lane` where there are no neighbours or more than lanes are made for; `Memory`, also where a thread can't be
+/// started; `Life` with the neighbour where its life file does not open. Once all threads have ended: the fault of the
+/// core (`Memory`, `Output`), otherwise that of the least neighbour (`Life`, `Wire`).
 pub fn run_node<
     R: Threads + Wait + Log + Sync,
     D: Disk + Send + Drop,

@@ -35,8 +35,10 @@ pub(crate) fn new_ends(alloc: Global, core: &Core) -> Option<Vec<NewEnd>>
 
 /// The lanes of a node with this many links.
 pub(crate) fn new_lanes<R: Wait>(rt: &R, alloc: Global, links: usize) -> Result<Lanes, NodeError>
-    ensures made { IfOk result (λ l. AreLanes links l.core l.command l.links.items l.outs.items × (0 < links) × (links ≤ MOST_LINKS)) }
-    ensures refused { IfErr result (λ e. (e ≡ NodeError.Memory) ⊎ ((e ≡ NodeError.Lane) × ((links ≡ 0) ⊎ (MOST_LINKS < links)))) }
+    ensures made { IfOk result (λ l. AreLanes links l.core l.command l.links.items l.outs.items × (0 < links)
+        × (links ≤ MOST_LINKS)) }
+    ensures refused { IfErr result (λ e. (e ≡ NodeError.Memory)
+        ⊎ ((e ≡ NodeError.Lane) × ((links ≡ 0) ⊎ (MOST_LINKS < links)))) }
 {
     match lanes(rt, alloc, links) {
         Ok(lanes) => Ok(lanes),
@@ -56,9 +58,11 @@ pub(crate) fn new_links<D: Disk + Drop, W: Wire + Drop>(
     requires wires { length wires.items ≡ length ends.items }
     ensures made { IfOk result (λ links. map link_made links.items ≡ map link_ended ends.items) }
     ensures wired { IfOk result (λ links. map wire_made links.items ≡ wires.items) }
-    ensures opened { IfOk result (λ links. Each (OpenedOn (IsOpened D.syncs D.reads D.writes)) disks.items links.items) }
+    ensures opened { IfOk result (λ links. Each (OpenedOn (IsOpened D.syncs D.reads D.writes)) disks.items
+        links.items) }
     ensures fault { IfErr result (IsOpening (map link_ended ends.items)) }
-    ensures failed { IfErr result (FailsToOpen (IsOpened D.syncs D.reads D.writes) (map link_ended ends.items) disks.items) }
+    ensures failed { IfErr result (FailsToOpen (IsOpened D.syncs D.reads D.writes) (map link_ended ends.items)
+        disks.items) }
 {
     let mut links = Vec::new(alloc);
     let mut disks = disks.into_iter();
@@ -89,8 +93,10 @@ fn new_link<D: Disk + Drop, W: Wire + Drop>(
     disk: D,
     wire: W,
 ) -> Result<NewLink<D, W>, LifeError>
-    ensures made { IfOk result (λ link. (link_made link ≡ link_ended new) × (wire_made link ≡ wire) × OpenedOn (IsOpened D.syncs D.reads D.writes) disk link) }
-    ensures failed { IfErr result (λ error. IsOpened D.syncs D.reads D.writes new.end.settings.me new.end.settings.peer disk (Err error)) }
+    ensures made { IfOk result (λ link. (link_made link ≡ link_ended new) × (wire_made link ≡ wire)
+        × OpenedOn (IsOpened D.syncs D.reads D.writes) disk link) }
+    ensures failed { IfErr result (λ error. IsOpened D.syncs D.reads D.writes new.end.settings.me new.end.settings.peer
+        disk (Err error)) }
 {
     let NewEnd { end } = new;
     match LifeFile::open(disk, end.me(), end.peer()) {

@@ -4,7 +4,9 @@ ghost use Rattle.tora_height.specs.HeightOrder.{link_status};
 ghost use Rattle.tora_core.specs.Kept.{destinations_of};
 ghost use Rattle.tora_core.specs.ShowText.{direction_text};
 ghost use Rattle.tora_seat.specs.Rows.{state_of};
-ghost use Rattle.tora_node.specs.StatusJson.{array_json, erasure_json, number_json, truth_json, height_json, life_json, or_null, own_height, entry_height, via_json, destination_json, link_json, json_text, own_json, route_json};
+ghost use Rattle.tora_node.specs.StatusJson.{array_json, erasure_json, number_json, truth_json, height_json, life_json};
+ghost use Rattle.tora_node.specs.StatusJson.{or_null, own_height, entry_height, via_json, destination_json, link_json};
+ghost use Rattle.tora_node.specs.StatusJson.{json_text, own_json, route_json};
 
 use std::alloc::{AllocError, Global};
 use tora_arq::Life;
@@ -106,7 +108,8 @@ fn write_via(out: &mut String, core: &Core, d: Id, k: Id) -> Result<(), AllocErr
 
 /// Appends the heights of a destination that the neighbours with links that are up have sent.
 fn write_vias(out: &mut String, core: &Core, d: Id) -> Result<(), AllocError>
-    ensures { OnOk result (string_bytes out.new ≡ string_bytes out.old ++ array_json (via_json core.now d) core.now.up) }
+    ensures { OnOk result (string_bytes out.new
+        ≡ string_bytes out.old ++ array_json (via_json core.now d) core.now.up) }
 {
     match core.up().split_first() {
         None => out.push_str("[]"),
@@ -156,7 +159,8 @@ fn write_destination(out: &mut String, core: &Core, d: Id) -> Result<(), AllocEr
 
 /// Puts the destinations of the table behind a text.
 fn write_destinations(out: &mut String, core: &Core) -> Result<(), AllocError>
-    ensures { OnOk result (string_bytes out.new ≡ string_bytes out.old ++ array_json (destination_json core.now) (destinations_of core.now.views)) }
+    ensures { OnOk result (string_bytes out.new
+        ≡ string_bytes out.old ++ array_json (destination_json core.now) (destinations_of core.now.views)) }
 {
     match core.destinations().split_first() {
         None => out.push_str("[]"),
@@ -188,7 +192,8 @@ fn write_link(out: &mut String, seat: &CoreSeat, place: usize, k: Id) -> Result<
 
 /// Puts the links behind a text.
 fn write_links(out: &mut String, seat: &CoreSeat) -> Result<(), AllocError>
-    ensures { OnOk result (string_bytes out.new ≡ string_bytes out.old ++ array_json (link_json (state_of seat.now)) seat.now.core.neighbours) }
+    ensures { OnOk result (string_bytes out.new
+        ≡ string_bytes out.old ++ array_json (link_json (state_of seat.now)) seat.now.core.neighbours) }
 {
     match seat.core().neighbours().split_first() {
         None => out.push_str("[]"),

@@ -1,7 +1,8 @@
 //! What `watch` prints of a core.
 ghost use Rattle.std.specs.Prelude.{◌≡◌, ◌++◌, IfOk, OnOk, string_bytes};
 ghost use Rattle.std.specs.List.{flat_map};
-ghost use Rattle.tora_node.specs.StatusLines.{told_of, all_told, height_line, hop_line, told_lines, is_same_height, is_same_hop, change_text, news_of, changes_text};
+ghost use Rattle.tora_node.specs.StatusLines.{told_of, all_told, height_line, hop_line, told_lines, is_same_height};
+ghost use Rattle.tora_node.specs.StatusLines.{is_same_hop, change_text, news_of, changes_text};
 
 use crate::status::own_height;
 use std::alloc::{AllocError, Global};

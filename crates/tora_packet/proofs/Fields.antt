@@ -1,4 +1,4 @@
--- What is read is spelled so, and what is spelled so is read.
+-- The bytes are the encoding of the decoded value, and every encoding decodes to its value.
 use Rattle.std.proofs.Common.{◌≡◌, ℕ, ◌+◌, ◌-◌, ◌^◌, ◌<◌, ◌≤◌, Bool, true, false, cond, not, ltb, List, [], ◌∷◌, ◌++◌, length, get_or, drop, Option, Some, None, Result, Ok, Err, refl, sym, ◌∙◌, arith, inl, inr, MatchOption, ◌==◌, ℤ, to_z, of_z, eq-eqb}
 use Rattle.std.specs.Prelude.{slice_range}
 use Rattle.std.specs.Int.{w32, w64, to_be_bytes}
@@ -27,7 +27,7 @@ passed n z e small = rw e (omega (arith, ints))
 abbrev pub IsBytes : List ℕ → Type 0
 IsBytes bytes = (i : ℕ) → get_or bytes i 0 < 256
 
--- a test that did not hold, and those behind it
+-- a check that found no fault, and the following ones
 next_test : (b : Bool) (e : PacketError) (x : Option PacketError) → cond b (Some e) x ≡ None → (b ≡ false) × (x ≡ None)
 next_test true e x h = absurd cc
 next_test false e x h = (refl, h)

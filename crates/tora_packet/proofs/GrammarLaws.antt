@@ -1,4 +1,4 @@
--- The two laws: what is read is spelled so, and what is spelled so is read.
+-- The two laws: the bytes are the encoding of the decoded value, and every encoding decodes to its value.
 use Rattle.std.proofs.Common.{◌≡◌, ◌⊎◌, ℕ, ◌^◌, ◌<◌, ◌≤◌, Bool, true, false, ltb, eqb, List, [], ◌∷◌, ◌++◌, length, get_or, drop, Some, None, Result, Ok, Err, refl, sym, ap, ◌∙◌, arith, inl, inr, ◌&&◌, ◌==◌, pos, to_z, of_z, MatchOption, IfOk, IsOk}
 use Rattle.std.specs.Prelude.{slice_range, int_lt}
 use Rattle.std.specs.Int.{w32, to_be_bytes}
@@ -89,7 +89,7 @@ spelt bytes fits h =
       ]
     ]
 
--- ---- what is spelled is read
+-- ---- encodings are decoded
 
 qry_number : (n : ℕ) → n < 2 ^ 32 → u32_at 4 (packet_spelling (Qry n)) ≡ n
 unfolding u32_at
@@ -200,7 +200,7 @@ is_fault bytes r =
       | Some x ↦ λ h. h
     ]
 
--- no packet_spelling begins another
+-- no encoding of a packet is a prefix of another
 pub prefix_free : (a b rest : List ℕ) (p q : Packet) → SpellsPacket a p → SpellsPacket b q → a ++ rest ≡ b → (rest ≡ []) × (a ≡ b) × (p ≡ q)
 prefix_free a b rest p q s t e =
     let ra = read_again a p s in

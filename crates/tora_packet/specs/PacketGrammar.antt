@@ -1,4 +1,4 @@
--- The bytes of packets: the one spelling of each, and why other bytes spell none.
+-- The bytes of packets: the only encoding of each, and why other bytes are not a packet.
 use Rattle.std.specs.Prelude.{◌≡◌, ℕ, ◌+◌, Bool, true, false, nat_lt, ◌==◌, ◌||◌, ◌&&◌, if◌then◌else◌, not, List, [], ◌∷◌, ◌++◌, length, take, drop, slice_index, slice_range, Option, Some, None, Result, Ok, Err}
 use Rattle.std.specs.Int.{w32, w64, to_be_bytes, from_be_bytes, cast_unsigned, cast_signed}
 use Rattle.tora_height.specs.Height.{Quintuple, quintuple}
@@ -10,7 +10,7 @@ use Rattle.tora_packet.specs.declared.lengths.TheConstants.{QUERY_LENGTH, UPDATE
 use Rattle.tora_packet.specs.PacketParts.{update_of, clear_of, is_bad_update, is_bad_clear}
 use Rattle.tora_packet.specs.AnyPacket.{IsPacket}
 
--- ---- what a packet is spelled as
+-- ---- the encoding of a packet
 
 -- version 1, the kind, two zeros, and then each number in its bytes, the highest first
 abbrev pub packet_spelling : Packet → List ℕ
@@ -31,18 +31,18 @@ packet_length (Qry q) = QUERY_LENGTH
 packet_length (Upd u) = UPDATE_LENGTH
 packet_length (Clr c) = CLEAR_LENGTH
 
--- the packets of some kind have so many bytes
+-- some kind of packet has this length
 abbrev pub is_packet_length : ℕ → Bool
 is_packet_length n = (n == QUERY_LENGTH) || (n == UPDATE_LENGTH) || (n == CLEAR_LENGTH)
 
--- the bytes spell the packet, all of the bytes
+-- all of the bytes together are the encoding of the packet
 pub record SpellsPacket (bytes : List ℕ) (packet : Packet) : Type 0 where
   pub valid : IsPacket packet
   pub bytes_are : bytes ≡ packet_spelling packet
 
--- ---- why bytes spell no packet: the first of seven tests that holds
+-- ---- why bytes are not a packet: the first of seven checks that fails
 
--- four bytes, and eight, from an offset on
+-- the number in four bytes (and in eight) at an offset
 unfoldable pub u32_at : ℕ → List ℕ → ℕ
 u32_at i bytes = from_be_bytes w32 (slice_range bytes i (i + 4))
 
@@ -62,14 +62,15 @@ is_kind kind = (kind == 1) || (kind == 2) || (kind == 3)
 abbrev pub length_of : ℕ → ℕ
 length_of kind = if kind == 1 then QUERY_LENGTH else if kind == 2 then UPDATE_LENGTH else CLEAR_LENGTH
 
--- the bytes that are stated zero are zero
+-- the reserved bytes are zero
 abbrev pub is_reserved_zero : List ℕ → Bool
 is_reserved_zero bytes = is_zero_at 2 bytes && is_zero_at 3 bytes
     && (if kind_of bytes == 2 then is_zero_at 21 bytes && is_zero_at 22 bytes && is_zero_at 23 bytes else true)
 
 -- the height of an update
 abbrev pub height_at : List ℕ → Quintuple
-height_at bytes = quintuple (u64_at 8 bytes) (u32_at 16 bytes) (slice_index bytes 20) (cast_signed w32 (u32_at 24 bytes)) (u32_at 28 bytes)
+height_at bytes = quintuple (u64_at 8 bytes) (u32_at 16 bytes) (slice_index bytes 20)
+    (cast_signed w32 (u32_at 24 bytes)) (u32_at 28 bytes)
 
 abbrev pub is_bad_value : List ℕ → Bool
 is_bad_value bytes = (u32_at 4 bytes == 0)
@@ -101,7 +102,7 @@ abbrev pub packet_or : Option PacketError → Packet → Result Packet PacketErr
 packet_or None packet = Ok packet
 packet_or (Some e) packet = Err e
 
--- the packet that the bytes spell, or why they spell none
+-- the decoded packet, or why the bytes are not one
 unfoldable pub packet_reading : List ℕ → Result Packet PacketError
 packet_reading bytes = packet_or (packet_fault bytes) (packet_at bytes)
 
@@ -111,11 +112,11 @@ packet_reading bytes = packet_or (packet_fault bytes) (packet_at bytes)
 abbrev pub begins_packet : List ℕ → Bool
 begins_packet bytes = (slice_index bytes 0 == 1) && is_kind (kind_of bytes)
 
--- the bytes of the first packet: no more than its kind has, where they begin as a packet
+-- the bytes of the first packet: at most the length of its kind, if they begin as a packet does
 unfoldable pub first_packet : List ℕ → List ℕ
 first_packet bytes = if begins_packet bytes then take (length_of (kind_of bytes)) bytes else bytes
 
--- the bytes behind the first packet
+-- the bytes after the first packet
 abbrev pub behind_first : List ℕ → List ℕ
 behind_first bytes = drop (length (first_packet bytes)) bytes
 

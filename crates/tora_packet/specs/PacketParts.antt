@@ -37,10 +37,11 @@ clear_of destination tau oid = record { destination = destination; tau = tau; oi
 
 -- ---- what is refused
 
--- no height, that of the destination, or one that is not above it
+-- not a height, the destination's own height, or one that is not above that
 unfoldable pub is_bad_update : ℕ → Quintuple → Bool
-is_bad_update destination h = is_some (height_fault h) || (h.id == destination) || ((h.tau == 0) && (h.r == 0) && int_lt h.delta (pos 1))
+is_bad_update destination h =
+    is_some (height_fault h) || (h.id == destination) || ((h.tau == 0) && (h.r == 0) && int_lt h.delta (pos 1))
 
--- no reflected level
+-- not a reflected level
 unfoldable pub is_bad_clear : ℕ → ℕ → Bool
 is_bad_clear tau oid = (tau == 0) || nat_lt (2 ^ 62) tau || (oid == 0)

@@ -9,4 +9,5 @@ use Rattle.tora_packet.specs.declared.Packet.TheVariants.{Qry, Upd, Clr}
 abbrev pub written_packet : Packet → List ℕ
 written_packet (Qry d) = codes "QRY " ++ decimal d
 written_packet (Upd u) = codes "UPD " ++ decimal u.destination ++ codes " " ++ written_height u.height
-written_packet (Clr c) = codes "CLR " ++ decimal c.destination ++ codes " " ++ decimal c.tau ++ codes "," ++ decimal c.oid
+written_packet (Clr c) = codes "CLR " ++ decimal c.destination ++ codes " " ++ decimal c.tau ++ codes ","
+    ++ decimal c.oid

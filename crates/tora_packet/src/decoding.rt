@@ -1,8 +1,11 @@
 //! Bytes to packets.
-ghost use Rattle.std.specs.Prelude.{◌≡◌, ℕ, List, [], ◌++◌, ◌+◌, ◌≤◌, length, MatchOption, MatchBool, IfOk, IsOk, ◌||◌, ◌==◌};
+ghost use Rattle.std.specs.Prelude.{◌≡◌, ℕ, List, [], ◌++◌, ◌+◌, ◌≤◌, length, MatchOption, MatchBool, IfOk, IsOk, ◌||◌};
+ghost use Rattle.std.specs.Prelude.{◌==◌};
 ghost use Rattle.tora_packet.specs.PacketParts.{update_of, is_bad_update};
 ghost use Rattle.tora_packet.specs.AnyPacket.{IsPacket};
-ghost use Rattle.tora_packet.specs.PacketGrammar.{SpellsPacket, u32_at, u64_at, height_at, is_reserved_zero, kind_of, packet_spelling, packet_length, packet_fault, packet_at, packet_reading};
+ghost use Rattle.tora_packet.specs.PacketGrammar.{SpellsPacket, u32_at, u64_at, height_at, is_reserved_zero, kind_of};
+ghost use Rattle.tora_packet.specs.PacketGrammar.{packet_spelling, packet_length, packet_fault, packet_at};
+ghost use Rattle.tora_packet.specs.PacketGrammar.{packet_reading};
 ghost use Rattle.tora_packet.specs.declared.Packet.{Packet as AnyPacket};
 ghost use Rattle.tora_packet.specs.declared.Packet.TheVariants.{Upd};
 
@@ -92,28 +95,28 @@ fn packet_at(bytes: &[u8]) -> Result<Packet, PacketError>
     }
 }
 
-/// The packet that the bytes spell, all of the bytes.
+/// Decodes a packet that takes up all of the bytes.
 ///
 /// # Errors
-/// The first that stands, in this order: `Short` (under 2 bytes), `Version`, `Kind`, `Short` (fewer bytes than the kind
-/// has), `Long`, `Reserved`, `Height`.
+/// The first that applies, in this order: `Short` (under 2 bytes), `Version`, `Kind`, `Short` (fewer bytes than the
+/// kind has), `Long`, `Reserved`, `Height`.
 #[inline(always)]
 pub fn decode(bytes: &[u8]) -> Result<Packet, PacketError>
-    // What is read is spelled so.
+    // The bytes are the encoding of the result.
     ensures found { IfOk result (SpellsPacket bytes.now) }
-    // What is spelled so is read.
+    // If the bytes are the encoding of a value, the result is that value.
     ensures only { (packet : AnyPacket) → SpellsPacket bytes.now packet → result ≡ Ok packet }
-    // Which fault it is.
+    // A fault is reported exactly if the bytes have one, and it is the first one.
     ensures fault { MatchOption (packet_fault bytes.now) (IsOk result) (λ e. result ≡ Err e) }
-    // The three together, as one function.
+    // The three clauses above as one function.
     ensures exact { result ≡ packet_reading bytes.now }
 {
     packet_at(bytes)
 }
 
-/// Each packet has one spelling, of the length of its kind, and no spelling begins another.
+/// Each packet has exactly one encoding, of the length of its kind, and no encoding is a prefix of another.
 pub fn one_packet_spelling()
-    // It has as many bytes as its kind.
+    // The encoding of a packet has the length of its kind.
     ensures length { (p : AnyPacket) → length (packet_spelling p) ≡ packet_length p }
     ensures one { (a b : List ℕ) (p : AnyPacket) → SpellsPacket a p → SpellsPacket b p → a ≡ b }
     ensures prefix_free { (a b rest : List ℕ) (p q : AnyPacket) → SpellsPacket a p → SpellsPacket b q → a ++ rest ≡ b →

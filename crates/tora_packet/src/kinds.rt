@@ -1,7 +1,8 @@
 //! The three kinds of packet.
 ghost use Rattle.std.specs.Prelude.{◌≡◌, ◌==◌, ◌||◌, Ok, Err, IfOk, MatchBool};
 ghost use Rattle.tora_height.specs.Height.{IsHeight};
-ghost use Rattle.tora_packet.specs.PacketParts.{IsId, IsUpdate, IsClear, update_of, clear_of, is_bad_update, is_bad_clear};
+ghost use Rattle.tora_packet.specs.PacketParts.{IsId, IsUpdate, IsClear, update_of, clear_of, is_bad_update};
+ghost use Rattle.tora_packet.specs.PacketParts.{is_bad_clear};
 
 use crate::PacketError;
 use std::marker::Model;
@@ -41,7 +42,7 @@ impl Query {
         Ok(Query { destination })
     }
 
-    /// The query for a destination that is known to be a node's number.
+    /// The query for a destination that is not 0.
     pub fn of(destination: Id) -> Query
         requires { IsId destination }
         ensures { result ≡ destination }
@@ -49,7 +50,7 @@ impl Query {
         Query { destination }
     }
 
-    /// The destination that is asked for.
+    /// The destination that the query asks for.
     pub fn destination(&self) -> Id
         ensures value { result ≡ self.now }
         ensures valid { IsId self.now }
@@ -102,7 +103,7 @@ impl Update {
         })
     }
 
-    /// The update of a height that is known to be one of another node than the destination.
+    /// The update of a height whose node is not the destination.
     pub fn of(destination: Id, height: Height) -> Update
         requires { IsUpdate (update_of destination height) }
         ensures { result ≡ update_of destination height }
@@ -171,7 +172,7 @@ impl Clear {
         })
     }
 
-    /// The clear of a level that is known to be a reflected one.
+    /// The clear of a reflected level, without a check.
     pub fn of(destination: Id, tau: u64, oid: Id) -> Clear
         requires { IsClear (clear_of destination tau oid) }
         ensures { result ≡ clear_of destination tau oid }

@@ -40,7 +40,7 @@ pub fn is_packet_length(len: usize) -> bool
     len == QUERY_LENGTH || len == UPDATE_LENGTH || len == CLEAR_LENGTH
 }
 
-/// How many bytes the first packet has: no more than its kind, where they begin as a packet.
+/// The length in bytes of the first packet; at most that of its kind, if the bytes begin as a packet does.
 #[inline(always)]
 #[tactic(auto, unfolding(crate::specs::PacketGrammar::first_packet))]
 fn first_length(bytes: &[u8]) -> usize
@@ -60,8 +60,8 @@ fn first_length(bytes: &[u8]) -> usize
     }
 }
 
-/// The bytes of the first of several packets, as many as its kind has, and the bytes behind them. All are those of the first
-/// where they don't begin as a packet, or where there are fewer.
+/// Splits off the first of several packets, by the length of its kind. If the bytes don't begin as a packet does, or
+/// are too few, they all count as the first packet.
 #[inline(always)]
 pub fn cut_packet(bytes: &[u8]) -> (&[u8], &[u8])
     ensures first { result.0.now ≡ first_packet bytes.now }

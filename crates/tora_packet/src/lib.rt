@@ -32,13 +32,13 @@ use std::fmt;
 use thiserror::Error;
 use tora_height::Id;
 
-/// Why bytes spell no packet, or parts make none.
+/// Why bytes or parts are not a packet.
 #[derive(Clone, Copy, Debug, PartialEq, Eq, Hash, Error)]
 pub enum PacketError {
     /// The bytes end before the packet does.
     #[error("too few bytes")]
     Short,
-    /// There are bytes behind the packet.
+    /// There are bytes after the packet.
     #[error("too many bytes")]
     Long,
     /// The version is not 1.
@@ -71,7 +71,7 @@ impl PacketError {
     }
 }
 
-/// A control packet (draft-ietf-manet-tora-spec-04, section 3.6; the layouts are this project's own profile).
+/// A control packet (draft-ietf-manet-tora-spec-04, section 3.6; the layouts are this project's choice).
 #[derive(Clone, Copy, Debug, PartialEq, Eq, Hash)]
 pub enum Packet {
     /// A route request.

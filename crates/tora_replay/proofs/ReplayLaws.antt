@@ -1,4 +1,4 @@
--- A line's reply in a replay, as the text that goes on.
+-- The output of a line in a replay, as a continuation of the text.
 use Rattle.std.proofs.Common.{◌≡◌, ℕ, ◌≤◌, List, length, Result, Ok, Err}
 use Rattle.tora_lines.specs.declared.words.LineError.{LineError}
 use Rattle.tora_lines.specs.declared.words.LineError.TheVariants.{Memory, Fault}

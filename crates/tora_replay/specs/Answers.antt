@@ -1,4 +1,4 @@
--- What is printed for each line behind the first, and the core after it.
+-- The output for each line after the first, and the core after the line.
 use Rattle.std.specs.Prelude.{ℕ, codes, List, [], ◌∷◌, ◌++◌, Option, Some, None, Ok, Err}
 use Rattle.std.specs.List.{flat_map}
 use Rattle.hex.specs.Hex.{encode_lower}
@@ -23,14 +23,14 @@ send_line packet = codes "send " ++ encode_lower (packet_spelling packet) ++ 10 
 abbrev pub send_lines : List AnyPacket → List ℕ
 send_lines packets = flat_map send_line packets
 
--- a core, and what is printed on the way to it
+-- a core, and the output so far
 abbrev pub Reply : Type 0
 Reply = CoreView × List ℕ
 
 abbrev pub replied : CoreView → List ℕ → Reply
 replied core text = (core, text)
 
--- an input that is refused so, if it is
+-- an input, with the cause of its refusal, if it is refused
 abbrev pub step_or : Option StepError → CoreView → Input → ℕ → Reply
 step_or (Some error) core input now = replied core (numbered (codes "refused ") (step_error_number error))
 step_or None core input now = replied (core_after core input now) (send_lines (sends_of core input now))
@@ -39,7 +39,7 @@ step_or None core input now = replied (core_after core input now) (send_lines (s
 unfoldable pub step_reply : CoreView → Input → ℕ → Reply
 step_reply core input now = step_or (refusal_of core input) core input now
 
--- the answer to a line: a step, `bad N` for bytes that spell no packet, or the lines of `show`
+-- the output for a line: a step, `bad N` for bytes that are not a packet, or the lines of `show`
 abbrev pub order_reply : CoreView → Order → ℕ → Reply
 order_reply core (Up k) now = step_reply core (input.LinkUp k) now
 order_reply core (Down k) now = step_reply core (input.LinkDown k) now

@@ -1,4 +1,4 @@
--- How each line is written.
+-- The form of each line.
 use Rattle.std.specs.Prelude.{◌≡◌, ℕ, ◌<◌, ◌^◌, ◌⊎◌, codes, List, [], ◌∷◌, ◌++◌, length, All, Result, Ok}
 use Rattle.std.specs.Fmt.{decimal}
 use Rattle.hex.specs.Hex.{decode_of}
@@ -16,7 +16,7 @@ use Rattle.tora_lines.specs.WordGrammar.{SpellsId, list_text}
 abbrev pub SpellsBytes : List ℕ → List ℕ → Type 0
 SpellsBytes word bytes = ((word ≡ codes "-") × (bytes ≡ [])) ⊎ ((0 < length word) × (decode_of word ≡ Ok bytes))
 
--- `from`, a neighbour, and bytes: what these spell, or why they spell no packet
+-- `from`, a neighbour, and bytes: the decoded packet, or why they are not one
 pub record SpellsFrom (text : List ℕ) (k : ℕ) (read : Result Packet PacketError) : Type 0 where
   pub id : IsId k
   pub word : List ℕ
@@ -45,4 +45,5 @@ pub record SpellsHeader (text : List ℕ) (h : HeaderParts) : Type 0 where
   pub node : IsId h.node
   pub links : All IsId h.links
   pub dests : All IsId h.dests
-  pub text_is : text ≡ codes "node " ++ (decimal h.node ++ (codes " links " ++ (list_text h.links ++ (codes " dests " ++ list_text h.dests))))
+  pub text_is : text ≡ codes "node " ++ (decimal h.node ++ (codes " links "
+      ++ (list_text h.links ++ (codes " dests " ++ list_text h.dests))))

@@ -1,4 +1,4 @@
--- The lines of a replay file: what each line says.
+-- The lines of a replay file, parsed.
 use Rattle.std.specs.Prelude.{ℕ, Bool, ◌==◌, ◌&&◌, if◌then◌else◌, codes, is_some, List, [], length, Option, Some, None}
 use Rattle.tora_packet.specs.PacketGrammar.{packet_reading}
 use Rattle.tora_replay.specs.declared.line.Header.{Header}
@@ -45,7 +45,7 @@ from_of text = do
   bytes ← bytes_of a.1
   Some (From k (packet_reading bytes))
 
--- a word that stands before an id, and the id
+-- a word followed by an id
 unfoldable pub with_id : (ℕ → Order) → List ℕ → Option Order
 with_id order text = do
   n ← id_of text

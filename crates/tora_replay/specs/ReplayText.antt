@@ -1,4 +1,4 @@
--- What a replay of an input prints, and how it ends.
+-- The output of a replay, and how it ends.
 use Rattle.std.specs.Prelude.{ℕ, List, [], Option, Some, None}
 use Rattle.std.specs.Option.{option_map, option_and_then}
 use Rattle.tora_core.specs.declared.erasure.Erasure.{Erasure}
@@ -13,7 +13,7 @@ use Rattle.tora_lines.specs.declared.ended.Ended.{Ended}
 
 -- ---- one line: the core is None before the first
 
--- the core of a first line that makes this of erased levels, unless it is refused
+-- the core of a first line, with this treatment of erased levels, unless it is refused
 abbrev pub core_unless : Erasure → Option CoreError → HeaderParts → Option CoreView
 core_unless erasure None h = Some (first_core_of erasure h.node h.links h.dests)
 core_unless erasure (Some error) h = None
@@ -34,18 +34,18 @@ unfoldable pub replay_reply : Erasure → Option CoreView → List ℕ → Optio
 replay_reply erasure None line = option_map left_by (first_reply erasure line)
 replay_reply erasure (Some core) line = option_map left_by (next_reply core line)
 
--- the end of the input is a fault where the first line is still required
+-- the end of the input is a fault if the first line is missing
 abbrev pub missing : Option CoreView → ℕ → Option ℕ
 missing None n = Some n
 missing (Some core) n = None
 
--- the rules of a replay whose node makes this of erased levels
+-- the rules of a replay whose node has this treatment of erased levels
 abbrev pub replay_rules_of : Erasure → Rules (Option CoreView)
 replay_rules_of erasure = record { start = None; reply = replay_reply erasure; at_end = missing }
 
 -- ---- all lines
 
--- what is printed for an input
+-- the output for an input
 abbrev pub text_with : Erasure → List ℕ → List ℕ
 text_with erasure bytes = (whole_text (replay_rules_of erasure) bytes).0
 
@@ -57,19 +57,20 @@ end_with erasure bytes = (whole_text (replay_rules_of erasure) bytes).1
 abbrev pub first_fault_with : Erasure → List ℕ → Option ℕ
 first_fault_with erasure bytes = fault_of (end_with erasure bytes)
 
--- of lines from line n on, line m is a fault, and all before it are taken
+-- of lines from line n on, line m is the first fault
 abbrev pub IsFirstFaultWith : Erasure → Option CoreView → ℕ → List (List ℕ) → ℕ → Type 0
 IsFirstFaultWith erasure core n lines m = IsFirstFaultBy (replay_rules_of erasure) core n lines m
 
 -- ---- what replay promises
 
--- Known bytes grew by what is printed for the input, and the input ends so.
+-- The known bytes grew by the output for the input, and the input ends as the result says.
 abbrev pub ReplaysWith : Erasure → List ℕ → Option (List ℕ) → Option (List ℕ) → Ended → Type 0
 ReplaysWith erasure input old new ended = IsWholeText (whole_text (replay_rules_of erasure)) input old new ended
 
--- The reader gave some bytes, and the writer got a front of what is printed for them.
+-- The reader returned some bytes, and the writer got a prefix of the output for them.
 abbrev pub IsBegunWith : Erasure → Option (List ℕ) → Option (List ℕ) → Option (List ℕ) → Option (List ℕ) → Type 0
-IsBegunWith erasure old_reader new_reader old_writer new_writer = IsFrontOfText (whole_text (replay_rules_of erasure)) old_reader new_reader old_writer new_writer
+IsBegunWith erasure old_reader new_reader old_writer new_writer =
+    IsFrontOfText (whole_text (replay_rules_of erasure)) old_reader new_reader old_writer new_writer
 
 -- ---- the same of a node that remembers no erased level
 

@@ -1,4 +1,4 @@
-//! What is printed for the lines behind the first.
+//! The output for the lines after the first.
 ghost use Rattle.std.specs.Prelude.{◌≡◌, [], ◌∷◌, ◌++◌, OnOk, codes, string_bytes, Ok, Err};
 ghost use Rattle.tora_core.specs.ShowText.{show_text};
 ghost use Rattle.tora_lines.specs.LineText.{numbered, TakesReply};
@@ -10,7 +10,7 @@ use tora_core::{Core, Input, Sends};
 use tora_lines::numbered;
 use tora_packet::{LONGEST_PACKET, Packet, encode};
 
-/// Puts a line of these digits behind a text.
+/// Appends a line with these digits to a text.
 fn send_digits(out: &mut String, digits: &str) -> Result<(), AllocError>
     ensures { OnOk result (string_bytes out.new ≡ string_bytes out.old ++ codes "send " ++ digits.now ++ 10 ∷ []) }
 {
@@ -32,7 +32,7 @@ fn send(out: &mut String, packet: &Packet) -> Result<(), AllocError>
     send_digits(out, digits)
 }
 
-/// Puts a line for each packet behind a text.
+/// Appends a line for each packet to a text.
 fn send_all(out: &mut String, packets: &[Packet]) -> Result<(), AllocError>
     ensures { OnOk result (string_bytes out.new ≡ string_bytes out.old ++ send_lines packets.now) }
 {
@@ -42,7 +42,7 @@ fn send_all(out: &mut String, packets: &[Packet]) -> Result<(), AllocError>
     Ok(())
 }
 
-/// Steps the core, and puts the sends, which are in the list then, or the refusal behind a text.
+/// Steps the core, and appends the packets sent, or the refusal, to a text. The list then has the packets.
 #[tactic(auto, unfolding(crate::specs::Answers::step_reply))]
 fn step(
     core: &mut Core,
@@ -51,7 +51,8 @@ fn step(
     sends: &mut Sends,
     out: &mut String,
 ) -> Result<(), AllocError>
-    ensures { OnOk result (TakesReply (step_reply core.old input now) core.new (string_bytes out.old) (string_bytes out.new)) }
+    ensures { OnOk result (TakesReply (step_reply core.old input now) core.new (string_bytes out.old)
+        (string_bytes out.new)) }
 {
     match core.step_into(&input, now, sends) {
         Ok(()) => send_all(out, sends.as_slice()),
@@ -68,7 +69,7 @@ fn show(core: &Core, out: &mut String) -> Result<(), AllocError>
     out.push_str(&text)
 }
 
-/// Carries out a line, and appends what is printed for it to a text. The list of packets is overwritten.
+/// Carries out a line, and appends its output to a text. The list of packets is overwritten.
 #[tactic(auto, unfolding(crate::specs::Answers::answer))]
 pub fn answer(
     core: &mut Core,

@@ -86,7 +86,7 @@ fn first_cause(alloc: Global, line: &[u8]) -> Cause {
     }
 }
 
-/// Why a first line that is of no known form is a fault.
+/// Why a first line of no known form is a fault.
 fn header_cause(line: &[u8]) -> Cause {
     let mut pieces = line.split(|byte| *byte == b' ');
     for name in [b"node".as_slice(), b"links".as_slice(), b"dests".as_slice()] {

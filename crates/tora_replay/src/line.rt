@@ -1,4 +1,4 @@
-//! What the lines of a replay file say.
+//! The lines of a replay file, as values.
 use tora_height::Id;
 use tora_packet::{Packet, PacketError};
 
@@ -10,7 +10,7 @@ pub struct Header {
     pub dests: Vec<Id>,
 }
 
-/// What a line behind the first asks for.
+/// The order in a line after the first.
 #[derive(Clone, Copy, Debug, PartialEq, Eq)]
 pub enum Order {
     /// The link to this neighbour comes up.
@@ -19,17 +19,17 @@ pub enum Order {
     Down(Id),
     /// A route to this destination is needed.
     Need(Id),
-    /// Bytes came from this neighbour: the packet that they spell, or why they spell none.
+    /// Bytes came from this neighbour: the decoded packet, or why they are not one.
     From(Id, Result<Packet, PacketError>),
     /// The table is to be printed.
     Show,
 }
 
-/// A line behind the first.
+/// A line after the first.
 #[derive(Clone, Copy, Debug, PartialEq, Eq)]
 pub struct Line {
     /// The time of the line, in ticks of 100 ms.
     pub now: u64,
-    /// What it asks for.
+    /// The order.
     pub order: Order,
 }

@@ -8,8 +8,8 @@ ghost use Rattle.tora_replay.specs.Lines.{bytes_of};
 use tora_lines::words::is_dash;
 use tora_packet::{LONGEST_PACKET, Packet, PacketError, decode};
 
-/// What the bytes spell that are written in hexadecimal digits, or nothing where these are no digits. The room has one
-/// byte for each two digits.
+/// Decodes the packet in a word of hexadecimal digits; `None` if these are not digits. The buffer has one byte for each
+/// two digits.
 #[tactic(auto, unfolding(crate::specs::Lines::bytes_of))]
 fn reading(digits: &[u8], room: &mut [u8]) -> Option<Result<Packet, PacketError>>
     requires some { 0 < length digits.now }
@@ -42,8 +42,8 @@ fn long_reading(digits: &[u8]) -> Option<Result<Packet, PacketError>>
     reading(digits, &mut [0; 2048])
 }
 
-/// The packet that is written in hexadecimal digits, or why they spell none; `-` is no bytes. Nothing where the word is
-/// neither.
+/// Decodes the packet in a word of hexadecimal digits, or says why they are not a packet; `-` means no bytes. `None`
+/// for any other word.
 #[tactic(auto, unfolding(crate::specs::Lines::bytes_of))]
 pub fn packet(text: &[u8]) -> Option<Result<Packet, PacketError>>
     requires { length text.now ≤ 4096 }

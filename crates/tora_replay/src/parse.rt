@@ -1,4 +1,4 @@
-//! Lines to what they say.
+//! Parses the lines of a replay file.
 ghost use Rattle.tora_replay.specs.LineGrammar.{SpellsHeader, SpellsLine};
 ghost use Rattle.tora_replay.specs.declared.line.Line.{Line as AnyLine};
 ghost use Rattle.std.specs.Prelude.{◌≡◌, Some, List, ℕ, ◌≤◌, ◌<◌, IfSome, IfOk, All, codes, length};
@@ -38,7 +38,8 @@ fn id(text: &[u8]) -> Result<Id, LineError>
 #[tactic(auto, unfolding(crate::specs::Lines::header_of))]
 pub fn header(alloc: Global, text: &[u8]) -> Result<Header, LineError>
     ensures value { Gives header result (header_of text.now) }
-    ensures positive { IfOk result (λ h. (0 < h.node) × All (λ k. 0 < k) h.links.items × All (λ d. 0 < d) h.dests.items) }
+    ensures positive { IfOk result (λ h. (0 < h.node) × All (λ k. 0 < k) h.links.items
+        × All (λ d. 0 < d) h.dests.items) }
 {
     let (node, rest) = word(behind(b"node ", text)?)?;
     let node = id(node)?;
@@ -91,7 +92,7 @@ fn order(text: &[u8]) -> Option<Order>
     }
 }
 
-/// A line behind the first.
+/// A line after the first.
 #[tactic(auto, unfolding(crate::specs::Lines::line_of))]
 pub fn line(text: &[u8]) -> Option<Line>
     requires { length text.now ≤ 4096 }
@@ -103,13 +104,13 @@ pub fn line(text: &[u8]) -> Option<Line>
     Some(Line { now, order })
 }
 
-/// A first line is read exactly where it is written as the formats say.
+/// A first line is read exactly if it has the documented form.
 pub fn first_lines_are_read_as_written()
     ensures found { (text : List ℕ) (h : HeaderParts) → header_of text ≡ Some h → SpellsHeader text h }
     ensures only { (text : List ℕ) (h : HeaderParts) → SpellsHeader text h → header_of text ≡ Some h }
 {}
 
-/// A line behind the first is read exactly where it is written as the formats say.
+/// A line after the first is read exactly if it has the documented form.
 pub fn lines_are_read_as_written()
     ensures found { (text : List ℕ) (line : AnyLine) → line_of text ≡ Some line → SpellsLine text line }
     ensures only { (text : List ℕ) (line : AnyLine) → SpellsLine text line → line_of text ≡ Some line }

@@ -1,5 +1,6 @@
 //! The replay of the inputs of one node.
-ghost use Rattle.std.specs.Prelude.{◌≡◌, ◌≢◌, ◌≤◌, ℕ, List, [], length, string_bytes, None, Some, Ok, IfOk, IfErr, IfSome};
+ghost use Rattle.std.specs.Prelude.{◌≡◌, ◌≢◌, ◌≤◌, ℕ, List, [], length, string_bytes, None, Some, Ok, IfOk, IfErr};
+ghost use Rattle.std.specs.Prelude.{IfSome};
 ghost use Rattle.std.specs.Option.{option_and_then};
 ghost use Rattle.std.specs.Io.KnownBytes.{IsAtEnd};
 ghost use Rattle.tora_lines.specs.Gives.{Gives};
@@ -7,7 +8,8 @@ ghost use Rattle.tora_replay.specs.Lines.{header_of};
 ghost use Rattle.tora_lines.specs.Pieces.{pieces_of};
 ghost use Rattle.tora_lines.specs.LineText.{fault_of};
 ghost use Rattle.tora_core.specs.declared.erasure.Erasure.{Erasure as AnyErasure};
-ghost use Rattle.tora_replay.specs.ReplayText.{core_of, next_reply, replay_reply, first_fault, Replays, IsBegun, first_fault_with, IsFirstFaultWith, ReplaysWith, IsBegunWith};
+ghost use Rattle.tora_replay.specs.ReplayText.{core_of, next_reply, replay_reply, first_fault, Replays, IsBegun};
+ghost use Rattle.tora_replay.specs.ReplayText.{first_fault_with, IsFirstFaultWith, ReplaysWith, IsBegunWith};
 ghost use Rattle.tora_replay.specs.ReplayView.{replay_kind};
 ghost use Rattle.tora_lines.specs.Reads.{IsReadSo, IsUnwritten};
 
@@ -19,7 +21,7 @@ use tora_core::{Core, CoreError, CoreLimits, Erasure, Sends};
 use tora_lines::words::LineError;
 use tora_lines::{Ended, FileKind, Input, Output, ReplayError, read_lines};
 
-/// The core that the first line makes, which makes this of erased levels.
+/// The core that the first line describes, with this treatment of erased levels.
 #[tactic(auto, unfolding(crate::specs::ReplayText::core_of))]
 fn first(alloc: Global, erasure: Erasure, line: &[u8]) -> Result<Replaying, LineError>
     ensures { Gives (λ core. core) result (option_and_then (core_of erasure) (header_of line.now)) }
@@ -43,7 +45,8 @@ fn first(alloc: Global, erasure: Erasure, line: &[u8]) -> Result<Replaying, Line
     }
 }
 
-/// What a replay keeps between two lines: the core, and a list for the packets of a step. A contract sees the core alone.
+/// The state of a replay between two lines: the core, and a list for the packets of a step. Contracts see only the
+/// core.
 #[derive(Drop)]
 struct Replaying {
     core: Core,
@@ -79,7 +82,7 @@ pub struct ReplayFile {
     replaying: Option<Replaying>,
 }
 
-/// Takes a line, and puts what is printed for it behind an empty text.
+/// Carries out a line, and writes its output to an empty text.
 #[tactic(auto, unfolding(crate::specs::ReplayText::replay_reply))]
 fn take_line(
     replaying: &mut Option<Replaying>,
@@ -119,30 +122,30 @@ impl FileKind for ReplayFile {
     }
 }
 
-/// Reads the lines of a replay file to the end of the input or to the first line that is a fault, and writes what is
-/// printed for each, for a node that remembers no erased level.
+/// Reads the lines of a replay file to the end of the input or to the first fault, and writes the output of each line,
+/// for a node with `Erasure::Plain`.
 ///
-/// The first line is `node I links LIST dests LIST`, and each further one `NOW up K`, `NOW down K`, `NOW need D`,
-/// `NOW from K HEX` or `NOW show`. A line has at most 4,096 bytes without its LF. What is printed for a line is written
-/// whole, by one call of the writer's `write_all`. The memory taken is bounded by one line.
+/// The first line is `node I links LIST dests LIST`, and each further one `NOW up K`, `NOW down K`, `NOW need D`, `NOW
+/// from K HEX` or `NOW show`. A line has at most 4,096 bytes without its LF. The output of a line is written by one
+/// call of the writer's `write_all`. The memory taken is bounded by one line.
 ///
-/// A fault is no error: `fault N` is written, and the answer is `Ended::Fault(N)`.
+/// A fault is not an error: `fault N` is written, and the result is `Ended::Fault(N)`.
 ///
 /// # Errors
-/// `Memory` where memory was refused; `Read` where a read failed, or 2^32 reads came to no end (a read that was
-/// interrupted is made again, and counts); `Write` where a write failed. No line is taken in part: at `Memory` and `Read`
-/// whole lines' answers were written.
+/// `Memory` if memory ran out; `Read` if a read failed, or after 2^32 reads (an interrupted read is repeated, and
+/// counts); `Write` if a write failed. At `Memory` and `Read` the outputs of whole lines were written, never a part of
+/// one.
 pub fn replay<R: Input, W: Output>(
     alloc: Global,
     reader: &mut R,
     writer: &mut W,
 ) -> Result<Ended, ReplayError>
-    // What was written is the text of the whole input, and the input ends so.
+    // The written text is the output of the whole input, and the input ends as the result says.
     ensures whole { IfOk result (λ ended. IfSome (R.remaining reader.old) (λ input.
         Replays input (W.contents writer.old) (W.contents writer.new) ended)) }
     ensures at_end { result ≡ Ok Ended.Whole → IsAtEnd (R.remaining reader.new) }
     ensures fault { IfOk result (λ ended. IfSome (R.remaining reader.old) (λ input. fault_of ended ≡ first_fault input)) }
-    // What was written begins the text of what was read.
+    // The written text is a prefix of the output of the lines that were read.
     ensures begun { IfErr result (λ e. e ≢ ReplayError.Write →
         IsBegun (R.remaining reader.old) (R.remaining reader.new) (W.contents writer.old) (W.contents writer.new)) }
     ensures reads { IsReadSo R.did_read reader.old reader.new result }
@@ -151,7 +154,7 @@ pub fn replay<R: Input, W: Output>(
     replay_with(alloc, Erasure::Plain, reader, writer)
 }
 
-/// Replays as `replay` does, for a node that makes this of erased levels.
+/// As `replay`, for a node with this treatment of erased levels.
 ///
 /// # Errors
 /// Those of `replay`.
@@ -165,9 +168,11 @@ pub fn replay_with<R: Input, W: Output>(
     ensures whole { IfOk result (λ ended. IfSome (R.remaining reader.old) (λ input.
         ReplaysWith erasure input (W.contents writer.old) (W.contents writer.new) ended)) }
     ensures at_end { result ≡ Ok Ended.Whole → IsAtEnd (R.remaining reader.new) }
-    ensures fault { IfOk result (λ ended. IfSome (R.remaining reader.old) (λ input. fault_of ended ≡ first_fault_with erasure input)) }
+    ensures fault { IfOk result (λ ended. IfSome (R.remaining reader.old) (λ input.
+        fault_of ended ≡ first_fault_with erasure input)) }
     ensures begun { IfErr result (λ e. e ≢ ReplayError.Write →
-        IsBegunWith erasure (R.remaining reader.old) (R.remaining reader.new) (W.contents writer.old) (W.contents writer.new)) }
+        IsBegunWith erasure (R.remaining reader.old) (R.remaining reader.new) (W.contents writer.old)
+        (W.contents writer.new)) }
     ensures reads { IsReadSo R.did_read reader.old reader.new result }
     ensures failed { IfErr result (λ e. e ≡ ReplayError.Write → IsUnwritten W.did_write writer.new) }
 {
@@ -178,8 +183,11 @@ pub fn replay_with<R: Input, W: Output>(
     read_lines(alloc, state, reader, writer)
 }
 
-/// The line whose number a fault gives is the first that is none: all lines before it are taken, and it is not.
+/// The line whose number a fault gives is the first line that is refused: all lines before it were carried out, and it
+/// was not.
 pub fn fault_is_the_first()
-    ensures found { (erasure : AnyErasure) (bytes : List ℕ) (n : ℕ) → first_fault_with erasure bytes ≡ Some n → IsFirstFaultWith erasure None 1 (pieces_of bytes) n }
-    ensures only { (erasure : AnyErasure) (bytes : List ℕ) (n : ℕ) → IsFirstFaultWith erasure None 1 (pieces_of bytes) n → first_fault_with erasure bytes ≡ Some n }
+    ensures found { (erasure : AnyErasure) (bytes : List ℕ) (n : ℕ) → first_fault_with erasure bytes ≡ Some n
+        → IsFirstFaultWith erasure None 1 (pieces_of bytes) n }
+    ensures only { (erasure : AnyErasure) (bytes : List ℕ) (n : ℕ) → IsFirstFaultWith erasure None 1 (pieces_of bytes) n
+        → first_fault_with erasure bytes ≡ Some n }
 {}

@@ -1,4 +1,4 @@
--- What stands at a place of a list, and the first one that has a value.
+-- The item at a place of a list, and the first one that has a value.
 use Rattle.std.proofs.Common.{◌≡◌, ◌<◌, ◌≤◌, ◌+◌, ℕ, zero, suc, List, [], ◌∷◌, length, get_or, set, Option, Some, None, refl, sym, ap, ap₂, ◌∙◌, subst, arith}
 use Rattle.tora_router.specs.Links.{at_place, first_in, found_at}
 
@@ -46,7 +46,7 @@ none_first value (y ∷ xs) (suc place) le h =
     let less : length xs ≤ place = omega (arith, le) in
     ap₂ found_at h.0 (none_first value xs place less h.1)
 
--- ---- the same, where the list is known by another name
+-- ---- the same, if the list has another name
 
 pub first_found_as : {L A : Type 0} (value : L → Option A) (xs ys : List L) (place : ℕ) (x : L) (v : A) → xs ≡ ys → place < length xs → x ≡ get_or xs place x → value x ≡ Some v → NoneBefore value xs place → first_in value ys ≡ Some (place, v)
 first_found_as value xs ys place x v q lt e s h = sym (ap (first_in value) q) ∙ first_found value xs place x v lt e s h

@@ -6,7 +6,7 @@ use Rattle.tora_router.specs.Router.{RouterState, after_first_event, after_event
 use Rattle.tora_router.proofs.Served.{events_over}
 use Rattle.tora_router.proofs.Waiting.{event_waits}
 
--- so many events were served
+-- this many events were served
 pub record SettledSoFar (now : ℕ) (first here : RouterState) : Type 0 where
   pub count : ℕ
   pub served : here ≡ after_events count now first

@@ -25,7 +25,7 @@ use Rattle.tora_router.specs.declared.link.Link.{Link}
 use Rattle.tora_router.specs.Links.{given, polled, at_place, first_in, found_at, event_of, may_end, waits, waiting}
 use Rattle.tora_router.specs.Router.{RouterState, serving, after_offers, item_at, after_item, after_event, after_first_event}
 
--- ---- a cargo that is handed in
+-- ---- a cargo that is passed in
 
 end_waits : (e : EndState) (life : Life) (reason : Reason) → e.phase ≡ Bound life → waits (after_end e life reason) ≤ waits e
 end_waits e life reason q =

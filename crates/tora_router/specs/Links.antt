@@ -1,4 +1,4 @@
--- The links of a router, and what each call makes of one.
+-- The links of a router, and the effect of each call on one.
 use Rattle.std.specs.Prelude.{ℕ, zero, suc, ◌+◌, ◌-◌, ◌^◌, ◌==◌, ◌&&◌, ◌||◌, min, nat_lt, nat_le, Bool, false, if◌then◌else◌, List, [], ◌∷◌, length, slice_get, Option, Some, None, option_map, Result, Ok, Err}
 use Rattle.std.specs.Option.{option_map_or}
 use Rattle.tora_frame.specs.declared.FrameError.{FrameError}
@@ -27,7 +27,7 @@ use Rattle.tora_router.specs.declared.tally.Tally.{Tally}
 abbrev pub first_tally : Tally
 first_tally = record { accepted = 0; repeated = 0; ahead = 0; stale = 0; foreign = 0; busy = 0; bad = 0 }
 
--- one more, and 2^64 - 1 from there on
+-- one more; the count stops at 2^64 - 1
 abbrev pub one_more : ℕ → ℕ
 one_more n = min (n + 1) (2 ^ 64 - 1)
 
@@ -46,28 +46,28 @@ counted (Seen Busy) t = record t { busy = one_more t.busy }
 abbrev pub with_state : Link → EndState → Link
 with_state link state = record link { end = record link.end { state = state } }
 
--- a cargo of the core is handed to the end
+-- a cargo of the core is passed to the end
 abbrev pub given : Cargo → Link → Link
 given cargo link = with_state link (after_cargo link.end.state cargo)
 
--- what an event tells of the link
+-- the change of a link that an event reports
 abbrev pub news_after : LinkEvent → Option News → Option News
 news_after (Event.Up life) news = Some Tells.Up
 news_after (Event.Deliver life packet) news = news
 news_after (Event.Down life reason) news = Some (Tells.Down reason)
 
--- the first event of the end is taken from it
+-- the first event of the end is removed
 abbrev pub polled : LinkEvent → Link → Link
 polled event link = record (with_state link (after_poll_event link.end.state)) { news = news_after event link.news }
 
--- the end is closed, and the number is one that it may be opened with
+-- the end is closed, and may be opened with the number
 abbrev pub may_open : ℕ → Link → Bool
 may_open number link = is_closed link.end.state && (nat_lt link.end.state.last_life number && nat_le number (2 ^ 62))
 
 abbrev pub opened : ℕ → ℕ → Link → Link
 opened number now link = if may_open number link then with_state link (after_open link.end.state number now) else link
 
--- a closed end is opened, and the tick is handed to it
+-- a closed end is opened, and gets the tick
 abbrev pub ticked : ℕ → ℕ → Link → Link
 ticked number now link = with_state link (after_tick link.end.settings (opened number now link).end.state now)
 
@@ -79,14 +79,17 @@ abbrev pub state_after : Link → ℕ → Result FrameParts FrameError → EndSt
 state_after link now (Ok frame) = after_frame link.end.settings link.end.state frame now
 state_after link now (Err error) = link.end.state
 
--- a datagram is read so: a frame is handed to the end, and bytes that spell none are not
+-- a datagram was decoded with this result: a frame is passed to the end, and other bytes are not
 abbrev pub heard : ℕ → Result FrameParts FrameError → Link → Link
-heard now reading link = record (with_state link (state_after link now reading)) { tally = counted (intake_of link now reading) link.tally }
+heard now reading link = record (with_state link (state_after link now reading)) {
+  tally =
+      counted (intake_of link now reading) link.tally;
+}
 
 abbrev pub frame_of_link : ℕ → Link → Option FrameParts
 frame_of_link now link = frame_due link.end.settings link.end.state now
 
--- the first frame due is given out
+-- the first frame due is sent
 abbrev pub sent : ℕ → Link → Link
 sent now link = with_state link (after_transmit link.end.settings link.end.state now)
 
@@ -94,19 +97,19 @@ sent now link = with_state link (after_transmit link.end.settings link.end.state
 abbrev pub cut : Link → Link
 cut link = with_state link (after_cut_of_bound link.end.state (bound_life link.end.state))
 
--- what has changed was told
+-- the change was polled
 abbrev pub told : Link → Link
 told link = record link { news = None }
 
 -- ---- all links
 
--- one of these is changed: that at a place
+-- changes the item at a place
 abbrev pub at_place : {L : Type 0} → (L → L) → ℕ → List L → List L
 at_place f place [] = []
 at_place f zero (x ∷ xs) = f x ∷ xs
 at_place f (suc place) (x ∷ xs) = x ∷ at_place f place xs
 
--- the place and the value of the first one that has a value
+-- the place and the value of the first item that has a value
 abbrev pub one_further : {A : Type 0} → Option (ℕ × A) → Option (ℕ × A)
 one_further None = None
 one_further (Some found) = Some (suc found.0, found.1)
@@ -142,7 +145,7 @@ abbrev pub intake_in : ℕ → Result FrameParts FrameError → Option Link → 
 intake_in now reading None = NoNeighbour
 intake_in now reading (Some link) = intake_of link now reading
 
--- what the end at a place makes of a datagram
+-- the outcome of a datagram at the end at a place
 abbrev pub intake_at : ℕ → Result FrameParts FrameError → ℕ → List Link → Intake
 intake_at now reading place links = intake_in now reading (slice_get links place)
 
@@ -168,11 +171,11 @@ may_end Closed = 0
 may_end (Unbound own) = 0
 may_end (Bound life) = 1
 
--- the events of an end that wait, and one more where its life may end
+-- the events of an end that wait, and one more if its life may end
 abbrev pub waits : EndState → ℕ
 waits e = length e.events + may_end e.phase
 
--- so many events at most are served where nothing else comes in
+-- a bound on the events that are served if nothing else comes in
 abbrev pub waiting : List Link → ℕ
 waiting [] = 0
 waiting (link ∷ links) = waits link.end.state + waiting links

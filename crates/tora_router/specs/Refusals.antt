@@ -1,4 +1,4 @@
--- Why a router is not made.
+-- Why a router can't be made.
 use Rattle.std.specs.Prelude.{ℕ, ◌==◌, ◌||◌, ◌^◌, Bool, nat_lt, codes, if◌then◌else◌, List, Option, Some, None, option_map}
 use Rattle.tora_arq.specs.declared.times.Times.{Times}
 use Rattle.tora_core.specs.declared.errors.CoreError.{CoreError}
@@ -31,7 +31,7 @@ has_no_time t = (t.hello == 0 || t.silent == 0) || (t.retry == 0 || t.tries == 0
 abbrev pub is_no_life : ℕ → Bool
 is_no_life number = number == 0 || nat_lt (2 ^ 62) number
 
--- the first cause that holds, but for what the core refuses
+-- the first cause that applies, apart from those of the core
 abbrev pub early_refusal : Config → List ℕ → List ℕ → ℕ → Option RouterError
 early_refusal config neighbours destinations first_life =
     if config.me == 0 || (has_number 0 neighbours || has_number 0 destinations) then Some Fault.Id
@@ -43,8 +43,9 @@ abbrev pub or_later : Option RouterError → Option RouterError → Option Route
 or_later (Some error) later = Some error
 or_later None later = later
 
--- the first cause that holds, but for want of memory
+-- the first cause that applies, apart from memory
 abbrev pub router_refusal : Config → List ℕ → List ℕ → ℕ → Option RouterError
 router_refusal config neighbours destinations first_life = or_later
     (early_refusal config neighbours destinations first_life)
-    (option_map error_of (core_refusal_within (most_neighbours config.limits) (most_destinations config.limits) config.me neighbours destinations))
+    (option_map error_of (core_refusal_within (most_neighbours config.limits) (most_destinations config.limits)
+    config.me neighbours destinations))

@@ -1,4 +1,4 @@
--- A router: what each call makes of it.
+-- A router, and the effect of each call.
 use Rattle.std.specs.Prelude.{◌≡◌, ℕ, zero, suc, ◌+◌, ◌*◌, ◌==◌, ◌^◌, not, Bool, true, false, nat_lt, nat_le, ◌<◌, if◌then◌else◌, List, [], ◌∷◌, map, length, slice_get, Option, Some, None, option_map, Result, Ok, Err}
 use Rattle.std.specs.List.{list_any}
 use Rattle.tora_frame.specs.declared.FrameError.{FrameError}
@@ -39,10 +39,10 @@ use Rattle.tora_router.specs.Links.{first_tally, given, polled, ticked, intake_a
 pub record RouterView : Type 0 where
   pub seat : SeatView
   pub links : List Link  -- by ascending neighbour
-  pub hops : List Hop  -- by ascending destination, the next hop that was told last
+  pub hops : List Hop  -- by ascending destination, the next hop that was polled last
   pub next_life : ℕ  -- the number for the end that is opened next
 
--- and as the definitions have it
+-- a router in the definitions
 pub record RouterState : Type 0 where
   pub seat : SeatState
   pub links : List Link
@@ -59,7 +59,11 @@ IsRouter seat links = length links ≡ length seat.core.neighbours
 -- ---- a new router
 
 abbrev pub new_link : ℕ → Times → ℕ → Link
-new_link me times k = record { end = link_end_of (settings_of Two me k times) first_end; tally = first_tally; news = None }
+new_link me times k = record {
+  end = link_end_of (settings_of Two me k times) first_end;
+  tally = first_tally;
+  news = None;
+}
 
 abbrev pub new_hop : ℕ → Hop
 new_hop d = record { destination = d; told = None }
@@ -73,11 +77,12 @@ router_with core times first_life = record {
 }
 
 abbrev pub first_router : Config → List ℕ → List ℕ → ℕ → RouterState
-first_router config neighbours destinations first_life = router_with (first_core_of config.erasure config.me neighbours destinations) config.times first_life
+first_router config neighbours destinations first_life =
+    router_with (first_core_of config.erasure config.me neighbours destinations) config.times first_life
 
 -- ---- an item is served
 
--- every cargo is put, and handed to the end of its link at once
+-- every cargo is put, and its link end takes it at once
 abbrev pub all_put : Answers
 all_put offers k = true
 
@@ -86,13 +91,18 @@ TakesCargo links place cargo put after = (put ≡ true) × (after ≡ at_place (
 
 abbrev pub after_offers : List ℕ → List Offer → List Link → List Link
 after_offers neighbours [] links = links
-after_offers neighbours (o ∷ offers) links = after_offers neighbours offers (at_place (given o.cargo) (place_of o.to neighbours) links)
+after_offers neighbours (o ∷ offers) links = after_offers neighbours offers
+    (at_place (given o.cargo) (place_of o.to neighbours) links)
 
 abbrev pub serving : RouterState → Item → Serving
 serving r item = serving_of all_put r.seat.core.neighbours r.seat item
 
 unfoldable pub after_item : RouterState → Item → RouterState
-after_item r item = record r { seat = (serving r item).seat; links = after_offers r.seat.core.neighbours (serving r item).offers r.links }
+after_item r item = record r {
+  seat = (serving r item).seat;
+  links =
+      after_offers r.seat.core.neighbours (serving r item).offers r.links;
+}
 
 -- ---- events are served until none waits
 
@@ -101,7 +111,8 @@ item_at seat now what = record { seat = seat; number = 0; now = now; what = what
 
 abbrev pub after_event : ℕ → RouterState → Option (ℕ × LinkEvent) → RouterState
 after_event now r None = r
-after_event now r (Some found) = after_item (record r { links = at_place (polled found.1) found.0 r.links }) (item_at found.0 now (what_of found.1))
+after_event now r (Some found) = after_item (record r { links = at_place (polled found.1) found.0 r.links })
+    (item_at found.0 now (what_of found.1))
 
 -- the first event of the first link that has one
 unfoldable pub after_first_event : ℕ → RouterState → RouterState
@@ -111,7 +122,7 @@ abbrev pub after_events : ℕ → ℕ → RouterState → RouterState
 after_events zero now r = r
 after_events (suc count) now r = after_first_event now (after_events count now r)
 
--- each event takes one from what waits, and what comes while it is served is the end of a life
+-- each served event reduces what waits; only the ends of lives are added meanwhile
 abbrev pub settled : ℕ → RouterState → RouterState
 settled now r = after_events (waiting r.links) now r
 
@@ -138,14 +149,16 @@ abbrev pub at_link : {A : Type 0} → A → (ℕ → A) → Option (ℕ × Unit 
 at_link none some None = none
 at_link none some (Some found) = some found.0
 
--- a datagram of a node that is no neighbour changes nothing
+-- a datagram of a node that is not a neighbour changes nothing
 abbrev pub intake_from : ℕ → ℕ → Result FrameParts FrameError → RouterState → Intake
-intake_from k now reading r = at_link NoNeighbour (λ place. intake_at now reading place r.links) (first_in (to_peer k) r.links)
+intake_from k now reading r =
+    at_link NoNeighbour (λ place. intake_at now reading place r.links) (first_in (to_peer k) r.links)
 
 abbrev pub after_datagram : ℕ → ℕ → Result FrameParts FrameError → RouterState → RouterState
-after_datagram k now reading r = at_link r (λ place. settled now (record r { links = at_place (heard now reading) place r.links })) (first_in (to_peer k) r.links)
+after_datagram k now reading r = at_link r (λ place. settled now
+    (record r { links = at_place (heard now reading) place r.links })) (first_in (to_peer k) r.links)
 
--- a route is needed: the commands have the seat behind those of the links
+-- a route is needed; the seat of the commands comes after those of the links
 abbrev pub need_item : RouterState → ℕ → ℕ → Item
 need_item r d now = item_at (length r.links) now (Tells.Need d)
 
@@ -162,13 +175,14 @@ abbrev pub after_need : ℕ → ℕ → RouterState → RouterState
 after_need d now r = settled now (after_item r (need_item r d now))
 
 abbrev pub after_cut : ℕ → ℕ → RouterState → RouterState
-after_cut k now r = at_link r (λ place. settled now (record r { links = at_place cut place r.links })) (first_in (to_peer k) r.links)
+after_cut k now r =
+    at_link r (λ place. settled now (record r { links = at_place cut place r.links })) (first_in (to_peer k) r.links)
 
 -- the place of the first link with a frame due, and the frame
 abbrev pub frame_in : ℕ → RouterState → Option (ℕ × FrameParts)
 frame_in now r = first_in (frame_of_link now) r.links
 
--- for whom a datagram is, and how many bytes it has
+-- the receiver of a datagram, and its length in bytes
 abbrev pub datagram_of : RouterState → ℕ × FrameParts → ℕ × ℕ
 datagram_of r found = (peer_at found.0 r.links, length (frame_spelling found.1))
 
@@ -187,15 +201,16 @@ is_same_hop None (Some k) = false
 is_same_hop (Some j) None = false
 is_same_hop (Some j) (Some k) = j == k
 
--- the next hop to a destination, where it is not the one that was told
+-- the next hop to a destination, if it differs from the one polled last
 abbrev pub hop_change : CoreView → Hop → Option Change
 hop_change core hop =
-    if is_same_hop hop.told (hop_of core hop.destination) then None else Some (Changes.NextHop hop.destination (hop_of core hop.destination))
+    if is_same_hop hop.told (hop_of core hop.destination) then None
+    else Some (Changes.NextHop hop.destination (hop_of core hop.destination))
 
 abbrev pub hop_told : CoreView → Hop → Hop
 hop_told core hop = record hop { told = hop_of core hop.destination }
 
--- those of the links first, and then those of the next hops
+-- changes of links first, and then changes of next hops
 abbrev pub found_change : Option (ℕ × Change) → Option (ℕ × Change) → Option Change
 found_change (Some link) hop = Some link.1
 found_change None (Some hop) = Some hop.1
@@ -214,6 +229,6 @@ after_poll_change r = after_change r (first_in link_change r.links) (first_in (h
 
 -- ---- when something is due
 
--- before this tick no frame is due and a tick changes nothing, and from it on one does; where none ever does it is the last tick
+-- the tick from which on a frame is due or a tick changes something; the last tick if that never happens
 abbrev pub IsNextDue : RouterState → ℕ → Type 0
 IsNextDue r next = (tick : ℕ) → tick < last_tick → nat_le next tick ≡ list_any (is_link_due r.next_life tick) r.links

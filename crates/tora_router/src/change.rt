@@ -1,8 +1,8 @@
-//! What has changed at a router.
+//! A change at a router.
 use tora_arq::Reason;
 use tora_height::Id;
 
-/// What has changed at a router.
+/// A change at a router.
 #[derive(Clone, Copy, Debug, PartialEq, Eq)]
 pub enum Change {
     /// The link to this neighbour is up.
@@ -13,7 +13,7 @@ pub enum Change {
     NextHop(Id, Option<Id>),
 }
 
-/// What has changed at a link last.
+/// The latest change of a link.
 #[derive(Clone, Copy, Debug, PartialEq, Eq)]
 pub enum News {
     Up,

@@ -1,4 +1,4 @@
-//! The next hops that were told last.
+//! The next hops that the host polled last.
 ghost use Rattle.std.specs.Prelude.{◌≡◌, ℕ, IfNone, IfSome};
 ghost use Rattle.tora_router.specs.declared.change.Change.{Change as Changed};
 ghost use Rattle.tora_router.specs.Links.{at_place, first_in};
@@ -8,7 +8,7 @@ use crate::change::Change;
 use tora_core::Core;
 use tora_height::Id;
 
-/// The next hop to a destination, as the host was told it last.
+/// The next hop to a destination that the host polled last.
 #[derive(Clone, Copy, Debug, PartialEq, Eq)]
 pub struct Hop {
     pub destination: Id,
@@ -48,7 +48,8 @@ impl Hop {
 pub fn poll_hops(hops: &mut Vec<Hop>, core: &Core) -> Option<(usize, Change)>
     ensures first { result ≡ first_in (hop_change core.now) hops.old.items }
     ensures none { IfNone result (hops.new.items ≡ hops.old.items) }
-    ensures some { IfSome result (λ (found : ℕ × Changed). hops.new.items ≡ at_place (hop_told core.now) found.0 hops.old.items) }
+    ensures some { IfSome result (λ (found : ℕ × Changed). hops.new.items
+        ≡ at_place (hop_told core.now) found.0 hops.old.items) }
 {
     for place in 0..hops.len() {
         if let Some(change) = hops[place].poll(core) {

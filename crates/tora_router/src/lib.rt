@@ -1,7 +1,7 @@
 //! A node without threads, sockets and clocks, for programs that bring their own.
 //!
-//! [`Router`] is the core of a node with its link ends. Its host hands in the datagrams that came and the tick, and asks for the datagrams to be
-//! sent.
+//! [`Router`] is the core of a node with its link ends. Its host passes in received datagrams and the tick, and polls
+//! the datagrams to send.
 #![tactic(auto)]
 
 mod change;

@@ -1,11 +1,14 @@
-//! What a router keeps of a link.
-ghost use Rattle.std.specs.Prelude.{◌≡◌, ◌≢◌, ◌<◌, ◌≤◌, ◌++◌, ◌^◌, ℕ, nat_le, true, Some, IfNone, IfOk, IfSome, drop, length, option_map};
+//! The state of a link in a router.
+ghost use Rattle.std.specs.Prelude.{◌≡◌, ◌≢◌, ◌<◌, ◌≤◌, ◌++◌, ◌^◌, ℕ, nat_le, true, Some, IfNone, IfOk, IfSome, drop};
+ghost use Rattle.std.specs.Prelude.{length, option_map};
 ghost use Rattle.tora_arq.specs.EndRange.{link_end_of};
 ghost use Rattle.tora_arq.specs.LinkEnd.{first_end, is_closed};
 ghost use Rattle.tora_arq.specs.Settings.{IsTimes, settings_of};
 ghost use Rattle.tora_frame.specs.FrameGrammar.{frame_reading, frame_spelling};
 ghost use Rattle.tora_frame.specs.declared.parts.Version.TheVariants.{Two};
-ghost use Rattle.tora_router.specs.Links.{first_tally, given, polled, may_open, opened, ticked, intake_of, heard, frame_of_link, sent, cut, event_of, news_after, link_change, told, is_link_due};
+ghost use Rattle.tora_router.specs.Links.{first_tally, given, polled, may_open, opened, ticked, intake_of, heard};
+ghost use Rattle.tora_router.specs.Links.{frame_of_link, sent, cut, event_of, news_after, link_change, told};
+ghost use Rattle.tora_router.specs.Links.{is_link_due};
 ghost use Rattle.tora_arq.specs.Still.{last_tick};
 ghost use Rattle.tora_router.specs.Router.{new_link};
 
@@ -30,14 +33,14 @@ pub struct Link {
 }
 
 impl Link {
-    /// Hands a cargo of the core to the end.
+    /// Passes a cargo of the core to the end.
     pub fn give(&mut self, cargo: &Cargo)
         ensures { self.new ≡ given cargo.now self.old }
     {
         hand_in(&mut self.end, cargo);
     }
 
-    /// Takes the first event of the end, and notes the change of the link that it reports.
+    /// Removes and returns the first event of the end, and notes the change of the link that it reports.
     pub fn poll(&mut self) -> Option<LinkEvent>
         ensures event { result ≡ event_of self.old }
         ensures none { IfNone result (self.new ≡ self.old) }
@@ -64,7 +67,7 @@ impl Link {
         is_closed && (is_above && is_within)
     }
 
-    /// Opens a closed end with this number, and says whether it did.
+    /// Opens a closed end with this number, and returns whether it did so.
     fn open(&mut self, number: u64, now: u64) -> bool
         ensures opened { self.new ≡ opened number now self.old }
         ensures answer { result ≡ may_open number self.old }
@@ -77,7 +80,7 @@ impl Link {
         may_open
     }
 
-    /// Opens a closed end with this number, and says whether it did; and hands the tick to the end.
+    /// Opens a closed end with this number, returns whether it did so, and passes the tick to the end.
     pub fn tick(&mut self, number: u64, now: u64) -> bool
         ensures ticked { self.new ≡ ticked number now self.old }
         ensures answer { result ≡ may_open number self.old }
@@ -88,13 +91,12 @@ impl Link {
         is_opened
     }
 
-    /// Hands a datagram to the end, and counts what it made of it.
-    pub fn hear(&mut self, datagram: &[u8], now: u64) -> Intake
+    /// Passes a datagram to the end, and counts the outcome. `packets` is a buffer for the packets of the frame.
+    pub fn hear(&mut self, datagram: &[u8], now: u64, packets: &mut Packets) -> Intake
         ensures intake { result ≡ intake_of self.old now (frame_reading datagram.now) }
         ensures heard { self.new ≡ heard now (frame_reading datagram.now) self.old }
     {
-        let mut packets = Packets::new();
-        let intake = match decode_into(datagram, &mut packets) {
+        let intake = match decode_into(datagram, packets) {
             Ok(frame) => Intake::Seen(self.end.on_borrowed_frame(&frame, now)),
             Err(error) => Intake::Bad(error),
         };
@@ -102,21 +104,27 @@ impl Link {
         intake
     }
 
-    /// Spells the first frame due at the front of a buffer that has room for any, and says how many bytes it has.
-    pub fn send(&mut self, now: u64, out: &mut [u8]) -> Option<usize>
+    /// Writes the first frame due to the front of `out`, which has room for any frame, and returns its length in bytes.
+    /// `packets` and `bytes` are buffers for the frame's packets and bytes.
+    pub fn send(
+        &mut self,
+        now: u64,
+        packets: &mut Packets,
+        bytes: &mut ArrayVec<u8, LONGEST_FRAME>,
+        out: &mut [u8],
+    ) -> Option<usize>
         requires { LONGEST_FRAME ≤ length out.old }
         ensures length { result ≡ option_map (λ frame. length (frame_spelling frame)) (frame_of_link now self.old) }
-        ensures bytes { IfSome (frame_of_link now self.old) (λ frame. out.new ≡ frame_spelling frame ++ drop (length (frame_spelling frame)) out.old) }
+        ensures bytes { IfSome (frame_of_link now self.old) (λ frame.
+            out.new ≡ frame_spelling frame ++ drop (length (frame_spelling frame)) out.old) }
         ensures within { IfSome result (λ count. count ≤ length out.new) }
         ensures sent { self.new ≡ sent now self.old }
         ensures none { IfNone result ((self.new ≡ self.old) × (out.new ≡ out.old)) }
     {
-        let mut packets = Packets::new();
-        let Some(frame) = self.end.poll_transmit_into(now, &mut packets) else {
+        let Some(frame) = self.end.poll_transmit_into(now, packets) else {
             return None;
         };
-        let mut bytes = ArrayVec::<u8, LONGEST_FRAME>::new();
-        encode_into(&frame, &mut bytes);
+        encode_into(&frame, bytes);
         let count = bytes.len();
         out[..count].copy_from_slice(bytes.as_slice());
         Some(count)
@@ -137,7 +145,8 @@ impl Link {
         })
     }
 
-    /// The tick before which no frame is due, no closed end is to be opened with this number, and a tick changes nothing.
+    /// The tick before which no frame is due, no closed end is to be opened with this number, and a tick changes
+    /// nothing.
     pub fn next_due(&self, number: u64) -> u64
         ensures { (tick : ℕ) → tick < last_tick → nat_le result tick ≡ is_link_due number tick self.now }
     {

@@ -1,8 +1,10 @@
-//! All links of a router, which take the cargoes of its core at once.
-ghost use Rattle.std.specs.Prelude.{◌≡◌, ◌<◌, ◌≤◌, ◌++◌, ◌^◌, true, ℕ, nat_le, drop, slice_get, Option, Some, None, IfNone, IfSome, MatchOption, length, option_map};
+//! All links of a router. They take the cargoes of its core at once, without a lane.
+ghost use Rattle.std.specs.Prelude.{◌≡◌, ◌<◌, ◌≤◌, ◌++◌, ◌^◌, true, ℕ, nat_le, drop, slice_get, Option, Some, None};
+ghost use Rattle.std.specs.Prelude.{IfNone, IfSome, MatchOption, length, option_map};
 ghost use Rattle.tora_frame.specs.FrameGrammar.{frame_reading};
 ghost use Rattle.tora_arq.specs.declared.link_event.LinkEvent.{LinkEvent as Event};
-ghost use Rattle.tora_router.specs.Links.{at_place, polled, ticked, heard, cut, event_of, first_in, to_peer, opens_at, intake_at, frame_of_link, sent, link_change, told, is_link_due, peer_at};
+ghost use Rattle.tora_router.specs.Links.{at_place, polled, ticked, heard, cut, event_of, first_in, to_peer, opens_at};
+ghost use Rattle.tora_router.specs.Links.{intake_at, frame_of_link, sent, link_change, told, is_link_due, peer_at};
 ghost use Rattle.tora_router.specs.declared.link.Link.{Link as One};
 ghost use Rattle.std.specs.List.{list_any};
 ghost use Rattle.tora_arq.specs.Still.{last_tick};
@@ -14,16 +16,20 @@ use crate::change::Change;
 use crate::intake::Intake;
 use crate::link::Link;
 use crate::tally::Tally;
+use arrayvec::ArrayVec;
 use std::marker::Model;
 use tora_arq::LinkEvent;
-use tora_frame::LONGEST_FRAME;
+use tora_frame::{LONGEST_FRAME, Packets};
 use tora_height::Id;
 use tora_seat::{Cargo, OutLanes};
 
 /// The links of a router, by ascending neighbour.
 #[derive(Drop)]
 pub struct Links {
-    pub(crate) list: Vec<Link>,
+    list: Vec<Link>,
+    /// Buffers for the frame that is read or spelled. They are kept, since to make one is to write all of it.
+    packets: Packets,
+    bytes: ArrayVec<u8, LONGEST_FRAME>,
 }
 
 impl Model for Links {
@@ -50,6 +56,17 @@ impl OutLanes for Links {
 }
 
 impl Links {
+    /// These links, which are in ascending order.
+    pub(crate) fn of(list: Vec<Link>) -> Links
+        ensures { result ≡ list.items }
+    {
+        Links {
+            list,
+            packets: Packets::new(),
+            bytes: ArrayVec::new(),
+        }
+    }
+
     /// How many links there are.
     pub fn count(&self) -> usize
         ensures { result ≡ length self.now }
@@ -78,7 +95,7 @@ impl Links {
         self.list[place].end.peer()
     }
 
-    /// What was made of the datagrams of the neighbour of the link at a place.
+    /// The counts of the datagrams of the neighbour at a place, by outcome.
     pub fn tally(&self, place: usize) -> Tally
         requires { place < length self.now }
         ensures { Some result ≡ option_map (λ (link : One). link.tally) (slice_get self.now place) }
@@ -86,7 +103,7 @@ impl Links {
         self.list[place].tally
     }
 
-    /// The first event that waits, with the place of its link. It is taken.
+    /// Removes and returns the first waiting event, with the place of its link.
     pub fn poll(&mut self) -> Option<(usize, LinkEvent)>
         ensures first { result ≡ first_in event_of self.old }
         ensures none { IfNone result (self.new ≡ self.old) }
@@ -100,7 +117,8 @@ impl Links {
         None
     }
 
-    /// Hands the tick to the link at a place, whose end is opened with this number where it is closed. Says whether it was.
+    /// Passes the tick to the link at a place. If its end is closed, opens it with this number. Returns whether it did
+    /// so.
     pub fn tick(&mut self, place: usize, number: u64, now: u64) -> bool
         requires { place < length self.old }
         ensures ticked { self.new ≡ at_place (ticked number now) place self.old }
@@ -110,28 +128,31 @@ impl Links {
         self.list[place].tick(number, now)
     }
 
-    /// Hands a datagram to the link at a place.
+    /// Passes a datagram to the link at a place.
     pub fn hear(&mut self, place: usize, datagram: &[u8], now: u64) -> Intake
         requires { place < length self.old }
         ensures intake { result ≡ intake_at now (frame_reading datagram.now) place self.old }
         ensures heard { self.new ≡ at_place (heard now (frame_reading datagram.now)) place self.old }
     {
-        self.list[place].hear(datagram, now)
+        self.list[place].hear(datagram, now, &mut self.packets)
     }
 
-    /// Spells the first frame due of the first link that has one at the front of a buffer with room for any. Answers the place of the link and how
-    /// many bytes the frame has.
+    /// Writes the first frame due of the first link that has one to the front of a buffer with room for any frame.
+    /// Returns the place of the link and the length of the frame in bytes.
     pub fn send(&mut self, now: u64, out: &mut [u8]) -> Option<(usize, usize)>
         requires { LONGEST_FRAME ≤ length out.old }
-        ensures first { result ≡ option_map (λ (found : ℕ × FrameParts). (found.0, length (frame_spelling found.1))) (first_in (frame_of_link now) self.old) }
-        ensures bytes { IfSome (first_in (frame_of_link now) self.old) (λ (found : ℕ × FrameParts). out.new ≡ frame_spelling found.1 ++ drop (length (frame_spelling found.1)) out.old) }
+        ensures first { result ≡ option_map (λ (found : ℕ × FrameParts). (found.0, length (frame_spelling found.1)))
+            (first_in (frame_of_link now) self.old) }
+        ensures bytes { IfSome (first_in (frame_of_link now) self.old) (λ (found : ℕ × FrameParts).
+            out.new ≡ frame_spelling found.1 ++ drop (length (frame_spelling found.1)) out.old) }
         ensures within { IfSome result (λ (found : ℕ × ℕ). found.1 ≤ length out.new) }
         ensures place { IfSome result (λ (found : ℕ × ℕ). found.0 < length self.old) }
         ensures sent { IfSome result (λ (found : ℕ × ℕ). self.new ≡ at_place (sent now) found.0 self.old) }
         ensures none { IfNone result ((self.new ≡ self.old) × (out.new ≡ out.old)) }
     {
         for place in 0..self.list.len() {
-            if let Some(count) = self.list[place].send(now, out) {
+            let link = &mut self.list[place];
+            if let Some(count) = link.send(now, &mut self.packets, &mut self.bytes, out) {
                 return Some((place, count));
             }
         }
@@ -152,7 +173,7 @@ impl Links {
         None
     }
 
-    /// The tick before which nothing is due at any link, where the next end is opened with this number.
+    /// The tick before which nothing is due at any link, if the next end is opened with this number.
     pub fn next_due(&self, number: u64) -> u64
         ensures { (tick : ℕ) → tick < last_tick → nat_le result tick ≡ list_any (is_link_due number tick) self.now }
     {

@@ -73,10 +73,10 @@ pub fn new_links(alloc: Global, core: &Core, times: Times) -> Option<Links>
             return None;
         };
     }
-    Some(Links { list })
+    Some(Links::of(list))
 }
 
-/// No next hop to a destination, as one that was told.
+/// The state that no next hop to a destination was polled.
 fn new_hop(destination: Id) -> Hop
     ensures { result ≡ new_hop destination }
 {

@@ -1,5 +1,7 @@
 //! A router.
-ghost use Rattle.std.specs.Prelude.{◌≡◌, ◌<◌, ◌≤◌, ◌++◌, ◌*◌, ℕ, Bool, true, false, Err, IfErr, IfOk, IfNone, IfSome, MatchOption, None, OnOk, Some, drop, is_some, length, map, option_map, string_bytes, slice_get};
+ghost use Rattle.std.specs.Prelude.{◌≡◌, ◌<◌, ◌≤◌, ◌++◌, ◌*◌, ℕ, Bool, true, false, Err, IfErr, IfOk, IfNone, IfSome};
+ghost use Rattle.std.specs.Prelude.{MatchOption, None, OnOk, Some, drop, is_some, length, map, option_map};
+ghost use Rattle.std.specs.Prelude.{string_bytes, slice_get};
 ghost use Rattle.tora_arq.specs.Settings.{IsTimes};
 ghost use Rattle.tora_core.specs.CoreRun.{CoreView, entry_of, flag_of, height_of, hop_of};
 ghost use Rattle.tora_core.specs.ShowText.{show_text};
@@ -8,7 +10,11 @@ ghost use Rattle.tora_frame.specs.FrameParts.{FrameParts};
 ghost use Rattle.tora_seat.specs.Rows.{SeatView};
 ghost use Rattle.tora_router.specs.Links.{at_place, event_of, first_in, to_peer, tally_of};
 ghost use Rattle.tora_router.specs.Refusals.{router_refusal};
-ghost use Rattle.tora_router.specs.Router.{RouterView, router_of, first_router, router_with, after_item, after_first_event, after_events, settled, ticked_at, ticked_before, after_tick, intake_from, after_datagram, need_result, after_need, after_cut, frame_in, after_poll_datagram, change_in, after_poll_change, IsNextDue, serving, datagram_of, result_of};
+ghost use Rattle.tora_router.specs.Router.{RouterView, router_of, first_router, router_with, after_item};
+ghost use Rattle.tora_router.specs.Router.{after_first_event, after_events, settled, ticked_at, ticked_before};
+ghost use Rattle.tora_router.specs.Router.{after_tick, intake_from, after_datagram, need_result, after_need, after_cut};
+ghost use Rattle.tora_router.specs.Router.{frame_in, after_poll_datagram, change_in, after_poll_change, IsNextDue};
+ghost use Rattle.tora_router.specs.Router.{serving, datagram_of, result_of};
 
 use crate::hop::{Hop, poll_hops};
 use crate::links::Links;
@@ -24,16 +30,17 @@ use tora_seat::{Answer, CoreSeat, Item, What, what_of};
 
 /// A node without threads, sockets and clocks.
 ///
-/// Its host hands in what happens, and asks what is to be done. With the tick `now` of 100 ms a host does this, in this order:
-/// 1. `on_datagram` with each datagram that came, and the neighbour that it came from;
+/// Its host passes in what happens, and polls what to do. With the tick `now` of 100 ms a host does this, in this
+/// order:
+/// 1. `on_datagram` with each received datagram and the neighbour that sent it;
 /// 2. `on_tick`, at the tick `next_due` at the latest;
-/// 3. `need` where a route is wanted, `cut` where a link was lost;
+/// 3. `need` if a route is wanted, `cut` if a link was lost;
 /// 4. `poll_datagram` until it gives `None`, and sends each datagram;
-/// 5. `poll_change` until it gives `None`, where it wants to know.
+/// 5. `poll_change` until it gives `None`, if it wants to see changes.
 ///
-/// Any other order is safe. Whatever comes in is served before a call returns, so that nothing waits inside between two calls. Only `new` and `show`
-/// take memory. A router never gives the same life number twice; the host keeps `next_life`, and makes a router anew with a number that none
-/// was given from on.
+/// Any other order is safe. A call handles its input completely before it returns, so nothing waits inside between two
+/// calls. Only `new` and `show` take memory. A router never uses a life number twice. The host stores `next_life`, and
+/// makes a new router with a number from which on none was used.
 ///
 /// ```rust
 /// let config = Config { me: 1, times: Times::STANDARD, erasure: Erasure::Plain, limits: CoreLimits::STANDARD };
@@ -65,13 +72,14 @@ impl Model for Router {
 }
 
 impl Router {
-    /// The router of node `config.me` with these neighbours and destinations, in any order. Its link ends are closed until the first tick. The life
-    /// numbers that it gives them are drawn from `first_life` on, 1 to `GREATEST_LIFE`: the host answers for it that none of those was ever given to
-    /// an end of this node.
+    /// The router of node `config.me` with these neighbours and destinations, in any order. Its link ends are closed
+    /// until the first tick. Their life numbers are `first_life` (1 to `GREATEST_LIFE`) and those above it: the host
+    /// must ensure that no end of this node ever had one of them.
     ///
     /// # Errors
-    /// In this order: `Id` where a number is 0, `Times` where a time is 0, `Life` where the first life number is out of range, `TooMany`
-    /// neighbours or destinations, `Repeated` within one list, `OwnId` where the node is among its neighbours, `Memory`.
+    /// In this order: `Id` if a number is 0, `Times` if a time is 0, `Life` if the first life number is out of range,
+    /// `TooMany` neighbours or destinations, `Repeated` within one list, `OwnId` if the node is among its neighbours,
+    /// `Memory`.
     pub fn new(
         alloc: Global,
         config: &Config,
@@ -79,7 +87,8 @@ impl Router {
         destinations: &[Id],
         first_life: u64,
     ) -> Result<Router, RouterError>
-        ensures value { IfOk result (λ router. router_of router ≡ first_router config.now neighbours.now destinations.now first_life) }
+        ensures value { IfOk result (λ router. router_of router ≡ first_router config.now neighbours.now
+            destinations.now first_life) }
         ensures accepted { OnOk result (router_refusal config.now neighbours.now destinations.now first_life ≡ None) }
         ensures refused { MatchOption (router_refusal config.now neighbours.now destinations.now first_life)
             (IfErr result (λ e. e ≡ RouterError.Memory)) (λ e. result ≡ Err e) }
@@ -98,7 +107,7 @@ impl Router {
         }
     }
 
-    /// The router of a core with no link up; `None` for want of memory.
+    /// The router of a core with no link up; `None` if memory runs out.
     fn with_core(alloc: Global, core: Core, times: Times, first_life: u64) -> Option<Router>
         requires { IsTimes times }
         ensures { IfSome result (λ router. router_of router ≡ router_with core times first_life) }
@@ -120,7 +129,7 @@ impl Router {
         })
     }
 
-    /// Serves an item. Its cargoes are handed to the link ends at once.
+    /// Serves an item. The link ends take its cargoes at once.
     fn serve(&mut self, item: &Item) -> Answer
         ensures served { router_of self.new ≡ after_item (router_of self.old) item.entry.now }
         ensures answer { result ≡ (serving (router_of self.old) item.entry.now).answer }
@@ -128,7 +137,7 @@ impl Router {
         self.seat.serve(item, &mut self.links)
     }
 
-    /// Serves the first event of the first link that has one, and says whether there was one.
+    /// Serves the first event of the first link that has one, and returns whether there was one.
     fn serve_event(&mut self, now: u64) -> bool
         ensures served { router_of self.new ≡ after_first_event now (router_of self.old) }
         ensures answer { result ≡ is_some (first_in event_of self.old.links) }
@@ -155,7 +164,7 @@ impl Router {
         'events: while self.serve_event(now) {}
     }
 
-    /// Hands the tick to the link at a place, whose end is opened with the next life number where it is closed.
+    /// Passes the tick to the link at a place. If its end is closed, opens it with the next life number.
     fn tick_at(&mut self, place: usize, now: u64)
         requires { place < length self.old.links }
         ensures ticked { router_of self.new ≡ ticked_at place now (router_of self.old) }
@@ -166,7 +175,8 @@ impl Router {
         }
     }
 
-    /// Takes the tick `now`: each closed link end is opened with the next life number, and a life in which nothing was heard for too long ends.
+    /// Applies the tick `now`: opens each closed link end with the next life number, and ends the lives that have timed
+    /// out.
     pub fn on_tick(&mut self, now: u64)
         ensures router { router_of self.new ≡ after_tick now (router_of self.old) }
         ensures settled { first_in event_of self.new.links ≡ None }
@@ -177,7 +187,8 @@ impl Router {
         self.settle(now);
     }
 
-    /// Takes in a datagram of any bytes that came from a neighbour at the tick `now`. One of a node that is no neighbour changes nothing.
+    /// Receives a datagram of any bytes from a neighbour at the tick `now`. A datagram of a node that is not a
+    /// neighbour changes nothing.
     pub fn on_datagram(&mut self, peer: Id, datagram: &[u8], now: u64) -> Intake
         ensures intake { result ≡ intake_from peer now (frame_reading datagram.now) (router_of self.old) }
         ensures router { router_of self.new ≡ after_datagram peer now (frame_reading datagram.now) (router_of self.old) }
@@ -194,7 +205,7 @@ impl Router {
     /// Asks for a route to a destination.
     ///
     /// # Errors
-    /// `UnknownDestination` where the table does not have it.
+    /// `UnknownDestination` if the table does not have it.
     pub fn need(&mut self, destination: Id, now: u64) -> Result<(), StepError>
         ensures answer { result ≡ need_result (router_of self.old) destination now }
         ensures router { router_of self.new ≡ after_need destination now (router_of self.old) }
@@ -211,7 +222,8 @@ impl Router {
         result_of(answer)
     }
 
-    /// Ends the life of the link to a neighbour, if it has one, as where the radio lost it. Says whether there is such a neighbour.
+    /// Ends the life of the link to a neighbour, if it has one, for instance because the radio lost it. Returns whether
+    /// there is such a neighbour.
     pub fn cut(&mut self, peer: Id, now: u64) -> bool
         ensures answer { result ≡ is_some (first_in (to_peer peer) self.old.links) }
         ensures router { router_of self.new ≡ after_cut peer now (router_of self.old) }
@@ -225,14 +237,16 @@ impl Router {
         true
     }
 
-    /// Spells the next datagram to be sent at the tick `now` at the front of `out`, which has `LONGEST_FRAME` bytes at least. Answers the neighbour
-    /// that it is for, and how many bytes it has. `None` only where none is due; then nothing is changed.
+    /// Writes the next datagram to send at the tick `now` to the front of `out`, which has at least `LONGEST_FRAME`
+    /// bytes. Returns the neighbour that it is for, and its length in bytes. `None` only if none is due; nothing
+    /// changes then.
     ///
     /// The datagram counts as sent.
     pub fn poll_datagram(&mut self, now: u64, out: &mut [u8]) -> Option<(Id, usize)>
         requires { LONGEST_FRAME ≤ length out.old }
         ensures datagram { result ≡ option_map (datagram_of (router_of self.old)) (frame_in now (router_of self.old)) }
-        ensures bytes { IfSome (frame_in now (router_of self.old)) (λ (found : ℕ × FrameParts). out.new ≡ frame_spelling found.1 ++ drop (length (frame_spelling found.1)) out.old) }
+        ensures bytes { IfSome (frame_in now (router_of self.old)) (λ (found : ℕ × FrameParts).
+            out.new ≡ frame_spelling found.1 ++ drop (length (frame_spelling found.1)) out.old) }
         ensures within { IfSome result (λ (sent : ℕ × ℕ). sent.1 ≤ length out.new) }
         ensures router { router_of self.new ≡ after_poll_datagram now (router_of self.old) }
         ensures none { IfNone result ((self.new ≡ self.old) × (out.new ≡ out.old)) }
@@ -259,22 +273,22 @@ impl Router {
         Some(change)
     }
 
-    /// The tick before which no datagram is due and a tick changes nothing, unless something else happens at the router, and from which on one
-    /// does. It is 2^64 - 1 where none ever does, and 0 where one does at once.
+    /// The tick from which on a datagram is due or a tick changes something, until another call. It is 0 if that is so
+    /// at once, and 2^64 - 1 if it never is.
     pub fn next_due(&self) -> u64
         ensures { IsNextDue (router_of self.now) result }
     {
         self.links.next_due(self.next_life)
     }
 
-    /// The next life number. It and those above it were not given to any link end.
+    /// The next life number. No link end has had it or one above it.
     pub fn next_life(&self) -> u64
         ensures { result ≡ self.now.next_life }
     {
         self.next_life
     }
 
-    /// The core, which tells all of its state.
+    /// The core, for reading its state.
     pub fn core(&self) -> &Core
         ensures { result.now ≡ self.now.seat.core }
     {
@@ -288,14 +302,14 @@ impl Router {
         self.seat.core().neighbours()
     }
 
-    /// The own height for a destination, `None` where the table does not have it.
+    /// The own height for a destination, `None` if the table does not have it.
     pub fn height(&self, destination: Id) -> Option<Entry>
         ensures { result ≡ height_of self.now.seat.core destination }
     {
         self.seat.core().height(destination)
     }
 
-    /// The height that a neighbour told for a destination, `None` where the table does not have it or the link is not up.
+    /// The height that a neighbour sent for a destination, `None` if the table does not have it or the link is not up.
     pub fn entry(&self, destination: Id, neighbour: Id) -> Option<Entry>
         ensures { result ≡ entry_of self.now.seat.core destination neighbour }
     {
@@ -336,7 +350,7 @@ impl Router {
     }
 }
 
-/// What a need came to.
+/// The result of a need.
 fn result_of(answer: Answer) -> Result<(), StepError>
     ensures { result ≡ result_of answer }
 {

@@ -1,4 +1,4 @@
-//! Why a router is not made.
+//! Why a router can't be made.
 ghost use Rattle.std.specs.Prelude.{◌≡◌};
 ghost use Rattle.tora_router.specs.Refusals.{error_of};
 
@@ -6,7 +6,7 @@ use std::fmt;
 use thiserror::Error;
 use tora_core::CoreError;
 
-/// Why a router is not made, in the order in which the causes are tested.
+/// Why a router can't be made, in the order of the checks.
 #[derive(Clone, Copy, Debug, PartialEq, Eq, Error)]
 pub enum RouterError {
     /// The number of the node, of a neighbour or of a destination is 0.
@@ -48,7 +48,7 @@ impl fmt::Display for RouterError {
 }
 
 impl RouterError {
-    /// Why a router is not made whose core is refused so.
+    /// The error of a router whose core is refused.
     pub(crate) fn of_core(error: CoreError) -> RouterError
         ensures { result ≡ error_of error }
     {

@@ -1,13 +1,13 @@
-//! Counts of what was made of the datagrams of a neighbour.
+//! Counts of the datagrams of a neighbour, by outcome.
 ghost use Rattle.std.specs.Prelude.{◌≡◌};
 ghost use Rattle.tora_router.specs.Links.{first_tally, counted};
 
 use crate::intake::Intake;
 use tora_arq::Verdict;
 
-/// How many datagrams of a neighbour came to each verdict, and how many spelt no frame.
+/// How many datagrams of a neighbour had each verdict, and how many were not frames.
 ///
-/// Each datagram of a neighbour adds 1 to exactly one of the counts, which stays at 2^64 - 1 once there.
+/// Each datagram of a neighbour adds 1 to exactly one of the counts. A count stops at 2^64 - 1.
 #[derive(Clone, Copy, Debug, PartialEq, Eq)]
 pub struct Tally {
     pub accepted: u64,
@@ -16,7 +16,7 @@ pub struct Tally {
     pub stale: u64,
     pub foreign: u64,
     pub busy: u64,
-    /// Those that spelt no frame.
+    /// Those that were not frames.
     pub bad: u64,
 }
 
@@ -49,7 +49,7 @@ impl Tally {
         }
     }
 
-    /// Adds 1 to the count of what was made of a datagram.
+    /// Adds 1 to the count of a datagram's outcome.
     pub(crate) fn count(&mut self, intake: Intake)
         ensures { self.new ≡ counted intake self.old }
     {

@@ -1,5 +1,5 @@
--- The life file that the free world has for an end of a running node: it is changed before each draw, so that just the number is drawn that
--- the node has drawn.
+-- The life file that the free world has for an end of a running node: it is changed before each draw, so that just the
+-- number is drawn that the node has drawn.
 use Rattle.std.proofs.Common.{◌≡◌, ℕ, suc, ◌<◌, ◌≤◌, ◌^◌, List, [], ◌∷◌, length, Ok, refl, sym, ap, ◌∙◌, subst, arith, eqb-true}
 use Rattle.std.proofs.lemmas.Bool.{cond_both}
 use Rattle.std.specs.Prelude.{◌==◌, Result}

@@ -1,5 +1,5 @@
--- In a run in which a node is not started, the parts of one of its links are made of that link's end, one after another, and the items that
--- its core has served are served one after another.
+-- In a run in which a node is not started, the parts of one of its links are made of that link's end, one after
+-- another, and the items that its core has served are served one after another.
 use Rattle.std.proofs.Common.{◌≡◌, ℕ, Bool, true, false, List, [], ◌∷◌, nat_eq, if◌then◌else◌, ◌&&◌, refl, sym, ap, ap₂, ◌∙◌, subst, eqb-true}
 use Rattle.std.proofs.lemmas.Bool.{and_parts}
 use Rattle.tora_arq.specs.Settings.{Settings}
@@ -14,7 +14,7 @@ use Rattle.tora_running.specs.Network.{Network, Part, settings_at, neighbours_at
 use Rattle.tora_running.specs.Network.Part.{Starts, OfLink, Serves, Asks}
 use Rattle.tora_running.specs.Histories.{parts_of_link, served_in, IsNotStarted}
 
--- ---- what a part leaves as it is
+-- ---- what a part leaves unchanged
 
 pub beside_ends : (w : Network) (n k : ℕ) (part : LinkPart) → (beside w n k part).ends ≡ w.ends
 beside_ends w n k (Opens number now) = refl

@@ -1,4 +1,4 @@
--- What `run_node` says of the threads of its links are histories of parts.
+-- The contract of `run_node` gives histories of parts for the threads of its links.
 use Rattle.std.proofs.Common.{◌∙◌, refl, sym, ap, ℕ, List, [], ◌∷◌, ◌++◌, map, None}
 use Rattle.tora_arq.specs.LinkEnd.{first_end}
 use Rattle.tora_arq.specs.Settings.{settings_of}

@@ -47,7 +47,7 @@ started_seat : (w : Network) (m n : ℕ) (b : Bool) → nat_eq n m ≡ b → (if
 started_seat w m n true q = ap (λ y. first_seat w.topology y) (sym (eqb-true n m q))
 started_seat w m n false q = refl
 
--- ---- from histories to the parts behind the first one, and back
+-- ---- from histories to the parts after the first one, and back
 
 module _ (s : Settings) (e : EndState) where
   made_started : (b : Bool) (l : Lives LinkPart) → Made s e (if b then with_start l else l) → Made s (if b then first_end else e) l
@@ -83,14 +83,14 @@ module _ (ks : List ℕ) (first s : SeatState) where
   on_served x true l told h = ((h.0.0, (told refl, h.0.1)), h.1)
   on_served x false l told h = h
 
--- a part of a link leaves each core and what a start makes of it
+-- a part of a link leaves each core, and the effect of a start on it, unchanged
 core_beside : (w : Network) (m j : ℕ) (part : LinkPart) (n : ℕ) (l : Lives ServedItem) →
     Served (neighbours_at (after_part w (OfLink m j part)) n) (first_seat (after_part w (OfLink m j part)).topology n) ((after_part w (OfLink m j part)).seats n) l ≡ Served (neighbours_at w n) (first_seat w.topology n) (w.seats n) l
 core_beside w m j part n l =
     ap (λ (t : Topology). Served (neighbours_of t n) (first_seat t n) ((after_part w (OfLink m j part)).seats n) l) (beside_topology (with_part w m j part) m j part)
     ∙ ap (λ (f : ℕ → SeatState). Served (neighbours_at w n) (first_seat w.topology n) (f n) l) (beside_seats (with_part w m j part) m j part)
 
--- ---- the parts behind the first one have histories, too
+-- ---- the parts after the first one have histories, too
 
 later : (w : Network) (part : Part) (parts : List Part) → AreHistories w (part ∷ parts) → AreHistories (after_part w part) parts
 later w (Starts m) parts h = record {
@@ -110,7 +110,7 @@ later w (Serves m item offers) parts h = record {
   cores = λ n. subst (λ x. Served (neighbours_at w n) (first_seat w.topology n) x (core_lives n parts)) (sym (own_seat w m (record { item = item; offers = offers }) n (nat_eq n m) refl)) (served_on (neighbours_at w n) (first_seat w.topology n) (w.seats n) (record { item = item; offers = offers }) (nat_eq n m) (core_lives n parts) (h.cores n));
 }
 
--- and where those behind it have, and it may be made, so have all
+-- if the following parts are allowed, and this one is, then all are
 earlier : (w : Network) (part : Part) (parts : List Part) → MayBe w part → AreHistories (after_part w part) parts → AreHistories w (part ∷ parts)
 earlier w (Starts m) parts may h = record {
   links = λ n k. started_made (settings_at w n k) (w.ends n k) (nat_eq n m) (link_lives n k parts) (h.links n k);
@@ -141,9 +141,9 @@ earlier w (Serves m item offers) parts may h = record {
     told : (n : ℕ) → nat_eq n m ≡ true → (serving_told (neighbours_at w n) (w.seats n) x).offers ≡ offers
     told n q = subst (λ y. (serving_told (neighbours_at w y) (w.seats y) x).offers ≡ offers) (sym (eqb-true n m q)) may.2
 
--- ---- both ways
+-- ---- both directions
 
--- the first part may be made: its thread says that it can be, and the order what else is asked
+-- the first part is allowed, by its thread's definition and by the order
 first_may : (w : Network) (part : Part) (parts : List Part) → AreHistories w (part ∷ parts) → MayCome w part → MayBe w part
 first_may w (Starts m) parts h may = may
 first_may w (Asks m now what) parts h may = may

@@ -47,7 +47,8 @@ pub record IsUnarmed (arms : Arms) : Type 0 where
   pub sending : arms.sending ≡ Goes
   pub receive : arms.receive ≡ false
 
--- what the network does not show: no call is armed to fail, no file has drawn a greater number, and every frame is a datagram
+-- what the network does not show: no call is armed to fail, no file has drawn a greater number, and every frame is a
+-- datagram
 pub record AreBeside (arms : ℕ → Arms) (files : ℕ → ℕ → LifeDisk) (datagrams : List FrameParts) (numbers : ℕ → ℕ → ℕ) (frames : ℕ → ℕ → List FrameParts) : Type 0 where
   pub unarmed : (n : ℕ) → IsUnarmed (arms n)
   pub under : (n k : ℕ) → IsUnder (numbers n k) (files n k)
@@ -102,7 +103,7 @@ pub world_is : (c : Choice) (w : World) (event : Event) → is_some (refusal_by 
 unfolding world_by
 world_is c w event e = ap (λ b. if b then w else effect_by c w event) e
 
--- every call is handed this tick
+-- every call gets this tick
 abbrev pub at_tick : ℕ → List Offer → Choice
 at_tick now offers = record { clock = now; now = λ n k. now; stamp = now; answers = answers_told offers }
 
@@ -131,7 +132,7 @@ module _ (w : World) (numbers : ℕ → ℕ → ℕ) (frames : ℕ → ℕ → L
       c : Choice
       c = at_tick 0 offers
 
-      -- the lane behind the item
+      -- the lane after the item
       served : List Item → Network
       served items = record (network_of w numbers frames) {
         seats = put_one w.seats n v.seat;

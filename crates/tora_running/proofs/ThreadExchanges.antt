@@ -19,7 +19,7 @@ use Rattle.tora_running.specs.Parts.LinkPart.{Opens, Ticks, Takes, Sends, Hears,
 use Rattle.tora_running.specs.Histories.{parts_opened, parts_taken, parts_sent, parts_heard, parts_told, parts_of_beat, parts_begun, parts_of, parts_of_turns, parts_of_last}
 use Rattle.tora_running.specs.Exchanges.{number_in, cargo_in, sent_in, heard_in, put_in, ExchangeTheSame}
 
--- ---- what one thing that parts exchange comes to in a turn
+-- ---- one kind of exchange in a turn
 
 module _ {A : Type 0} (f : LinkPart → List A) where
   begun : (t : Turn) → flat_map f (parts_begun t) ≡ flat_map f (parts_opened t.now t.opened) ++ (f (Ticks t.now) ++ (flat_map f (parts_taken t.cargoes) ++ flat_map f (parts_sent t.now t.sent t.answers)))
@@ -61,7 +61,7 @@ module _ {A : Type 0} (f : LinkPart → List A) where
   none_beaten h now true = ap (λ (l : List A). l ++ []) (h now)
   none_beaten h now false = refl
 
-  -- begun with some of it, and nothing of it behind that
+  -- a prefix of it, and nothing of it after that
   ends_begun : (t : Turn) (xs : List A) → flat_map f (parts_begun t) ≡ xs → flat_map f (parts_heard t.now (came_of t)) ≡ [] → flat_map f (parts_told t.now t.told) ≡ [] → flat_map f (parts_of_beat t.now t.beat) ≡ [] → flat_map f (parts_of t) ≡ xs
   ends_begun t xs b h e p = whole t ∙ ap₂ (λ (l m : List A). l ++ m) b (ap₂ (λ (l m : List A). l ++ m) h (ap₂ (λ (l m : List A). l ++ m) e p)) ∙ append-nil xs
 
@@ -152,7 +152,7 @@ sent_broken t none silent = ends_broken sent_in t t.sent refl (sent_begun t) (no
 
 -- ---- what came
 
--- nothing is heard or put before the receive
+-- nothing is received or put before the receive
 none_begun : {A : Type 0} (f : LinkPart → List A) → ((number now : ℕ) → f (Opens number now) ≡ []) → ((now : ℕ) → f (Ticks now) ≡ []) → ((cargo : Cargo) → f (Takes cargo) ≡ []) → ((now : ℕ) (frame : FrameParts) (sending : _) → f (Sends now frame sending) ≡ [])
     → (t : Turn) → flat_map f (parts_begun t) ≡ []
 none_begun {A = A} f o k c s t =

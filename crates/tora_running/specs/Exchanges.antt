@@ -34,7 +34,7 @@ cargo_in (Tells now event) = []
 cargo_in (Beats now) = []
 cargo_in Breaks = []
 
--- the frame that is given to a send
+-- the frame that is passed to a send
 abbrev pub sent_in : LinkPart → List FrameParts
 sent_in (Sends now frame sending) = frame ∷ []
 sent_in (Opens number now) = []
@@ -45,7 +45,7 @@ sent_in (Tells now event) = []
 sent_in (Beats now) = []
 sent_in Breaks = []
 
--- what a datagram reads that a receive gave
+-- the decoded datagram that a receive returned
 abbrev pub heard_in : LinkPart → List Reading
 heard_in (Hears now reading) = reading ∷ []
 heard_in (Opens number now) = []
@@ -67,7 +67,7 @@ put_in (Sends now frame sending) = []
 put_in (Hears now reading) = []
 put_in Breaks = []
 
--- parts exchange what turns do, each in its order
+-- the parts exchange the same as the turns, in the same order
 pub record ExchangeTheSame (parts : List LinkPart) (turns : List Turn) : Type 0 where
   pub numbers : flat_map number_in parts ≡ numbers_opened turns
   pub cargoes : flat_map cargo_in parts ≡ cargoes_taken turns

@@ -1,4 +1,4 @@
--- The parts that the turns of a link's thread and the items of a core's thread are.
+-- The turns of a link's thread and the items of a core's thread, as parts.
 use Rattle.std.specs.Prelude.{◌≡◌, ℕ, ◌==◌, ◌&&◌, Bool, IsFalse, if◌then◌else◌, List, [], ◌∷◌, ◌++◌, Option, Some, None, Result, Ok, Err}
 use Rattle.tora_frame.specs.FrameParts.{FrameParts}
 use Rattle.tora_arq.specs.declared.link_event.LinkEvent.{LinkEvent}
@@ -27,7 +27,7 @@ abbrev pub parts_taken : List Cargo → List LinkPart
 parts_taken [] = []
 parts_taken (cargo ∷ cargoes) = Takes cargo ∷ parts_taken cargoes
 
--- a send that has failed may have sent the datagram all the same
+-- a failed send may have sent the datagram nevertheless
 abbrev pub sending_of : Result (Unit {0}) WireError → Sending
 sending_of (Ok done) = Goes
 sending_of (Err error) = IsGone
@@ -37,7 +37,7 @@ parts_sent now [] answers = []
 parts_sent now (frame ∷ frames) [] = Sends now frame IsGone ∷ parts_sent now frames []
 parts_sent now (frame ∷ frames) (answer ∷ answers) = Sends now frame (sending_of answer) ∷ parts_sent now frames answers
 
--- what the receive gave, if it gave something
+-- what the receive returned, if anything
 abbrev pub parts_heard : ℕ → Option Reading → List LinkPart
 parts_heard now None = []
 parts_heard now (Some reading) = Hears now reading ∷ []
@@ -49,9 +49,10 @@ parts_told now (event ∷ events) = Tells now event ∷ parts_told now events
 abbrev pub parts_of_beat : ℕ → Bool → List LinkPart
 parts_of_beat now beat = if beat then Beats now ∷ [] else []
 
--- up to the last frame that was sent
+-- the parts of a turn up to the last frame that was sent
 abbrev pub parts_begun : Turn → List LinkPart
-parts_begun t = parts_opened t.now t.opened ++ Ticks t.now ∷ (parts_taken t.cargoes ++ parts_sent t.now t.sent t.answers)
+parts_begun t =
+    parts_opened t.now t.opened ++ Ticks t.now ∷ (parts_taken t.cargoes ++ parts_sent t.now t.sent t.answers)
 
 abbrev pub parts_of : Turn → List LinkPart
 parts_of t = parts_begun t ++ (parts_heard t.now (came_of t) ++ (parts_told t.now t.told ++ parts_of_beat t.now t.beat))
@@ -60,13 +61,13 @@ abbrev pub parts_of_turns : List Turn → List LinkPart
 parts_of_turns [] = []
 parts_of_turns (t ∷ turns) = parts_of t ++ parts_of_turns turns
 
--- of the last turn, by its ending
+-- the parts of the last turn, by its ending
 abbrev pub parts_of_last : Ending → Turn → List LinkPart
 parts_of_last (NoNumber error) t = []
 parts_of_last (Broken at) t = parts_begun t ++ Breaks ∷ parts_told t.now t.told
 parts_of_last Refused t = parts_of t
 
--- an event that the hub has refused was taken from the end, and put nowhere
+-- an event that the hub refused was removed from the end, and was not put
 abbrev pub IsAfterRefused : EndState → Option LinkEvent → EndState → Type 0
 IsAfterRefused e None after = after ≡ e
 IsAfterRefused e (Some event) after = (first_event e ≡ Some event) × (after ≡ after_poll_event e)
@@ -90,7 +91,8 @@ IsNotStarted n (Asks m now what ∷ parts) = IsNotStarted n parts
 -- the parts of the thread of n's link to k
 abbrev pub parts_of_link : ℕ → ℕ → List Part → List LinkPart
 parts_of_link n k [] = []
-parts_of_link n k (OfLink m j part ∷ parts) = if (n == m) && (k == j) then part ∷ parts_of_link n k parts else parts_of_link n k parts
+parts_of_link n k (OfLink m j part ∷ parts) = if (n == m) && (k == j) then part ∷ parts_of_link n k parts
+    else parts_of_link n k parts
 parts_of_link n k (Starts m ∷ parts) = parts_of_link n k parts
 parts_of_link n k (Serves m item offers ∷ parts) = parts_of_link n k parts
 parts_of_link n k (Asks m now what ∷ parts) = parts_of_link n k parts
@@ -98,7 +100,8 @@ parts_of_link n k (Asks m now what ∷ parts) = parts_of_link n k parts
 -- what the core's thread of n has served
 abbrev pub served_in : ℕ → List Part → List ServedItem
 served_in n [] = []
-served_in n (Serves m item offers ∷ parts) = if n == m then record { item = item; offers = offers } ∷ served_in n parts else served_in n parts
+served_in n (Serves m item offers ∷ parts) = if n == m then record { item = item; offers = offers } ∷ served_in n parts
+    else served_in n parts
 served_in n (Starts m ∷ parts) = served_in n parts
 served_in n (OfLink m j part ∷ parts) = served_in n parts
 served_in n (Asks m now what ∷ parts) = served_in n parts

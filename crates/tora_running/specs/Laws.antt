@@ -1,4 +1,4 @@
--- What holds of every run of running nodes.
+-- What holds for every run of running nodes.
 use Rattle.std.specs.Prelude.{◌≡◌, ℕ, ◌+◌, ◌≤◌, ◌&&◌, true, not, if◌then◌else◌, List, [], ◌∷◌, Some}
 use Rattle.tora_height.specs.Height.{Quintuple}
 use Rattle.tora_packet.specs.declared.Packet.{Packet}
@@ -18,12 +18,13 @@ use Rattle.tora_world.specs.Rest.{IsAtRest, EntriesAreHeights, LacksHeight, IsRe
 use Rattle.tora_world.specs.Walks.{height_at, IsExact, Arrives, AreIds}
 use Rattle.tora_running.specs.Network.{Network, Part, first_network, after_part, after_parts, IsRun, packets_sent, packets_taken}
 
--- this holds of the network that any run of parts leaves, over any topology and with any times of the link ends
+-- this holds for the network after any run of parts, over any topology and with any times of the link ends
 abbrev pub EveryNetwork : (Topology → Times → Network → Type 0) → Type 0
 EveryNetwork Holds =
-    (t : Topology) (times : Times) (parts : List Part) → IsRun (first_network t times) parts → Holds t times (after_parts parts (first_network t times))
+    (t : Topology) (times : Times) (parts : List Part) → IsRun (first_network t times) parts
+    → Holds t times (after_parts parts (first_network t times))
 
--- the world has what the network has, and each frame that went out is one of its datagrams
+-- the world agrees with the network, and each frame that was sent is one of its datagrams
 pub record IsWorldOf (network : Network) (w : World) : Type 0 where
   pub topology : w.topology ≡ network.topology
   pub times : w.times ≡ network.times
@@ -37,11 +38,11 @@ pub record IsWorldOf (network : Network) (w : World) : Type 0 where
   pub steps : w.steps ≡ network.steps
   pub datagrams : (n k : ℕ) (frame : FrameParts) → IsIn frame (network.frames n k) → IsIn frame w.datagrams
 
--- some schedule of the free world leaves that world
+-- some schedule of the free world leads to that world
 abbrev pub IsOfWorld : Topology → Times → Network → Type 0
 IsOfWorld t times network = (es : Schedule) × IsWorldOf network (after_schedule es (first_world t times))
 
--- what was taken in a life begins what was sent in it
+-- what was taken in a life is a prefix of what was sent in it
 abbrev pub TakenBeginsSent : Network → Type 0
 TakenBeginsSent w = (a b : ℕ) (life : Life) → Begins (packets_taken w b a (reversed life)) (packets_sent w a b life)
 
@@ -49,7 +50,8 @@ TakenBeginsSent w = (a b : ℕ) (life : Life) → Begins (packets_taken w b a (r
 abbrev pub times_bound : ℕ → ℕ → Life → List Part → Network → ℕ
 times_bound n k life [] w = 0
 times_bound n k life (part ∷ parts) w =
-    (if is_bound_to life ((after_part w part).ends n k).phase && not (is_bound_to life (w.ends n k).phase) then 1 else 0)
+    (if is_bound_to life ((after_part w part).ends n k).phase && not (is_bound_to life (w.ends n k).phase) then 1
+    else 0)
     + times_bound n k life parts (after_part w part)
 
 -- each end binds each pair of numbers at most once, over all starts of its node
@@ -58,7 +60,7 @@ BindsOnce =
     (t : Topology) (times : Times) (parts : List Part) → IsRun (first_network t times) parts
     → (n k : ℕ) (life : Life) → times_bound n k life parts (first_network t times) ≤ 1
 
--- each core is what TORA's rules make of the inputs that it accepted since its node's last start
+-- each core has the state that TORA's rules give for the inputs accepted since its node's last start
 abbrev pub CoresFollow : Topology → Network → Type 0
 CoresFollow t w = (n : ℕ) → (w.seats n).core ≡ core_after_all (new_core t n) (w.inputs n)
 
@@ -69,10 +71,11 @@ packets_broadcast t w n k = broadcast_from k (new_core t n) (w.inputs n) []
 -- while a life is current at a core, all that the core broadcast since its link came up was sent in it
 abbrev pub IsWithoutGap : Topology → Network → Type 0
 IsWithoutGap t w =
-    IsWithinLimits t → (n k : ℕ) (life : Life) → is_link t n k ≡ true → (w.seats n).current k ≡ Some life → packets_sent w n k life ≡ packets_broadcast t w n k
+    IsWithinLimits t → (n k : ℕ) (life : Life) → is_link t n k ≡ true → (w.seats n).current k ≡ Some life
+    → packets_sent w n k life ≡ packets_broadcast t w n k
 
--- a world that has what the network has; its clock, life files, datagrams and armed calls are those of a first world, and nothing below asks
--- for them
+-- a world that agrees with the network. Its clock, life files, datagrams and armed calls are those of a first world,
+-- and no definition below uses them
 abbrev pub shown : Network → World
 shown w = record (first_world w.topology w.times) {
   seats = w.seats;
@@ -85,23 +88,23 @@ shown w = record (first_world w.topology w.times) {
   steps = w.steps;
 }
 
--- a core refuses nothing but the need of a destination that is not in its table, and for that cause
+-- a core refuses only the need of a destination that is not in its table, and for that cause
 abbrev pub RefusesOnlyNeeds : Network → Type 0
 RefusesOnlyNeeds w = OnlyNeedsAreRefused (shown w)
 
--- this holds of the world that is shown, where the topology is not refused within some limits and has nodes' numbers
+-- this holds for that world, if the topology is not refused within some limits and has numbers of nodes
 abbrev pub HoldsOfSound : (World → Type 0) → Topology → Network → Type 0
 HoldsOfSound Holds t w = IsWithinLimits t → AreIds t → Holds (shown w)
 
--- where each entry for a destination that is not NULL is the neighbour's height, the hops from a node with a height arrive
+-- if each entry for a destination that is not NULL is the neighbour's height, the hops from a node with a height arrive
 abbrev pub WalksArrive : World → Type 0
 WalksArrive w = (d n : ℕ) (height : Quintuple) → IsExact w d → height_at w n d ≡ Some (Some height) → Arrives w n d
 
--- where nothing is under way, each entry is NULL or the neighbour's height, or the neighbour has none
+-- at rest, each entry is NULL or the neighbour's height, or the neighbour has none
 abbrev pub RestingEntriesAreHeights : World → Type 0
 RestingEntriesAreHeights w = IsAtRest w → EntriesAreHeights w
 
--- and the hops from a node with a height arrive, if no node that links lead to from there is without one
+-- at rest, the hops from a node with a height arrive, if every node that is reachable from it over links has a height
 abbrev pub RestingRoutesArrive : World → Type 0
 RestingRoutesArrive w =
     IsAtRest w → (d n : ℕ) (height : Quintuple) → height_at w n d ≡ Some (Some height)

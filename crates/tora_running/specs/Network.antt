@@ -1,4 +1,4 @@
--- A network of running nodes, and what the parts of their threads make of it, in one order of all of them.
+-- A network of running nodes, and the effect of the parts of their threads, in one order of all parts.
 use Rattle.std.specs.Prelude.{◌≡◌, ◌⊎◌, ℕ, suc, ◌<◌, ◌≤◌, ◌^◌, ◌==◌, IsTrue, if◌then◌else◌, List, [], ◌∷◌, ◌++◌, length, drop, Ok, Err}
 use Rattle.tora_packet.specs.declared.Packet.{Packet}
 use Rattle.tora_frame.specs.FrameParts.{FrameParts}
@@ -31,14 +31,14 @@ pub record Network : Type 0 where
   pub times : Times  -- those of every link end
   pub seats : ℕ → SeatState  -- of each node, its core with the lives of its neighbours
   pub ends : ℕ → ℕ → EndState  -- of each node and each neighbour, the link end
-  pub numbers : ℕ → ℕ → ℕ  -- and the last number that was drawn for it
+  pub numbers : ℕ → ℕ → ℕ  -- the last number that was drawn for each link end
   pub items : ℕ → List Item  -- the lane into each core
   pub counts : ℕ → ℕ → ℕ  -- how many items each seat of a node has put since the node's last start
   pub cargoes : ℕ → ℕ → List Cargo  -- the lane from each core to each neighbour
-  pub frames : ℕ → ℕ → List FrameParts  -- all that went out from a node to a neighbour
-  pub put : ℕ → ℕ → List Cargo  -- all cargoes that were ever put into that lane
+  pub frames : ℕ → ℕ → List FrameParts  -- all frames that were sent from a node to a neighbour
+  pub put : ℕ → ℕ → List Cargo  -- all cargoes that were ever put into each such lane
   pub inputs : ℕ → List (Input × ℕ)  -- the inputs that each core accepted since its node's last start
-  pub steps : ℕ → ℕ → List Parcel  -- the packets of each neighbour that were ever stepped
+  pub steps : ℕ → ℕ → List Parcel  -- the packets that were ever taken from each neighbour
 
 -- no node was started yet
 abbrev pub first_network : Topology → Times → Network
@@ -61,7 +61,7 @@ first_network t times = record {
 abbrev pub packets_sent : Network → ℕ → ℕ → Life → List Packet
 packets_sent w a b life = packets_of life (parcels_in (w.put a b))
 
--- the packets of a that the core of b stepped in a life, as b's end writes it
+-- the packets of a that the core of b took in a life, as b's end writes it
 abbrev pub packets_taken : Network → ℕ → ℕ → Life → List Packet
 packets_taken w b a life = packets_of life (w.steps b a)
 
@@ -77,7 +77,7 @@ pub data Part : Type 0 where
   -- a user asks for something
   Asks : (n now : ℕ) (what : What) → Part
 
--- ---- what they make of the network
+-- ---- their effect on the network
 
 abbrev pub settings_at : Network → ℕ → ℕ → Settings
 settings_at w n k = settings_of (version_at w.topology n) n k w.times
@@ -85,11 +85,11 @@ settings_at w n k = settings_of (version_at w.topology n) n k w.times
 abbrev pub neighbours_at : Network → ℕ → List ℕ
 neighbours_at w n = neighbours_of w.topology n
 
--- the place of the neighbour is its seat, and the commands have the seat behind those of the links
+-- the seat of a link is the place of its neighbour, and the seat of the commands comes after those
 abbrev pub seat_of : Network → ℕ → ℕ → ℕ
 seat_of w n k = place_of k (neighbours_at w n)
 
--- core, ends and lanes of n are made anew; what was drawn, sent and taken stays
+-- the core, the ends and the lanes of n are new; the record of what was drawn, sent and taken stays
 abbrev pub after_start : Network → ℕ → Network
 after_start w n = record w {
   seats = put_one w.seats n (first_seat w.topology n);
@@ -100,19 +100,27 @@ after_start w n = record w {
   inputs = put_one w.inputs n [];
 }
 
--- an item more in the lane into the core of n
+-- one more item in the lane into the core of n
 abbrev pub with_item : Network → ℕ → ℕ → ℕ → What → Network
 with_item w n seat now what = record w {
-  items = put_one w.items n (w.items n ++ record { seat = seat; number = suc (w.counts n seat); now = now; what = what } ∷ []);
+  items = put_one w.items n (w.items n ++ record {
+    seat = seat;
+    number = suc (w.counts n seat);
+    now = now;
+    what = what;
+  } ∷ []);
   counts = put_at w.counts n seat (suc (w.counts n seat));
 }
 
--- what a part of a link's thread does beside what it makes of the end
+-- the effect of a part of a link's thread, apart from that on the end
 abbrev pub beside : Network → ℕ → ℕ → LinkPart → Network
 beside w n k (Opens number now) = record w { numbers = put_at w.numbers n k number }
 beside w n k (Ticks now) = w
 beside w n k (Takes cargo) = record w { cargoes = put_at w.cargoes n k (drop 1 (w.cargoes n k)) }
-beside w n k (Sends now frame sending) = record w { frames = put_at w.frames n k (with_datagram sending (w.frames n k) frame) }
+beside w n k (Sends now frame sending) = record w {
+  frames = put_at w.frames n k
+      (with_datagram sending (w.frames n k) frame);
+}
 beside w n k (Hears now reading) = w
 beside w n k (Tells now event) = with_item w n (seat_of w n k) now (what_of event)
 beside w n k (Beats now) = with_item w n (seat_of w n k) now Told.Beat
@@ -121,11 +129,11 @@ beside w n k Breaks = w
 abbrev pub with_part : Network → ℕ → ℕ → LinkPart → Network
 with_part w n k part = record w { ends = put_at w.ends n k (end_after (settings_at w n k) (w.ends n k) part) }
 
--- the item is served, by the answers that were told of these cargoes
+-- the item is served, with the results of these offers
 abbrev pub served_at : Network → ℕ → Item → List Offer → Serving
 served_at w n item offers = serving_told (neighbours_at w n) (w.seats n) (record { item = item; offers = offers })
 
--- the front of the lane was taken and served
+-- the first item of the lane was taken and served
 abbrev pub after_serving : Network → ℕ → Serving → Network
 after_serving w n v = record w {
   seats = put_one w.seats n v.seat;
@@ -148,12 +156,12 @@ after_parts (part ∷ parts) w = after_parts parts (after_part w part)
 
 -- ---- where they may be made
 
--- what was put first is taken first
+-- this item is at the front of the lane
 abbrev pub IsFront : {A : Type 0} → A → List A → Type 0
 IsFront x [] = ⊥
 IsFront x (y ∷ ys) = x ≡ y
 
--- the end has refused the frame: it is none that the peer sends to this end, is of another life, or was not looked at
+-- the end refused the frame: it is foreign, of another life, or was not looked at
 abbrev pub IsRefusal : Verdict → Type 0
 IsRefusal Stale = Unit {0}
 IsRefusal Foreign = Unit {0}
@@ -162,12 +170,14 @@ IsRefusal Accepted = ⊥
 IsRefusal Repeated = ⊥
 IsRefusal Ahead = ⊥
 
--- what a receive gives is a frame that the peer's end gave to a send, or one that this end refuses, or no frame
+-- a receive returns a frame that the peer's end passed to a send, or one that this end refuses, or no frame
 abbrev pub IsNotForged : Network → ℕ → ℕ → ℕ → Reading → Type 0
-IsNotForged w n k now (Ok frame) = IsIn frame (w.frames k n) ⊎ IsRefusal (verdict_of (settings_at w n k) (w.ends n k) frame now)
+IsNotForged w n k now (Ok frame) = IsIn frame (w.frames k n) ⊎ IsRefusal
+    (verdict_of (settings_at w n k) (w.ends n k) frame now)
 IsNotForged w n k now (Err error) = Unit {0}
 
--- numbers rise over all starts of a node, lanes keep their order, and no wire gives a datagram that is forged and that the end does not refuse
+-- numbers rise over all starts of a node, lanes keep their order, and no wire delivers a forged datagram that the end
+-- accepts
 abbrev pub IsGiven : Network → ℕ → ℕ → LinkPart → Type 0
 IsGiven w n k (Opens number now) = (w.numbers n k < number) × (number ≤ 2 ^ 62)
 IsGiven w n k (Takes cargo) = IsFront cargo (w.cargoes n k)
@@ -178,14 +188,16 @@ IsGiven w n k (Tells now event) = Unit {0}
 IsGiven w n k (Beats now) = Unit {0}
 IsGiven w n k Breaks = Unit {0}
 
--- where a part may be made
+-- the network allows the part
 abbrev pub MayBe : Network → Part → Type 0
 MayBe w (Starts n) = IsTrue (is_node w.topology n)
-MayBe w (OfLink n k part) = IsTrue (is_link w.topology n k) × IsPossible (settings_at w n k) (w.ends n k) part × IsGiven w n k part
-MayBe w (Serves n item offers) = IsTrue (is_node w.topology n) × IsFront item (w.items n) × ((served_at w n item offers).offers ≡ offers)
+MayBe w (OfLink n k part) = IsTrue (is_link w.topology n k) × IsPossible (settings_at w n k) (w.ends n k) part
+    × IsGiven w n k part
+MayBe w (Serves n item offers) = IsTrue (is_node w.topology n) × IsFront item (w.items n)
+    × ((served_at w n item offers).offers ≡ offers)
 MayBe w (Asks n now what) = IsTrue (is_node w.topology n) × TellsNoLife what
 
--- each part may be made when it is made
+-- each part is allowed when it is made
 abbrev pub IsRun : Network → List Part → Type 0
 IsRun w [] = Unit {0}
 IsRun w (part ∷ parts) = MayBe w part × IsRun (after_part w part) parts

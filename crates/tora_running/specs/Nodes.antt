@@ -1,4 +1,4 @@
--- The histories of a node's threads, out of what `run_node` says of them.
+-- The histories of a node's threads, from the contract of `run_node`.
 use Rattle.std.specs.Prelude.{◌≡◌, ℕ, List, [], ◌∷◌, ◌++◌, map}
 use Rattle.std.specs.List.{flat_map}
 use Rattle.tora_arq.specs.LinkEnd.{EndState, first_end}
@@ -18,8 +18,8 @@ use Rattle.tora_seat.specs.declared.item.Item.{Item}
 use Rattle.tora_running.specs.Parts.{LinkPart, AreLinkParts}
 use Rattle.tora_running.specs.Exchanges.{ExchangeTheSame, cargo_in, heard_in, put_in}
 
--- The thread of the link from one node to another has made these parts of a new end, one after another; they exchange what turns do whose
--- tally this is
+-- The thread of the link from one node to another has made these parts of a new end, one after another; they exchange
+-- what the turns with this tally exchange
 pub record HasHistory (me peer : ℕ) (tally : Tally) : Type 0 where
   pub parts : List LinkPart
   pub between : EndState
@@ -35,15 +35,14 @@ HaveHistories me [] (tally ∷ tallies) = ⊥
 HaveHistories me (k ∷ ks) [] = ⊥
 HaveHistories me (k ∷ ks) (tally ∷ tallies) = HasHistory me k tally × HaveHistories me ks tallies
 
--- Its parts hear what came in by the receives of these turns, one after another, and nothing else: what each of them has answered and put into
--- its buffer
+-- Its parts receive exactly the datagrams that the receives of these turns returned in their buffers, in order
 pub record HearsItsWire (me peer : ℕ) (tally : Tally) (turns : List Turn) : Type 0 where
   pub history : HasHistory me peer tally
   pub turns_are : history.turns ≡ turns
   pub heard : flat_map heard_in history.parts ≡ readings_come turns
 
--- And the parts of the link at a place are those whose items the core served, and whose cargoes serving put: what they put is the items of
--- their seat that were served, and then some that were left, and what they take, and then some that waited, is what was put for the peer
+-- The parts of the link at a place exchange with the core: the items put are those of their seat that the core served,
+-- followed by some that were left; the cargoes taken, followed by some that waited, are those put for the peer
 pub record HasExchanged (me : ℕ) (xs : List ServedItem) (place peer : ℕ) (tally : Tally) : Type 0 where
   pub history : HasHistory me peer tally
   pub left : List Item

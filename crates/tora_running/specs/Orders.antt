@@ -11,9 +11,9 @@ use Rattle.tora_running.specs.Parts.{LinkPart, AreLinkParts}
 use Rattle.tora_running.specs.Network.{Network, Part, settings_at, neighbours_at, IsFront, IsGiven, after_part}
 use Rattle.tora_running.specs.Network.Part.{Starts, OfLink, Serves, Asks}
 
--- ---- what one thread did, start after start of its node
+-- ---- the actions of one thread, start after start of its node
 
--- up to the next start, and then from each start to the one after it
+-- the actions up to the next start, and then those from each start to the one after it
 pub record Lives (A : Type 0) : Type 0 where
   pub present : List A
   pub later : List (List A)
@@ -31,7 +31,8 @@ with_first x l = record { present = x ∷ l.present; later = l.later }
 abbrev pub link_lives : ℕ → ℕ → List Part → Lives LinkPart
 link_lives n k [] = no_lives
 link_lives n k (Starts m ∷ parts) = if n == m then with_start (link_lives n k parts) else link_lives n k parts
-link_lives n k (OfLink m j part ∷ parts) = if (n == m) && (k == j) then with_first part (link_lives n k parts) else link_lives n k parts
+link_lives n k (OfLink m j part ∷ parts) = if (n == m) && (k == j) then with_first part (link_lives n k parts)
+    else link_lives n k parts
 link_lives n k (Serves m item offers ∷ parts) = link_lives n k parts
 link_lives n k (Asks m now what ∷ parts) = link_lives n k parts
 
@@ -40,10 +41,11 @@ abbrev pub core_lives : ℕ → List Part → Lives ServedItem
 core_lives n [] = no_lives
 core_lives n (Starts m ∷ parts) = if n == m then with_start (core_lives n parts) else core_lives n parts
 core_lives n (OfLink m j part ∷ parts) = core_lives n parts
-core_lives n (Serves m item offers ∷ parts) = if n == m then with_first (record { item = item; offers = offers }) (core_lives n parts) else core_lives n parts
+core_lives n (Serves m item offers ∷ parts) = if n == m then with_first (record { item = item; offers = offers })
+    (core_lives n parts) else core_lives n parts
 core_lives n (Asks m now what ∷ parts) = core_lives n parts
 
--- ---- as the contracts of the threads tell it: parts of an end, one after another, and items that were served, one after another
+-- ---- as the contracts of the threads describe them: parts of an end, or served items, one after another
 
 abbrev pub WereMade : Settings → EndState → List LinkPart → Type 0
 WereMade s e parts = (after : EndState) × AreLinkParts s e parts after
@@ -51,17 +53,19 @@ WereMade s e parts = (after : EndState) × AreLinkParts s e parts after
 abbrev pub WereServed : List ℕ → SeatState → List ServedItem → Type 0
 WereServed neighbours s xs = (after : SeatState) × AreServed neighbours s xs after
 
--- and so from a new end, from a new seat, in each of these
+-- the same from a new end or a new seat, in each of these
 abbrev pub AllWere : {A : Type 0} → (List A → Type 0) → List (List A) → Type 0
 AllWere Was [] = Unit {0}
 AllWere Was (one ∷ more) = Was one × AllWere Was more
 
 pub record AreHistories (w : Network) (parts : List Part) : Type 0 where
-  pub links : (n k : ℕ) → WereMade (settings_at w n k) (w.ends n k) (link_lives n k parts).present × AllWere (WereMade (settings_at w n k) first_end) (link_lives n k parts).later
-  pub cores : (n : ℕ) → WereServed (neighbours_at w n) (w.seats n) (core_lives n parts).present × AllWere (WereServed (neighbours_at w n) (first_seat w.topology n)) (core_lives n parts).later
+  pub links : (n k : ℕ) → WereMade (settings_at w n k) (w.ends n k) (link_lives n k parts).present
+      × AllWere (WereMade (settings_at w n k) first_end) (link_lives n k parts).later
+  pub cores : (n : ℕ) → WereServed (neighbours_at w n) (w.seats n) (core_lives n parts).present
+      × AllWere (WereServed (neighbours_at w n) (first_seat w.topology n)) (core_lives n parts).later
 
--- ---- what their order keeps: the nodes and links are those of the network, a lane gives what was put first, no datagram is forged that its
--- end does not refuse, numbers rise, and a user asks for no life
+-- ---- their order: the nodes and links are those of the network, lanes are first-in, first-out, no datagram is
+-- forged that its end would accept, numbers rise, and users put no items about lives
 
 abbrev pub MayCome : Network → Part → Type 0
 MayCome w (Starts n) = IsTrue (is_node w.topology n)

@@ -10,16 +10,16 @@ use Rattle.tora_world.specs.World.{Sending}
 use Rattle.tora_neighbour.specs.Intake.{Reading, after_reading}
 use Rattle.tora_seat.specs.Between.{after_cut_of_bound}
 
--- each part is handed the tick that its thread has read
+-- each part has the tick that its thread has read
 pub data LinkPart : Type 0 where
   -- a closed end is opened with a number that was drawn for it
   Opens : (number now : ℕ) → LinkPart
   Ticks : (now : ℕ) → LinkPart
   -- a cargo is taken from the lane out of the core
   Takes : (cargo : Cargo) → LinkPart
-  -- the first frame that is due is given to a send, and so it goes with it
+  -- the first frame due is passed to a send, with this outcome
   Sends : (now : ℕ) (frame : FrameParts) (sending : Sending) → LinkPart
-  -- a receive of the wire gives a datagram whose bytes read so: the frame that they spell, or why they spell none
+  -- a receive of the wire returns a datagram: its frame, or why it is not one
   Hears : (now : ℕ) (reading : Reading) → LinkPart
   -- the first event of the end is put into the lane into the core
   Tells : (now : ℕ) (event : LinkEvent) → LinkPart
@@ -39,7 +39,7 @@ end_after s e (Tells now event) = after_poll_event e
 end_after s e (Beats now) = e
 end_after s e Breaks = after_cut_of_bound e (bound_life e)
 
--- whether the end is so that the part may be made
+-- whether the end allows the part
 abbrev pub IsPossible : Settings → EndState → LinkPart → Type 0
 IsPossible s e (Opens number now) = IsTrue (is_closed e) × (e.last_life < number)
 IsPossible s e (Sends now frame sending) = frame_due s e now ≡ Some frame

@@ -1,5 +1,6 @@
--- Two running nodes, computed: a run in which a datagram is lost, a packet is handed back, both nodes are killed, a route is found in a
--- second life of their link, and is lost with it: a wire breaks, and the other end hears nothing any more.
+-- Two running nodes, computed: a run in which a datagram is lost, a lane returns a packet, both nodes are killed, a
+-- route is found in a second life of their link, and is lost with it: a wire breaks, and the other end receives nothing
+-- any more.
 use Rattle.std.specs.Prelude.{◌≡◌, ℕ, Bool, true, false, List, [], ◌∷◌, length, slice_get, Option, Some, None, Ok}
 use Rattle.tora_frame.specs.FrameParts.{FrameParts, frame_of}
 use Rattle.tora_frame.specs.declared.parts.Version.TheVariants.{One}
@@ -38,7 +39,7 @@ abbrev pub part_heard : ℕ → ℕ → Option FrameParts → Part
 part_heard n k None = OfLink n k (Beats 0)
 part_heard n k (Some frame) = OfLink n k (Hears 0 (Ok frame))
 
--- the frame at this place of all that went out to n from k
+-- the frame at this place among all sent from k to n
 abbrev pub hears : ℕ → ℕ → ℕ → Reads
 hears n k place w = part_heard n k (slice_get (w.frames k n) place)
 
@@ -58,9 +59,10 @@ takes n k w = part_taken n k (w.cargoes n k)
 
 abbrev pub part_served : Network → ℕ → Bool → List Item → Part
 part_served w n put [] = OfLink n n (Beats 0)
-part_served w n put (item ∷ items) = Serves n item (serving_of (λ offers k. put) (neighbours_at w n) (w.seats n) item).offers
+part_served w n put (item ∷ items) = Serves n item (serving_of (λ offers k. put) (neighbours_at w n) (w.seats n)
+    item).offers
 
--- each cargo is put into its lane, or each is handed back
+-- each cargo is put into its lane, or each is returned
 abbrev pub serves : ℕ → Bool → Reads
 serves n put w = part_served w n put (w.items n)
 
@@ -85,7 +87,7 @@ beats n k now w = OfLink n k (Beats now)
 abbrev pub breaks : ℕ → ℕ → Reads
 breaks n k w = OfLink n k Breaks
 
--- a HELLO of a node that is no neighbour
+-- a HELLO of a node that is not a neighbour
 abbrev pub strange : FrameParts
 strange = frame_of (record { version = One; sender = 9; receiver = 1; life = 1; heard = 0 }) Hello
 
@@ -101,17 +103,22 @@ read_from w (next ∷ more) = next w ∷ read_from (after_part w (next w)) more
 abbrev pub start : Network
 start = first_network pair times
 
--- the first HELLO of node 1 is lost, the second one and two more bind both ends; node 1's update is handed back when the life comes up
+-- the first HELLO of node 1 is lost, the second one and two more bind both ends; the lane returns node 1's update when
+-- the life comes up
 abbrev pub first_life : List Reads
 first_life =
-    starts 1 ∷ starts 2 ∷ needs 1 2 ∷ serves 1 true ∷ opens 1 2 1 ∷ opens 2 1 1 ∷ sends 1 2 IsLost ∷ sends 1 2 Goes ∷ hears 2 1 0 ∷ sends 2 1 Goes ∷ hears 1 2 0 ∷ sends 1 2 Goes ∷ hears 2 1 1
+    starts 1 ∷ starts 2 ∷ needs 1 2 ∷ serves 1 true ∷ opens 1 2 1 ∷ opens 2 1 1 ∷ sends 1 2 IsLost ∷ sends 1 2 Goes
+    ∷ hears 2 1 0 ∷ sends 2 1 Goes ∷ hears 1 2 0 ∷ sends 1 2 Goes ∷ hears 2 1 1
     ∷ tells 1 2 ∷ tells 2 1 ∷ serves 2 true ∷ serves 1 false ∷ []
 
--- both nodes are killed, and started again; node 1 has drawn some numbers that it did not use. An old datagram comes first
+-- both nodes are killed, and started again; node 1 has drawn some numbers that it did not use. An old datagram comes
+-- first
 abbrev pub second_life : List Reads
 second_life =
-    starts 1 ∷ starts 2 ∷ needs 1 2 ∷ serves 1 true ∷ opens 1 2 5 ∷ opens 2 1 2 ∷ hears 2 1 1 ∷ sends 1 2 Goes ∷ hears 2 1 2 ∷ sends 2 1 Goes ∷ hears 1 2 1 ∷ sends 1 2 Goes ∷ hears 2 1 3
-    ∷ tells 1 2 ∷ tells 2 1 ∷ serves 2 true ∷ serves 1 true ∷ takes 1 2 ∷ sends 1 2 Goes ∷ hears 2 1 4 ∷ hears 2 1 4 ∷ tells 2 1 ∷ serves 2 true ∷ []
+    starts 1 ∷ starts 2 ∷ needs 1 2 ∷ serves 1 true ∷ opens 1 2 5 ∷ opens 2 1 2 ∷ hears 2 1 1 ∷ sends 1 2 Goes
+    ∷ hears 2 1 2 ∷ sends 2 1 Goes ∷ hears 1 2 1 ∷ sends 1 2 Goes ∷ hears 2 1 3
+    ∷ tells 1 2 ∷ tells 2 1 ∷ serves 2 true ∷ serves 1 true ∷ takes 1 2 ∷ sends 1 2 Goes ∷ hears 2 1 4 ∷ hears 2 1 4
+    ∷ tells 2 1 ∷ serves 2 true ∷ []
 
 abbrev pub first_parts : List Part
 first_parts = read_from start first_life
@@ -128,7 +135,7 @@ met = after_parts second_parts parted
 abbrev pub new_life : Life
 new_life = record { own = 5; peer = 2 }
 
--- the update was handed back: its life is cut, and nothing was sent in it
+-- the lane returned the update: its life is cut, and nothing was sent in it
 pub record HandsBack (w : Network) : Type 0 where
   pub bound : (w.ends 1 2).phase ≡ Bound life
   pub over : (w.seats 1).current 2 ≡ None
@@ -146,11 +153,12 @@ pub record HasMet (w : Network) : Type 0 where
 
 -- ---- the end of that life
 
--- a beat comes, and node 1 is asked for its text; an acknowledgement goes out though its send has failed; a frame of another node is refused. Then
--- the wire of node 1 breaks, and node 2 hears nothing for 60 ticks
+-- a beat comes, and node 1 is asked for its text; an acknowledgement is sent though its send failed; a frame of another
+-- node is refused. Then the wire of node 1 breaks, and node 2 receives nothing for 60 ticks
 abbrev pub last_turns : List Reads
 last_turns =
-    beats 1 2 10 ∷ serves 1 true ∷ shows 1 ∷ serves 1 true ∷ sends 2 1 IsGone ∷ hears 1 2 2 ∷ hears_strange 1 2 ∷ breaks 1 2 ∷ tells 1 2 ∷ serves 1 true
+    beats 1 2 10 ∷ serves 1 true ∷ shows 1 ∷ serves 1 true ∷ sends 2 1 IsGone ∷ hears 1 2 2 ∷ hears_strange 1 2
+    ∷ breaks 1 2 ∷ tells 1 2 ∷ serves 1 true
     ∷ ticks 2 1 60 ∷ tells 2 1 ∷ serves 2 true ∷ []
 
 abbrev pub last_parts : List Part
@@ -159,7 +167,7 @@ last_parts = read_from met last_turns
 abbrev pub left : Network
 left = after_parts last_parts met
 
--- both lives have ended, at the ends and at the cores, nothing waits in the lanes, and node 1 has no route any more
+-- both lives have ended, at the ends and at the cores, nothing waits in the lanes, and node 1 has lost its route
 pub record HasLeft (w : Network) : Type 0 where
   pub closed : (w.ends 1 2).phase ≡ Closed
   pub other : (w.ends 2 1).phase ≡ Closed
@@ -170,14 +178,18 @@ pub record HasLeft (w : Network) : Type 0 where
   pub gone : length (w.frames 2 1) ≡ 3
   pub hop : hop_of (w.seats 1).core 2 ≡ None
 
--- ---- what is no run: a number is drawn again
+-- ---- not a run: a number is drawn again
 
--- the update is taken in the life of the numbers 1 and 1; both nodes are started again and draw the same numbers, and its old datagram comes
+-- the update is taken in the life of the numbers 1 and 1; both nodes are started again and draw the same numbers, and
+-- its old datagram comes
 abbrev pub numbers_again : List Reads
 numbers_again =
-    starts 1 ∷ starts 2 ∷ needs 1 2 ∷ serves 1 true ∷ opens 1 2 1 ∷ opens 2 1 1 ∷ sends 1 2 Goes ∷ hears 2 1 0 ∷ sends 2 1 Goes ∷ hears 1 2 0 ∷ sends 1 2 Goes ∷ hears 2 1 1
-    ∷ tells 1 2 ∷ tells 2 1 ∷ serves 2 true ∷ serves 1 true ∷ takes 1 2 ∷ sends 1 2 Goes ∷ hears 2 1 2 ∷ tells 2 1 ∷ serves 2 true
-    ∷ starts 1 ∷ starts 2 ∷ opens 1 2 1 ∷ opens 2 1 1 ∷ sends 1 2 Goes ∷ hears 2 1 3 ∷ sends 2 1 Goes ∷ hears 1 2 1 ∷ sends 1 2 Goes ∷ hears 2 1 4
+    starts 1 ∷ starts 2 ∷ needs 1 2 ∷ serves 1 true ∷ opens 1 2 1 ∷ opens 2 1 1 ∷ sends 1 2 Goes ∷ hears 2 1 0
+    ∷ sends 2 1 Goes ∷ hears 1 2 0 ∷ sends 1 2 Goes ∷ hears 2 1 1
+    ∷ tells 1 2 ∷ tells 2 1 ∷ serves 2 true ∷ serves 1 true ∷ takes 1 2 ∷ sends 1 2 Goes ∷ hears 2 1 2 ∷ tells 2 1
+    ∷ serves 2 true
+    ∷ starts 1 ∷ starts 2 ∷ opens 1 2 1 ∷ opens 2 1 1 ∷ sends 1 2 Goes ∷ hears 2 1 3 ∷ sends 2 1 Goes ∷ hears 1 2 1
+    ∷ sends 1 2 Goes ∷ hears 2 1 4
     ∷ tells 2 1 ∷ serves 2 true ∷ hears 2 1 2 ∷ tells 2 1 ∷ serves 2 true ∷ []
 
 abbrev pub drawn_again : Network

@@ -1,5 +1,7 @@
-//! The laws of running nodes. Each stands over the definitions alone: a function without parameters that does nothing.
-ghost use Rattle.tora_running.specs.Laws.{BindsOnce, CoresFollow, EveryNetwork, HoldsOfSound, IsOfWorld, IsWithoutGap, RefusesOnlyNeeds, RestingEntriesAreHeights, RestingRoutesArrive, TakenBeginsSent, WalksArrive};
+//! The laws of running nodes. Each is the contract of a function that has no parameters and does nothing.
+ghost use Rattle.tora_running.specs.Laws.{BindsOnce, CoresFollow, EveryNetwork, HoldsOfSound, IsOfWorld, IsWithoutGap};
+ghost use Rattle.tora_running.specs.Laws.{RefusesOnlyNeeds, RestingEntriesAreHeights, RestingRoutesArrive};
+ghost use Rattle.tora_running.specs.Laws.{TakenBeginsSent, WalksArrive};
 ghost use Rattle.std.specs.Prelude.{◌≡◌, ℕ, true, List, [], ◌∷◌, ◌++◌, map, Option};
 ghost use Rattle.tora_arq.specs.LinkEnd.{EndState};
 ghost use Rattle.tora_arq.specs.Settings.{Settings};
@@ -17,12 +19,14 @@ ghost use Rattle.tora_seat.specs.Serving.{SeatState};
 ghost use Rattle.tora_seat.specs.declared.item.Item.{Item};
 ghost use Rattle.tora_world.specs.Topology.{is_node};
 ghost use Rattle.tora_running.specs.Exchanges.{ExchangeTheSame};
-ghost use Rattle.tora_running.specs.Histories.{IsAfterRefused, IsNotStarted, parts_of_last, parts_of_link, parts_of_turns, parts_served, served_in};
+ghost use Rattle.tora_running.specs.Histories.{IsAfterRefused, IsNotStarted, parts_of_last, parts_of_link};
+ghost use Rattle.tora_running.specs.Histories.{parts_of_turns, parts_served, served_in};
 ghost use Rattle.tora_running.specs.Network.{IsRun, Network, Part, after_parts, neighbours_at, settings_at};
 ghost use Rattle.tora_running.specs.Orders.{AreHistories, IsOrder};
 ghost use Rattle.tora_running.specs.Nodes.{HasExchanged, HaveHistories, HearsItsWire};
 ghost use Rattle.tora_running.specs.Parts.{AreLinkParts};
-ghost use Rattle.tora_running.specs.Worked.{start, first_parts, parted, second_parts, met, last_parts, left, HandsBack, HasMet, HasLeft, drawn_again, TakesTwice};
+ghost use Rattle.tora_running.specs.Worked.{start, first_parts, parted, second_parts, met, last_parts, left, HandsBack};
+ghost use Rattle.tora_running.specs.Worked.{HasMet, HasLeft, drawn_again, TakesTwice};
 
 use tora_arq::{data_frames_are_what_was_submitted, refused_frames_change_nothing};
 use tora_life::drawn_life_numbers_rise;
@@ -31,12 +35,12 @@ use tora_world::{
     no_gap_law, only_needs_are_refused, prefix_law, routes_at_rest_arrive,
 };
 
-/// Running nodes are a world: whatever the parts that their threads make, some schedule of the free world leaves a world with
-/// the same cores, link ends and lanes, in which the same was sent, taken and accepted.
+/// Running nodes are a world: for any parts that their threads make, some schedule of the free world leaves a world
+/// with the same cores, link ends and lanes, in which the same was sent, taken and accepted.
 ///
-/// A part may be made where the thread's own definition allows it, lanes keep their order, no wire gives a datagram that is forged and
-/// that its end does not refuse, and the numbers drawn for a link end rise. That is all that is asked of a run of parts; ticks, answers of
-/// lanes, losses, repeated datagrams and the moments of starts are any.
+/// A run of parts must satisfy only this: the thread's definition allows each part, lanes keep their order, no wire
+/// delivers a forged datagram that its end accepts, and the numbers drawn for a link end rise. Ticks, results of lanes,
+/// losses, repeated datagrams and the moments of starts are any.
 pub fn running_nodes_are_a_world()
     ensures { EveryNetwork (λ t times w. IsOfWorld t times w) }
 {
@@ -46,15 +50,16 @@ pub fn running_nodes_are_a_world()
     life_files_become_what_crashes_leave();
 }
 
-/// The prefix law of running nodes: what the core of a node has taken from a neighbour in a life begins what the
-/// neighbour's core has sent in that life, over all starts of both.
+/// The prefix law of running nodes: the packets that the core of a node has taken from a neighbour in a life are a
+/// prefix of those that the neighbour's core has sent in that life, over all starts of both nodes.
 pub fn running_nodes_keep_the_prefix_law()
     ensures prefix { EveryNetwork (λ t times w. TakenBeginsSent w) }
     // Each end binds each pair of life numbers at most once.
     ensures once { BindsOnce }
-    // What is asked of what is heard is asked of the wires alone, and of no thread: the parts of a link's thread hear what the receives of
-    // its turns have answered and written, and nothing else. Those are calls of its wire, as `run_node` has it (`LinkRan`).
-    ensures heard { (me peer : ℕ) (fault : Option LinkFault) (tally : Tally) (run : IsLinkRun me peer fault tally) → HearsItsWire me peer tally (run.turns ++ run.last ∷ []) }
+    // The condition on received datagrams concerns only the wires, and no thread: the parts of a link's thread receive
+    // only the datagrams that its calls of the wire returned, as `run_node` says (`LinkRan`).
+    ensures heard { (me peer : ℕ) (fault : Option LinkFault) (tally : Tally) (run : IsLinkRun me peer fault tally)
+        → HearsItsWire me peer tally (run.turns ++ run.last ∷ []) }
 {
     running_nodes_are_a_world();
     data_frames_are_what_was_submitted();
@@ -64,7 +69,8 @@ pub fn running_nodes_keep_the_prefix_law()
     prefix_law();
 }
 
-/// Each core of a running node is what TORA's rules make of the inputs that it accepted since its node's last start.
+/// Each core of a running node has the state that TORA's rules give for the inputs that it accepted since its node's
+/// last start.
 pub fn running_cores_follow()
     ensures { EveryNetwork (λ t times w. CoresFollow t w) }
 {
@@ -72,8 +78,8 @@ pub fn running_cores_follow()
     prefix_law();
 }
 
-/// The no-gap law of running nodes: while a life is current at a core, all that the core has broadcast since its link came
-/// up was sent in that life, and nothing else.
+/// The no-gap law of running nodes: while a life is current at a core, all that the core has broadcast since its link
+/// came up was sent in that life, and nothing else.
 pub fn running_nodes_keep_the_no_gap_law()
     ensures { EveryNetwork (λ t times w. IsWithoutGap t w) }
 {
@@ -81,8 +87,8 @@ pub fn running_nodes_keep_the_no_gap_law()
     no_gap_law();
 }
 
-/// Exact entries give walks of running nodes: where each entry for a destination that is not NULL is the height of the
-/// neighbour whose entry it is, the next hops lead from any node with a height to the destination.
+/// Exact entries give walks of running nodes: if each entry for a destination that is not NULL is the current height of
+/// its neighbour, the next hops lead from every node with a height to the destination.
 pub fn running_walks_arrive()
     ensures { EveryNetwork (λ t times w. HoldsOfSound WalksArrive t w) }
 {
@@ -90,8 +96,8 @@ pub fn running_walks_arrive()
     exact_entries_give_walks();
 }
 
-/// Where nothing is under way among running nodes, each entry of a node for a neighbour whose link is up is NULL, or the
-/// neighbour's height, or the neighbour has no height.
+/// If running nodes are at rest, each entry of a node for a neighbour whose link is up is NULL or the neighbour's
+/// height, or the neighbour has no height.
 pub fn running_entries_at_rest_are_heights()
     ensures { EveryNetwork (λ t times w. HoldsOfSound RestingEntriesAreHeights t w) }
 {
@@ -99,8 +105,8 @@ pub fn running_entries_at_rest_are_heights()
     entries_at_rest_are_heights();
 }
 
-/// Where nothing is under way among running nodes, the next hops lead from a node that has a height to the destination, if no
-/// node that links lead to from there is without one.
+/// If running nodes are at rest, the next hops lead from a node that has a height to the destination, if every node
+/// that is reachable from it over links has a height.
 pub fn running_routes_at_rest_arrive()
     ensures { EveryNetwork (λ t times w. HoldsOfSound RestingRoutesArrive t w) }
 {
@@ -108,8 +114,8 @@ pub fn running_routes_at_rest_arrive()
     routes_at_rest_arrive();
 }
 
-/// A core of a running node refuses nothing but the need of a destination that is not in its table, whatever its next item is
-/// and whatever is answered for its cargoes.
+/// A core of a running node refuses only the need of a destination that is not in its table, for any next item and any
+/// results of its offers.
 pub fn running_cores_refuse_only_needs()
     ensures { EveryNetwork (λ t times w. RefusesOnlyNeeds w) }
 {
@@ -117,70 +123,82 @@ pub fn running_cores_refuse_only_needs()
     only_needs_are_refused();
 }
 
-/// The parts are those of the threads: what a link's thread and a core's thread are proved to do is spelled, turn after turn and
-/// item after item, as parts that the definitions allow.
+/// The parts are those of the threads: the proved behaviour of a link's thread and of a core's thread is a sequence of
+/// parts, turn after turn and item after item, that the definitions allow.
 pub fn histories_are_of_the_threads()
     // Whole turns of a link's thread are parts of its end, one after another.
-    ensures turns { (s : Settings) (e : EndState) (turns : List Turn) (after : EndState) → AreTurns s e turns after → AreLinkParts s e (parts_of_turns turns) after }
-    // So is the last turn, which may end early; an event that the hub has refused is no part.
-    ensures last { (s : Settings) (last_beat : Option ℕ) (e : EndState) (t : Turn) (ending : Ending) (after : EndState) → IsLastTurn s last_beat e t ending after
-        → (between : EndState) × AreLinkParts s e (parts_of_last ending t) between × IsAfterRefused between t.refused after }
-    // And so is the whole run of a link's thread, as the contract of `run_neighbour` tells it.
-    ensures run { (s : Settings) (e : EndState) (turns : List Turn) (last : Turn) (ending : Ending) (after : EndState) → IsTurnRun s e turns last ending after
-        → (between : EndState) × AreLinkParts s e (parts_of_turns turns ++ parts_of_last ending last) between × IsAfterRefused between last.refused after }
-    // These parts exchange with the thread's file, lanes and wire what `Traffic` says of its turns: the numbers drawn, the cargoes taken,
-    // the frames sent, what came in by the receives, and what was put.
-    ensures exchanges { (s : Settings) (e : EndState) (turns : List Turn) (last : Turn) (ending : Ending) (after : EndState) → IsTurnRun s e turns last ending after
+    ensures turns { (s : Settings) (e : EndState) (turns : List Turn) (after : EndState) → AreTurns s e turns after
+        → AreLinkParts s e (parts_of_turns turns) after }
+    // The same holds for the last turn, which may end early; an event that the hub refused is not a part.
+    ensures last { (s : Settings) (last_beat : Option ℕ) (e : EndState) (t : Turn) (ending : Ending) (after : EndState)
+        → IsLastTurn s last_beat e t ending after
+        → (between : EndState) × AreLinkParts s e (parts_of_last ending t) between
+        × IsAfterRefused between t.refused after }
+    // The same holds for the whole run of a link's thread, as the contract of `run_neighbour` describes it.
+    ensures run { (s : Settings) (e : EndState) (turns : List Turn) (last : Turn) (ending : Ending) (after : EndState)
+        → IsTurnRun s e turns last ending after
+        → (between : EndState) × AreLinkParts s e (parts_of_turns turns ++ parts_of_last ending last) between
+        × IsAfterRefused between last.refused after }
+    // These parts exchange with the thread's file, lanes and wire what `Traffic` says of its turns: the numbers drawn,
+    // the cargoes taken, the frames sent, the datagrams received, and the items put.
+    ensures exchanges { (s : Settings) (e : EndState) (turns : List Turn) (last : Turn) (ending : Ending)
+        (after : EndState) → IsTurnRun s e turns last ending after
         → ExchangeTheSame (parts_of_turns turns ++ parts_of_last ending last) (turns ++ last ∷ []) }
-    // Items that a core's thread has served one after another, as the contract of `run_core` tells them, are a run of parts
-    // where they wait in its lane, and it leaves the same seat.
-    ensures served { (w : Network) (n : ℕ) (xs : List ServedItem) (rest : List Item) (after : SeatState) → is_node w.topology n ≡ true
+    // The items that a core's thread has served one after another, as the contract of `run_core` describes them, are a
+    // run of parts if they wait in its lane, and the run leaves the same seat.
+    ensures served { (w : Network) (n : ℕ) (xs : List ServedItem) (rest : List Item) (after : SeatState)
+        → is_node w.topology n ≡ true
         → w.items n ≡ items_served xs ++ rest → AreServed (neighbours_at w n) (w.seats n) xs after
-        → IsRun w (parts_served n xs) × ((after_parts (parts_served n xs) w).seats n ≡ after) × ((after_parts (parts_served n xs) w).items n ≡ rest) }
-    // And the other way round: in a run of all threads in which a node is not started, the parts of each of its links are parts
-    // of that end, and the items that its core has served were served one after another.
+        → IsRun w (parts_served n xs) × ((after_parts (parts_served n xs) w).seats n ≡ after)
+        × ((after_parts (parts_served n xs) w).items n ≡ rest) }
+    // Conversely, in a run of all threads in which a node is not started again, the parts of each of its links are
+    // parts of that end, and its core has served its items one after another.
     ensures links { (w : Network) (parts : List Part) (n k : ℕ) → IsRun w parts → IsNotStarted n parts
         → AreLinkParts (settings_at w n k) (w.ends n k) (parts_of_link n k parts) ((after_parts parts w).ends n k) }
     ensures cores { (w : Network) (parts : List Part) (n : ℕ) → IsRun w parts → IsNotStarted n parts
         → AreServed (neighbours_at w n) (w.seats n) (served_in n parts) ((after_parts parts w).seats n) }
 {}
 
-/// A run of parts is nothing but an order of what the threads did: histories of the threads, start after start of each node, and an
-/// order of all their parts that keeps lanes, datagrams and numbers (`IsOrder`). So that order is all that the laws of running
-/// nodes ask beside the contracts of the threads.
+/// A run of parts is exactly an order of the threads' actions: histories of the threads, start after start of each
+/// node, and an order of all their parts that keeps lanes, datagrams and numbers (`IsOrder`). So the laws of running
+/// nodes assume only that order, besides the contracts of the threads.
 pub fn runs_are_orders_of_histories()
-    // Where each thread made its parts as its own definition has them, in any order that keeps these, all laws of runs hold.
+    // If each thread made its parts as its definition says, in any such order, all laws of runs hold.
     ensures runs { (w : Network) (parts : List Part) → AreHistories w parts → IsOrder w parts → IsRun w parts }
-    // And each run is such an order.
+    // Conversely, each run is such an order.
     ensures orders { (w : Network) (parts : List Part) → IsRun w parts → AreHistories w parts × IsOrder w parts }
 {}
 
-/// What `run_node` says of its links is what histories come to: for each link there are parts of a new end of version 2 with the
-/// standard times, made one after another, and they exchange what the turns do whose tally is told of it; they put the items that
-/// the core served, and take the cargoes that serving put.
+/// The contract of `run_node` gives histories: for each link there are parts of a new end of version 2 with the
+/// standard times, one after another. They exchange what the link's turns exchange, put the items that the core served,
+/// and take the cargoes that serving put.
 pub fn nodes_have_histories()
     // A node that ended without a fault, as the part `links` of `run_node` has it.
-    ensures links { (first : CoreView) (tallies : List Tally) → AreFaultless (links_of first) tallies → HaveHistories first.me first.neighbours tallies }
+    ensures links { (first : CoreView) (tallies : List Tally) → AreFaultless (links_of first) tallies
+        → HaveHistories first.me first.neighbours tallies }
     // A node whose threads were started and which ended with the first of their faults, as its part `cause` has it.
-    ensures threads { (first : CoreView) (e : NodeError) (h : IsThreadsFault first e) → HaveHistories first.me first.neighbours (map (λ o. o.tally) h.outcomes) }
-    // And what a link has exchanged with the core, as the parts `ran` and `failed` have it, its parts have.
-    ensures exchanged { (me : ℕ) (xs : List ServedItem) (place peer : ℕ) (outcome : Outcome) → LinkExchanged me xs place peer outcome
+    ensures threads { (first : CoreView) (e : NodeError) (h : IsThreadsFault first e)
+        → HaveHistories first.me first.neighbours (map (λ o. o.tally) h.outcomes) }
+    // The parts of a link exchange with the core what the parts `ran` and `failed` of the contract say.
+    ensures exchanged { (me : ℕ) (xs : List ServedItem) (place peer : ℕ) (outcome : Outcome)
+        → LinkExchanged me xs place peer outcome
         → HasExchanged me xs place peer outcome.tally }
 {}
 
-/// Two running nodes, computed: what the laws say of a run of parts is not empty.
+/// An example with two running nodes, computed, so that the laws are not vacuous.
 pub fn worked_networks_hold()
-    // Both nodes are started, a HELLO is lost, three more bind the link, and the update of node 1 is handed back.
+    // Both nodes are started, a HELLO is lost, three more bind the link, and the lane returns the update of node 1.
     ensures first { IsRun start first_parts }
     ensures handed_back { HandsBack parted }
-    // Both are killed and started again. An old datagram comes, the link is bound in a second life, and the update is sent and
-    // taken in it, once, though its datagram comes twice: node 1 has a route.
+    // Both are killed and started again. An old datagram comes, the link is bound in a second life, and the update is
+    // sent and taken in it, once, though its datagram comes twice: node 1 has a route.
     ensures second { IsRun parted second_parts }
     ensures met { HasMet met }
-    // A beat comes, a user asks, a send fails whose datagram went out, and a frame of another node is refused; then the wire of node 1
-    // breaks, node 2 hears nothing for 60 ticks, and the route is gone.
+    // A beat comes, a user asks, a send fails though its datagram is sent, and a frame of another node is refused. Then
+    // the wire of node 1 breaks, node 2 receives no frame for 60 ticks, and the route is lost.
     ensures last { IsRun met last_parts }
     ensures left { HasLeft left }
-    // That numbers rise is needed: were the same numbers drawn again after a start, an old datagram would be taken a second time.
+    // Rising numbers are needed: if the same numbers were drawn again after a start, an old datagram would be taken a
+    // second time.
     ensures numbers { TakesTwice drawn_again }
 {}

@@ -13,8 +13,10 @@ use Rattle.tora_world.specs.declared.call.Call.{Call}
 use Rattle.tora_world.specs.declared.call.Call.TheVariants as Fails
 use Rattle.tora_world.specs.World.{World, Choice, settings, datagram, refusal_of, refusal_by, own_choice, after_pull, after_sending, after_receiving, after_pump, after_turn, after_arming, effect_by, world_by, world_after, world_after_all}
 use Rattle.tora_channel.specs.Table.{Channels}
+use Rattle.tora_sim.specs.Quiet.{IsQuietEnd}
 use Rattle.tora_sim.specs.Readers.{ends_in}
 use Rattle.tora_script.specs.declared.turns.EndTurn.{EndTurn}
+use Rattle.tora_script.specs.declared.turns.EndTurn.TheVariants as turn
 use Rattle.tora_script.specs.Rounds.{Plan, end_event, repeats, each, each_core, while_possible, Sky, moment_of, round, after_round, Happened, AreKnown}
 use Rattle.tora_script.proofs.RoundLaws.{no_event}
 
@@ -92,6 +94,14 @@ each_over plan (x ∷ xs) zero (suc j) w le none =
     ∙ each_over plan xs zero j w (omega arith) (λ at y from before there. none (suc at) y (omega (arith, from)) (omega (arith, before)) there)
 each_over plan (x ∷ xs) (suc i) zero w le none = absurd (omega (arith, le))
 each_over plan (x ∷ xs) (suc i) (suc j) w le none = each_over plan xs i j w (omega (arith, le)) (λ at y from before there. none (suc at) y (omega (arith, from)) (omega (arith, before)) there)
+
+-- a quiet end is refused each turn
+pub refused_turn : (kind : EndTurn) (w : World) (end : ℕ × ℕ) → IsQuietEnd w end.0 end.1
+    → is_some (refusal_of w (end_event kind end)) ≡ true
+refused_turn turn.Open w end quiet = quiet.opens
+refused_turn turn.Pull w end quiet = quiet.pulls
+refused_turn turn.Transmit w end quiet = quiet.sends
+refused_turn turn.Pump w end quiet = quiet.pumps
 
 -- ends whose turn is refused have none
 pub pass_over : (kind : EndTurn) (most : ℕ) (ends : List (ℕ × ℕ)) (i j : ℕ) (w : World) → i ≤ j → ((at : ℕ) (end : ℕ × ℕ) → i ≤ at → at < j → slice_get ends at ≡ Some end → is_some (refusal_of w (end_event kind end)) ≡ true)

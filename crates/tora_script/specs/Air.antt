@@ -3,7 +3,6 @@ use Rattle.std.specs.Prelude.{◌≡◌, ℕ, zero, suc, ◌+◌, ◌-◌, ◌%�
 use Rattle.tora_frame.specs.FrameParts.{FrameParts}
 use Rattle.tora_channel.specs.declared.channel.Copies.{Copies}
 use Rattle.tora_channel.specs.declared.channel.Place.{Place}
-use Rattle.tora_channel.specs.declared.table.ChannelTable.{ChannelTable}
 use Rattle.tora_channel.specs.Table.{Channels, over, copies_on}
 use Rattle.tora_world.specs.World.{World, datagram}
 use Rattle.tora_script.specs.Parted.{is_parted}
@@ -16,9 +15,13 @@ pub record MomentView : Type 0 where
   pub round : ℕ
   pub start : ℕ
 
--- a round over a table
-abbrev pub moment_on : ChannelTable → Moment → MomentView
-moment_on table m = record { channel = over table m.channel; round = m.round; start = m.start }
+-- that of the code
+abbrev pub moment_view : Moment → MomentView
+moment_view m = record {
+  channel = over m.network.table.now m.network.channel;
+  round = m.round;
+  start = m.start;
+}
 
 -- how many rounds there were, and the datagrams that come in later ones: in how many rounds, and which one
 pub record AirView : Type 0 where
@@ -41,9 +44,15 @@ unfoldable pub gone : World → ℕ × ℕ → ℕ → ℕ → ℕ
 gone w way first zero = 0
 gone w way first (suc count) = gone w way first count + goes way (datagram w (first + count + 1))
 
--- what becomes of datagram i, which goes this way: its round is that of the moment, and those before it went since the round began
+-- what becomes of datagram i, which goes this way: its round is that of the moment, and those before it went since the
+-- round began
 abbrev pub copies_in : MomentView → ℕ → ℕ × ℕ → World → Copies
-copies_in m i way w = copies_on m.channel (record { round = m.round; sender = way.0; receiver = way.1; before = gone w way m.start (i - 1 - m.start) })
+copies_in m i way w = copies_on m.channel (record {
+  round = m.round;
+  sender = way.0;
+  receiver = way.1;
+  before = gone w way m.start (i - 1 - m.start);
+})
 
 -- nothing is lost, late or repeated in the round
 abbrev pub IsClear : MomentView → Type 0
@@ -72,12 +81,14 @@ later_copies i c = later_copy i c.first ++ later_copy i c.second
 
 abbrev pub put_off_of : List (ℕ × ℕ) → MomentView → ℕ → World → Option FrameParts → List (ℕ × ℕ)
 put_off_of parted m i w None = []
-put_off_of parted m i w (Some f) = if is_parted parted f.header.sender f.header.receiver then [] else later_copies i (copies_in m i (f.header.sender, f.header.receiver) w)
+put_off_of parted m i w (Some f) = if is_parted parted f.header.sender f.header.receiver then []
+    else later_copies i (copies_in m i (f.header.sender, f.header.receiver) w)
 
 -- what is put off, of so many datagrams since the round began
 unfoldable pub put_off : List (ℕ × ℕ) → MomentView → ℕ → World → List (ℕ × ℕ)
 put_off parted m zero w = []
-put_off parted m (suc count) w = put_off parted m count w ++ put_off_of parted m (m.start + count + 1) w (datagram w (m.start + count + 1))
+put_off parted m (suc count) w = put_off parted m count w ++ put_off_of parted m (m.start + count + 1) w
+    (datagram w (m.start + count + 1))
 
 -- what comes still later than in the next round, seen from there
 abbrev pub still_later : List (ℕ × ℕ) → List (ℕ × ℕ)
@@ -85,4 +96,7 @@ still_later later = map (λ p. (p.0 - 1, p.1)) (filter (λ p. nat_lt 1 p.0) late
 
 -- the air behind a round that led to a world
 abbrev pub after_air : List (ℕ × ℕ) → MomentView → AirView → World → AirView
-after_air parted m air w = record { round = (air.round + 1) % 2 ^ 64; later = still_later air.later ++ put_off parted m (length w.datagrams - m.start) w }
+after_air parted m air w = record {
+  round = (air.round + 1) % 2 ^ 64;
+  later = still_later air.later ++ put_off parted m (length w.datagrams - m.start) w;
+}

@@ -19,7 +19,8 @@ choice_in (Erases n erasure) = Some (n, erasure)
 abbrev pub choices_in : List Mark → List (ℕ × Erasure)
 choices_in marks = filter_map choice_in marks
 
--- the same topology, but for the link ends of a node, which speak version 1 of frames alone; where there is no such node, nothing is changed
+-- the same topology, but for the link ends of a node, which speak version 1 of frames alone; where there is no such
+-- node, nothing is changed
 abbrev pub with_old_node : Topology → ℕ → Topology
 with_old_node t n = if is_node t n then with_olds t (with_old n t.olds) else t
 

@@ -14,7 +14,8 @@ use Rattle.tora_script.specs.declared.air.Air.{Air}
 use Rattle.tora_script.specs.declared.turns.EndTurn.{EndTurn}
 use Rattle.tora_script.specs.declared.turns.EndTurn.TheVariants as turn
 
--- ---- plans: which events happen next (`repeats` is one: an event again and again until it is refused, and so many times at most)
+-- ---- plans: which events happen next (`repeats` is one: an event again and again until it is refused, and so many
+-- times at most)
 
 abbrev pub Plan : Type 0
 Plan = World → List Event
@@ -71,7 +72,8 @@ arrivals parted later = each (arrival parted) later
 -- a datagram is delivered as often as the channel says, unless its nodes are parted
 abbrev pub delivery_of : List (ℕ × ℕ) → MomentView → ℕ → Option FrameParts → Plan
 delivery_of parted m i None w = []
-delivery_of parted m i (Some f) w = if is_parted parted f.header.sender f.header.receiver then [] else repeats (at_once (copies_in m i (f.header.sender, f.header.receiver) w)) (Deliver i) w
+delivery_of parted m i (Some f) w = if is_parted parted f.header.sender f.header.receiver then []
+    else repeats (at_once (copies_in m i (f.header.sender, f.header.receiver) w)) (Deliver i) w
 
 abbrev pub delivery : List (ℕ × ℕ) → MomentView → ℕ → Plan
 delivery parted m i w = delivery_of parted m i (datagram w i) w
@@ -79,7 +81,8 @@ delivery parted m i w = delivery_of parted m i (datagram w i) w
 -- so many datagrams behind the first ones, in order
 unfoldable pub deliveries : List (ℕ × ℕ) → MomentView → ℕ → ℕ → Plan
 deliveries parted m first zero w = []
-deliveries parted m first (suc count) w = plan_then (delivery parted m (first + 1)) (deliveries parted m (first + 1) count) w
+deliveries parted m first (suc count) w = plan_then (delivery parted m (first + 1))
+    (deliveries parted m (first + 1) count) w
 
 -- each datagram that was sent since there were so many
 abbrev pub new_deliveries : List (ℕ × ℕ) → MomentView → ℕ → Plan
@@ -96,10 +99,12 @@ pass nodes ends parted m w =
 -- passes until one has no event, and so many at most
 unfoldable pub passes : ℕ → List ℕ → List (ℕ × ℕ) → List (ℕ × ℕ) → MomentView → Plan
 passes zero nodes ends parted m w = []
-passes (suc k) nodes ends parted m w = if is_empty (pass nodes ends parted m w) then [] else plan_then (pass nodes ends parted m) (passes k nodes ends parted m) w
+passes (suc k) nodes ends parted m w = if is_empty (pass nodes ends parted m w) then []
+    else plan_then (pass nodes ends parted m) (passes k nodes ends parted m) w
 
 unfoldable pub round : List ℕ → List (ℕ × ℕ) → List (ℕ × ℕ) → MomentView → List (ℕ × ℕ) → Plan
-round nodes ends parted m later = plan_then (once Tick) (plan_then (each_end_once turn.Open ends) (plan_then (arrivals parted later) (passes 1000 nodes ends parted m)))
+round nodes ends parted m later = plan_then (once Tick) (plan_then (each_end_once turn.Open ends)
+    (plan_then (arrivals parted later) (passes 1000 nodes ends parted m)))
 
 -- ---- rounds
 
@@ -123,11 +128,13 @@ sky_behind parted m air w = record { world = w; air = after_air parted m air w }
 -- one round: the world is the world behind its events
 unfoldable pub after_round : List ℕ → List (ℕ × ℕ) → List (ℕ × ℕ) → Channels → Sky → Sky
 after_round nodes ends parted channel s =
-    sky_behind parted (moment_of channel s) s.air (world_after_all s.world (round nodes ends parted (moment_of channel s) s.air.later s.world))
+    sky_behind parted (moment_of channel s) s.air (world_after_all s.world
+    (round nodes ends parted (moment_of channel s) s.air.later s.world))
 
 unfoldable pub rounds : ℕ → List ℕ → List (ℕ × ℕ) → List (ℕ × ℕ) → Channels → Sky → Sky
 rounds zero nodes ends parted channel s = s
-rounds (suc r) nodes ends parted channel s = rounds r nodes ends parted channel (after_round nodes ends parted channel s)
+rounds (suc r) nodes ends parted channel s = rounds r nodes ends parted channel
+    (after_round nodes ends parted channel s)
 
 -- ---- what the code of a round does
 

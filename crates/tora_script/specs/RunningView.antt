@@ -5,4 +5,13 @@ use Rattle.tora_script.specs.Air.{air_view}
 use Rattle.tora_script.specs.SimulationText.{RunningView}
 
 abbrev pub running_view : {S : Type 0} → (S → World) → Running S → RunningView
-running_view world s = record { dests = s.dests.items; nodes = s.nodes.items; ends = s.ends.items; parted = s.parted; channel = s.channel; air = air_view s.air; has_notice = s.has_notice; world = world s.sim }
+running_view world s = record {
+  dests = s.dests.items;
+  nodes = s.nodes.items;
+  ends = s.ends.items;
+  parted = s.parted;
+  channel = s.channel;
+  air = air_view s.air;
+  has_notice = s.has_notice;
+  world = world s.sim;
+}

@@ -12,6 +12,13 @@ use Rattle.tora_script.specs.declared.setup.WorldOptions.{WorldOptions}
 abbrev pub options_within : Limits → WorldOptions
 options_within limits = record { limits = limits; erasure = Plain }
 
--- these times of each link end, a channel over which every datagram comes at once, and once, and the standard limits; nodes remember no erased level, parted links are not noticed, and no round is the last
+-- these times of each link end, a channel over which every datagram comes at once, and once, and the standard limits;
+-- nodes remember no erased level, parted links are not noticed, and no round is the last
 abbrev pub plain : Times → Setup
-plain times = record { times = times; channel = clear; has_notice = false; options = options_within standard_limits; until = None }
+plain times = record {
+  times = times;
+  channel = clear;
+  has_notice = false;
+  options = options_within standard_limits;
+  until = None;
+}

@@ -68,7 +68,8 @@ call_of text =
 
 -- `-` for none, or 16 bytes in hexadecimal digits
 unfoldable pub torn_of : List ℕ → Option (Option (List ℕ))
-torn_of text = if is_dash text then Some None else if length text == 32 then option_map (λ bytes. Some bytes) (result_ok (decode_of text)) else None
+torn_of text = if is_dash text then Some None else if length text == 32 then option_map (λ bytes.
+    Some bytes) (result_ok (decode_of text)) else None
 
 -- a count of rounds, 10,000 at most
 abbrev pub rounds_from : ℕ → Option SimulationLine

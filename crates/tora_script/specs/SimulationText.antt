@@ -53,7 +53,16 @@ pub data Progress : Type 0 where
 
 -- a simulation of these destinations that is made with this, and begins in a world
 abbrev pub begun_in : List ℕ → Setup → World → RunningView
-begun_in dests setup w = record { dests = dests; nodes = nodes_of w; ends = ends_in w.topology; parted = []; channel = setup.channel; air = first_air; has_notice = setup.has_notice; world = w }
+begun_in dests setup w = record {
+  dests = dests;
+  nodes = nodes_of w;
+  ends = ends_in w.topology;
+  parted = [];
+  channel = setup.channel;
+  air = first_air;
+  has_notice = setup.has_notice;
+  world = w;
+}
 
 -- ---- a line behind the links
 
@@ -73,7 +82,8 @@ with_sky s sky = record s { world = sky.world; air = sky.air }
 
 -- so many rounds over a channel
 abbrev pub after_rounds_on : Channels → ℕ → RunningView → RunningView
-after_rounds_on channel r s = with_sky s (rounds r s.nodes s.ends s.parted channel (record { world = s.world; air = s.air }))
+after_rounds_on channel r s =
+    with_sky s (rounds r s.nodes s.ends s.parted channel (record { world = s.world; air = s.air }))
 
 abbrev pub after_rounds : ℕ → RunningView → RunningView
 after_rounds r s = after_rounds_on (alone s.channel) r s
@@ -94,7 +104,11 @@ cut_both a b w = after_cut_at (after_cut_at w a b) b a
 
 -- two nodes are parted
 abbrev pub part_of : RunningView → ℕ → ℕ → RunningView
-part_of s a b = record s { parted = with_parted a b s.parted; world = if s.has_notice then cut_both a b s.world else s.world }
+part_of s a b = record s {
+  parted = with_parted a b s.parted;
+  world = if s.has_notice then cut_both a b s.world
+      else s.world;
+}
 
 -- NULL where there is no height
 abbrev pub known_height : Option (Option Quintuple) → Option Quintuple
@@ -103,7 +117,8 @@ known_height (Some entry) = entry
 
 -- `node N H hop K`
 unfoldable pub node_line : World → ℕ → ℕ → List ℕ
-node_line w d n = codes "node " ++ decimal n ++ codes " " ++ height_text (known_height (height_at w n d)) ++ codes " hop " ++ hop_text (hop_at w n d) ++ 10 ∷ []
+node_line w d n = codes "node " ++ decimal n ++ codes " " ++ height_text (known_height (height_at w n d))
+    ++ codes " hop " ++ hop_text (hop_at w n d) ++ 10 ∷ []
 
 -- the line of each node
 abbrev pub heights_text : World → ℕ → List ℕ → List ℕ
@@ -146,7 +161,8 @@ walk_text walk = nodes_text (unwrap_or walk [])
 
 -- the walk of a node to a destination, unless there is no such node, or it is no destination of the simulation
 abbrev pub walk_reply : RunningView → ℕ → ℕ → Option Reply
-walk_reply s n d = if has_number n s.nodes && has_number d s.dests then Some (s, walk_text (walk_of s.world n d)) else None
+walk_reply s n d =
+    if has_number n s.nodes && has_number d s.dests then Some (s, walk_text (walk_of s.world n d)) else None
 
 -- `rest yes` where the world is at rest, else `rest no`
 abbrev pub at_rest_text : Bool → List ℕ
@@ -181,7 +197,11 @@ rounds_left (Some until) round r = min r (until - round)
 
 -- rounds are over the channel with the table's lines, and not more than are left; all else is as without a table
 unfoldable pub script_reply : Option ℕ → List ChannelLine → RunningView → SimulationLine → Option Reply
-script_reply until table s (Rounds r) = Some (after_rounds_on (record { base = s.channel; lines = table }) (rounds_left until s.air.round r) s, [])
+script_reply until table s (Rounds r) = Some (
+  after_rounds_on (record { base = s.channel; lines = table })
+      (rounds_left until s.air.round r) s,
+  [],
+)
 script_reply until table s (Happens event) = running_reply s (Happens event)
 script_reply until table s (Part a b) = running_reply s (Part a b)
 script_reply until table s (Mend a b) = running_reply s (Mend a b)
@@ -194,7 +214,8 @@ script_reply until table s Rest = running_reply s Rest
 
 -- a line that is not done prints nothing, and may say anything
 abbrev pub script_line_reply : Option ℕ → List ChannelLine → RunningView → List ℕ → Option Reply
-script_line_reply until table s line = if is_done until s.air.round then Some (s, []) else option_and_then (script_reply until table s) (simulation_line_of line)
+script_line_reply until table s line = if is_done until s.air.round then Some (s, [])
+    else option_and_then (script_reply until table s) (simulation_line_of line)
 
 -- ---- a line of the links
 
@@ -209,7 +230,8 @@ is_linked n links = list_any (λ p. (p.0 == n) || (p.1 == n)) links
 
 -- what is said of one node more, where a link names it, and there is a topology of the links within the limits
 abbrev pub with_mark_line : Limits → List ℕ → List (ℕ × ℕ) → List Mark → Mark → Option Progress
-with_mark_line limits dests links marks mark = if is_linked (marked mark) links && has_topology limits links dests then Some (Links dests links (marks ++ mark ∷ [])) else None
+with_mark_line limits dests links marks mark = if is_linked (marked mark) links && has_topology limits links dests
+    then Some (Links dests links (marks ++ mark ∷ [])) else None
 
 -- ---- any line
 
@@ -222,12 +244,16 @@ silent progress = (progress, [])
 
 -- behind the links: the world is made, and the line is one of its simulation
 abbrev pub first_run : Setup → List ChannelLine → List ℕ → List (ℕ × ℕ) → List Mark → List ℕ → Option Reply
-first_run setup table dests links marks line = option_and_then (λ w. script_line_reply setup.until table (begun_in dests setup w) line) (started setup.options links dests marks setup.times)
+first_run setup table dests links marks line = option_and_then (λ w.
+    script_line_reply setup.until table (begun_in dests setup w) line)
+    (started setup.options links dests marks setup.times)
 
 -- the line behind the last link and what is said of single nodes: at least one link is required
-abbrev pub behind_links : Setup → List ChannelLine → List ℕ → List (ℕ × ℕ) → List Mark → List ℕ → Option (Progress × List ℕ)
+abbrev pub behind_links : Setup → List ChannelLine → List ℕ → List (ℕ × ℕ) → List Mark → List ℕ
+    → Option (Progress × List ℕ)
 behind_links setup table dests [] marks line = None
-behind_links setup table dests (link ∷ links) marks line = option_map left_by (first_run setup table dests (link ∷ links) marks line)
+behind_links setup table dests (link ∷ links) marks line = option_map left_by
+    (first_run setup table dests (link ∷ links) marks line)
 
 -- the same at any stage: only links can have such a line behind them
 abbrev pub run_begun : Setup → List ChannelLine → Progress → List ℕ → Option (Progress × List ℕ)
@@ -236,9 +262,11 @@ run_begun setup table (Links dests links marks) line = behind_links setup table 
 run_begun setup table (Runs s) line = None
 
 -- a line behind the first, which may say a link, or something of a node
-abbrev pub link_reply : Setup → List ChannelLine → List ℕ → List (ℕ × ℕ) → List Mark → List ℕ → Option (ℕ × ℕ) → Option Mark → Option (Progress × List ℕ)
+abbrev pub link_reply : Setup → List ChannelLine → List ℕ → List (ℕ × ℕ) → List Mark → List ℕ → Option (ℕ × ℕ)
+    → Option Mark → Option (Progress × List ℕ)
 link_reply setup table dests links marks line (Some link) mark = option_map silent (with_link dests links marks link)
-link_reply setup table dests links marks line None (Some mark) = option_map silent (with_mark_line setup.options.limits dests links marks mark)
+link_reply setup table dests links marks line None (Some mark) =
+    option_map silent (with_mark_line setup.options.limits dests links marks mark)
 link_reply setup table dests links marks line None None = behind_links setup table dests links marks line
 
 -- behind the first line
@@ -247,12 +275,14 @@ first_progress line = option_map (λ dests. Links dests [] []) (dests_of line)
 
 unfoldable pub simulation_reply : Setup → List ChannelLine → Progress → List ℕ → Option (Progress × List ℕ)
 simulation_reply setup table First line = option_map silent (first_progress line)
-simulation_reply setup table (Links dests links marks) line = link_reply setup table dests links marks line (link_of line) (mark_of line)
+simulation_reply setup table (Links dests links marks) line = link_reply setup table dests links marks line
+    (link_of line) (mark_of line)
 simulation_reply setup table (Runs s) line = option_map left_by (script_line_reply setup.until table s line)
 
 -- ---- the end
 
--- the first line or a link is still required: a fault of the line that would come next; where there is no such topology, of the last link's line
+-- the first line or a link is still required: a fault of the line that would come next; where there is no such
+-- topology, of the last link's line
 abbrev pub end_of_links : Limits → ℕ → List ℕ → List (ℕ × ℕ) → Option ℕ
 end_of_links limits n dests [] = Some n
 end_of_links limits n dests (link ∷ links) = if has_topology limits (link ∷ links) dests then None else Some (n - 1)
@@ -264,7 +294,11 @@ simulation_at_end setup (Runs s) n = None
 
 -- the rules of a simulation that is made with this, and over whose channel a table has lines
 abbrev pub rules_with : Setup → List ChannelLine → Rules Progress
-rules_with setup table = record { start = First; reply = simulation_reply setup table; at_end = simulation_at_end setup }
+rules_with setup table = record {
+  start = First;
+  reply = simulation_reply setup table;
+  at_end = simulation_at_end setup;
+}
 
 -- the same without a table
 abbrev pub rules_over : Setup → Rules Progress
@@ -296,7 +330,8 @@ SimulatesOver setup input old new ended = IsWholeText (whole_text (rules_over se
 
 -- The reader gave some bytes, and the writer got a front of what is printed for them.
 abbrev pub IsBegunOver : Setup → Option (List ℕ) → Option (List ℕ) → Option (List ℕ) → Option (List ℕ) → Type 0
-IsBegunOver setup old_reader new_reader old_writer new_writer = IsFrontOfText (whole_text (rules_over setup)) old_reader new_reader old_writer new_writer
+IsBegunOver setup old_reader new_reader old_writer new_writer =
+    IsFrontOfText (whole_text (rules_over setup)) old_reader new_reader old_writer new_writer
 
 -- ---- the same over a channel of which a table has lines
 
@@ -321,10 +356,13 @@ abbrev pub SimulatesWith : Setup → List ChannelLine → List ℕ → Option (L
 SimulatesWith setup table input old new ended = IsWholeText (whole_text (rules_with setup table)) input old new ended
 
 -- The reader gave some bytes, and the writer got a front of what is printed for them.
-abbrev pub IsBegunWith : Setup → List ChannelLine → Option (List ℕ) → Option (List ℕ) → Option (List ℕ) → Option (List ℕ) → Type 0
-IsBegunWith setup table old_reader new_reader old_writer new_writer = IsFrontOfText (whole_text (rules_with setup table)) old_reader new_reader old_writer new_writer
+abbrev pub IsBegunWith : Setup → List ChannelLine → Option (List ℕ) → Option (List ℕ) → Option (List ℕ)
+    → Option (List ℕ) → Type 0
+IsBegunWith setup table old_reader new_reader old_writer new_writer =
+    IsFrontOfText (whole_text (rules_with setup table)) old_reader new_reader old_writer new_writer
 
--- ---- the same of a simulation whose link ends have these times, and over whose channel every datagram comes at once, and once
+-- ---- the same of a simulation whose link ends have these times, and over whose channel every datagram comes at once,
+-- and once
 
 abbrev pub simulation_rules : Times → Rules Progress
 simulation_rules times = rules_over (plain times)
@@ -345,4 +383,5 @@ abbrev pub Simulates : Times → List ℕ → Option (List ℕ) → Option (List
 Simulates times input old new ended = SimulatesOver (plain times) input old new ended
 
 abbrev pub IsSimulationBegun : Times → Option (List ℕ) → Option (List ℕ) → Option (List ℕ) → Option (List ℕ) → Type 0
-IsSimulationBegun times old_reader new_reader old_writer new_writer = IsBegunOver (plain times) old_reader new_reader old_writer new_writer
+IsSimulationBegun times old_reader new_reader old_writer new_writer =
+    IsBegunOver (plain times) old_reader new_reader old_writer new_writer

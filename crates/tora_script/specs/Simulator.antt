@@ -17,13 +17,16 @@ use Rattle.tora_script.specs.Marks.{with_marks}
 abbrev pub has_topology : Limits → List (ℕ × ℕ) → List ℕ → Bool
 has_topology limits links dests = not (is_some (topology_fault_within limits (topology_of links dests)))
 
--- the topology of these links and destinations, in which all nodes make this of erased levels, but for what is said of single nodes
+-- the topology of these links and destinations, in which all nodes make this of erased levels, but for what is said of
+-- single nodes
 abbrev pub mixed_topology : Erasure → List (ℕ × ℕ) → List ℕ → List Mark → Topology
 mixed_topology erasure links dests marks = with_marks (with_choices (topology_of links dests) erasure []) marks
 
--- the first world of links and destinations, and of what is said of single nodes, with these times of each link end, unless there is no such topology within the limits
+-- the first world of links and destinations, and of what is said of single nodes, with these times of each link end,
+-- unless there is no such topology within the limits
 unfoldable pub started : WorldOptions → List (ℕ × ℕ) → List ℕ → List Mark → Times → Option World
-started options links dests marks times = if is_some (topology_fault_within options.limits (topology_of links dests)) then None else Some (first_world (mixed_topology options.erasure links dests marks) times)
+started options links dests marks times = if is_some (topology_fault_within options.limits (topology_of links dests))
+    then None else Some (first_world (mixed_topology options.erasure links dests marks) times)
 
 -- no number of a link is 0
 abbrev pub ArePairs : List (ℕ × ℕ) → Type 0
@@ -34,12 +37,16 @@ abbrev pub AreIds : List ℕ → Type 0
 AreIds numbers = All (λ n. 0 < n) numbers
 
 -- The first world of the topology was made, or it is refused for this cause, or memory was refused.
-abbrev pub Starts : {S : Type 0} → (S → World) → WorldOptions → List (ℕ × ℕ) → List ℕ → List Mark → Times → Result S CoreError → Type 0
+abbrev pub Starts : {S : Type 0} → (S → World) → WorldOptions → List (ℕ × ℕ) → List ℕ → List Mark → Times
+    → Result S CoreError → Type 0
 Starts world options links dests marks times (Ok sim) = started options links dests marks times ≡ Some (world sim)
 Starts world options links dests marks times (Err Memory) = Unit {0}
-Starts world options links dests marks times (Err TooMany) = topology_fault_within options.limits (topology_of links dests) ≡ Some TooMany
-Starts world options links dests marks times (Err Repeated) = topology_fault_within options.limits (topology_of links dests) ≡ Some Repeated
-Starts world options links dests marks times (Err OwnId) = topology_fault_within options.limits (topology_of links dests) ≡ Some OwnId
+Starts world options links dests marks times (Err TooMany) = topology_fault_within options.limits
+    (topology_of links dests) ≡ Some TooMany
+Starts world options links dests marks times (Err Repeated) = topology_fault_within options.limits
+    (topology_of links dests) ≡ Some Repeated
+Starts world options links dests marks times (Err OwnId) = topology_fault_within options.limits
+    (topology_of links dests) ≡ Some OwnId
 
 -- the nodes, ascending
 abbrev pub nodes_of : World → List ℕ

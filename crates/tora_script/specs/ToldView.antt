@@ -11,5 +11,6 @@ use Rattle.tora_script.specs.SimulationText.{rules_with}
 abbrev pub told_kind : {S T : Type 0} → (S → World) → Kind (Told S T)
 told_kind world = record {
   text = λ s. text_from (rules_with s.state.setup (lines_of s.state.table)) (progress_of world s.state.stage);
-  long = λ s line h. long_lines_are_faults (rules_with s.state.setup (lines_of s.state.table)) (progress_of world s.state.stage) line h;
+  long = λ s line h. long_lines_are_faults (rules_with s.state.setup (lines_of s.state.table))
+      (progress_of world s.state.stage) line h;
 }

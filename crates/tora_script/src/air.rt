@@ -1,16 +1,18 @@
 //! What rounds have in the air.
-ghost use Rattle.std.specs.Prelude.{◌≡◌, ◌+◌, ◌-◌, ◌++◌, ◌<◌, Option, Some, length, option_map, IfOk, OnOk};
+ghost use Rattle.std.specs.Prelude.{◌≡◌, ◌+◌, ◌-◌, ◌++◌, ◌<◌, Option, Some, length, option_map, IfOk, OnOk, true};
 ghost use Rattle.tora_frame.specs.FrameParts.{FrameParts};
 ghost use Rattle.tora_channel.specs.Table.{over, copies_on};
 ghost use Rattle.tora_world.specs.World.{datagram};
-ghost use Rattle.tora_script.specs.Air.{moment_on, goes, gone, copies_in, at_once, is_now, later_copy, later_copies, put_off_of, put_off, still_later, first_air, after_air, air_view};
+ghost use Rattle.tora_script.specs.Air.{moment_view, IsClear, goes, gone, copies_in, at_once, is_now, later_copy};
+ghost use Rattle.tora_script.specs.Air.{later_copies, put_off_of, put_off, still_later, first_air, after_air, air_view};
+ghost use Rattle.tora_script.specs.Parted.{is_parted};
 ghost use Rattle.tora_script.specs.Ways.{way_in, AreCounted};
 
-use crate::parted::Parted;
+use crate::network::Network;
 use crate::simulator::Simulator;
 use crate::ways::Ways;
 use std::alloc::{AllocError, Global};
-use tora_channel::{Channel, ChannelTable, Copies, Place};
+use tora_channel::{Copies, Place};
 use tora_height::Id;
 
 /// How many rounds there were, and the datagrams that come in later ones.
@@ -34,19 +36,41 @@ impl Air {
     }
 }
 
-/// A round: its channel, how many rounds were before it, how many datagrams, and where it takes memory from.
+/// A round.
 #[derive(Clone, Copy)]
-pub struct Moment {
-    pub channel: Channel,
+pub struct Moment<'a> {
+    pub network: Network<'a>,
+    /// Whether it is known that the network's link ends are those of the simulator, in its order.
+    pub is_known: bool,
+    /// How many rounds were made before it.
     pub round: u64,
+    /// How many datagrams were sent before it.
     pub start: u64,
+    /// Where it takes memory from.
     pub alloc: Global,
+}
+
+impl Moment<'_> {
+    /// Whether the channel delivers each datagram at once, and once.
+    pub fn is_clear(&self) -> bool
+        ensures { result ≡ true → IsClear (moment_view self.now) }
+    {
+        self.network.table.is_clear(self.network.channel)
+    }
+
+    /// Whether two nodes are parted.
+    pub fn is_parted(&self, a: Id, b: Id) -> bool
+        ensures { result ≡ is_parted self.now.network.parted.now a b }
+    {
+        self.network.parted.is_parted(a, b)
+    }
 }
 
 /// 1 where a datagram went this way, and else 0.
 fn goes(way: (Id, Id), datagram: Option<(Id, Id)>) -> u64
     ensures bound { result < 2 }
-    ensures value { (f : Option FrameParts) → datagram ≡ option_map (λ f. (f.header.sender, f.header.receiver)) f → result ≡ goes way f }
+    ensures value { (f : Option FrameParts) → datagram ≡ option_map (λ f. (f.header.sender, f.header.receiver)) f
+        → result ≡ goes way f }
 {
     let Some((sender, receiver)) = datagram else {
         return 0;
@@ -71,28 +95,23 @@ fn gone<S: Simulator>(sim: &S, way: (Id, Id), first: u64, end: u64) -> u64
 }
 
 /// What becomes of a datagram that goes this way.
-pub fn copies<S: Simulator>(
-    sim: &S,
-    table: &ChannelTable,
-    moment: Moment,
-    i: u64,
-    way: (Id, Id),
-) -> Copies
-    ensures { result ≡ copies_in (moment_on table.now moment) i way (S.world sim.now) }
+pub fn copies<S: Simulator>(sim: &S, moment: &Moment<'_>, i: u64, way: (Id, Id)) -> Copies
+    ensures { result ≡ copies_in (moment_view moment.now) i way (S.world sim.now) }
 {
-    if table.is_clear(moment.channel) {
+    if moment.is_clear() {
         return Copies {
             first: Some(0),
             second: None,
         };
     }
     let before = gone(sim, way, moment.start, i.saturating_sub(1));
-    copies_behind(table, moment, way, before)
+    copies_behind(moment, way, before)
 }
 
 /// The copies of a datagram in this direction, after `before` earlier ones of its round in the same direction.
-fn copies_behind(table: &ChannelTable, moment: Moment, way: (Id, Id), before: u64) -> Copies
-    ensures { result ≡ copies_on (over table.now moment.channel) (record { round = moment.round; sender = way.0; receiver = way.1; before = before }) }
+fn copies_behind(moment: &Moment<'_>, way: (Id, Id), before: u64) -> Copies
+    ensures { result ≡ copies_on (over moment.now.network.table.now moment.now.network.channel)
+        (record { round = moment.now.round; sender = way.0; receiver = way.1; before = before }) }
 {
     let place = Place {
         round: moment.round,
@@ -100,27 +119,27 @@ fn copies_behind(table: &ChannelTable, moment: Moment, way: (Id, Id), before: u6
         receiver: way.1,
         before,
     };
-    table.copies(moment.channel, place)
+    moment.network.table.copies(moment.network.channel, place)
 }
 
-/// What becomes of datagram `i`, which goes this way, where those before it that the round sent are counted: it is counted, too.
+/// What becomes of datagram `i`, which goes this way, where those before it that the round sent are counted: it is
+/// counted, too.
 pub fn counted_copies<S: Simulator>(
     _sim: &S,
-    table: &ChannelTable,
-    moment: Moment,
+    moment: &Moment<'_>,
     i: u64,
     way: (Id, Id),
     ways: &mut Ways,
 ) -> Result<Copies, AllocError>
-    requires behind { moment.start < i }
+    requires behind { moment.now.start < i }
     requires going { way_in (datagram (S.world _sim.now) i) ≡ Some way }
-    requires counted { AreCounted (S.world _sim.now) ways.old moment.start (i - 1 - moment.start) }
-    ensures copies { IfOk result (λ copies. copies ≡ copies_in (moment_on table.now moment) i way (S.world _sim.now)) }
-    ensures counted { OnOk result (AreCounted (S.world _sim.now) ways.new moment.start (i - moment.start)) }
+    requires counted { AreCounted (S.world _sim.now) ways.old moment.now.start (i - 1 - moment.now.start) }
+    ensures copies { IfOk result (λ copies. copies ≡ copies_in (moment_view moment.now) i way (S.world _sim.now)) }
+    ensures counted { OnOk result (AreCounted (S.world _sim.now) ways.new moment.now.start (i - moment.now.start)) }
 {
     let before = ways.times(way);
     ways.count(way)?;
-    Ok(copies_behind(table, moment, way, before))
+    Ok(copies_behind(moment, way, before))
 }
 
 fn is_now(delay: Option<u64>) -> u64
@@ -170,47 +189,44 @@ impl Air {
     fn put_off_one<S: Simulator>(
         &mut self,
         sim: &S,
-        parted: &Parted,
-        table: &ChannelTable,
-        moment: Moment,
+        moment: &Moment<'_>,
         i: u64,
         ways: &mut Ways,
     ) -> Result<(), AllocError>
-        requires behind { moment.start < i }
-        requires counted { AreCounted (S.world sim.now) ways.old moment.start (i - 1 - moment.start) }
-        ensures later { OnOk result (self.new.later.items ≡ self.old.later.items ++ put_off_of parted.now (moment_on table.now moment) i (S.world sim.now) (datagram (S.world sim.now) i)) }
+        requires behind { moment.now.start < i }
+        requires counted { AreCounted (S.world sim.now) ways.old moment.now.start (i - 1 - moment.now.start) }
+        ensures later { OnOk result (self.new.later.items ≡ self.old.later.items
+            ++ put_off_of moment.now.network.parted.now (moment_view moment.now) i (S.world sim.now)
+            (datagram (S.world sim.now) i)) }
         ensures round { self.new.round ≡ self.old.round }
-        ensures counted { OnOk result (AreCounted (S.world sim.now) ways.new moment.start (i - moment.start)) }
+        ensures counted { OnOk result (AreCounted (S.world sim.now) ways.new moment.now.start (i - moment.now.start)) }
     {
         let Some(way) = sim.datagram(i) else {
             return Ok(());
         };
-        let copies = counted_copies(sim, table, moment, i, way, ways)?;
-        if parted.is_parted(way.0, way.1) {
+        let copies = counted_copies(sim, moment, i, way, ways)?;
+        if moment.is_parted(way.0, way.1) {
             return Ok(());
         }
         self.note_both(i, copies)?;
         Ok(())
     }
 
-    /// Notes what comes in later rounds, of all datagrams since the round began; over a clear channel there is nothing such.
+    /// Notes what comes in later rounds, of all datagrams since the round began; over a clear channel there is nothing
+    /// such.
     #[tactic(auto, unfolding(crate::specs::Air::put_off))]
-    fn put_off<S: Simulator>(
-        &mut self,
-        sim: &S,
-        parted: &Parted,
-        table: &ChannelTable,
-        moment: Moment,
-    ) -> Result<(), AllocError>
-        ensures later { OnOk result (self.new.later.items ≡ self.old.later.items ++ put_off parted.now (moment_on table.now moment) (length (S.world sim.now).datagrams - moment.start) (S.world sim.now)) }
+    fn put_off<S: Simulator>(&mut self, sim: &S, moment: &Moment<'_>) -> Result<(), AllocError>
+        ensures later { OnOk result (self.new.later.items ≡ self.old.later.items
+            ++ put_off moment.now.network.parted.now (moment_view moment.now)
+            (length (S.world sim.now).datagrams - moment.now.start) (S.world sim.now)) }
         ensures round { self.new.round ≡ self.old.round }
     {
-        if table.is_clear(moment.channel) {
+        if moment.is_clear() {
             return Ok(());
         }
         let mut ways = Ways::new(moment.alloc);
         for i in moment.start..sim.datagrams() {
-            self.put_off_one(sim, parted, table, moment, i + 1, &mut ways)?;
+            self.put_off_one(sim, moment, i + 1, &mut ways)?;
         }
         Ok(())
     }
@@ -232,17 +248,12 @@ impl Air {
     }
 
     /// Goes on to the next round, once the passes of this one are over.
-    pub fn go_on<S: Simulator>(
-        &mut self,
-        sim: &S,
-        parted: &Parted,
-        table: &ChannelTable,
-        moment: Moment,
-    ) -> Result<(), AllocError>
-        ensures { OnOk result (air_view self.new ≡ after_air parted.now (moment_on table.now moment) (air_view self.old) (S.world sim.now)) }
+    pub fn go_on<S: Simulator>(&mut self, sim: &S, moment: &Moment<'_>) -> Result<(), AllocError>
+        ensures { OnOk result (air_view self.new ≡ after_air moment.now.network.parted.now (moment_view moment.now)
+            (air_view self.old) (S.world sim.now)) }
     {
         self.pass_on()?;
-        self.put_off(sim, parted, table, moment)?;
+        self.put_off(sim, moment)?;
         self.round = self.round.wrapping_add(1);
         Ok(())
     }

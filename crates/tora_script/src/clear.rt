@@ -7,10 +7,13 @@ ghost use Rattle.tora_script.specs.Rounds.{arrival_of, delivery};
 
 use tora_channel::Channel;
 
-/// Over the clear channel each datagram of a pass is delivered in it, once, unless its nodes are parted, and nothing is put off.
+/// Over the clear channel each datagram of a pass is delivered in it, once, unless its nodes are parted, and nothing is
+/// put off.
 pub fn clear_channel_delivers_at_once()
-    ensures now { (parted : List (ℕ × ℕ)) (m : AnyMoment) (i : ℕ) (w : World) → m.channel ≡ clear → delivery parted m i w ≡ arrival_of parted i (datagram w i) w }
-    ensures later { (parted : List (ℕ × ℕ)) (m : AnyMoment) (count : ℕ) (w : World) → m.channel ≡ clear → put_off parted m count w ≡ [] }
+    ensures now { (parted : List (ℕ × ℕ)) (m : AnyMoment) (i : ℕ) (w : World) → m.channel ≡ clear
+        → delivery parted m i w ≡ arrival_of parted i (datagram w i) w }
+    ensures later { (parted : List (ℕ × ℕ)) (m : AnyMoment) (count : ℕ) (w : World) → m.channel ≡ clear
+        → put_off parted m count w ≡ [] }
 {
     Channel::CLEAR.is_clear();
 }

@@ -1,44 +1,42 @@
 //! The datagrams of a pass are delivered.
 ghost use Rattle.std.specs.Prelude.{◌≡◌, ◌<◌, ◌≤◌, ◌-◌, true, IfOk, OnOk};
 ghost use Rattle.tora_world.specs.World.{datagram};
-ghost use Rattle.tora_script.specs.Air.{moment_on, IsClear};
+ghost use Rattle.tora_script.specs.Air.{moment_view, IsClear};
 ghost use Rattle.tora_script.specs.Rounds.{Happened, delivery, new_deliveries};
 ghost use Rattle.tora_script.specs.Ways.{AreCounted};
 
 use crate::air::{Moment, at_once, copies, counted_copies};
-use crate::parted::Parted;
 use crate::simulator::Simulator;
 use crate::turns::either;
 use crate::ways::Ways;
 use std::alloc::{AllocError, Global};
-use tora_channel::ChannelTable;
 
 /// Delivers the datagrams behind the first ones.
 ///
-/// What becomes of a datagram over a channel depends on how many of its round went its way before it: they are counted as they come.
+/// What becomes of a datagram over a channel depends on how many of its round went its way before it: they are counted
+/// as they come.
 pub fn deliver_new<S: Simulator>(
     sim: &mut S,
-    parted: &Parted,
-    table: &ChannelTable,
-    moment: Moment,
+    moment: &Moment<'_>,
     first: u64,
 ) -> Result<bool, AllocError>
-    ensures { IfOk result (λ some. Happened (S.world sim.old) (new_deliveries parted.now (moment_on table.now moment) first (S.world sim.old)) (S.world sim.new) some) }
+    ensures { IfOk result (λ some. Happened (S.world sim.old) (new_deliveries moment.now.network.parted.now
+        (moment_view moment.now) first (S.world sim.old)) (S.world sim.new) some) }
 {
-    if table.is_clear(moment.channel) {
-        return deliver_clear(sim, parted, table, moment, first);
+    if moment.is_clear() {
+        return deliver_clear(sim, moment, first);
     }
     if is_to_count(sim, moment, first) {
-        deliver_counted(sim, parted, table, moment, first)
+        deliver_counted(sim, moment, first)
     } else {
-        deliver_each(sim, parted, table, moment, first)
+        deliver_each(sim, moment, first)
     }
 }
 
 /// Whether there are datagrams after the first ones and all of them were sent in this round, so that they are counted
 /// by direction.
-fn is_to_count<S: Simulator>(sim: &S, moment: Moment, first: u64) -> bool
-    ensures { result ≡ true → moment.start ≤ first }
+fn is_to_count<S: Simulator>(sim: &S, moment: &Moment<'_>, first: u64) -> bool
+    ensures { result ≡ true → moment.now.start ≤ first }
 {
     if first < moment.start {
         return false;
@@ -48,79 +46,68 @@ fn is_to_count<S: Simulator>(sim: &S, moment: Moment, first: u64) -> bool
 
 /// Delivers a datagram over a clear channel, unless its nodes are parted: it comes at once, and once.
 #[inline(always)]
-fn deliver_once<S: Simulator>(
-    sim: &mut S,
-    parted: &Parted,
-    _table: &ChannelTable,
-    _moment: Moment,
-    i: u64,
-) -> Result<bool, AllocError>
-    requires { IsClear (moment_on _table.now _moment) }
-    ensures { IfOk result (λ some. Happened (S.world sim.old) (delivery parted.now (moment_on _table.now _moment) i (S.world sim.old)) (S.world sim.new) some) }
+fn deliver_once<S: Simulator>(sim: &mut S, moment: &Moment<'_>, i: u64) -> Result<bool, AllocError>
+    requires { IsClear (moment_view moment.now) }
+    ensures { IfOk result (λ some. Happened (S.world sim.old) (delivery moment.now.network.parted.now
+        (moment_view moment.now) i (S.world sim.old)) (S.world sim.new) some) }
 {
     let Some(way) = sim.datagram(i) else {
         return Ok(false);
     };
-    if parted.is_parted(way.0, way.1) {
+    if moment.is_parted(way.0, way.1) {
         return Ok(false);
     }
     let some = sim.deliver(i, 1)?;
     Ok(some)
 }
 
-/// Delivers the datagrams behind the first ones over a clear channel. It stands apart, so that its loop has registers of its own.
+/// Delivers the datagrams behind the first ones over a clear channel. It stands apart, so that its loop has registers
+/// of its own.
 #[inline(never)]
 fn deliver_clear<S: Simulator>(
     sim: &mut S,
-    parted: &Parted,
-    table: &ChannelTable,
-    moment: Moment,
+    moment: &Moment<'_>,
     first: u64,
 ) -> Result<bool, AllocError>
-    requires { IsClear (moment_on table.now moment) }
-    ensures { IfOk result (λ some. Happened (S.world sim.old) (new_deliveries parted.now (moment_on table.now moment) first (S.world sim.old)) (S.world sim.new) some) }
+    requires { IsClear (moment_view moment.now) }
+    ensures { IfOk result (λ some. Happened (S.world sim.old) (new_deliveries moment.now.network.parted.now
+        (moment_view moment.now) first (S.world sim.old)) (S.world sim.new) some) }
 {
     let mut some = false;
     for i in first..sim.datagrams() {
-        let any = deliver_once(sim, parted, table, moment, i + 1)?;
+        let any = deliver_once(sim, moment, i + 1)?;
         some = either(some, any);
     }
     Ok(some)
 }
 
 /// Delivers a datagram as often as the channel says, unless its nodes are parted.
-fn deliver<S: Simulator>(
-    sim: &mut S,
-    parted: &Parted,
-    table: &ChannelTable,
-    moment: Moment,
-    i: u64,
-) -> Result<bool, AllocError>
-    ensures { IfOk result (λ some. Happened (S.world sim.old) (delivery parted.now (moment_on table.now moment) i (S.world sim.old)) (S.world sim.new) some) }
+fn deliver<S: Simulator>(sim: &mut S, moment: &Moment<'_>, i: u64) -> Result<bool, AllocError>
+    ensures { IfOk result (λ some. Happened (S.world sim.old) (delivery moment.now.network.parted.now
+        (moment_view moment.now) i (S.world sim.old)) (S.world sim.new) some) }
 {
     let Some((sender, receiver)) = sim.datagram(i) else {
         return Ok(false);
     };
-    if parted.is_parted(sender, receiver) {
+    if moment.is_parted(sender, receiver) {
         return Ok(false);
     }
-    let copies = copies(sim, table, moment, i, (sender, receiver));
+    let copies = copies(sim, moment, i, (sender, receiver));
     sim.deliver(i, at_once(copies))
 }
 
 /// Delivers each datagram after the first ones once, without counting.
 fn deliver_each<S: Simulator>(
     sim: &mut S,
-    parted: &Parted,
-    table: &ChannelTable,
-    moment: Moment,
+    moment: &Moment<'_>,
     first: u64,
 ) -> Result<bool, AllocError>
-    ensures { IfOk result (λ some. Happened (S.world sim.old) (new_deliveries parted.now (moment_on table.now moment) first (S.world sim.old)) (S.world sim.new) some) }
+    ensures { IfOk result (λ some. Happened (S.world sim.old) (new_deliveries moment.now.network.parted.now
+        (moment_view moment.now) first (S.world sim.old)) (S.world sim.new) some) }
 {
     let mut some = false;
     for i in first..sim.datagrams() {
-        let any = deliver(sim, parted, table, moment, i + 1)?;
+        let any = deliver(sim, moment, i + 1)?;
         some = either(some, any);
     }
     Ok(some)
@@ -129,22 +116,21 @@ fn deliver_each<S: Simulator>(
 /// Delivers a datagram as `deliver` does, and counts it.
 fn deliver_next<S: Simulator>(
     sim: &mut S,
-    parted: &Parted,
-    table: &ChannelTable,
-    moment: Moment,
+    moment: &Moment<'_>,
     i: u64,
     ways: &mut Ways,
 ) -> Result<bool, AllocError>
-    requires behind { moment.start < i }
-    requires counted { AreCounted (S.world sim.old) ways.old moment.start (i - 1 - moment.start) }
-    ensures happened { IfOk result (λ some. Happened (S.world sim.old) (delivery parted.now (moment_on table.now moment) i (S.world sim.old)) (S.world sim.new) some) }
-    ensures counted { OnOk result (AreCounted (S.world sim.old) ways.new moment.start (i - moment.start)) }
+    requires behind { moment.now.start < i }
+    requires counted { AreCounted (S.world sim.old) ways.old moment.now.start (i - 1 - moment.now.start) }
+    ensures happened { IfOk result (λ some. Happened (S.world sim.old)
+        (delivery moment.now.network.parted.now (moment_view moment.now) i (S.world sim.old)) (S.world sim.new) some) }
+    ensures counted { OnOk result (AreCounted (S.world sim.old) ways.new moment.now.start (i - moment.now.start)) }
 {
     let Some(way) = sim.datagram(i) else {
         return Ok(false);
     };
-    let copies = counted_copies(sim, table, moment, i, way, ways)?;
-    if parted.is_parted(way.0, way.1) {
+    let copies = counted_copies(sim, moment, i, way, ways)?;
+    if moment.is_parted(way.0, way.1) {
         return Ok(false);
     }
     let some = sim.deliver(i, at_once(copies))?;
@@ -183,18 +169,17 @@ fn count_one<S: Simulator>(sim: &S, first: u64, i: u64, ways: &mut Ways) -> Resu
 /// Delivers the datagrams behind the first ones, and counts each.
 fn deliver_counted<S: Simulator>(
     sim: &mut S,
-    parted: &Parted,
-    table: &ChannelTable,
-    moment: Moment,
+    moment: &Moment<'_>,
     first: u64,
 ) -> Result<bool, AllocError>
-    requires { moment.start ≤ first }
-    ensures { IfOk result (λ some. Happened (S.world sim.old) (new_deliveries parted.now (moment_on table.now moment) first (S.world sim.old)) (S.world sim.new) some) }
+    requires { moment.now.start ≤ first }
+    ensures { IfOk result (λ some. Happened (S.world sim.old) (new_deliveries moment.now.network.parted.now
+        (moment_view moment.now) first (S.world sim.old)) (S.world sim.new) some) }
 {
     let mut ways = count_gone(sim, moment.alloc, moment.start, first)?;
     let mut some = false;
     for i in first..sim.datagrams() {
-        let any = deliver_next(sim, parted, table, moment, i + 1, &mut ways)?;
+        let any = deliver_next(sim, moment, i + 1, &mut ways)?;
         some = either(some, any);
     }
     Ok(some)

@@ -14,6 +14,7 @@ mod clear;
 mod deliveries;
 mod done;
 mod link_lines;
+mod network;
 mod node_marks;
 mod pair_bits;
 mod pair_record;
@@ -36,12 +37,13 @@ pub use air::Air;
 pub use causes::{SimulationCause, simulation_cause, simulation_cause_within};
 pub use clear::clear_channel_delivers_at_once;
 pub use link_lines::LinkLines;
+pub use network::Network;
 pub use node_marks::{Mark, choices};
 pub use parse::{
     erasure_word, is_word, link, mark, pair, simulation_line, simulation_lines_are_read_as_written,
 };
 pub use parted::{Parted, is_parted};
-pub use rounds::{make_parted_rounds, make_parted_rounds_over, make_rounds, make_rounds_over};
+pub use rounds::{MOST_PASSES, make_rounds};
 pub use running_simulation::{Running, has_end};
 pub use script_line::SimulationLine;
 pub use setup::{Setup, WorldOptions};
@@ -53,4 +55,7 @@ pub use simulator::Simulator;
 pub use told_simulation::{
     Told, simulate_telling, simulate_telling_last, simulate_told, tell_cause,
 };
-pub use turns::{EndTurn, are_known, next_place, repeat, turn_cores, turn_end, turn_known_ends};
+pub use turns::{
+    EndTurn, MOST_TIMES, are_known, either, next_place, repeat, turn_cores, turn_end,
+    turn_known_ends,
+};

@@ -8,8 +8,8 @@ use std::alloc::AllocError;
 use tora_height::Id;
 use tora_world::Limits;
 
-/// The lines before a simulation runs: the destinations, the links so far, and what is said so far of single nodes. No number
-/// of the first two is 0.
+/// The lines before a simulation runs: the destinations, the links so far, and what is said so far of single nodes. No
+/// number of the first two is 0.
 #[derive(Drop)]
 pub struct LinkLines {
     pub dests: Vec<Id>,

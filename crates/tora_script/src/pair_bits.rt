@@ -65,7 +65,8 @@ pub fn make_bits(words: &mut Vec<u64>, key: (Id, Id)) -> Result<(), AllocError>
 pub fn set_bit(words: &mut Vec<u64>, key: (Id, Id))
     requires ordered { key.0 ≤ key.1 }
     requires many { key.1 < 1024 → 16384 ≤ length words.old.items }
-    ensures { (other : ℕ × ℕ) → other.1 < 1024 → has_bit words.new.items other ≡ cond (pair_eq key other) true (has_bit words.old.items other) }
+    ensures { (other : ℕ × ℕ) → other.1 < 1024 → has_bit words.new.items other
+        ≡ cond (pair_eq key other) true (has_bit words.old.items other) }
 {
     if key.1 < SMALL {
         let at = word_of(key);
@@ -75,7 +76,8 @@ pub fn set_bit(words: &mut Vec<u64>, key: (Id, Id))
 
 /// Clears the bit of a lesser node and a greater one, where these have one.
 pub fn clear_bit(words: &mut Vec<u64>, key: (Id, Id))
-    ensures { (other : ℕ × ℕ) → other.1 < 1024 → has_bit words.new.items other ≡ cond (pair_eq key other) false (has_bit words.old.items other) }
+    ensures { (other : ℕ × ℕ) → other.1 < 1024 → has_bit words.new.items other
+        ≡ cond (pair_eq key other) false (has_bit words.old.items other) }
 {
     let at = word_of(key);
     if key.1 < SMALL && at < words.len() {

@@ -40,7 +40,8 @@ impl PairRecord {
 
     /// Without the pairs of two nodes.
     pub fn without(_before: &PairRecord, _pair: &NodePair) -> PairRecord
-        ensures { result.pairs ≡ filter (λ r. not (is_same_pair (_pair.now.first, _pair.now.second) r)) _before.now.pairs }
+        ensures { result.pairs ≡ filter (λ r. not (is_same_pair (_pair.now.first, _pair.now.second) r))
+            _before.now.pairs }
     {
         PairRecord {}
     }

@@ -4,7 +4,10 @@ ghost use Rattle.tora_script.specs.declared.node_marks.Mark.{Mark as AnyMark};
 ghost use Rattle.tora_script.specs.declared.script_line.SimulationLine.{SimulationLine as AnySimulationLine};
 ghost use Rattle.tora_script.specs.SimulationGrammar.{SpellsSimulationLine, SpellsDests, SpellsLink, SpellsMark};
 ghost use Rattle.tora_lines.specs.Gives.{Gives};
-ghost use Rattle.tora_script.specs.SimulationLines.{is_word, pair_of, life_number_of, life_of, lane_of, call_of, torn_of, rounds_of, arm_of, restart_of, end_event_of, node_event_of, walk_line_of, order_line_of, simulation_line_of, dests_of, link_of, erasure_of, erases_of, mark_of};
+ghost use Rattle.tora_script.specs.SimulationLines.{is_word, pair_of, life_number_of, life_of, lane_of, call_of};
+ghost use Rattle.tora_script.specs.SimulationLines.{torn_of, rounds_of, arm_of, restart_of, end_event_of};
+ghost use Rattle.tora_script.specs.SimulationLines.{node_event_of, walk_line_of, order_line_of, simulation_line_of};
+ghost use Rattle.tora_script.specs.SimulationLines.{dests_of, link_of, erasure_of, erases_of, mark_of};
 
 use crate::node_marks::Mark;
 use crate::script_line::SimulationLine;
@@ -322,8 +325,10 @@ pub fn mark(text: &[u8]) -> Option<Mark>
 
 /// A line of a simulation file is read exactly where it is written as the formats say.
 pub fn simulation_lines_are_read_as_written()
-    ensures found { (text : List ℕ) (line : AnySimulationLine) → simulation_line_of text ≡ Some line → SpellsSimulationLine text line }
-    ensures only { (text : List ℕ) (line : AnySimulationLine) → SpellsSimulationLine text line → simulation_line_of text ≡ Some line }
+    ensures found { (text : List ℕ) (line : AnySimulationLine) → simulation_line_of text ≡ Some line
+        → SpellsSimulationLine text line }
+    ensures only { (text : List ℕ) (line : AnySimulationLine) → SpellsSimulationLine text line
+        → simulation_line_of text ≡ Some line }
     ensures dests_found { (text dests : List ℕ) → dests_of text ≡ Some dests → SpellsDests text dests }
     ensures dests_only { (text dests : List ℕ) → SpellsDests text dests → dests_of text ≡ Some dests }
     ensures link_found { (text : List ℕ) (p : ℕ × ℕ) → link_of text ≡ Some p → SpellsLink text p }

@@ -19,8 +19,8 @@ pub fn is_same_pair(p: (Id, Id), q: (Id, Id)) -> bool
     (p.0 == q.0 && p.1 == q.1) || (p.0 == q.1 && p.1 == q.0)
 }
 
-/// Whether the nodes are parted. It looks at every pair: several at once take less time than one after another up to the one
-/// that fits.
+/// Whether the nodes are parted. It looks at every pair: several at once take less time than one after another up to
+/// the one that fits.
 pub fn is_parted(parted: &[(Id, Id)], a: Id, b: Id) -> bool
     ensures { result ≡ is_parted parted.now a b }
 {
@@ -31,8 +31,8 @@ pub fn is_parted(parted: &[(Id, Id)], a: Id, b: Id) -> bool
     found
 }
 
-/// The pairs of nodes that are parted: whether two nodes are takes the look at one key, or at one bit where both are below 1,024; that they
-/// no longer are, the look at both.
+/// The pairs of nodes that are parted: whether two nodes are takes the look at one key, or at one bit where both are
+/// below 1,024; that they no longer are, the look at both.
 ///
 /// Contracts see the pairs in the order in which they were parted. Only their keys and their bits are in memory.
 #[derive(Drop)]

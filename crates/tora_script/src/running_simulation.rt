@@ -1,5 +1,6 @@
 //! A simulation behind its links.
-ghost use Rattle.std.specs.Prelude.{◌≡◌, ◌==◌, ◌&&◌, ◌++◌, [], OnOk, Some, None, if◌then◌else◌, true, length, string_bytes, option_map};
+ghost use Rattle.std.specs.Prelude.{◌≡◌, ◌==◌, ◌&&◌, ◌++◌, [], OnOk, Some, None, if◌then◌else◌, true, length};
+ghost use Rattle.std.specs.Prelude.{string_bytes, option_map};
 ghost use Rattle.tora_core.specs.Numbers.{has_number};
 ghost use Rattle.tora_arq.specs.Settings.{IsTimes};
 ghost use Rattle.tora_lines.specs.Gives.{Gives};
@@ -7,18 +8,20 @@ ghost use Rattle.tora_lines.specs.LineText.{numbered, TakesReply};
 ghost use Rattle.tora_world.specs.World.{sent_packets, taken_packets};
 ghost use Rattle.tora_script.specs.Simulator.{ArePairs, AreIds, started};
 ghost use Rattle.tora_script.specs.RunningView.{running_view};
-ghost use Rattle.tora_script.specs.SimulationText.{begun_in, has_end, without_parted, node_line, heights_text, heights_reply, count_text, exact_reply, rest_text, nodes_text, walk_text, walk_reply, at_rest_text, at_rest_reply, running_reply, event_reply, after_rounds, part_of, where_linked, known_height};
+ghost use Rattle.tora_script.specs.SimulationText.{begun_in, has_end, without_parted, node_line, heights_text};
+ghost use Rattle.tora_script.specs.SimulationText.{heights_reply, count_text, exact_reply, rest_text, nodes_text};
+ghost use Rattle.tora_script.specs.SimulationText.{walk_text, walk_reply, at_rest_text, at_rest_reply, running_reply};
+ghost use Rattle.tora_script.specs.SimulationText.{event_reply, after_rounds, part_of, where_linked, known_height};
 
 use crate::air::Air;
 use crate::node_marks::Mark;
 use crate::parted::Parted;
-use crate::rounds::make_parted_rounds;
 use crate::script_line::SimulationLine;
 use crate::setup::{Setup, WorldOptions};
 use crate::simulator::Simulator;
 use std::alloc::{AllocError, Global};
 use tora_arq::{Life, Times};
-use tora_channel::Channel;
+use tora_channel::{Channel, ChannelTable};
 use tora_core::CoreError;
 use tora_height::{Entry, Id};
 use tora_lines::numbered;
@@ -49,8 +52,8 @@ pub fn has_number(n: Id, numbers: &[Id]) -> bool
     numbers.iter().any(|m| *m == n)
 }
 
-/// Whether there is a link between the nodes: it is found by halves where the ends are in ascending order, and all ends are looked at only
-/// where it is not found so.
+/// Whether there is a link between the nodes: it is found by halves where the ends are in ascending order, and all ends
+/// are looked at only where it is not found so.
 pub fn has_end(a: Id, b: Id, ends: &[(Id, Id)]) -> bool
     ensures { result ≡ has_end a b ends.now }
 {
@@ -193,7 +196,8 @@ impl<S: Simulator> Running<S> {
         requires links { ArePairs links.now }
         requires dests { AreIds dests.now }
         requires times { IsTimes setup.times }
-        ensures { Gives (running_view S.world) result (option_map (begun_in dests.now setup) (started setup.options links.now dests.now marks.now setup.times)) }
+        ensures { Gives (running_view S.world) result (option_map (begun_in dests.now setup)
+            (started setup.options links.now dests.now marks.now setup.times)) }
     {
         let sim: S = start(alloc, setup.options, links, dests, marks, setup.times)?;
         let nodes = sim.nodes(alloc)?;
@@ -215,7 +219,8 @@ impl<S: Simulator> Running<S> {
 
     /// Makes an event happen, and puts its refusal behind a text.
     fn happen(&mut self, event: &Event, out: &mut String) -> Result<(), AllocError>
-        ensures { OnOk result (TakesReply (event_reply (running_view S.world self.old) event.now) (running_view S.world self.new) (string_bytes out.old) (string_bytes out.new)) }
+        ensures { OnOk result (TakesReply (event_reply (running_view S.world self.old) event.now)
+            (running_view S.world self.new) (string_bytes out.old) (string_bytes out.new)) }
     {
         let refused = self.sim.happen(event)?;
         self.refused = refused;
@@ -228,19 +233,13 @@ impl<S: Simulator> Running<S> {
     fn rounds(&mut self, count: u64) -> Result<(), AllocError>
         ensures { OnOk result (running_view S.world self.new ≡ after_rounds count (running_view S.world self.old)) }
     {
-        make_parted_rounds(
-            &mut self.sim,
-            count,
-            &self.nodes,
-            &self.ends,
-            &self.parted,
-            self.channel,
-            &mut self.air,
-        )
+        let table = ChannelTable::none();
+        self.rounds_over(&table, count)
     }
 
     fn part(&mut self, a: Id, b: Id) -> Result<(), LineError>
-        ensures gives { Gives (λ _. ((running_view S.world self.new), [])) result (where_linked (running_view S.world self.old) a b (part_of (running_view S.world self.old) a b, [])) }
+        ensures gives { Gives (λ _. ((running_view S.world self.new), [])) result
+            (where_linked (running_view S.world self.old) a b (part_of (running_view S.world self.old) a b, [])) }
         ensures kept { result ≡ Err LineError.Fault → running_view S.world self.new ≡ running_view S.world self.old }
     {
         if !has_end(a, b, &self.ends) {
@@ -255,7 +254,14 @@ impl<S: Simulator> Running<S> {
     }
 
     fn mend(&mut self, a: Id, b: Id) -> Result<(), LineError>
-        ensures gives { Gives (λ _. ((running_view S.world self.new), [])) result (where_linked (running_view S.world self.old) a b (record (running_view S.world self.old) { parted = without_parted a b (running_view S.world self.old).parted }, [])) }
+        ensures gives { Gives (λ _. ((running_view S.world self.new), [])) result
+            (where_linked (running_view S.world self.old) a b (
+              record (running_view S.world self.old) {
+                parted =
+                    without_parted a b (running_view S.world self.old).parted;
+              },
+              [],
+            )) }
         ensures kept { result ≡ Err LineError.Fault → running_view S.world self.new ≡ running_view S.world self.old }
     {
         if !has_end(a, b, &self.ends) {
@@ -267,7 +273,8 @@ impl<S: Simulator> Running<S> {
 
     fn heights(&self, d: Id, out: &mut String) -> Result<(), LineError>
         requires { string_bytes out.old ≡ [] }
-        ensures { Gives (λ _. ((running_view S.world self.now), string_bytes out.new)) result (heights_reply (running_view S.world self.now) d) }
+        ensures { Gives (λ _. ((running_view S.world self.now), string_bytes out.new)) result
+            (heights_reply (running_view S.world self.now) d) }
     {
         if !has_number(d, &self.dests) {
             return Err(LineError::Fault);
@@ -278,7 +285,12 @@ impl<S: Simulator> Running<S> {
 
     fn sent(&self, a: Id, b: Id, life: Life, out: &mut String) -> Result<(), LineError>
         requires { string_bytes out.old ≡ [] }
-        ensures { Gives (λ _. ((running_view S.world self.now), string_bytes out.new)) result (where_linked (running_view S.world self.now) a b ((running_view S.world self.now), count_text (length (sent_packets (running_view S.world self.now).world a b life)))) }
+        ensures { Gives (λ _. ((running_view S.world self.now), string_bytes out.new)) result
+            (where_linked (running_view S.world self.now) a b (
+              (running_view S.world self.now),
+              count_text
+                  (length (sent_packets (running_view S.world self.now).world a b life)),
+            )) }
     {
         if !has_end(a, b, &self.ends) {
             return Err(LineError::Fault);
@@ -289,7 +301,12 @@ impl<S: Simulator> Running<S> {
 
     fn taken(&self, b: Id, a: Id, life: Life, out: &mut String) -> Result<(), LineError>
         requires { string_bytes out.old ≡ [] }
-        ensures { Gives (λ _. ((running_view S.world self.now), string_bytes out.new)) result (where_linked (running_view S.world self.now) b a ((running_view S.world self.now), count_text (length (taken_packets (running_view S.world self.now).world b a life)))) }
+        ensures { Gives (λ _. ((running_view S.world self.now), string_bytes out.new)) result
+            (where_linked (running_view S.world self.now) b a (
+              (running_view S.world self.now),
+              count_text
+                  (length (taken_packets (running_view S.world self.now).world b a life)),
+            )) }
     {
         if !has_end(b, a, &self.ends) {
             return Err(LineError::Fault);
@@ -300,7 +317,8 @@ impl<S: Simulator> Running<S> {
 
     fn exact(&self, d: Id, out: &mut String) -> Result<(), LineError>
         requires { string_bytes out.old ≡ [] }
-        ensures { Gives (λ _. ((running_view S.world self.now), string_bytes out.new)) result (exact_reply (running_view S.world self.now) d) }
+        ensures { Gives (λ _. ((running_view S.world self.now), string_bytes out.new)) result
+            (exact_reply (running_view S.world self.now) d) }
     {
         if !has_number(d, &self.dests) {
             return Err(LineError::Fault);
@@ -312,7 +330,8 @@ impl<S: Simulator> Running<S> {
 
     fn walk(&self, n: Id, d: Id, out: &mut String) -> Result<(), LineError>
         requires { string_bytes out.old ≡ [] }
-        ensures { Gives (λ _. ((running_view S.world self.now), string_bytes out.new)) result (walk_reply (running_view S.world self.now) n d) }
+        ensures { Gives (λ _. ((running_view S.world self.now), string_bytes out.new)) result
+            (walk_reply (running_view S.world self.now) n d) }
     {
         if !has_number(n, &self.nodes) || !has_number(d, &self.dests) {
             return Err(LineError::Fault);
@@ -324,16 +343,19 @@ impl<S: Simulator> Running<S> {
 
     fn at_rest(&self, out: &mut String) -> Result<(), AllocError>
         requires { string_bytes out.old ≡ [] }
-        ensures { OnOk result (((running_view S.world self.now), string_bytes out.new) ≡ at_rest_reply (running_view S.world self.now)) }
+        ensures { OnOk result (((running_view S.world self.now), string_bytes out.new)
+            ≡ at_rest_reply (running_view S.world self.now)) }
     {
         write_at_rest(out, self.sim.is_at_rest())
     }
 
-    /// Does what a line asks for, and puts what is printed for it behind an empty text. A line that is a fault changes nothing.
+    /// Does what a line asks for, and puts what is printed for it behind an empty text. A line that is a fault changes
+    /// nothing.
     #[tactic(auto, unfolding(crate::specs::SimulationText::running_reply))]
     pub fn answer(&mut self, line: SimulationLine, out: &mut String) -> Result<(), LineError>
         requires { string_bytes out.old ≡ [] }
-        ensures gives { Gives (λ _. ((running_view S.world self.new), string_bytes out.new)) result (running_reply (running_view S.world self.old) line) }
+        ensures gives { Gives (λ _. ((running_view S.world self.new), string_bytes out.new)) result
+            (running_reply (running_view S.world self.old) line) }
         ensures kept { result ≡ Err LineError.Fault → running_view S.world self.new ≡ running_view S.world self.old }
     {
         match line {

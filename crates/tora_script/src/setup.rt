@@ -26,8 +26,8 @@ impl WorldOptions {
     }
 }
 
-/// The times of each link end, the channel of rounds, whether both ends notice at once that their link is parted, the options of the
-/// world, and how many rounds are made at most.
+/// The times of each link end, the channel of rounds, whether both ends notice at once that their link is parted, the
+/// options of the world, and how many rounds are made at most.
 #[derive(Clone, Copy, Debug, PartialEq, Eq)]
 pub struct Setup {
     pub times: Times,
@@ -39,8 +39,8 @@ pub struct Setup {
 }
 
 impl Setup {
-    /// With a channel over which every datagram comes at once, and once, without notice, within the standard limits, with nodes that
-    /// remember no erased level, and with no round that is the last.
+    /// With a channel over which every datagram comes at once, and once, without notice, within the standard limits,
+    /// with nodes that remember no erased level, and with no round that is the last.
     pub fn plain(times: Times) -> Setup
         ensures { result ≡ plain times }
     {

@@ -10,7 +10,12 @@ ghost use Rattle.tora_channel.specs.declared.line.ChannelLine.{ChannelLine as An
 ghost use Rattle.tora_channel.specs.Table.{lines_of};
 ghost use Rattle.tora_script.specs.RunningView.{running_view};
 ghost use Rattle.tora_script.specs.SimulationView.{progress_of, simulation_kind};
-ghost use Rattle.tora_script.specs.SimulationText.{Progress, first_progress, with_link, is_linked, with_mark_line, first_run, behind_links, run_begun, end_of_links, simulation_reply, first_simulation_fault, first_fault_with, IsFirstFaultWith, Simulates, IsSimulationBegun};
+ghost use Rattle.tora_script.specs.SimulationText.{Progress, first_progress, with_link, is_linked};
+ghost use Rattle.tora_script.specs.SimulationText.{with_mark_line, first_run, behind_links, run_begun};
+ghost use Rattle.tora_script.specs.SimulationText.{end_of_links, simulation_reply, first_simulation_fault};
+ghost use Rattle.tora_script.specs.SimulationText.{first_fault_with, IsFirstFaultWith};
+ghost use Rattle.tora_script.specs.SimulationText.{Simulates, IsSimulationBegun};
+ghost use Rattle.tora_lines.specs.Reads.{IsReadSo, IsUnwritten};
 
 use crate::link_lines::LinkLines;
 use crate::node_marks::Mark;
@@ -20,17 +25,17 @@ use crate::setup::Setup;
 use crate::simulation::{Simulation, Stage};
 use crate::simulator::Simulator;
 use std::alloc::{AllocError, Global};
-use std::io::{Read, Write};
 use tora_arq::Times;
 use tora_channel::ChannelTable;
 use tora_height::Id;
 use tora_lines::words::LineError;
-use tora_lines::{Ended, FileKind, ReplayError, read_lines};
+use tora_lines::{Ended, FileKind, Input, Output, ReplayError, read_lines};
 use tora_sim::{Limits, topology_fault_within};
 
 /// Takes the first line.
 pub fn first_line(alloc: Global, line: &[u8]) -> Result<LinkLines, LineError>
-    ensures { Gives (λ lines. Progress.Links lines.dests.items lines.links.items lines.marks.items) result (first_progress line.now) }
+    ensures { Gives (λ lines. Progress.Links lines.dests.items lines.links.items lines.marks.items) result
+        (first_progress line.now) }
 {
     let dests = parse::dests(alloc, line)?;
     Ok(LinkLines {
@@ -62,8 +67,8 @@ pub fn is_linked(n: Id, links: &[(Id, Id)]) -> bool
     links.iter().any(|link| link.0 == n || link.1 == n)
 }
 
-/// Takes what is said of a node; it is a fault where no link names the node, or there is no topology of the links within
-/// the limits, and then changes nothing.
+/// Takes what is said of a node; it is a fault where no link names the node, or there is no topology of the links
+/// within the limits, and then changes nothing.
 ///
 /// The topology is looked for at the first such line: no link comes behind it.
 pub fn take_mark(limits: Limits, lines: &mut LinkLines, mark: Mark) -> Result<(), LineError>
@@ -97,7 +102,9 @@ fn first_run<S: Simulator>(
 ) -> Result<Running<S>, LineError>
     requires times { IsTimes setup.times }
     requires empty { string_bytes text.old ≡ [] }
-    ensures { Gives (λ s. (running_view S.world s, string_bytes text.new)) result (first_run setup (lines_of table.now) lines.now.dests.items lines.now.links.items lines.now.marks.items line.now) }
+    ensures { Gives (λ s. (running_view S.world s, string_bytes text.new)) result
+        (first_run setup (lines_of table.now) lines.now.dests.items lines.now.links.items lines.now.marks.items
+        line.now) }
 {
     let mut running = Running::new(alloc, &lines.dests, &lines.links, &lines.marks, setup)?;
     running.take(setup.until, table, line, text)?;
@@ -115,7 +122,9 @@ fn behind_links<S: Simulator>(
 ) -> Result<Running<S>, LineError>
     requires times { IsTimes setup.times }
     requires empty { string_bytes text.old ≡ [] }
-    ensures { Gives (λ s. (Progress.Runs (running_view S.world s), string_bytes text.new)) result (behind_links setup (lines_of table.now) lines.now.dests.items lines.now.links.items lines.now.marks.items line.now) }
+    ensures { Gives (λ s. (Progress.Runs (running_view S.world s), string_bytes text.new)) result
+        (behind_links setup (lines_of table.now) lines.now.dests.items lines.now.links.items lines.now.marks.items
+        line.now) }
 {
     if lines.links.is_empty() {
         return Err(LineError::Fault);
@@ -138,8 +147,8 @@ fn end_of_links(limits: Limits, lines: &LinkLines, number: u64) -> Option<u64>
 
 /// Takes the first line; the links come behind it.
 ///
-/// As `begin_run` it stands in a function of its own, which is never put into its caller: else every line of the file would make room for
-/// a simulation.
+/// As `begin_run` it stands in a function of its own, which is never put into its caller: else every line of the file
+/// would make room for a simulation.
 #[inline(never)]
 fn begin_links<S: Simulator>(
     stage: &mut Stage<S>,
@@ -165,7 +174,8 @@ fn begin_run<S: Simulator>(
 ) -> Result<(), LineError>
     requires times { IsTimes setup.times }
     requires empty { string_bytes text.old ≡ [] }
-    ensures { Gives (λ _. (progress_of S.world stage.new, string_bytes text.new)) result (run_begun setup (lines_of table.now) (progress_of S.world stage.old) line.now) }
+    ensures { Gives (λ _. (progress_of S.world stage.new, string_bytes text.new)) result
+        (run_begun setup (lines_of table.now) (progress_of S.world stage.old) line.now) }
 {
     let Stage::Links(lines) = stage else {
         return Err(LineError::Fault);
@@ -186,7 +196,8 @@ fn take_line<S: Simulator>(
 ) -> Result<(), LineError>
     requires times { IsTimes setup.times }
     requires empty { string_bytes text.old ≡ [] }
-    ensures { Gives (λ _. (progress_of S.world stage.new, string_bytes text.new)) result (simulation_reply setup (lines_of table.now) (progress_of S.world stage.old) line.now) }
+    ensures { Gives (λ _. (progress_of S.world stage.new, string_bytes text.new)) result
+        (simulation_reply setup (lines_of table.now) (progress_of S.world stage.old) line.now) }
 {
     match stage {
         Stage::First => begin_links(stage, alloc, line),
@@ -222,11 +233,11 @@ impl<S: Simulator> FileKind for Simulation<S> {
     }
 }
 
-/// Reads the lines of a simulation file to the end of the input or to the first line that is a fault, and writes what is
-/// printed for each, in a simulator of this kind whose link ends have these times, none of which is 0. `docs/formats.md`,
-/// "Simulation files", says what a file is.
+/// Reads the lines of a simulation file to the end of the input or to the first line that is a fault, and writes what
+/// is printed for each, in a simulator of this kind whose link ends have these times, none of which is 0.
+/// `docs/formats.md`, "Simulation files", says what a file is.
 #[tactic(auto, unfolding(tora_lines::specs::Engine::text_of))]
-pub fn simulate_in<S: Simulator, R: Read, W: Write>(
+pub fn simulate_in<S: Simulator, R: Input, W: Output>(
     alloc: Global,
     times: Times,
     reader: &mut R,
@@ -237,10 +248,14 @@ pub fn simulate_in<S: Simulator, R: Read, W: Write>(
     ensures whole { IfOk result (λ ended. IfSome (R.remaining reader.old) (λ input.
         Simulates times input (W.contents writer.old) (W.contents writer.new) ended)) }
     ensures at_end { result ≡ Ok Ended.Whole → IsAtEnd (R.remaining reader.new) }
-    ensures fault { IfOk result (λ ended. IfSome (R.remaining reader.old) (λ input. fault_of ended ≡ first_simulation_fault times input)) }
+    ensures fault { IfOk result (λ ended. IfSome (R.remaining reader.old) (λ input.
+        fault_of ended ≡ first_simulation_fault times input)) }
     // What was written begins the text of what was read.
     ensures begun { IfErr result (λ e. e ≢ ReplayError.Write →
-        IsSimulationBegun times (R.remaining reader.old) (R.remaining reader.new) (W.contents writer.old) (W.contents writer.new)) }
+        IsSimulationBegun times (R.remaining reader.old) (R.remaining reader.new) (W.contents writer.old)
+        (W.contents writer.new)) }
+    ensures reads { IsReadSo R.did_read reader.old reader.new result }
+    ensures failed { IfErr result (λ e. e ≡ ReplayError.Write → IsUnwritten W.did_write writer.new) }
 {
     let state: Simulation<S> = Simulation::new(Setup::plain(times));
     read_lines(alloc, state, reader, writer)
@@ -249,6 +264,10 @@ pub fn simulate_in<S: Simulator, R: Read, W: Write>(
 /// The line whose number a fault of a simulation gives is the first that is none: all lines before it are taken, and it
 /// is not.
 pub fn simulation_fault_is_the_first()
-    ensures found { (setup : AnySetup) (table : List AnyLine) (bytes : List ℕ) (n : ℕ) → first_fault_with setup table bytes ≡ Some n → IsFirstFaultWith setup table Progress.First 1 (pieces_of bytes) n }
-    ensures only { (setup : AnySetup) (table : List AnyLine) (bytes : List ℕ) (n : ℕ) → IsFirstFaultWith setup table Progress.First 1 (pieces_of bytes) n → first_fault_with setup table bytes ≡ Some n }
+    ensures found { (setup : AnySetup) (table : List AnyLine) (bytes : List ℕ) (n : ℕ) →
+        first_fault_with setup table bytes ≡ Some n → IsFirstFaultWith setup table Progress.First 1 (pieces_of bytes)
+        n }
+    ensures only { (setup : AnySetup) (table : List AnyLine) (bytes : List ℕ) (n : ℕ) →
+        IsFirstFaultWith setup table Progress.First 1 (pieces_of bytes) n
+        → first_fault_with setup table bytes ≡ Some n }
 {}

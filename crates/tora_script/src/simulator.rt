@@ -5,7 +5,6 @@ ghost use Rattle.tora_world.specs.declared.event.Event.TheVariants.{Transmit, De
 ghost use Rattle.tora_arq.specs.Settings.{IsTimes};
 ghost use Rattle.tora_script.specs.Simulator.{ArePairs, AreIds, Starts, nodes_of};
 ghost use Rattle.tora_sim.specs.Cuts.{after_cut_at};
-ghost use Rattle.tora_sim.specs.Plains.{MayOnlySend};
 ghost use Rattle.tora_sim.specs.Quiet.{IsQuiet, IsQuietEnd};
 ghost use Rattle.tora_sim.specs.Readers.{ends_in};
 ghost use Rattle.tora_sim.specs.Steps.{repeats, Happened};
@@ -26,8 +25,8 @@ pub trait Simulator: Drop {
 
     /// The first world of links and destinations, or why there is no such topology within the limits.
     ///
-    /// The marks say which nodes are old, whose link ends speak version 1 of frames alone, and what single nodes make of erased
-    /// levels; one of a node that no link names changes nothing. Each link end has these times.
+    /// The marks say which nodes are old, whose link ends speak version 1 of frames alone, and what single nodes make
+    /// of erased levels; one of a node that no link names changes nothing. Each link end has these times.
     fn start(
         alloc: Global,
         options: WorldOptions,
@@ -43,31 +42,36 @@ pub trait Simulator: Drop {
 
     /// Whether an event may be possible now: where the answer is `false`, `happen` refuses it.
     ///
-    /// It costs less than `happen`, and a round asks it before each turn of a core or a link end. The place says where to look: the place of
-    /// the event's node among `nodes`, or of its link end among `ends`, from 0 on. Where it is another's, or the event is of
-    /// neither, the answer may be `true` of any event.
+    /// It costs less than `happen`, and a round asks it before each turn of a core or a link end. The place says where
+    /// to look: the place of the event's node among `nodes`, or of its link end among `ends`, from 0 on. Where it is
+    /// another's, or the event is of neither, the answer may be `true` of any event.
     fn may_happen(&self, place: usize, event: &Event) -> bool
         ensures { result ≡ false → is_some (refusal_of (world self.now) event.now) ≡ true };
 
-    /// Whether it is known that nothing is to be done: `happen` refuses every `CoreTurn`, `Open`, `Pull`, `Transmit` and `Pump`.
+    /// Whether it is known that nothing is to be done: `happen` refuses every `CoreTurn`, `Open`, `Pull`, `Transmit`
+    /// and `Pump`.
     ///
-    /// It costs no more than the look at one number, and is asked before each part of a round. `settle` may make it known.
+    /// It costs no more than the look at one number, and is asked before each part of a round. `settle` may make it
+    /// known.
     fn is_quiet(&self) -> bool
         ensures { result ≡ true → IsQuiet (world self.now) };
 
     /// Whether a core may have an item to take: where the answer is `false`, `happen` refuses every `CoreTurn`.
     ///
-    /// It costs no more than the look at one mark, and is asked before the cores' part of a round. `settle` may make it known.
+    /// It costs no more than the look at one mark, and is asked before the cores' part of a round. `settle` may make it
+    /// known.
     fn may_turn(&self) -> bool
         ensures { result ≡ false → (n : ℕ) → is_some (refusal_of (world self.now) (CoreTurn n)) ≡ true };
 
-    /// The first place from `place` on, among these nodes and from 0 on, at which a core may have an item to take: of the nodes that are
-    /// passed over `happen` refuses each `CoreTurn`. By itself none is passed over; a simulator that looks at its cores itself passes over more.
+    /// The first place from `place` on, among these nodes and from 0 on, at which a core may have an item to take: of
+    /// the nodes that are passed over `happen` refuses each `CoreTurn`. By itself none is passed over; a simulator that
+    /// looks at its cores itself passes over more.
     ///
     /// It is asked before each core's turn.
     fn next_core(&self, _nodes: &[Id], place: usize) -> usize
         ensures onward { place ≤ result }
-        ensures passed { (at n : ℕ) → place ≤ at → at < result → slice_get _nodes.now at ≡ Some n → is_some (refusal_of (world self.now) (CoreTurn n)) ≡ true }
+        ensures passed { (at n : ℕ) → place ≤ at → at < result → slice_get _nodes.now at ≡ Some n
+            → is_some (refusal_of (world self.now) (CoreTurn n)) ≡ true }
     {
         place
     }
@@ -76,23 +80,16 @@ pub trait Simulator: Drop {
     fn has_ends(&self, ends: &[(Id, Id)]) -> bool
         ensures { result ≡ true → ends.now ≡ ends_in (world self.now).topology };
 
-    /// The first place from `place` on at which a link end may have something to do, in the order of `ends` and from 0 on: of the
-    /// ends that are passed over `happen` refuses each `Open`, `Pull`, `Transmit` and `Pump`.
+    /// The first place from `place` on at which a link end may have something to do, in the order of `ends` and from 0
+    /// on: of the ends that are passed over `happen` refuses each `Open`, `Pull`, `Transmit` and `Pump`.
     ///
-    /// It is asked before each end's turn to send frames. `settle` may make known what is passed over.
+    /// It is asked before each end's turn. `settle` may make known what is passed over.
     fn next_due(&self, place: usize) -> usize
         ensures onward { place ≤ result }
-        ensures passed { (at : ℕ) (end : ℕ × ℕ) → place ≤ at → at < result → slice_get (ends_in (world self.now).topology) at ≡ Some end → IsQuietEnd (world self.now) end.0 end.1 };
+        ensures passed { (at : ℕ) (end : ℕ × ℕ) → place ≤ at → at < result
+            → slice_get (ends_in (world self.now).topology) at ≡ Some end → IsQuietEnd (world self.now) end.0 end.1 };
 
-    /// The first place from `place` on at which more than a frame may be due, in the order of `ends` and from 0 on: of the ends that are
-    /// passed over `happen` refuses each `Open`, `Pull` and `Pump`.
-    ///
-    /// It is asked before each end's turn but that to send frames. `settle` may make known what is passed over.
-    fn next_busy(&self, place: usize) -> usize
-        ensures onward { place ≤ result }
-        ensures passed { (at : ℕ) (end : ℕ × ℕ) → place ≤ at → at < result → slice_get (ends_in (world self.now).topology) at ≡ Some end → MayOnlySend (world self.now) end.0 end.1 };
-
-    /// Looks whether nothing is to be done, and until which tick, for `is_quiet`, `next_due`, `next_busy` and the ticks that come; the
+    /// Looks whether nothing is to be done, and until which tick, for `is_quiet`, `next_due` and the ticks that come; the
     /// world stays as it is.
     fn settle(&mut self)
         ensures { world self.new ≡ world self.old };
@@ -111,11 +108,13 @@ pub trait Simulator: Drop {
         self.happen(event)
     }
 
-    /// Makes a core take its items one after another until none waits, and so many at most, and says whether it took any: it is a `CoreTurn` up to
-    /// the first that `happen` refuses. The place says where to look, as that of `may_happen` does. By itself each turn is an event that happens
-    /// for itself; a simulator that turns a core itself asks less between two items.
+    /// Makes a core take its items one after another until none waits, and so many at most, and says whether it took
+    /// any: it is a `CoreTurn` up to the first that `happen` refuses. The place says where to look, as that of
+    /// `may_happen` does. By itself each turn is an event that happens for itself; a simulator that turns a core itself
+    /// asks less between two items.
     fn turn(&mut self, place: usize, n: Id, most: u64) -> Result<bool, AllocError>
-        ensures { IfOk result (λ some. Happened (world self.old) (repeats most (CoreTurn n) (world self.old)) (world self.new) some) }
+        ensures { IfOk result (λ some. Happened (world self.old) (repeats most (CoreTurn n) (world self.old))
+            (world self.new) some) }
     {
         let mut some = false;
         for _ in 0..most {
@@ -131,21 +130,24 @@ pub trait Simulator: Drop {
         Ok(some)
     }
 
-    /// Makes a link end send its frames one after another until none is due, and so many at most, and says whether any was sent: it is a
-    /// `Transmit` up to the first that `happen` refuses. The place is that of the end among `ends`, from 0 on; where it is another's, the end
-    /// is searched.
+    /// Makes a link end send its frames one after another until none is due, and so many at most, and says whether any
+    /// was sent: it is a `Transmit` up to the first that `happen` refuses. The place is that of the end among `ends`,
+    /// from 0 on; where it is another's, the end is searched.
     ///
-    /// It costs less than to ask `may_happen` and `happen` by turns. Where memory is refused, the frames before are sent.
+    /// It costs less than to ask `may_happen` and `happen` by turns. Where memory is refused, the frames before are
+    /// sent.
     fn transmit(&mut self, place: usize, end: (Id, Id), most: u64) -> Result<bool, AllocError>
-        ensures { IfOk result (λ some. Happened (world self.old) (repeats most (Transmit end.0 end.1) (world self.old)) (world self.new) some) };
+        ensures { IfOk result (λ some. Happened (world self.old) (repeats most (Transmit end.0 end.1) (world self.old))
+            (world self.new) some) };
 
-    /// Makes a datagram come until that is refused, and so many times at most, and says whether it ever came: it is a `Deliver` as often as
-    /// `happen` takes it.
+    /// Makes a datagram come until that is refused, and so many times at most, and says whether it ever came: it is a
+    /// `Deliver` as often as `happen` takes it.
     fn deliver(&mut self, i: u64, most: u64) -> Result<bool, AllocError>
-        ensures { IfOk result (λ some. Happened (world self.old) (repeats most (Deliver i) (world self.old)) (world self.new) some) };
+        ensures { IfOk result (λ some. Happened (world self.old) (repeats most (Deliver i) (world self.old))
+            (world self.new) some) };
 
-    /// Cuts the life that a link end is bound to, if it is bound, as a link layer has it that tells of a broken link; nothing
-    /// where there is no such link.
+    /// Cuts the life that a link end is bound to, if it is bound, as a link layer has it that tells of a broken link;
+    /// nothing where there is no such link.
     fn cut(&mut self, n: Id, k: Id)
         ensures { world self.new ≡ after_cut_at (world self.old) n k };
 

@@ -6,8 +6,9 @@ ghost use Rattle.tora_script.specs.RunningView.{running_view};
 ghost use Rattle.tora_script.specs.SimulationText.{script_reply, script_line_reply, rounds_left, after_rounds_on};
 
 use crate::done::is_done;
+use crate::network::Network;
 use crate::parse::simulation_line;
-use crate::rounds::make_parted_rounds_over;
+use crate::rounds::make_rounds;
 use crate::running_simulation::Running;
 use crate::script_line::SimulationLine;
 use crate::simulator::Simulator;
@@ -27,23 +28,22 @@ impl<S: Simulator> Running<S> {
     }
 
     /// Makes rounds over a channel that a table changes by round.
-    fn rounds_over(&mut self, table: &ChannelTable, count: u64) -> Result<(), AllocError>
-        ensures { OnOk result (running_view S.world self.new ≡ after_rounds_on (over table.now self.old.channel) count (running_view S.world self.old)) }
+    pub fn rounds_over(&mut self, table: &ChannelTable, count: u64) -> Result<(), AllocError>
+        ensures { OnOk result (running_view S.world self.new ≡ after_rounds_on (over table.now self.old.channel) count
+            (running_view S.world self.old)) }
     {
-        make_parted_rounds_over(
-            &mut self.sim,
-            count,
-            &self.nodes,
-            &self.ends,
-            &self.parted,
+        let network = Network {
+            nodes: &self.nodes,
+            ends: &self.ends,
+            parted: &self.parted,
+            channel: self.channel,
             table,
-            self.channel,
-            &mut self.air,
-        )
+        };
+        make_rounds(&mut self.sim, count, &network, &mut self.air)
     }
 
-    /// Does what a line of a simulation asks for, as `answer` does, but for rounds: not more than are left are made, over the
-    /// channel that the lines of a table change.
+    /// Does what a line of a simulation asks for, as `answer` does, but for rounds: not more than are left are made,
+    /// over the channel that the lines of a table change.
     #[tactic(auto, unfolding(crate::specs::SimulationText::script_reply))]
     fn script(
         &mut self,
@@ -53,7 +53,8 @@ impl<S: Simulator> Running<S> {
         out: &mut String,
     ) -> Result<(), LineError>
         requires { string_bytes out.old ≡ [] }
-        ensures { Gives (λ _. ((running_view S.world self.new), string_bytes out.new)) result (script_reply until (lines_of table.now) (running_view S.world self.old) line) }
+        ensures { Gives (λ _. ((running_view S.world self.new), string_bytes out.new)) result
+            (script_reply until (lines_of table.now) (running_view S.world self.old) line) }
     {
         match line {
             SimulationLine::Rounds(count) => {
@@ -65,8 +66,8 @@ impl<S: Simulator> Running<S> {
         }
     }
 
-    /// Takes a line of a simulation, and puts what is printed for it behind an empty text. Nothing is done once so many rounds are
-    /// done; the rounds are over a channel that the lines of a table change.
+    /// Takes a line of a simulation, and puts what is printed for it behind an empty text. Nothing is done once so many
+    /// rounds are done; the rounds are over a channel that the lines of a table change.
     pub fn take(
         &mut self,
         until: Option<u64>,
@@ -75,7 +76,8 @@ impl<S: Simulator> Running<S> {
         out: &mut String,
     ) -> Result<(), LineError>
         requires { string_bytes out.old ≡ [] }
-        ensures { Gives (λ _. ((running_view S.world self.new), string_bytes out.new)) result (script_line_reply until (lines_of table.now) (running_view S.world self.old) line.now) }
+        ensures { Gives (λ _. ((running_view S.world self.new), string_bytes out.new)) result
+            (script_line_reply until (lines_of table.now) (running_view S.world self.old) line.now) }
     {
         self.refused = None;
         if is_done(until, self.air.round) {

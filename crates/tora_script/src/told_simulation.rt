@@ -5,7 +5,9 @@ ghost use Rattle.tora_arq.specs.Settings.{IsTimes};
 ghost use Rattle.tora_lines.specs.LineText.{fault_of};
 ghost use Rattle.tora_channel.specs.Table.{lines_of};
 ghost use Rattle.tora_script.specs.ToldView.{told_kind};
-ghost use Rattle.tora_script.specs.SimulationText.{first_simulation_fault, Simulates, IsSimulationBegun, first_fault_with, SimulatesWith, IsBegunWith};
+ghost use Rattle.tora_script.specs.SimulationText.{first_simulation_fault, Simulates, IsSimulationBegun};
+ghost use Rattle.tora_script.specs.SimulationText.{first_fault_with, SimulatesWith, IsBegunWith};
+ghost use Rattle.tora_lines.specs.Reads.{IsReadSo, IsUnwritten};
 
 use crate::causes::{SimulationCause, end_cause, simulation_cause_within};
 use crate::parse::simulation_line;
@@ -15,12 +17,11 @@ use crate::setup::Setup;
 use crate::simulation::{Simulation, Stage};
 use crate::simulator::Simulator;
 use std::alloc::{AllocError, Global};
-use std::io::{Read, Write};
 use tora_arq::Times;
 use tora_channel::ChannelTable;
 use tora_height::Id;
 use tora_lines::words::LineError;
-use tora_lines::{Ended, FileKind, ReplayError, read_last_lines, read_lines};
+use tora_lines::{Ended, FileKind, Input, Output, ReplayError, read_last_lines, read_lines};
 use tora_world::Event;
 
 /// A simulation file, and where is told why a line is a fault and, where it is verbose, why an event is refused.
@@ -96,10 +97,10 @@ impl<S: Simulator, T: Eprint> FileKind for Told<'_, S, T> {
     }
 }
 
-/// Simulates what is made with this over a channel that the lines of a table change, and tells on standard error why a line is a
-/// fault, unless it is too long, and where it is verbose, why an event is refused.
+/// Simulates what is made with this over a channel that the lines of a table change, and tells on standard error why a
+/// line is a fault, unless it is too long, and where it is verbose, why an event is refused.
 #[tactic(auto, unfolding(tora_lines::specs::Engine::text_of))]
-pub fn simulate_telling<S: Simulator, T: Eprint, R: Read, W: Write>(
+pub fn simulate_telling<S: Simulator, T: Eprint, R: Input, W: Output>(
     rt: &T,
     alloc: Global,
     setup: Setup,
@@ -112,9 +113,13 @@ pub fn simulate_telling<S: Simulator, T: Eprint, R: Read, W: Write>(
     ensures whole { IfOk result (λ ended. IfSome (R.remaining reader.old) (λ input.
         SimulatesWith setup (lines_of table) input (W.contents writer.old) (W.contents writer.new) ended)) }
     ensures at_end { result ≡ Ok Ended.Whole → IsAtEnd (R.remaining reader.new) }
-    ensures fault { IfOk result (λ ended. IfSome (R.remaining reader.old) (λ input. fault_of ended ≡ first_fault_with setup (lines_of table) input)) }
+    ensures fault { IfOk result (λ ended. IfSome (R.remaining reader.old) (λ input.
+        fault_of ended ≡ first_fault_with setup (lines_of table) input)) }
     ensures begun { IfErr result (λ e. e ≢ ReplayError.Write →
-        IsBegunWith setup (lines_of table) (R.remaining reader.old) (R.remaining reader.new) (W.contents writer.old) (W.contents writer.new)) }
+        IsBegunWith setup (lines_of table) (R.remaining reader.old) (R.remaining reader.new) (W.contents writer.old)
+        (W.contents writer.new)) }
+    ensures reads { IsReadSo R.did_read reader.old reader.new result }
+    ensures failed { IfErr result (λ e. e ≡ ReplayError.Write → IsUnwritten W.did_write writer.new) }
 {
     let state: Told<'_, S, T> = Told {
         rt,
@@ -125,10 +130,10 @@ pub fn simulate_telling<S: Simulator, T: Eprint, R: Read, W: Write>(
     read_lines(alloc, state, reader, writer)
 }
 
-/// Simulates as `simulate_telling` does, for a program that ends behind it: what the world took is left to the system, and not given back piece by
-/// piece, which for a world of a thousand nodes takes a tenth of the time.
+/// Simulates as `simulate_telling` does, for a program that ends behind it: what the world took is left to the system,
+/// and not given back piece by piece, which for a world of a thousand nodes takes a tenth of the time.
 #[tactic(auto, unfolding(tora_lines::specs::Engine::text_of))]
-pub fn simulate_telling_last<S: Simulator, T: Eprint, R: Read, W: Write>(
+pub fn simulate_telling_last<S: Simulator, T: Eprint, R: Input, W: Output>(
     rt: &T,
     alloc: Global,
     setup: Setup,
@@ -141,9 +146,13 @@ pub fn simulate_telling_last<S: Simulator, T: Eprint, R: Read, W: Write>(
     ensures whole { IfOk result (λ ended. IfSome (R.remaining reader.old) (λ input.
         SimulatesWith setup (lines_of table) input (W.contents writer.old) (W.contents writer.new) ended)) }
     ensures at_end { result ≡ Ok Ended.Whole → IsAtEnd (R.remaining reader.new) }
-    ensures fault { IfOk result (λ ended. IfSome (R.remaining reader.old) (λ input. fault_of ended ≡ first_fault_with setup (lines_of table) input)) }
+    ensures fault { IfOk result (λ ended. IfSome (R.remaining reader.old) (λ input.
+        fault_of ended ≡ first_fault_with setup (lines_of table) input)) }
     ensures begun { IfErr result (λ e. e ≢ ReplayError.Write →
-        IsBegunWith setup (lines_of table) (R.remaining reader.old) (R.remaining reader.new) (W.contents writer.old) (W.contents writer.new)) }
+        IsBegunWith setup (lines_of table) (R.remaining reader.old) (R.remaining reader.new) (W.contents writer.old)
+        (W.contents writer.new)) }
+    ensures reads { IsReadSo R.did_read reader.old reader.new result }
+    ensures failed { IfErr result (λ e. e ≡ ReplayError.Write → IsUnwritten W.did_write writer.new) }
 {
     let state: Told<'_, S, T> = Told {
         rt,
@@ -154,8 +163,9 @@ pub fn simulate_telling_last<S: Simulator, T: Eprint, R: Read, W: Write>(
     read_last_lines(alloc, state, reader, writer)
 }
 
-/// Simulates with these times of each link end, and tells on standard error why an event is refused and why a line is a fault, unless it is too long.
-pub fn simulate_told<S: Simulator, T: Eprint, R: Read, W: Write>(
+/// Simulates with these times of each link end, and tells on standard error why an event is refused and why a line is a
+/// fault, unless it is too long.
+pub fn simulate_told<S: Simulator, T: Eprint, R: Input, W: Output>(
     rt: &T,
     alloc: Global,
     times: Times,
@@ -166,9 +176,13 @@ pub fn simulate_told<S: Simulator, T: Eprint, R: Read, W: Write>(
     ensures whole { IfOk result (λ ended. IfSome (R.remaining reader.old) (λ input.
         Simulates times input (W.contents writer.old) (W.contents writer.new) ended)) }
     ensures at_end { result ≡ Ok Ended.Whole → IsAtEnd (R.remaining reader.new) }
-    ensures fault { IfOk result (λ ended. IfSome (R.remaining reader.old) (λ input. fault_of ended ≡ first_simulation_fault times input)) }
+    ensures fault { IfOk result (λ ended. IfSome (R.remaining reader.old) (λ input.
+        fault_of ended ≡ first_simulation_fault times input)) }
     ensures begun { IfErr result (λ e. e ≢ ReplayError.Write →
-        IsSimulationBegun times (R.remaining reader.old) (R.remaining reader.new) (W.contents writer.old) (W.contents writer.new)) }
+        IsSimulationBegun times (R.remaining reader.old) (R.remaining reader.new) (W.contents writer.old)
+        (W.contents writer.new)) }
+    ensures reads { IsReadSo R.did_read reader.old reader.new result }
+    ensures failed { IfErr result (λ e. e ≡ ReplayError.Write → IsUnwritten W.did_write writer.new) }
 {
     let (setup, table) = (Setup::plain(times), ChannelTable::none());
     simulate_telling::<S, T, R, W>(rt, alloc, setup, table, reader, writer, true)

@@ -45,8 +45,8 @@ pub fn either(a: bool, b: bool) -> bool
     a || b
 }
 
-/// Whether an event may happen again. One that didn't happen yet is not asked about: who makes it happen asked, where the event has a
-/// place.
+/// Whether an event may happen again. One that didn't happen yet is not asked about: who makes it happen asked, where
+/// the event has a place.
 #[inline(always)]
 fn may_go_on<S: Simulator>(sim: &S, place: usize, event: &Event, some: bool) -> bool
     ensures { result ≡ false → is_some (refusal_of (S.world sim.now) event.now) ≡ true }
@@ -67,7 +67,8 @@ pub fn repeat<S: Simulator>(
     event: &Event,
     most: u64,
 ) -> Result<bool, AllocError>
-    ensures { IfOk result (λ some. Happened (S.world sim.old) (repeats most event.now (S.world sim.old)) (S.world sim.new) some) }
+    ensures { IfOk result (λ some. Happened (S.world sim.old) (repeats most event.now (S.world sim.old))
+        (S.world sim.new) some) }
 {
     let mut some = false;
     for _ in 0..most {
@@ -86,7 +87,8 @@ pub fn repeat<S: Simulator>(
 /// Lets a core take its items.
 #[inline(always)]
 fn turn_core<S: Simulator>(sim: &mut S, place: usize, n: Id) -> Result<bool, AllocError>
-    ensures { IfOk result (λ some. Happened (S.world sim.old) (while_possible (CoreTurn n) (S.world sim.old)) (S.world sim.new) some) }
+    ensures { IfOk result (λ some. Happened (S.world sim.old) (while_possible (CoreTurn n) (S.world sim.old))
+        (S.world sim.new) some) }
 {
     if !sim.may_happen(place, &Event::CoreTurn(n)) {
         return Ok(false);
@@ -94,10 +96,12 @@ fn turn_core<S: Simulator>(sim: &mut S, place: usize, n: Id) -> Result<bool, All
     sim.turn(place, n, MOST_TIMES)
 }
 
-/// Lets each core take its items, unless it is known that none has one. Cores of which the simulator knows that they have none are passed over.
+/// Lets each core take its items, unless it is known that none has one. Cores of which the simulator knows that they
+/// have none are passed over.
 #[inline(always)]
 pub fn turn_cores<S: Simulator>(sim: &mut S, nodes: &[Id]) -> Result<bool, AllocError>
-    ensures { IfOk result (λ some. Happened (S.world sim.old) (each_core nodes.now (S.world sim.old)) (S.world sim.new) some) }
+    ensures { IfOk result (λ some. Happened (S.world sim.old) (each_core nodes.now (S.world sim.old)) (S.world sim.new)
+        some) }
 {
     if !sim.may_turn() {
         return Ok(false);
@@ -121,7 +125,8 @@ fn repeat_turn<S: Simulator>(
     end: (Id, Id),
     most: u64,
 ) -> Result<bool, AllocError>
-    ensures { IfOk result (λ some. Happened (S.world sim.old) (repeats most (end_event kind end) (S.world sim.old)) (S.world sim.new) some) }
+    ensures { IfOk result (λ some. Happened (S.world sim.old) (repeats most (end_event kind end) (S.world sim.old))
+        (S.world sim.new) some) }
 {
     if !sim.may_happen(place, &kind.event(end)) {
         return Ok(false);
@@ -129,7 +134,8 @@ fn repeat_turn<S: Simulator>(
     repeat(sim, place, &kind.event(end), most)
 }
 
-/// Gives a link end its turn, so many times at most. In most rounds frames are what most ends have to give: so the simulator sends them on end.
+/// Gives a link end its turn, so many times at most. In most rounds frames are what most ends have to give: so the
+/// simulator sends them on end.
 #[inline(always)]
 pub fn turn_end<S: Simulator>(
     sim: &mut S,
@@ -138,7 +144,8 @@ pub fn turn_end<S: Simulator>(
     end: (Id, Id),
     most: u64,
 ) -> Result<bool, AllocError>
-    ensures { IfOk result (λ some. Happened (S.world sim.old) (repeats most (end_event kind end) (S.world sim.old)) (S.world sim.new) some) }
+    ensures { IfOk result (λ some. Happened (S.world sim.old) (repeats most (end_event kind end) (S.world sim.old))
+        (S.world sim.new) some) }
 {
     match kind {
         EndTurn::Open => repeat_turn(sim, kind, place, end, most),
@@ -148,44 +155,21 @@ pub fn turn_end<S: Simulator>(
     }
 }
 
-/// The first place from `place` on at which a link end of the simulator may have such a turn. In most rounds frames are due at many ends, and
-/// anything else is to be done at few: so the two are asked apart.
+/// The first place from `place` on at which a link end may have a turn, where it is known that these are the ends of
+/// the simulator; else the place itself.
 #[inline(always)]
-fn next_turn<S: Simulator>(sim: &S, kind: EndTurn, place: usize) -> usize
-    ensures onward { place ≤ result }
-    ensures passed { (at : ℕ) (end : ℕ × ℕ) → place ≤ at → at < result → slice_get (ends_in (S.world sim.now).topology) at ≡ Some end → is_some (refusal_of (S.world sim.now) (end_event kind end)) ≡ true }
-{
-    match kind {
-        EndTurn::Open => sim.next_busy(place),
-        EndTurn::Pull => sim.next_busy(place),
-        EndTurn::Transmit => sim.next_due(place),
-        EndTurn::Pump => sim.next_busy(place),
-    }
-}
-
-/// The first place from `place` on at which a link end may have such a turn, where it is known that these are the ends of the
-/// simulator; else the place itself.
-#[inline(always)]
-pub fn next_place<S: Simulator>(
-    sim: &S,
-    known: bool,
-    _ends: &[(Id, Id)],
-    kind: EndTurn,
-    place: usize,
-) -> usize
+pub fn next_place<S: Simulator>(sim: &S, known: bool, _ends: &[(Id, Id)], place: usize) -> usize
     requires { AreKnown known _ends.now (S.world sim.now) }
     ensures onward { place ≤ result }
-    ensures passed { (at : ℕ) (end : ℕ × ℕ) → place ≤ at → at < result → slice_get _ends.now at ≡ Some end → is_some (refusal_of (S.world sim.now) (end_event kind end)) ≡ true }
+    ensures passed { (kind : EndTurn) (at : ℕ) (end : ℕ × ℕ) → place ≤ at → at < result
+        → slice_get _ends.now at ≡ Some end
+        → is_some (refusal_of (S.world sim.now) (end_event kind end)) ≡ true }
 {
-    if known {
-        next_turn(sim, kind, place)
-    } else {
-        place
-    }
+    if known { sim.next_due(place) } else { place }
 }
 
-/// Gives each link end its turn, so many times at most. Where it is known that these are the ends of the simulator, those that
-/// have nothing to do are passed over.
+/// Gives each link end its turn, so many times at most. Where it is known that these are the ends of the simulator,
+/// those that have nothing to do are passed over.
 #[inline(always)]
 pub fn turn_known_ends<S: Simulator>(
     sim: &mut S,
@@ -195,23 +179,24 @@ pub fn turn_known_ends<S: Simulator>(
     most: u64,
 ) -> Result<bool, AllocError>
     requires { AreKnown known ends.now (S.world sim.old) }
-    ensures { IfOk result (λ some. Happened (S.world sim.old) (each (λ e. repeats most (end_event kind e)) ends.now (S.world sim.old)) (S.world sim.new) some) }
+    ensures { IfOk result (λ some. Happened (S.world sim.old) (each (λ e. repeats most (end_event kind e)) ends.now
+        (S.world sim.old)) (S.world sim.new) some) }
 {
     if sim.is_quiet() {
         return Ok(false);
     }
     let mut some = false;
-    let mut place = next_place(sim, known, ends, kind, 0);
+    let mut place = next_place(sim, known, ends, 0);
     while place < ends.len() {
         let any = turn_end(sim, kind, place, ends[place], most)?;
         some = either(some, any);
-        place = next_place(sim, known, ends, kind, place + 1);
+        place = next_place(sim, known, ends, place + 1);
     }
     Ok(some)
 }
 
-/// Lets each link end send the frames that are due, so many at most, as `turn_known_ends` does. It stands apart, so that its loop has registers
-/// of its own.
+/// Lets each link end send the frames that are due, so many at most, as `turn_known_ends` does. It stands apart, so
+/// that its loop has registers of its own.
 #[inline(never)]
 pub fn transmit_known_ends<S: Simulator>(
     sim: &mut S,
@@ -220,22 +205,24 @@ pub fn transmit_known_ends<S: Simulator>(
     most: u64,
 ) -> Result<bool, AllocError>
     requires { AreKnown known ends.now (S.world sim.old) }
-    ensures { IfOk result (λ some. Happened (S.world sim.old) (each (λ e. repeats most (end_event EndTurn.Transmit e)) ends.now (S.world sim.old)) (S.world sim.new) some) }
+    ensures { IfOk result (λ some. Happened (S.world sim.old) (each (λ e. repeats most (end_event EndTurn.Transmit e))
+        ends.now (S.world sim.old)) (S.world sim.new) some) }
 {
     if sim.is_quiet() {
         return Ok(false);
     }
     let mut some = false;
-    let mut place = next_place(sim, known, ends, EndTurn::Transmit, 0);
+    let mut place = next_place(sim, known, ends, 0);
     while place < ends.len() {
         let any = sim.transmit(place, ends[place], most)?;
         some = either(some, any);
-        place = next_place(sim, known, ends, EndTurn::Transmit, place + 1);
+        place = next_place(sim, known, ends, place + 1);
     }
     Ok(some)
 }
 
-/// Whether it is known that these are the link ends of the simulator, and may be used: it isn't asked where nothing is to be done.
+/// Whether it is known that these are the link ends of the simulator, and may be used: it isn't asked where nothing is
+/// to be done.
 #[inline(always)]
 pub fn are_known<S: Simulator>(sim: &S, ends: &[(Id, Id)]) -> bool
     ensures { AreKnown result ends.now (S.world sim.now) }

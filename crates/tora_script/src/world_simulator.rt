@@ -69,7 +69,8 @@ fn mixed_topology(
     requires dests { AreIds dests.now }
     ensures made { IfOk result (λ t. t ≡ mixed_topology options.erasure links.now dests.now marks.now) }
     ensures sound { IfOk result (λ _. topology_fault_within options.limits (topology_of links.now dests.now) ≡ None) }
-    ensures fault { IfErr result (λ e. ((e ≡ CoreError.Memory) × (topology_fault_within options.limits (topology_of links.now dests.now) ≡ None))
+    ensures fault { IfErr result (λ e. ((e ≡ CoreError.Memory) × (topology_fault_within options.limits
+        (topology_of links.now dests.now) ≡ None))
         ⊎ (topology_fault_within options.limits (topology_of links.now dests.now) ≡ Some e)) }
 {
     let mut topology = Topology::with_limits(alloc, options.limits, links, dests)?;
@@ -127,11 +128,6 @@ impl Simulator for Sim {
     #[inline(always)]
     fn next_due(&self, place: usize) -> usize {
         Sim::next_due(self, place)
-    }
-
-    #[inline(always)]
-    fn next_busy(&self, place: usize) -> usize {
-        Sim::next_busy(self, place)
     }
 
     fn settle(&mut self) {

@@ -1,4 +1,4 @@
--- Offers and their answers, one list after another.
+-- Offers and their results, one list after another.
 use Rattle.std.specs.Option.{option_map_or}
 use Rattle.std.proofs.Common.{◌≡◌, ℕ, zero, suc, ◌<◌, Bool, List, [], ◌∷◌, ◌++◌, take, drop, length, set, get_or, refl, sym, ap, subst, append_assoc, append-nil, arith, slice_get, Some, false}
 use Rattle.tora_seat.specs.declared.cargo.Cargo.{Cargo}

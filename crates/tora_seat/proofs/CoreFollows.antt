@@ -1,4 +1,4 @@
--- The core after an item is what the inputs that it accepted make of it.
+-- The core after an item is the result of the inputs that it accepted.
 use Rattle.std.proofs.Common.{◌≡◌, ℕ, List, [], ◌∷◌, ◌++◌, refl, sym, ap, ◌∙◌}
 use Rattle.tora_core.specs.declared.Input.{Input}
 use Rattle.tora_core.specs.CoreRun.{CoreView, core_after, core_after_all}

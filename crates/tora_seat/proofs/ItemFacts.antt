@@ -25,8 +25,8 @@ put_at f k a = ap (λ b. if b then a else f k) (eq-eqb k k refl)
 pub put_off : {A : Type 0} (f : ℕ → A) (j : ℕ) (a : A) (k : ℕ) → nat_eq j k ≡ false → put_one f j a k ≡ f k
 put_off f j a k off = ap (λ b. if b then a else f k) (turned j k off)
 
--- where a life is current: it is the one served, nothing was handed back, and what was put and is still to be sent is what was broadcast;
--- where none is: nothing was handed back and the link is not up, or the life served is cut
+-- if a life is current: it is the one served, nothing was returned, and the packets put and still to be sent are those
+-- broadcast; if none is: nothing was returned and the link is not up, or the life served is cut
 abbrev pub Stands : Option Life → List Packet → Option Life → Bool → List Packet → List Packet → Bool → Bool → Option Life → Type 0
 Stands served ps pending up put all back down None = ((back ≡ false) × (up ≡ false) × (put ≡ all)) ⊎ ((back ≡ true) × (pending ≡ served) × Begins put all × (up ≡ false → down ≡ true))
 Stands served ps pending up put all back down (Some l) = (served ≡ Some l) × (back ≡ false) × (up ≡ true) × (put ++ ps ≡ all)
@@ -171,7 +171,7 @@ module _ (answers : Answers) (ks : List ℕ) (k : ℕ) (first : SeatState) (serv
         near = ap (λ (x : CoreView). x.neighbours) c.core ∙ same-neighbours v.seat.core input now ∙ near;
       }
 
-  -- whoever was told, this life is current after an accepted input: its packets are still to be sent
+  -- this life is current after an accepted input: its packets are still to be sent
   enters_up : (v : Serving) (input : Input) (now : ℕ) (l : Life) → AreOfLife k served v.offers → NothingAfterBack k v.offers → has_back k v.offers ≡ false → v.seat.core ≡ core_after_all first.core v.inputs → served ≡ Some l → v.seat.current k ≡ Some l →
       has_number k (core_after v.seat.core input now).up ≡ true → packets_put k v.offers ≡ all_of v → Sends (sends_of v.seat.core input now) (all_of (accepting v input now)) (accepting v input now)
   enters_up v input now l life quiet none f s cur up put = record {
@@ -412,7 +412,7 @@ module _ (answers : Answers) (ks : List ℕ) (k : ℕ) (first : SeatState) (serv
     near = h.near;
   }
 
-  -- whatever is pending, where nothing was handed back
+  -- whatever is pending, if nothing was returned
   pub forget_on : (v : Serving) (l : Option Life) → has_back k v.offers ≡ false → Keeps v → Keeps (with_pending v k l)
   forget_on v l none h = record { sends = record { life = h.sends.life; quiet = h.sends.quiet; stands = go (v.seat.current k) h.sends.stands }; core_is = h.core_is; near = h.near }
     where

@@ -37,7 +37,7 @@ none_pending (row ∷ rows) h k =
     let q = or_parts (is_some row.pending) (any_pending rows) h in
     cond_both (nat_eq k row.neighbour) row.pending (pending_of rows k) (λ o. o ≡ None) (λ _. life-none row.pending q.0) (λ _. none_pending rows q.1 k)
 
--- where none is pending, none is tried
+-- if none is pending, none is offered
 pub cuts_none : (answers : Answers) (ks : List ℕ) (v : Serving) → ((k : ℕ) → v.seat.pending k ≡ None) → after_cuts_tried answers ks v ≡ v
 unfolding after_cuts_tried
 cuts_none answers [] v h = refl
@@ -81,7 +81,8 @@ ends_row true rows i d new lt h = set_less rows i d new lt h.0 h.1
 
 -- ---- links that are up without a current life
 
--- where no neighbour is to be stepped down, and each that is not to be is not to be afterwards, none is to be stepped down afterwards
+-- where no neighbour is to be stepped down, and each that is not to be is not to be afterwards, none is to be stepped
+-- down afterwards
 settled_from : (s t : SeatState) (ks : List ℕ) → ((j : ℕ) → (has_number j s.core.up && is_none (s.current j)) ≡ false → (has_number j t.core.up && is_none (t.current j)) ≡ false) → first_cut s ks ≡ None → first_cut t ks ≡ None
 settled_from s t [] f e = refl
 settled_from s t (k ∷ ks) f e = go (cases_Bool (has_number k s.core.up && is_none (s.current k))) (λ q. settled_from s t ks f q)
@@ -130,7 +131,7 @@ settled_up s new k life rest set h =
         ap (λ b. b && is_none (put_one (current_of s.rows) k (Some life) j)) (up_same j s.core.up (In.LinkUp k) e refl)
         ∙ ap (λ b. has_number j s.core.up && is_none (if b then Some life else current_of s.rows j)) (turned k j e) ∙ off
 
--- what is known of an input that the core accepted
+-- facts about an input that the core accepted
 pub steps_quietly : (over : Bool) (input : Input) (now : ℕ) (s t : SeatView) (core : CoreView) (given rows new : List LinkRow) (inputs : List Input) → s ≡ t → refusal_of s.core input ≡ None → core ≡ core_after s.core input now → given ≡ s.rows → rows ≡ new →
     EndsLives over given new → StepsQuietly (not over) input t (record { core = core; rows = rows; inputs = inputs; stepped = s.stepped; answer = s.answer })
 steps_quietly over input now s t core given rows new inputs e free core_is given_is rows_is h =

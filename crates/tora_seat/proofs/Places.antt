@@ -11,7 +11,7 @@ use Rattle.tora_seat.specs.Rows.{neighbours_of, current_of, pending_of}
 pub turned : (a b : ℕ) → nat_eq a b ≡ false → nat_eq b a ≡ false
 turned a b e = ne_eqb b a (λ q. eqb-false a b e (sym q))
 
--- a number that stands behind others is none of them
+-- a number after others differs from them
 has_none : (n k : ℕ) (xs ys : List ℕ) → has_number n (xs ++ k ∷ ys) ≡ false → nat_eq k n ≡ false
 has_none n k [] ys h = (or_parts (nat_eq k n) (has_number n ys) h).0
 has_none n k (x ∷ xs) ys h = has_none n k xs ys (or_parts (nat_eq x n) (has_number n (xs ++ k ∷ ys)) h).1

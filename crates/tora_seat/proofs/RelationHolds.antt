@@ -1,4 +1,4 @@
--- The relation of serving holds of what the definition computes, whatever is answered.
+-- The relation of serving holds for the result of the definition, whatever the results of the offers.
 use Rattle.std.proofs.Common.{◌≡◌, ℕ, zero, suc, ◌≤◌, Bool, true, false, List, [], ◌∷◌, length, Option, Some, None, slice_get, refl, sym, ap, ◌∙◌, subst, arith}
 use Rattle.std.proofs.lemmas.Bool.{cond_both}
 use Rattle.tora_packet.specs.declared.Packet.{Packet}
@@ -159,7 +159,7 @@ module _ (answers : Answers) where
         does = item_holds ks item.now up tried (ap (λ (c : CoreView). c.neighbours) (cuts_core ks (begin_serving s) tried cuts) ∙ sym near) (slice_get ks item.seat) item.what;
       }
 
--- offers that give the serving whatever was answered, read back as answers
+-- the offers give the same serving when they are read as results of offers
 pub serves_so : {O : Type 0} (did_offer : O → ℕ → Cargo → Bool → O → Type 0) (item : Item) (s : SeatView) (outs : O) (new : SeatView) (after : O) → IsAscending s.core.neighbours →
     ((offers : List Offer) × AreOffered did_offer s.core.neighbours outs offers after × ((answers : Answers) → Follows answers [] offers → serving_of answers s.core.neighbours (state_of s) item ≡ serving_at item.now new offers)) →
     (offers : List Offer) × AreOffered did_offer s.core.neighbours outs offers after × Serves s.core.neighbours (state_of s) item (serving_at item.now new offers)

@@ -1,4 +1,4 @@
--- What stands in the relation of serving is what the definition computes, with the offers read back as answers.
+-- What the relation of serving allows is what the definition computes with the results of its offers.
 use Rattle.std.proofs.Common.{◌≡◌, ℕ, zero, suc, ◌<◌, ◌≤◌, true, false, List, [], ◌∷◌, ◌++◌, length, Option, Some, None, slice_get, if◌then◌else◌, refl, sym, ap, ◌∙◌, subst, append_assoc, append-nil, arith}
 use Rattle.std.proofs.lemmas.Bool.{cond_both}
 use Rattle.tora_packet.specs.declared.Packet.{Packet}
@@ -21,9 +21,9 @@ use Rattle.tora_seat.proofs.Ups.{core_accepted, down_accepted, count_up, count_m
 use Rattle.tora_seat.proofs.ItemFacts.{put_at}
 use Rattle.tora_seat.proofs.CutLinks.{is-current, not-current, least-first, none-first}
 
--- ---- what is done leads from one serving to another
+-- ---- each action leads from one serving to another
 
--- offers are made, and for all answers that these offers got, the definition gives what comes of it
+-- offers are made, and with their results the definition gives the serving
 pub record Leads (next : Answers → Serving) (v w : Serving) : Type 0 where
   made : List Offer
   grows : w.offers ≡ v.offers ++ made

@@ -1,5 +1,5 @@
--- What serving an item keeps, where it says something of the offers, the core and the accepted inputs alone: each offer keeps
--- it, and each accepted input.
+-- Invariants of serving that speak only of the offers, the core and the accepted inputs: each offer and each accepted
+-- input keeps them.
 use Rattle.std.proofs.Common.{◌≡◌, ℕ, zero, suc, Bool, true, false, true≢false, List, [], ◌∷◌, ◌++◌, length, Option, Some, None, sym}
 use Rattle.std.proofs.lemmas.Bool.{cond_both}
 use Rattle.std.specs.Prelude.{slice_get}
@@ -17,7 +17,7 @@ use Rattle.tora_seat.specs.declared.cargo.Cargo.{Cargo}
 use Rattle.tora_seat.specs.declared.cargo.Cargo.TheVariants as Gives
 use Rattle.tora_seat.specs.Serving.{SeatState, Serving, Offer, Answers, with_current, with_pending, after_cut_tried, after_cuts_tried, after_sent, after_broadcast, after_broadcasts, accepting, after_answer, after_step, first_cut, after_settling, after_input, is_current, after_old_down, after_cut_asked, after_life_cut, after_link_item, after_other_item, after_item_of, begin_serving, serving_of}
 
--- an offer behind others, and the lane's answer to it
+-- an offer after others, and its result
 abbrev pub Offering : Answers → (List Offer → CoreView → List (Input × ℕ) → Type 0) → Type 0
 Offering answers Holds =
     (offers : List Offer) (core : CoreView) (inputs : List (Input × ℕ)) (to : ℕ) (cargo : Cargo) (put : Bool) → (put ≡ true → answers offers to ≡ true)

@@ -23,7 +23,7 @@ use Rattle.tora_seat.specs.Rows.{SeatView, neighbours_of, current_of, pending_of
 use Rattle.tora_seat.specs.Bodies.{RowsGo, SeatGoes}
 use Rattle.tora_seat.proofs.Chains.{follows_split, offered_more}
 
--- what a refusal is, by what the core answered
+-- a refusal, by the result of the core
 pub not_refused : {A : Type 0} (o : Option StepError) (x : A) → (let r : Result A StepError = Ok x in MatchOption o (IsOk r) (λ e. r ≡ Err e)) → o ≡ None
 not_refused None x h = refl
 not_refused (Some e) x h = absurd (cc)
@@ -77,7 +77,7 @@ module _ {O : Type 0} (did_offer : O → ℕ → Cargo → Bool → O → Type 0
   pub seat_from : (next : Answers → List ℕ → Serving → Serving) (now : ℕ) (same s : SeatView) (outs : O) (new : SeatView) (after : O) → same ≡ s → SeatGoes did_offer next now same outs new after → SeatGoes did_offer next now s outs new after
   seat_from next now same s outs new after e a = subst (λ x. SeatGoes did_offer next now x outs new after) e a
 
-  -- what was done with the rows alone
+  -- the effect on the rows only
   pub rows_goes : (next : Answers → List ℕ → Serving → Serving) (now : ℕ) (s : SeatView) (outs : O) (given rows new : List LinkRow) (after : O) → neighbours_of s.rows ≡ s.core.neighbours → given ≡ s.rows → rows ≡ new → RowsGo did_offer next given outs new after →
       SeatGoes did_offer next now s outs (record s { rows = rows }) after
   rows_goes next now s outs given rows new after apart given_is rows_is r0 =
@@ -140,7 +140,7 @@ unfolding after_settling
 settling_more most answers ks now v k e =
     ap (λ (o : Option ℕ). elim o [ None ↦ v | Some k ↦ after_settling most answers ks now (after_step answers ks (In.LinkDown k) now v) ]) e
 
--- so many rounds are done
+-- a number of rounds
 pub record Rounds {O : Type 0} (did_offer : O → ℕ → Cargo → Bool → O → Type 0) (now : ℕ) (first : SeatView) (start : O) (i : ℕ) (s : SeatView) (outs : O) : Type 0 where
   pub made : List Offer
   pub offered : AreOffered did_offer first.core.neighbours start made outs
@@ -299,7 +299,7 @@ unfolding after_other_item
 other_quit_is answers ks now v = refl
 
 module _ {O : Type 0} (did_offer : O → ℕ → Cargo → Bool → O → Type 0) (now : ℕ) (s : SeatView) (outs : O) (new : SeatView) (after : O) where
-  -- an item of a link, by what it tells
+  -- an item of a link, by its content
   link_goes : (k : ℕ) (what told : What) (next : Answers → List ℕ → Serving → Serving) → what ≡ told → ((answers : Answers) (ks : List ℕ) (v : Serving) → after_link_item answers ks k now told v ≡ next answers ks v) →
       SeatGoes did_offer next now s outs new after → SeatGoes did_offer (λ answers ks. after_link_item answers ks k now what) now s outs new after
   link_goes k what told next e f =
@@ -339,7 +339,7 @@ module _ {O : Type 0} (did_offer : O → ℕ → Cargo → Bool → O → Type 0
   other_need_goes what d e = other_goes what (Tells.Need d) (λ answers ks. after_input answers ks (In.Need d) now) e (λ answers ks v. other_need_is answers ks now d v)
 
 module _ {O : Type 0} (did_offer : O → ℕ → Cargo → Bool → O → Type 0) (now : ℕ) (s : SeatView) (outs : O) where
-  -- nothing is done but to answer
+  -- nothing changes except the result
   pub link_beat_goes : (k : ℕ) (what : What) → what ≡ Tells.Beat → SeatGoes did_offer (λ answers ks. after_link_item answers ks k now what) now s outs s outs
   link_beat_goes k what e =
       link_goes did_offer now s outs s outs k what Tells.Beat (λ answers ks v. v) e (λ answers ks v. link_beat_is answers ks k now v) (seat_still did_offer (λ answers ks v. v) now s outs s refl (λ answers before. refl))

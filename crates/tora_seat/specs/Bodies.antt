@@ -1,4 +1,4 @@
--- What the parts of serving an item do, whatever the lanes answer.
+-- What the parts of serving an item do, for any results of the offers.
 use Rattle.std.specs.Prelude.{◌≡◌, ◌+◌, ◌*◌, ◌<◌, ◌≤◌, ◌⊎◌, ℕ, Bool, true, false, if◌then◌else◌, List, ◌++◌, length, is_some, Option, None, Some}
 use Rattle.tora_packet.specs.declared.Packet.{Packet}
 use Rattle.tora_arq.specs.declared.life.Life.{Life}
@@ -14,10 +14,14 @@ use Rattle.tora_seat.specs.Rows.{SeatView, neighbours_of, current_of, pending_of
 
 -- no link is up at a core where these are up without a current life
 abbrev pub IsSettled : CoreView → List ℕ → List LinkRow → Type 0
-IsSettled core up rows = first_cut (record { core = record core { up = up }; current = current_of rows; pending = pending_of rows }) core.neighbours ≡ None
+IsSettled core up rows = first_cut (record {
+  core = record core { up = up };
+  current = current_of rows;
+  pending = pending_of rows;
+}) core.neighbours ≡ None
 
--- what the type of a seat keeps: a row for each neighbour, the neighbours are different, and there is room for the inputs of an item; where the
--- marks say so, no cut is pending, and no link is up without a current life
+-- the invariant of a seat: a row for each neighbour, different neighbours, and room for the inputs of an item; the
+-- marks `has_pending` and `has_cut` are false only if there is no such row
 pub record IsSeat (core : CoreView) (rows : List LinkRow) (room : ℕ) (has_pending has_cut : Bool) : Type 0 where
   pub neighbours : neighbours_of rows ≡ core.neighbours
   pub different : has_repeat core.neighbours ≡ false
@@ -27,51 +31,62 @@ pub record IsSeat (core : CoreView) (rows : List LinkRow) (room : ℕ) (has_pend
 
 -- ---- one row
 
--- a pending cut is offered to the lane at this place, and is pending no longer where it is put
-abbrev pub TriesCut : {O : Type 0} → (O → ℕ → Cargo → Bool → O → Type 0) → ℕ → LinkRow → Option Life → O → LinkRow → O → Type 0
+-- a pending cut is offered to the lane at this place, and is no longer pending if it is put
+abbrev pub TriesCut : {O : Type 0} → (O → ℕ → Cargo → Bool → O → Type 0) → ℕ → LinkRow → Option Life → O → LinkRow → O
+    → Type 0
 TriesCut did_offer place row None outs new after = (new ≡ row) × (after ≡ outs)
 TriesCut did_offer place row (Some life) outs new after =
-    (put : Bool) × did_offer outs place (Gives.Cut life) put after × (new ≡ (if put then record row { pending = None } else row))
+    (put : Bool) × did_offer outs place (Gives.Cut life) put after
+    × (new ≡ (if put then record row { pending = None } else row))
 
--- a packet is offered to the lane at this place in the current life, and the life is over where it is handed back
-abbrev pub SendsTo : {O : Type 0} → (O → ℕ → Cargo → Bool → O → Type 0) → ℕ → Packet → LinkRow → Option Life → O → LinkRow → O → Type 0
+-- a packet is offered to the lane at this place in the current life; if the lane returns it, the life is over
+abbrev pub SendsTo : {O : Type 0} → (O → ℕ → Cargo → Bool → O → Type 0) → ℕ → Packet → LinkRow → Option Life → O
+    → LinkRow → O → Type 0
 SendsTo did_offer place packet row None outs new after = (new ≡ row) × (after ≡ outs)
 SendsTo did_offer place packet row (Some life) outs new after =
-    (put : Bool) × did_offer outs place (Gives.Packet life packet) put after × (new ≡ (if put then row else record row { current = None; pending = Some life }))
+    (put : Bool) × did_offer outs place (Gives.Packet life packet) put after
+    × (new ≡ (if put then row else record row { current = None; pending = Some life }))
 
--- whether the current life of a row is over; where it isn't, the row is as before
+-- whether the current life of a row is over; if not, the row is as before
 abbrev pub EndsLife : Bool → LinkRow → LinkRow → Type 0
 EndsLife false row new = new ≡ row
 EndsLife true row new = (is_some row.current ≡ true) × (is_some new.current ≡ false)
 
 -- ---- all rows
 
--- whether the current life of some row is over; where none is, the rows are as before
+-- whether the current life of some row is over; if not, the rows are as before
 abbrev pub EndsLives : Bool → List LinkRow → List LinkRow → Type 0
 EndsLives false rows new = new ≡ rows
 EndsLives true rows new = lives new < lives rows
 
 -- an item that is being served, with these rows and these offers
 abbrev pub on_rows : Serving → List LinkRow → List Offer → Serving
-on_rows v rows offers = record v { seat = record v.seat { current = current_of rows; pending = pending_of rows }; offers = offers }
+on_rows v rows offers = record v {
+  seat = record v.seat { current = current_of rows; pending = pending_of rows };
+  offers = offers;
+}
 
--- cargoes are offered, and for all answers that these offers got, the definition leads from the rows before to those after
-pub record RowsGo {O : Type 0} (did_offer : O → ℕ → Cargo → Bool → O → Type 0) (next : Answers → List ℕ → Serving → Serving) (rows : List LinkRow) (outs : O) (new : List LinkRow) (after : O) : Type 0 where
+-- cargoes are offered, and with the results of these offers the definition gives the rows after from the rows before
+pub record RowsGo {O : Type 0} (did_offer : O → ℕ → Cargo → Bool → O → Type 0) (next : Answers → List ℕ → Serving
+    → Serving) (rows : List LinkRow) (outs : O) (new : List LinkRow) (after : O) : Type 0 where
   pub made : List Offer
   pub offered : AreOffered did_offer (neighbours_of rows) outs made after
   pub same : neighbours_of new ≡ neighbours_of rows
-  pub leads : (answers : Answers) (v : Serving) (before : List Offer) → Follows answers before made → next answers (neighbours_of rows) (on_rows v rows before) ≡ on_rows v new (before ++ made)
+  pub leads : (answers : Answers) (v : Serving) (before : List Offer) → Follows answers before made
+      → next answers (neighbours_of rows) (on_rows v rows before) ≡ on_rows v new (before ++ made)
 
 -- ---- the whole seat
 
--- the same of a seat that serves an item of this tick
-pub record SeatGoes {O : Type 0} (did_offer : O → ℕ → Cargo → Bool → O → Type 0) (next : Answers → List ℕ → Serving → Serving) (now : ℕ) (seat : SeatView) (outs : O) (new : SeatView) (after : O) : Type 0 where
+-- the same for a seat that serves an item of this tick
+pub record SeatGoes {O : Type 0} (did_offer : O → ℕ → Cargo → Bool → O → Type 0) (next : Answers → List ℕ → Serving
+    → Serving) (now : ℕ) (seat : SeatView) (outs : O) (new : SeatView) (after : O) : Type 0 where
   pub made : List Offer
   pub offered : AreOffered did_offer seat.core.neighbours outs made after
   pub same : new.core.neighbours ≡ seat.core.neighbours
-  pub leads : (answers : Answers) (before : List Offer) → Follows answers before made → next answers seat.core.neighbours (serving_at now seat before) ≡ serving_at now new (before ++ made)
+  pub leads : (answers : Answers) (before : List Offer) → Follows answers before made
+      → next answers seat.core.neighbours (serving_at now seat before) ≡ serving_at now new (before ++ made)
 
--- whether an input was stepped with no life over; where it wasn't, the core refused it, or some life is over
+-- whether the core accepted an input and no life ended by it
 abbrev pub StepsQuietly : Bool → Input → SeatView → SeatView → Type 0
 StepsQuietly true input seat new = (new.core.up ≡ up_after seat.core.up input) × (new.rows ≡ seat.rows)
 StepsQuietly false input seat new = (is_some (refusal_of seat.core input) ≡ true) ⊎ (lives new.rows < lives seat.rows)

@@ -1,4 +1,4 @@
--- What the core's seat keeps: the core, a row for each neighbour, and what the last item came to.
+-- The state of a seat: the core, a row for each neighbour, and the results of the last item.
 use Rattle.std.specs.Prelude.{ℕ, ◌==◌, ◌+◌, Bool, false, if◌then◌else◌, List, [], ◌∷◌, map, find, option_map, is_some, is_none, ◌&&◌, ◌||◌, Option, None, Some}
 use Rattle.tora_arq.specs.declared.life.Life.{Life}
 use Rattle.tora_core.specs.declared.Input.{Input}
@@ -14,9 +14,9 @@ use Rattle.tora_seat.specs.Serving.{SeatState, Serving, Step, Offer}
 pub record SeatView : Type 0 where
   pub core : CoreView
   pub rows : List LinkRow  -- one for each neighbour, in ascending order
-  pub inputs : List Input  -- those that the core accepted for the last item
+  pub inputs : List Input  -- the inputs that the core accepted for the last item
   pub stepped : Option Stepped  -- the packet that was stepped for it
-  pub answer : Answer  -- what was answered
+  pub answer : Answer  -- the result of the item
 
 abbrev pub neighbours_of : List LinkRow → List ℕ
 neighbours_of rows = map (λ row. row.neighbour) rows
@@ -29,7 +29,7 @@ abbrev pub pending_of : List LinkRow → ℕ → Option Life
 pending_of [] k = None
 pending_of (row ∷ rows) k = if k == row.neighbour then row.pending else pending_of rows k
 
--- some cut was not put yet
+-- some cut is not in its lane yet
 abbrev pub any_pending : List LinkRow → Bool
 any_pending [] = false
 any_pending (row ∷ rows) = is_some row.pending || any_pending rows
@@ -50,7 +50,7 @@ abbrev pub steps_of : Option Stepped → List Step
 steps_of None = []
 steps_of (Some p) = step_of p ∷ []
 
--- an item of this tick that is being served, with what the seat keeps of it and these offers
+-- an item of this tick that is being served, with the state of the seat and these offers
 abbrev pub serving_at : ℕ → SeatView → List Offer → Serving
 serving_at now s offers = record {
   seat = state_of s;
@@ -64,9 +64,15 @@ serving_at now s offers = record {
 abbrev pub new_row : ℕ → LinkRow
 new_row k = record { neighbour = k; current = None; pending = None }
 
--- the seat of a core, with no life at all
+-- the seat of a core without any life
 abbrev pub first_seat : CoreView → SeatView
-first_seat core = record { core = core; rows = map new_row core.neighbours; inputs = []; stepped = None; answer = Says.Nothing }
+first_seat core = record {
+  core = core;
+  rows = map new_row core.neighbours;
+  inputs = [];
+  stepped = None;
+  answer = Says.Nothing;
+}
 
 -- the link is up at the core, and no life is current
 abbrev pub is_cut : CoreView → LinkRow → Bool

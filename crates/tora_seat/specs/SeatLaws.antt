@@ -1,4 +1,4 @@
--- What serving an item keeps, in terms of lives, packets and inputs.
+-- Invariants of serving items, in terms of lives, packets and inputs.
 use Rattle.std.specs.Prelude.{◌≡◌, ℕ, ◌==◌, ◌&&◌, ◌||◌, not, Bool, true, false, is_some, if◌then◌else◌, List, [], ◌∷◌, ◌++◌, slice_get, Option, None, Some}
 use Rattle.tora_packet.specs.declared.Packet.{Packet}
 use Rattle.tora_arq.specs.declared.life.Life.{Life}
@@ -23,11 +23,11 @@ abbrev pub is_packet : Cargo → Bool
 is_packet (Gives.Packet life packet) = true
 is_packet (Gives.Cut life) = false
 
--- a packet for this neighbour that was handed back
+-- a packet for this neighbour that the lane returned
 abbrev pub is_back : ℕ → Offer → Bool
 is_back k o = (o.to == k) && (is_packet o.cargo && not o.put)
 
--- some packet for this neighbour was handed back
+-- the lane returned some packet for this neighbour
 abbrev pub has_back : ℕ → List Offer → Bool
 has_back k [] = false
 has_back k (o ∷ offers) = is_back k o || has_back k offers
@@ -36,12 +36,12 @@ abbrev pub has_offer : ℕ → List Offer → Bool
 has_offer k [] = false
 has_offer k (o ∷ offers) = (o.to == k) || has_offer k offers
 
--- after a packet that was handed back nothing more is offered to this neighbour
+-- after the lane returned a packet nothing more is offered to this neighbour
 abbrev pub NothingAfterBack : ℕ → List Offer → Type 0
 NothingAfterBack k [] = Unit {0}
 NothingAfterBack k (o ∷ offers) = (is_back k o ≡ true → has_offer k offers ≡ false) × NothingAfterBack k offers
 
--- the packet of a cargo, where it is one
+-- the packet of a cargo, if it is one
 abbrev pub packet_in : Cargo → List Packet
 packet_in (Gives.Packet life packet) = packet ∷ []
 packet_in (Gives.Cut life) = []
@@ -61,12 +61,13 @@ abbrev pub AreOfLife : ℕ → Option Life → List Offer → Type 0
 AreOfLife k life [] = Unit {0}
 AreOfLife k life (o ∷ offers) = (o.to ≡ k → IsOfLife life o.cargo) × AreOfLife k life offers
 
--- ---- what the core did
+-- ---- the actions of the core
 
 -- the packets that inputs broadcast to this neighbour: those of each input after which its link is up
 abbrev pub broadcast_to : ℕ → CoreView → List (Input × ℕ) → List Packet
 broadcast_to k c [] = []
-broadcast_to k c ((input, now) ∷ inputs) = (if has_number k (core_after c input now).up then sends_of c input now else []) ++ broadcast_to k (core_after c input now) inputs
+broadcast_to k c ((input, now) ∷ inputs) = (if has_number k (core_after c input now).up then sends_of c input now
+    else []) ++ broadcast_to k (core_after c input now) inputs
 
 abbrev pub is_link_down : ℕ → Input → Bool
 is_link_down k (In.LinkUp j) = false
@@ -74,12 +75,13 @@ is_link_down k (In.LinkDown j) = j == k
 is_link_down k (In.Packet j packet) = false
 is_link_down k (In.Need d) = false
 
--- the link to this neighbour is among those that these inputs stepped down
+-- these inputs took down the link to this neighbour
 abbrev pub has_link_down : ℕ → List (Input × ℕ) → Bool
 has_link_down k [] = false
 has_link_down k ((input, now) ∷ inputs) = is_link_down k input || has_link_down k inputs
 
--- the life that packets for this neighbour go in while an item is served: the one that the item brings up for it, or else the current one
+-- the life of packets for this neighbour while an item is served: the one that the item brings up, or else the current
+-- one
 abbrev pub life_brought : ℕ → Option ℕ → What → Option Life → Option Life
 life_brought k None what life = life
 life_brought k (Some j) (Tells.Up new) life = if j == k then Some new else life
@@ -95,19 +97,21 @@ life_brought k (Some j) Tells.Quit life = life
 abbrev pub life_served : List ℕ → SeatState → Item → ℕ → Option Life
 life_served ks s item k = life_brought k (slice_get ks item.seat) item.what (s.current k)
 
--- the first list is the beginning of the second
+-- the first list is a prefix of the second
 abbrev pub Begins : List Packet → List Packet → Type 0
 Begins xs ys = (rest : List Packet) × (xs ++ rest ≡ ys)
 
--- ---- what holds of an item that was served, at a neighbour
+-- ---- properties of a served item, at a neighbour
 
--- of the life served, what was put is the beginning of what the core broadcast while its link was up, and all of it where nothing was handed back
+-- in that life, what was put is a prefix of what the core broadcast while its link was up, and all of it if no packet
+-- was returned
 pub record HasNoGap (ks : List ℕ) (first : SeatState) (item : Item) (k : ℕ) (v : Serving) : Type 0 where
   pub life : AreOfLife k (life_served ks first item k) v.offers
   pub begins : Begins (packets_put k v.offers) (broadcast_to k first.core v.inputs)
   pub whole : has_back k v.offers ≡ false → packets_put k v.offers ≡ broadcast_to k first.core v.inputs
 
--- where a packet was handed back, its life is over: nothing more is offered, its cut is pending, and the link is stepped down in this very item
+-- if the lane returned a packet, its life is over: nothing more is offered, its cut is pending, and the link goes down
+-- in the same item
 pub record EndsAtBack (ks : List ℕ) (first : SeatState) (item : Item) (k : ℕ) (v : Serving) : Type 0 where
   pub nothing_more : NothingAfterBack k v.offers
   pub over : has_back k v.offers ≡ true → v.seat.current k ≡ None

@@ -1,4 +1,4 @@
--- Serving an item: what the core's seat makes of it, and which cargoes it offers to the lanes to the neighbours.
+-- Serving an item: its effect on the seat of the core, and the cargoes offered to the lanes to the neighbours.
 use Rattle.std.specs.Prelude.{ℕ, zero, suc, ◌==◌, ◌&&◌, Bool, true, false, is_none, if◌then◌else◌, List, [], ◌∷◌, ◌++◌, length, slice_get, Option, None, Some}
 use Rattle.tora_packet.specs.declared.Packet.{Packet}
 use Rattle.tora_arq.specs.declared.life.Life.{Life}
@@ -16,11 +16,11 @@ use Rattle.tora_seat.specs.declared.cargo.Cargo.TheVariants as Gives
 use Rattle.tora_seat.specs.declared.answer.Answer.{Answer}
 use Rattle.tora_seat.specs.declared.answer.Answer.TheVariants as Says
 
--- a value for each neighbour, changed at one
+-- a function on neighbours, changed at one
 abbrev pub put_one : {A : Type 0} → (ℕ → A) → ℕ → A → ℕ → A
 put_one f k v j = if j == k then v else f j
 
--- the core with its seat: of each neighbour the life that is current, and the life whose cut was not put yet
+-- the core with its seat: for each neighbour the current life, and the life whose cut is not in the lane yet
 pub record SeatState : Type 0 where
   pub core : CoreView
   pub current : ℕ → Option Life
@@ -42,7 +42,8 @@ pub record Step : Type 0 where
   pub from : ℕ
   pub parcel : Parcel
 
--- an item that is being served: the seat, what was offered, the inputs that the core accepted, the packets stepped, and the answer
+-- an item that is being served: the seat, the offers, the inputs that the core accepted, the packets stepped, and the
+-- result
 pub record Serving : Type 0 where
   pub seat : SeatState
   pub offers : List Offer
@@ -50,7 +51,7 @@ pub record Serving : Type 0 where
   pub steps : List Step
   pub answer : Answer
 
--- whether the next cargo for a neighbour is put, by the offers before it
+-- whether the lane to a neighbour takes the next cargo, as a function of the earlier offers
 abbrev pub Answers : Type 0
 Answers = List Offer → ℕ → Bool
 
@@ -65,7 +66,7 @@ with_current v k life = record v { seat = record v.seat { current = put_one v.se
 abbrev pub with_pending : Serving → ℕ → Option Life → Serving
 with_pending v k life = record v { seat = record v.seat { pending = put_one v.seat.pending k life } }
 
--- a pending cut is tried once
+-- a pending cut is offered once
 abbrev pub after_cut_tried : Answers → Serving → ℕ → Option Life → Serving
 after_cut_tried answers v k None = v
 after_cut_tried answers v k (Some life) =
@@ -77,7 +78,8 @@ unfoldable pub after_cuts_tried : Answers → List ℕ → Serving → Serving
 after_cuts_tried answers [] v = v
 after_cuts_tried answers (k ∷ ks) v = after_cuts_tried answers ks (after_cut_tried answers v k (v.seat.pending k))
 
--- a packet goes to a neighbour with its current life; where it is handed back, that life is over here and its cut is pending
+-- a packet is offered to a neighbour in its current life; if the lane returns it, that life is over and its cut is
+-- pending
 abbrev pub after_sent : Answers → Packet → Serving → ℕ → Option Life → Serving
 after_sent answers packet v k None = v
 after_sent answers packet v k (Some life) =
@@ -85,36 +87,43 @@ after_sent answers packet v k (Some life) =
     then offered v k (Gives.Packet life packet) true
     else with_pending (with_current (offered v k (Gives.Packet life packet) false) k None) k (Some life)
 
--- a packet goes to each neighbour, in ascending order
+-- a packet is offered to each neighbour, in ascending order
 unfoldable pub after_broadcast : Answers → Packet → List ℕ → Serving → Serving
 after_broadcast answers packet [] v = v
-after_broadcast answers packet (k ∷ ks) v = after_broadcast answers packet ks (after_sent answers packet v k (v.seat.current k))
+after_broadcast answers packet (k ∷ ks) v = after_broadcast answers packet ks
+    (after_sent answers packet v k (v.seat.current k))
 
 -- the packets go one after another, by ascending destination
 unfoldable pub after_broadcasts : Answers → List ℕ → List Packet → Serving → Serving
 after_broadcasts answers ks [] v = v
-after_broadcasts answers ks (packet ∷ packets) v = after_broadcasts answers ks packets (after_broadcast answers packet ks v)
+after_broadcasts answers ks (packet ∷ packets) v = after_broadcasts answers ks packets
+    (after_broadcast answers packet ks v)
 
 -- ---- inputs are stepped
 
 -- an input that the core accepts
 abbrev pub accepting : Serving → Input → ℕ → Serving
-accepting v input now = record v { seat = record v.seat { core = core_after v.seat.core input now }; inputs = v.inputs ++ (input, now) ∷ [] }
+accepting v input now = record v {
+  seat = record v.seat { core = core_after v.seat.core input now };
+  inputs = v.inputs ++ (input, now) ∷ [];
+}
 
--- one that is refused changes nothing, and is answered
+-- a refused input changes nothing, and the refusal is the result
 abbrev pub after_answer : Answers → List ℕ → Input → ℕ → Serving → Option StepError → Serving
-after_answer answers ks input now v None = after_broadcasts answers ks (sends_of v.seat.core input now) (accepting v input now)
+after_answer answers ks input now v None =
+    after_broadcasts answers ks (sends_of v.seat.core input now) (accepting v input now)
 after_answer answers ks input now v (Some error) = record v { answer = Says.Refused error }
 
 unfoldable pub after_step : Answers → List ℕ → Input → ℕ → Serving → Serving
 after_step answers ks input now v = after_answer answers ks input now v (refusal_of v.seat.core input)
 
--- the least neighbour whose link is up at the core without a current life: its life was cut, and it is to be stepped down
+-- the least neighbour whose link is up at the core without a current life: its life was cut, and its link goes down
 abbrev pub first_cut : SeatState → List ℕ → Option ℕ
 first_cut s [] = None
 first_cut s (k ∷ ks) = if has_number k s.core.up && is_none (s.current k) then Some k else first_cut s ks
 
--- neighbours whose life was cut are stepped down, the least first, until none is left; there are at most so many
+-- the links of neighbours whose life was cut go down, the least first, until none is left; the number bounds their
+-- count
 unfoldable pub after_settling : ℕ → Answers → List ℕ → ℕ → Serving → Serving
 after_settling zero answers ks now v = v
 after_settling (suc most) answers ks now v =
@@ -123,7 +132,7 @@ after_settling (suc most) answers ks now v =
       | Some k ↦ after_settling most answers ks now (after_step answers ks (In.LinkDown k) now v)
     ]
 
--- one input, with its sends and all that follows from them
+-- one input, with its sends and all their consequences
 unfoldable pub after_input : Answers → List ℕ → Input → ℕ → Serving → Serving
 after_input answers ks input now v = after_settling (length ks) answers ks now (after_step answers ks input now v)
 
@@ -141,11 +150,11 @@ abbrev pub after_old_down : Answers → List ℕ → ℕ → ℕ → Serving →
 after_old_down answers ks k now v None = v
 after_old_down answers ks k now v (Some life) = after_down answers ks k now v
 
--- the cut of a neighbour's current life is pending, and is tried once
+-- the cut of a neighbour's current life is pending, and is offered once
 abbrev pub after_cut_asked : Answers → Serving → ℕ → Life → Serving
 after_cut_asked answers v k life = after_cut_tried answers (with_pending v k (Some life)) k (Some life)
 
--- the current life of a neighbour is cut, and is over; where it has none, nothing happens
+-- the current life of a neighbour is cut, and is over; if it has none, nothing happens
 abbrev pub after_life_cut : Answers → List ℕ → ℕ → ℕ → Serving → Option Life → Serving
 after_life_cut answers ks k now v None = v
 after_life_cut answers ks k now v (Some life) = after_down answers ks k now (after_cut_asked answers v k life)
@@ -155,12 +164,19 @@ after_up answers ks k life now v = after_input answers ks (In.LinkUp k) now (wit
 
 abbrev pub after_packet : Answers → List ℕ → ℕ → Life → Packet → ℕ → Serving → Serving
 after_packet answers ks k life packet now v =
-    after_input answers ks (In.Packet k packet) now (record v { steps = v.steps ++ record { from = k; parcel = record { life = life; packet = packet } } ∷ [] })
+    after_input answers ks (In.Packet k packet) now (record v {
+      steps = v.steps ++ record {
+        from = k;
+        parcel = record { life = life; packet = packet };
+      } ∷ [];
+    })
 
 -- an item of the link to a neighbour
 unfoldable pub after_link_item : Answers → List ℕ → ℕ → ℕ → What → Serving → Serving
-after_link_item answers ks k now (Tells.Up life) v = after_up answers ks k life now (after_old_down answers ks k now v (v.seat.current k))
-after_link_item answers ks k now (Tells.Packet life packet) v = if is_current life (v.seat.current k) then after_packet answers ks k life packet now v else v
+after_link_item answers ks k now (Tells.Up life) v = after_up answers ks k life now
+    (after_old_down answers ks k now v (v.seat.current k))
+after_link_item answers ks k now (Tells.Packet life packet) v = if is_current life (v.seat.current k) then after_packet
+    answers ks k life packet now v else v
 after_link_item answers ks k now (Tells.Down life reason) v =
     if is_current life (v.seat.current k) then after_down answers ks k now v
     else if is_current life (v.seat.pending k) then with_pending v k None
@@ -172,13 +188,14 @@ after_link_item answers ks k now Tells.Show v = record v { answer = Says.Show }
 after_link_item answers ks k now (Tells.Status status) v = record v { answer = Says.Show }
 after_link_item answers ks k now Tells.Quit v = record v { answer = Says.Quit }
 
--- an item of a seat that is no link
+-- an item of a seat that is not a link
 unfoldable pub after_other_item : Answers → List ℕ → ℕ → What → Serving → Serving
 after_other_item answers ks now (Tells.Up life) v = v
 after_other_item answers ks now (Tells.Packet life packet) v = v
 after_other_item answers ks now (Tells.Down life reason) v = v
 after_other_item answers ks now (Tells.Need d) v = after_input answers ks (In.Need d) now v
-after_other_item answers ks now (Tells.Cut k) v = if has_number k ks then after_life_cut answers ks k now v (v.seat.current k) else v
+after_other_item answers ks now (Tells.Cut k) v = if has_number k ks then after_life_cut answers ks k now v
+    (v.seat.current k) else v
 after_other_item answers ks now Tells.Beat v = v
 after_other_item answers ks now Tells.Show v = record v { answer = Says.Show }
 after_other_item answers ks now (Tells.Status status) v = record v { answer = Says.Show }
@@ -188,15 +205,16 @@ abbrev pub after_item_of : Answers → List ℕ → Option ℕ → ℕ → What 
 after_item_of answers ks None now what v = after_other_item answers ks now what v
 after_item_of answers ks (Some k) now what v = after_link_item answers ks k now what v
 
--- nothing was done yet
+-- the state before an item is served
 abbrev pub begin_serving : SeatState → Serving
 begin_serving seat = record { seat = seat; offers = []; inputs = []; steps = []; answer = Says.Nothing }
 
--- an item is served: each pending cut is tried once, and then the item is that of the neighbour at its seat
+-- an item is served: each pending cut is offered once, and then the item is handled for the neighbour at its seat
 unfoldable pub serving_of : Answers → List ℕ → SeatState → Item → Serving
-serving_of answers ks seat item = after_item_of answers ks (slice_get ks item.seat) item.now item.what (after_cuts_tried answers ks (begin_serving seat))
+serving_of answers ks seat item = after_item_of answers ks (slice_get ks item.seat) item.now item.what
+    (after_cuts_tried answers ks (begin_serving seat))
 
--- ---- what it comes to
+-- ---- the conclusion
 
 -- the cargoes that were put into the lane to a neighbour, in order
 abbrev pub put_to : ℕ → List Offer → List Cargo

@@ -25,9 +25,14 @@ current_seat = record { core = core_after worked_core (In.LinkUp 2) 0; current =
 abbrev pub cut_seat : SeatState
 cut_seat = record { core = worked_core; current = λ k. None; pending = λ k. Some uneven }
 
--- the end of a life is served at tick 4, and the lane hands every cargo back
+-- the end of a life is served at tick 4, and the lane returns every cargo
 abbrev pub served : SeatState → Life → Serving
-served s life = serving_of (λ offers k. false) (2 ∷ []) s (record { seat = 0; number = 1; now = 4; what = Tells.Down life Because.Silent })
+served s life = serving_of (λ offers k. false) (2 ∷ []) s (record {
+  seat = 0;
+  number = 1;
+  now = 4;
+  what = Tells.Down life Because.Silent;
+})
 
 pub record Downs : Type 0 where
   -- the current life is over, and its link goes down
@@ -36,7 +41,7 @@ pub record Downs : Type 0 where
   -- the end of another life changes nothing
   pub passed_over : (served current_seat turned).seat.current 2 ≡ Some uneven
   pub not_stepped : (served current_seat turned).inputs ≡ []
-  -- the cut of a life that has ended is pending no longer, and that of another one stays so
+  -- the cut of the ended life is no longer pending, and that of another life still is
   pub forgotten : (served cut_seat uneven).seat.pending 2 ≡ None
   pub stays_pending : (served cut_seat turned).seat.pending 2 ≡ Some uneven
   pub none_stepped : (served cut_seat uneven).inputs ≡ []

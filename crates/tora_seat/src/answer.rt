@@ -1,15 +1,15 @@
-//! What serving an item answers.
+//! The result of serving an item.
 use tora_core::StepError;
 
-/// What serving an item answers.
+/// The result of serving an item.
 #[derive(Clone, Copy, Debug, PartialEq, Eq, Hash)]
 pub enum Answer {
-    /// Nothing is to be said.
+    /// Nothing to report.
     Nothing,
     /// The core refused an input.
     Refused(StepError),
-    /// The core is to be shown.
+    /// The caller has to print the core.
     Show,
-    /// The core is to end.
+    /// The caller has to end the core.
     Quit,
 }

@@ -1,4 +1,5 @@
-//! What a link end and a core's seat hand each other. The simulator and the threads of a running node both call this.
+//! What a link end and the seat of a core pass to each other. The simulator, the routers and the threads of a node call
+//! this.
 ghost use Rattle.std.specs.Prelude.{◌≡◌};
 ghost use Rattle.tora_arq.specs.LinkEnd.{bound_life};
 ghost use Rattle.tora_seat.specs.Between.{what_of, after_cargo, after_cut_of_bound};
@@ -6,7 +7,7 @@ ghost use Rattle.tora_seat.specs.Between.{what_of, after_cargo, after_cut_of_bou
 use crate::{Cargo, What};
 use tora_arq::{LinkEnd, LinkEvent};
 
-/// What an event of a link end tells the core.
+/// The content of the item that an event of a link end becomes.
 pub fn what_of(event: LinkEvent) -> What
     ensures { result ≡ what_of event }
 {
@@ -17,7 +18,8 @@ pub fn what_of(event: LinkEvent) -> What
     }
 }
 
-/// Hands a cargo to the link end: submits its packet, or cuts its life. A packet that the end refuses is dropped: its life has ended.
+/// Passes a cargo to the link end: submits its packet, or cuts its life. A packet that the end refuses is dropped,
+/// because its life has ended.
 pub fn hand_in(end: &mut LinkEnd, cargo: &Cargo)
     ensures { end.new ≡ record end.old { state = after_cargo end.old.state cargo.now } }
 {

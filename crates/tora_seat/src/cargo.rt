@@ -1,12 +1,12 @@
-//! What the core gives a link.
+//! A message from the core to a link.
 use tora_arq::Life;
 use tora_packet::Packet;
 
-/// What the core gives a link.
+/// A message from the core to a link.
 #[derive(Clone, Copy, Debug, PartialEq, Eq, Hash)]
 pub enum Cargo {
-    /// A packet for the neighbour in a life.
+    /// A packet to send to the neighbour in a life.
     Packet(Life, Packet),
-    /// A life is cut.
+    /// An order to end this life.
     Cut(Life),
 }

@@ -13,7 +13,7 @@ use std::marker::Model;
 use tora_arq::Life;
 use tora_core::{Core, Input, Sends};
 
-/// The core of a node with what it knows of its links, and the list in which the packets of a step stand.
+/// The core of a node with the state of its links, and the list that holds the packets of a step.
 #[derive(Drop)]
 pub struct CoreSeat {
     seat: BareSeat,
@@ -29,7 +29,7 @@ impl Model for CoreSeat {
 }
 
 impl CoreSeat {
-    /// The seat of a core, with no current life and nothing pending.
+    /// The seat of a core, with no current life and no pending cut.
     ///
     /// # Errors
     /// `AllocError`.
@@ -57,14 +57,14 @@ impl CoreSeat {
         self.seat.inputs()
     }
 
-    /// The packet that was handed to the core for the last item, if one was.
+    /// The packet that was passed to the core for the last item, if one was.
     pub fn stepped(&self) -> Option<Stepped>
         ensures { result ≡ self.now.stepped }
     {
         self.seat.stepped()
     }
 
-    /// The current life of the neighbour at a place, from 0 on in ascending order; `None` where it has none, or there is
+    /// The current life of the neighbour at a place, from 0 on in ascending order. `None` if it has none, or there is
     /// no such neighbour.
     pub fn current(&self, place: usize) -> Option<Life>
         ensures { MatchOption (slice_get self.now.core.neighbours place) (result ≡ None)
@@ -73,8 +73,8 @@ impl CoreSeat {
         self.seat.current(place)
     }
 
-    /// The life of the neighbour at a place, from 0 on in ascending order, whose cut was not put yet; `None` where there
-    /// is none, or there is no such neighbour.
+    /// The life of the neighbour at a place, from 0 on in ascending order, whose cut is not in the lane yet. `None` if
+    /// there is none, or no such neighbour.
     pub fn pending(&self, place: usize) -> Option<Life>
         ensures { MatchOption (slice_get self.now.core.neighbours place) (result ≡ None)
             (λ k. result ≡ pending_of self.now.rows k) }
@@ -82,9 +82,9 @@ impl CoreSeat {
         self.seat.pending(place)
     }
 
-    /// Serves an item: each pending cut is tried once, and then the item is taken in.
+    /// Serves an item: offers each pending cut once, and then handles the item.
     ///
-    /// It takes no memory and waits for nobody. There is a lane for each neighbour at least.
+    /// It takes no memory and never waits. There must be a lane for each neighbour.
     pub fn serve<O: OutLanes>(&mut self, item: &Item, outs: &mut O) -> Answer
         requires { length self.old.core.neighbours ≤ O.count outs.old }
         ensures count { O.count outs.new ≡ O.count outs.old }
@@ -92,11 +92,13 @@ impl CoreSeat {
         ensures served { (offers : List Offer)
             × AreOffered O.did_offer self.old.core.neighbours outs.old offers outs.new
             × ((answers : Answers) → Follows answers [] offers
-            → serving_of answers self.old.core.neighbours (state_of self.old) item.entry.now ≡ serving_at item.entry.now.now self.new offers) }
-        // The same by the relation: one case for each kind of item and each situation.
+            → serving_of answers self.old.core.neighbours (state_of self.old) item.entry.now
+            ≡ serving_at item.entry.now.now self.new offers) }
+        // The same result by the relation, which has a case for each kind of item and each situation.
         ensures related { IsAscending self.old.core.neighbours → (offers : List Offer)
             × AreOffered O.did_offer self.old.core.neighbours outs.old offers outs.new
-            × Serves self.old.core.neighbours (state_of self.old) item.entry.now (serving_at item.entry.now.now self.new offers) }
+            × Serves self.old.core.neighbours (state_of self.old) item.entry.now
+            (serving_at item.entry.now.now self.new offers) }
         ensures answer { result ≡ self.new.answer }
     {
         self.seat.serve(item, &mut self.sends, outs)

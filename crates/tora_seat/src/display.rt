@@ -1,8 +1,8 @@
-//! Items, cargoes and answers as a log line shows them.
+//! Items, cargoes and results as a log line shows them.
 use crate::{Answer, Cargo, Item, Status, What};
 use std::fmt;
 
-/// A word, and behind it the life, the packet, the reason, the destination or the neighbour; of a status its own word.
+/// A word, followed by the life, the packet, the reason, the destination or the neighbour. A status is its own word.
 impl fmt::Display for What {
     ghost use Rattle.std.specs.Prelude.{Some};
     ghost use Rattle.tora_seat.specs.Texts.{written_what};
@@ -64,7 +64,7 @@ impl fmt::Display for Cargo {
     }
 }
 
-/// A word, and behind it the cause of a refusal.
+/// A word, and for a refusal its cause.
 impl fmt::Display for Answer {
     ghost use Rattle.std.specs.Prelude.{Some};
     ghost use Rattle.tora_seat.specs.Texts.{written_answer};

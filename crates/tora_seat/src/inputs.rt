@@ -1,4 +1,4 @@
-//! What the inputs that a core accepted in an item make of it.
+//! The effect of the inputs that a core accepts in an item.
 ghost use Rattle.std.specs.Prelude.{◌≡◌, ℕ, List};
 ghost use Rattle.std.specs.List.{AllByRecursion};
 ghost use Rattle.tora_core.specs.declared.Input.{Input};
@@ -6,10 +6,12 @@ ghost use Rattle.tora_core.specs.CoreRun.{core_after_all};
 ghost use Rattle.tora_seat.specs.Serving.{Answers, SeatState, serving_of};
 ghost use Rattle.tora_seat.specs.declared.item.Item.{Item};
 
-/// The core after an item is the run of the inputs that it accepted in it, each with the tick of the item.
+/// The core after an item is the core before it after a run of the inputs that it accepted, each at the tick of the
+/// item.
 pub fn accepted_inputs_make_the_core()
     ensures runs { (answers : Answers) (neighbours : List ℕ) (seat : SeatState) (item : Item)
-        → (serving_of answers neighbours seat item).seat.core ≡ core_after_all seat.core (serving_of answers neighbours seat item).inputs }
+        → (serving_of answers neighbours seat item).seat.core ≡ core_after_all seat.core
+        (serving_of answers neighbours seat item).inputs }
     ensures ticks { (answers : Answers) (neighbours : List ℕ) (seat : SeatState) (item : Item)
         → AllByRecursion (λ (input : Input × ℕ). input.1 ≡ item.now) (serving_of answers neighbours seat item).inputs }
 {}

@@ -4,12 +4,12 @@ use crate::What;
 /// An item for the core.
 #[derive(Clone, Copy, Debug, PartialEq, Eq, Hash)]
 pub struct Item {
-    /// The seat that it is of: that of a link, which has the place of its neighbour among the neighbours in ascending
-    /// order, or behind those the seat of the commands.
+    /// The seat that put it. The seat of a link is the place of its neighbour in ascending order; the seat of the
+    /// commands comes after those.
     pub seat: usize,
     /// Its number among the items of its seat, from 1 on.
     pub number: u64,
-    /// The tick of 100 ms at which it was put.
+    /// The tick of 100 ms at which it was put into the lane.
     pub now: u64,
     /// The content of the item.
     pub what: What,

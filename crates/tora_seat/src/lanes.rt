@@ -10,12 +10,12 @@ pub trait OutLanes {
     /// How many lanes there are.
     ghost count: { Self → ℕ };
 
-    /// What an offer made of the lanes: its place, the cargo, whether it was put, and the lanes after it.
+    /// An offer: old lanes, place, cargo, whether it was put into the lane, new lanes.
     ghost did_offer: { Self → ℕ → Cargo → Bool → Self → Type 0 };
 
-    /// Offers a cargo to the lane at a place from 0 on, and answers whether it was put at the back of it.
+    /// Offers a cargo to the lane at a place from 0 on. Returns whether it was put at the back of the lane.
     ///
-    /// A cargo that is not put changes nothing. It takes no memory and waits for nobody.
+    /// A cargo that is not put changes nothing. The call takes no memory and never waits.
     fn offer(&mut self, place: usize, cargo: Cargo) -> bool
         requires { place < count self.old }
         ensures count { count self.new ≡ count self.old }

@@ -1,4 +1,4 @@
-//! Serving as a relation: the definition that computes gives what the relation says, and the relation says nothing else.
+//! Serving as a relation, and the proof that the computed definition and the relation agree.
 ghost use Rattle.std.specs.Prelude.{◌≡◌, ℕ, true, List, Some};
 ghost use Rattle.tora_core.specs.declared.Input.{Input};
 ghost use Rattle.tora_core.specs.Numbers.{has_number, IsAscending};
@@ -7,22 +7,23 @@ ghost use Rattle.tora_seat.specs.Offers.{answers_in};
 ghost use Rattle.tora_seat.specs.Serving.{Answers, SeatState, Serving, after_input, first_cut, serving_of};
 ghost use Rattle.tora_seat.specs.Serves.{IsCut, Serves};
 
-/// Serving as a relation, one case for each kind of item and each situation, holds of what the computing definition
-/// gives, and of nothing else: two servings of an item that got the same answers are one.
+/// The relation of serving, with one case for each kind of item and each situation, holds for the result of the
+/// computed definition, and for no other: two servings of an item whose offers had the same results are equal.
 pub fn serving_is_the_relation()
-    // Whatever is answered for the cargoes, the relation holds of what comes of the item.
+    // Whatever the results of the offers, the relation holds for the computed result.
     ensures found { (answers : Answers) (ks : List ℕ) (s : SeatState) (item : Item)
         → ks ≡ s.core.neighbours → IsAscending ks → Serves ks s item (serving_of answers ks s item) }
-    // What the relation holds of is what comes of the item, with the offers in it read back as answers.
+    // If the relation holds for a result, it is the computed result, with its offers read as results of offers.
     ensures only { (ks : List ℕ) (s : SeatState) (item : Item) (v : Serving)
-        → ks ≡ s.core.neighbours → IsAscending ks → Serves ks s item v → v ≡ serving_of (answers_in v.offers) ks s item }
+        → ks ≡ s.core.neighbours → IsAscending ks → Serves ks s item v
+        → v ≡ serving_of (answers_in v.offers) ks s item }
 {}
 
-/// A link that is up at the core without a current life goes down before the item is done.
+/// A link that is up at the core without a current life goes down while the same item is served.
 pub fn cut_links_go_down()
-    // The link that goes down next is that of a neighbour whose life was cut.
+    // The next link to go down is that of a neighbour whose life was cut.
     ensures next { (ks : List ℕ) (s : SeatState) (k : ℕ) → first_cut s ks ≡ Some k → IsCut ks s k }
-    // After an input, and all that follows from it, there is no such neighbour left.
+    // After an input and all its consequences no such neighbour is left.
     ensures none_left { (answers : Answers) (ks : List ℕ) (input : Input) (now : ℕ) (v : Serving)
         → ((j : ℕ) → has_number j ks ≡ true → has_number j v.seat.core.neighbours ≡ true)
         → (k : ℕ) → ¬ IsCut ks (after_input answers ks input now v).seat k }

@@ -1,9 +1,11 @@
 //! The rows of the core's seat, one for each neighbour.
-ghost use Rattle.std.specs.Prelude.{◌≡◌, ◌<◌, ◌≤◌, ℕ, List, length, false, Option, None, Some, IfOk, slice_get, map, position, ◌==◌, if◌then◌else◌};
+ghost use Rattle.std.specs.Prelude.{◌≡◌, ◌<◌, ◌≤◌, ℕ, List, length, false, Option, None, Some, IfOk, slice_get, map};
+ghost use Rattle.std.specs.Prelude.{position, ◌==◌, if◌then◌else◌};
 ghost use Rattle.tora_core.specs.Numbers.{has_number, has_repeat};
 ghost use Rattle.tora_core.specs.CoreRun.{CoreView};
 ghost use Rattle.tora_seat.specs.Serving.{after_cuts_tried, after_broadcast, after_broadcasts, first_cut, is_current};
-ghost use Rattle.tora_seat.specs.Rows.{neighbours_of, current_of, pending_of, any_pending, new_row, is_cut, first_cut_of};
+ghost use Rattle.tora_seat.specs.Rows.{neighbours_of, current_of, pending_of, any_pending, new_row, is_cut};
+ghost use Rattle.tora_seat.specs.Rows.{first_cut_of};
 ghost use Rattle.tora_seat.specs.Bodies.{TriesCut, SendsTo, EndsLife, EndsLives, RowsGo};
 
 use crate::{Cargo, OutLanes};
@@ -13,18 +15,18 @@ use tora_core::Core;
 use tora_height::Id;
 use tora_packet::Packet;
 
-/// What the core's seat keeps of a neighbour.
+/// The state of a neighbour in the seat of a core.
 #[derive(Clone, Copy, Debug, PartialEq, Eq, Hash)]
 pub struct LinkRow {
     /// The neighbour.
     pub neighbour: Id,
     /// The life that is current.
     pub current: Option<Life>,
-    /// The life that is over and whose cut was not put yet.
+    /// The life that is over and whose cut is not in the lane yet.
     pub pending: Option<Life>,
 }
 
-/// Tries the pending cut of a row.
+/// Offers the pending cut of a row.
 fn try_cut<O: OutLanes>(row: &mut LinkRow, place: usize, outs: &mut O)
     requires { place < O.count outs.old }
     ensures count { O.count outs.new ≡ O.count outs.old }
@@ -37,7 +39,7 @@ fn try_cut<O: OutLanes>(row: &mut LinkRow, place: usize, outs: &mut O)
     }
 }
 
-/// Tries each pending cut once, and answers whether there is one that is pending still.
+/// Offers each pending cut once, and returns whether one is still pending.
 pub fn try_cuts<O: OutLanes>(rows: &mut [LinkRow], outs: &mut O) -> bool
     requires lanes { length rows.old ≤ O.count outs.old }
     requires different { has_repeat (neighbours_of rows.old) ≡ false }
@@ -53,8 +55,8 @@ pub fn try_cuts<O: OutLanes>(rows: &mut [LinkRow], outs: &mut O) -> bool
     is_left
 }
 
-/// Sends a packet to the neighbour of a row with its current life; where it is handed back, the life is over. Answers
-/// whether it was handed back.
+/// Sends a packet to the neighbour of a row in its current life; if the lane returns it, the life is over. Returns
+/// whether the lane returned it.
 fn send<O: OutLanes>(row: &mut LinkRow, place: usize, packet: &Packet, outs: &mut O) -> bool
     requires { place < O.count outs.old }
     ensures count { O.count outs.new ≡ O.count outs.old }
@@ -71,7 +73,7 @@ fn send<O: OutLanes>(row: &mut LinkRow, place: usize, packet: &Packet, outs: &mu
     false
 }
 
-/// Sends a packet to each neighbour, in ascending order. Answers whether one handed it back.
+/// Sends a packet to each neighbour, in ascending order. Returns whether a lane returned it.
 fn broadcast<O: OutLanes>(rows: &mut [LinkRow], packet: &Packet, outs: &mut O) -> bool
     requires lanes { length rows.old ≤ O.count outs.old }
     requires different { has_repeat (neighbours_of rows.old) ≡ false }
@@ -87,8 +89,8 @@ fn broadcast<O: OutLanes>(rows: &mut [LinkRow], packet: &Packet, outs: &mut O) -
     is_over
 }
 
-/// Sends the packets one after another, each to every neighbour in ascending order. Answers whether one of them was
-/// handed back; where none was, the rows are as before.
+/// Sends the packets one after another, each to every neighbour in ascending order. Returns whether a lane returned
+/// one; if not, the rows are as before.
 pub fn broadcast_all<O: OutLanes>(rows: &mut [LinkRow], packets: &[Packet], outs: &mut O) -> bool
     requires lanes { length rows.old ≤ O.count outs.old }
     requires different { has_repeat (neighbours_of rows.old) ≡ false }
@@ -127,8 +129,8 @@ pub fn first_cut(core: &Core, rows: &[LinkRow]) -> Option<Id>
         .map(|row| row.neighbour)
 }
 
-/// Whether the link of a row is up at the core without a current life. The core, which looks at one link after another, is asked last: most
-/// links have a life.
+/// Whether the link of a row is up at the core without a current life. The core is asked last, because it searches its
+/// links, and most links have a life.
 fn is_cut(core: &Core, row: &LinkRow) -> bool
     ensures { result ≡ is_cut core.now row.now }
 {
@@ -138,14 +140,14 @@ fn is_cut(core: &Core, row: &LinkRow) -> bool
     core.is_up(row.neighbour)
 }
 
-/// What is pending of a life whose cut was offered.
+/// The pending cut of a life after an offer: none if it was put.
 pub fn left_pending(is_put: bool, life: Life) -> Option<Life>
     ensures { result ≡ (if is_put then None else Some life) }
 {
     if is_put { None } else { Some(life) }
 }
 
-/// Whether it is the current life.
+/// Whether a life is the current one.
 pub fn is_current(life: &Life, current: &Option<Life>) -> bool
     ensures { result ≡ is_current life.now current.now }
 {

@@ -1,5 +1,6 @@
-//! The core's seat, but for the list in which a step's packets stand.
-ghost use Rattle.std.specs.Prelude.{true, false, ◌≡◌, ◌<◌, ◌≤◌, ◌+◌, ◌*◌, ℕ, List, length, [], Option, None, Some, IfOk, MatchOption, slice_get};
+//! The seat of a core without the list that holds the packets of a step.
+ghost use Rattle.std.specs.Prelude.{true, false, ◌≡◌, ◌<◌, ◌≤◌, ◌+◌, ◌*◌, ℕ, List, length, [], Option, None, Some};
+ghost use Rattle.std.specs.Prelude.{IfOk, MatchOption, slice_get};
 ghost use Rattle.tora_core.specs.Numbers.{has_number, IsAscending};
 ghost use Rattle.tora_seat.specs.Serving.{Answers, Offer, first_cut, with_current, with_pending, serving_of};
 ghost use Rattle.tora_seat.specs.Serves.{Serves};
@@ -16,8 +17,8 @@ use tora_core::{Core, Input, Sends};
 use tora_height::Id;
 use tora_packet::Packet;
 
-/// The core of a node with what it knows of its links. Where the packets of a step stand is lent to it (`Sends`): one list serves many seats, as in a
-/// simulation, where it stays at hand. `CoreSeat` is one with a list of its own.
+/// The core of a node with the state of its links. Callers lend it the list for the packets of a step (`Sends`), so
+/// that a simulator uses one list for many seats. `CoreSeat` has its own list.
 #[derive(Drop)]
 pub struct BareSeat {
     pub(crate) core: Core,
@@ -25,9 +26,9 @@ pub struct BareSeat {
     pub(crate) inputs: Vec<Input>,
     pub(crate) stepped: Option<Stepped>,
     pub(crate) answer: Answer,
-    /// Where it is false, no cut is pending.
+    /// If it is false, no cut is pending.
     pub(crate) has_pending: bool,
-    /// Where it is false, no link is up at the core without a current life.
+    /// If it is false, no link is up at the core without a current life.
     pub(crate) has_cut: bool,
 }
 
@@ -38,28 +39,18 @@ impl Model for BareSeat {
 
     ghost Value = { SeatView };
 
-    ghost view = { λ s. record { core = s.core; rows = s.rows.items; inputs = s.inputs.items; stepped = s.stepped; answer = s.answer } };
+    ghost view = { λ s. record {
+      core = s.core;
+      rows = s.rows.items;
+      inputs = s.inputs.items;
+      stepped = s.stepped;
+      answer = s.answer;
+    } };
 
     ghost invariant = { λ s. IsSeat s.core s.rows.items (vec_capacity s.inputs) s.has_pending s.has_cut };
 }
 
 impl BareSeat {
-    /// Prefetches what serving an item reads; for callers that serve many seats in turn. As with `Core::prefetch`, the
-    /// result has no meaning, but the caller must use it.
-    #[inline(always)]
-    pub fn prefetch(&self, item: &Item) -> u64 {
-        let row = match self.rows.get(item.seat) {
-            Some(row) => u64::from(row.neighbour),
-            None => 0,
-        };
-        let destination = match &item.what {
-            What::Packet(_, packet) => packet.destination(),
-            What::Need(d) => *d,
-            _ => 0,
-        };
-        row ^ self.inputs.len() as u64 ^ self.core.prefetch(item.seat, destination)
-    }
-
     /// The neighbour at a place, from 0 on in ascending order.
     pub(crate) fn neighbour(&self, place: usize) -> Option<Id>
         ensures { result ≡ slice_get self.now.core.neighbours place }
@@ -67,7 +58,7 @@ impl BareSeat {
         self.core.neighbours().get(place).copied()
     }
 
-    /// Begins to serve an item.
+    /// Clears what the seat notes while it serves an item.
     fn begin(&mut self)
         ensures { self.new ≡ record self.old { inputs = []; stepped = None; answer = Answer.Nothing } }
     {
@@ -83,7 +74,7 @@ impl BareSeat {
         first_cut(&self.core, &self.rows)
     }
 
-    /// Whether it is known that no link is up at the core without a current life.
+    /// Whether the seat knows that no link is up at the core without a current life.
     pub(crate) fn is_settled(&self) -> bool
         ensures { result ≡ true → IsSettled self.now.core self.now.core.up self.now.rows }
     {
@@ -98,7 +89,7 @@ impl BareSeat {
         self.has_cut = false;
     }
 
-    /// Gives the neighbour at a place another current life.
+    /// Sets the current life of the neighbour at a place.
     pub(crate) fn set_current(&mut self, place: usize, k: Id, life: Option<Life>)
         requires { slice_get self.old.core.neighbours place ≡ Some k }
         ensures rest { self.new ≡ record self.old { rows = self.new.rows } }
@@ -110,7 +101,7 @@ impl BareSeat {
         row.current = life;
     }
 
-    /// Gives the neighbour at a place another life whose cut is pending, or none.
+    /// Sets the life of the neighbour at a place whose cut is pending, or none.
     pub(crate) fn set_pending(&mut self, place: usize, k: Id, life: Option<Life>)
         requires { slice_get self.old.core.neighbours place ≡ Some k }
         ensures rest { self.new ≡ record self.old { rows = self.new.rows } }
@@ -123,9 +114,15 @@ impl BareSeat {
         row.pending = life;
     }
 
-    /// Notes a packet that is handed to the core.
+    /// Notes a packet that is passed to the core.
     pub(crate) fn note_stepped(&mut self, k: Id, life: &Life, packet: &Packet)
-        ensures { self.new ≡ record self.old { stepped = Some (record { from = k; life = life.now; packet = packet.now }) } }
+        ensures { self.new ≡ record self.old {
+          stepped = Some (record {
+            from = k;
+            life = life.now;
+            packet = packet.now;
+          });
+        } }
     {
         self.stepped = Some(Stepped {
             from: k,
@@ -142,7 +139,7 @@ impl BareSeat {
         place_in(self.core.neighbours(), k)
     }
 
-    /// The seat of a core, with no current life and nothing pending.
+    /// The seat of a core, with no current life and no pending cut.
     ///
     /// # Errors
     /// `AllocError`.
@@ -178,14 +175,14 @@ impl BareSeat {
         self.inputs.as_slice()
     }
 
-    /// The packet that was handed to the core for the last item, if one was.
+    /// The packet that was passed to the core for the last item, if one was.
     pub fn stepped(&self) -> Option<Stepped>
         ensures { result ≡ self.now.stepped }
     {
         self.stepped
     }
 
-    /// The current life of the neighbour at a place, from 0 on in ascending order; `None` where it has none, or there is
+    /// The current life of the neighbour at a place, from 0 on in ascending order. `None` if it has none, or there is
     /// no such neighbour.
     pub fn current(&self, place: usize) -> Option<Life>
         ensures { MatchOption (slice_get self.now.core.neighbours place) (result ≡ None)
@@ -197,8 +194,8 @@ impl BareSeat {
         }
     }
 
-    /// The life of the neighbour at a place, from 0 on in ascending order, whose cut was not put yet; `None` where there
-    /// is none, or there is no such neighbour.
+    /// The life of the neighbour at a place, from 0 on in ascending order, whose cut is not in the lane yet. `None` if
+    /// there is none, or no such neighbour.
     pub fn pending(&self, place: usize) -> Option<Life>
         ensures { MatchOption (slice_get self.now.core.neighbours place) (result ≡ None)
             (λ k. result ≡ pending_of self.now.rows k) }
@@ -209,9 +206,9 @@ impl BareSeat {
         }
     }
 
-    /// Serves an item: each pending cut is tried once, and then the item is taken in.
+    /// Serves an item: offers each pending cut once, and then handles the item.
     ///
-    /// It takes no memory and waits for nobody. There is a lane for each neighbour at least. What stood in `sends` is gone then.
+    /// It takes no memory and never waits. There must be a lane for each neighbour. `sends` is overwritten.
     pub fn serve<O: OutLanes>(&mut self, item: &Item, sends: &mut Sends, outs: &mut O) -> Answer
         requires { length self.old.core.neighbours ≤ O.count outs.old }
         ensures count { O.count outs.new ≡ O.count outs.old }
@@ -219,11 +216,13 @@ impl BareSeat {
         ensures served { (offers : List Offer)
             × AreOffered O.did_offer self.old.core.neighbours outs.old offers outs.new
             × ((answers : Answers) → Follows answers [] offers
-            → serving_of answers self.old.core.neighbours (state_of self.old) item.entry.now ≡ serving_at item.entry.now.now self.new offers) }
-        // The same by the relation: one case for each kind of item and each situation.
+            → serving_of answers self.old.core.neighbours (state_of self.old) item.entry.now
+            ≡ serving_at item.entry.now.now self.new offers) }
+        // The same result by the relation, which has a case for each kind of item and each situation.
         ensures related { IsAscending self.old.core.neighbours → (offers : List Offer)
             × AreOffered O.did_offer self.old.core.neighbours outs.old offers outs.new
-            × Serves self.old.core.neighbours (state_of self.old) item.entry.now (serving_at item.entry.now.now self.new offers) }
+            × Serves self.old.core.neighbours (state_of self.old) item.entry.now
+            (serving_at item.entry.now.now self.new offers) }
         ensures answer { result ≡ self.new.answer }
     {
         self.begin();

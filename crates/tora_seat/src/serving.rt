@@ -1,8 +1,12 @@
-//! How the core's seat takes an item in.
-ghost use Rattle.std.specs.Prelude.{true, false, ◌≡◌, ◌<◌, ◌≤◌, ◌+◌, ◌*◌, length, None, Some, slice_get, is_some, if◌then◌else◌};
+//! How the seat of a core handles an item.
+ghost use Rattle.std.specs.Prelude.{true, false, ◌≡◌, ◌<◌, ◌≤◌, ◌+◌, ◌*◌, length, None, Some, slice_get, is_some};
+ghost use Rattle.std.specs.Prelude.{if◌then◌else◌};
 ghost use Rattle.tora_core.specs.Numbers.{has_number};
 ghost use Rattle.tora_core.specs.CoreRun.{up_after};
-ghost use Rattle.tora_seat.specs.Serving.{Answers, with_pending, after_cuts_tried, after_step, after_settling, after_input, after_down, after_old_down, after_cut_asked, after_life_cut, after_up, after_packet, after_link_item, after_other_item, after_item_of, is_current};
+ghost use Rattle.tora_seat.specs.Serving.{Answers, with_pending, after_cuts_tried, after_step, after_settling};
+ghost use Rattle.tora_seat.specs.Serving.{after_input, after_down, after_old_down, after_cut_asked, after_life_cut};
+ghost use Rattle.tora_seat.specs.Serving.{after_up, after_packet, after_link_item, after_other_item, after_item_of};
+ghost use Rattle.tora_seat.specs.Serving.{is_current};
 ghost use Rattle.tora_seat.specs.Bodies.{IsSettled, SeatGoes, StepsQuietly};
 
 use crate::rows::{broadcast_all, is_current, left_pending, try_cuts};
@@ -13,7 +17,8 @@ use tora_height::Id;
 use tora_packet::Packet;
 
 impl BareSeat {
-    /// Steps an input, and sends what the core answers. Answers whether the core accepted it and no life is over by it.
+    /// Steps the core with an input, and sends the packets of the step. Returns whether the core accepted the input and
+    /// no life ended by it.
     fn step<O: OutLanes>(
         &mut self,
         input: &Input,
@@ -44,10 +49,11 @@ impl BareSeat {
         }
     }
 
-    /// Steps down each neighbour whose life was cut, the least first, until none is left.
+    /// Takes down the link of each neighbour whose life was cut, the least first, until none is left.
     fn settle<O: OutLanes>(&mut self, now: u64, sends: &mut Sends, outs: &mut O)
         requires lanes { length self.old.core.neighbours ≤ O.count outs.old }
-        requires room { length self.old.inputs + length self.old.core.neighbours ≤ 2 * (length self.old.core.neighbours + 1) }
+        requires room { length self.old.inputs + length self.old.core.neighbours
+            ≤ 2 * (length self.old.core.neighbours + 1) }
         ensures count { O.count outs.new ≡ O.count outs.old }
         ensures stepped { length self.new.inputs ≤ length self.old.inputs + length self.old.core.neighbours }
         ensures goes { SeatGoes O.did_offer
@@ -67,8 +73,8 @@ impl BareSeat {
         }
     }
 
-    /// Steps an input, and then all that follows from what it sends. Where it is known that no link is up without a
-    /// current life once the input is accepted, and no life is over by it, nothing follows.
+    /// Steps the core with an input, and then takes down the links whose lives its packets ended. There are none if
+    /// `is_settled` and no life ended by the input.
     fn take_in<O: OutLanes>(
         &mut self,
         input: &Input,
@@ -94,7 +100,7 @@ impl BareSeat {
         }
     }
 
-    /// Takes in an input that brings no link up or down.
+    /// Steps the core with an input that brings no link up or down.
     fn take_in_calm<O: OutLanes>(
         &mut self,
         input: &Input,
@@ -113,7 +119,7 @@ impl BareSeat {
         self.take_in(input, now, is_settled, sends, outs);
     }
 
-    /// The current life of the neighbour at a place is over.
+    /// Ends the current life of the neighbour at a place.
     fn on_end<O: OutLanes>(
         &mut self,
         place: usize,
@@ -135,7 +141,7 @@ impl BareSeat {
         self.take_in(&Input::LinkDown(k), now, is_settled, sends, outs);
     }
 
-    /// The current life of the neighbour at a place is over, if there is one.
+    /// Ends the current life of the neighbour at a place, if there is one.
     fn on_old_end<O: OutLanes>(
         &mut self,
         place: usize,
@@ -158,7 +164,7 @@ impl BareSeat {
         }
     }
 
-    /// A life of the neighbour at a place begins.
+    /// Begins a life of the neighbour at a place.
     fn on_up<O: OutLanes>(
         &mut self,
         place: usize,
@@ -181,7 +187,7 @@ impl BareSeat {
         self.take_in(&Input::LinkUp(k), now, is_settled, sends, outs);
     }
 
-    /// Hands a packet of the neighbour at a place to the core, where its life is current.
+    /// Passes a packet of the neighbour at a place to the core, if its life is current.
     fn on_packet<O: OutLanes>(
         &mut self,
         place: usize,
@@ -207,7 +213,7 @@ impl BareSeat {
         }
     }
 
-    /// A life of the neighbour at a place has ended.
+    /// Handles the end of a life of the neighbour at a place.
     fn on_down<O: OutLanes>(
         &mut self,
         place: usize,
@@ -232,7 +238,7 @@ impl BareSeat {
         }
     }
 
-    /// Offers the cut of a life to the lane of the neighbour at a place; where it is handed back, it is pending.
+    /// Offers the cut of a life to the lane of the neighbour at a place. If the lane returns it, the cut is pending.
     fn ask_cut<O: OutLanes>(&mut self, place: usize, k: Id, life: Life, now: u64, outs: &mut O)
         requires place { slice_get self.old.core.neighbours place ≡ Some k }
         requires lanes { length self.old.core.neighbours ≤ O.count outs.old }
@@ -269,7 +275,7 @@ impl BareSeat {
         }
     }
 
-    /// Cuts the current life of a neighbour, if it is one and has one.
+    /// Cuts the current life of a neighbour, if there is such a neighbour with a current life.
     fn on_cut<O: OutLanes>(&mut self, k: Id, now: u64, sends: &mut Sends, outs: &mut O)
         requires lanes { length self.old.core.neighbours ≤ O.count outs.old }
         requires room { length self.old.inputs ≤ 0 }
@@ -283,7 +289,7 @@ impl BareSeat {
         }
     }
 
-    /// Takes in an item of the link to the neighbour at a place.
+    /// Handles an item of the link to the neighbour at a place.
     fn on_link_item<O: OutLanes>(
         &mut self,
         place: usize,
@@ -314,7 +320,7 @@ impl BareSeat {
         }
     }
 
-    /// Takes in an item of a seat that is no link.
+    /// Handles an item of a seat that is not a link.
     fn on_other_item<O: OutLanes>(&mut self, what: &What, now: u64, sends: &mut Sends, outs: &mut O)
         requires lanes { length self.old.core.neighbours ≤ O.count outs.old }
         requires room { length self.old.inputs ≤ 0 }
@@ -335,7 +341,7 @@ impl BareSeat {
         }
     }
 
-    /// Tries each pending cut once. Where it is known that there is none, no row is looked at.
+    /// Offers each pending cut once. It reads no row if none is pending.
     pub(crate) fn try_cuts<O: OutLanes>(&mut self, now: u64, outs: &mut O)
         requires lanes { length self.old.core.neighbours ≤ O.count outs.old }
         ensures count { O.count outs.new ≡ O.count outs.old }
@@ -348,7 +354,7 @@ impl BareSeat {
         }
     }
 
-    /// Takes in an item.
+    /// Handles an item.
     pub(crate) fn on_item<O: OutLanes>(&mut self, item: &Item, sends: &mut Sends, outs: &mut O)
         requires lanes { length self.old.core.neighbours ≤ O.count outs.old }
         requires room { length self.old.inputs ≤ 0 }

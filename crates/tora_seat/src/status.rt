@@ -1,10 +1,10 @@
-//! What of the core is to be told to a program.
+//! Which status of the core a program asks for.
 
-/// What of the core is to be told to a program.
+/// Which status of the core a program asks for.
 #[derive(Clone, Copy, Debug, PartialEq, Eq, Hash)]
 pub enum Status {
-    /// All of it, once, as a line of JSON.
+    /// The whole state, once, as a line of JSON.
     Json,
-    /// From now on each change of a height and of a next hop.
+    /// Each change of a height or a next hop from now on.
     Watch,
 }

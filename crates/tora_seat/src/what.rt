@@ -1,10 +1,10 @@
-//! What an item tells the core.
+//! The content of an item.
 use crate::Status;
 use tora_arq::{Life, Reason};
 use tora_height::Id;
 use tora_packet::Packet;
 
-/// What an item tells the core.
+/// The content of an item.
 #[derive(Clone, Copy, Debug, PartialEq, Eq, Hash)]
 pub enum What {
     /// A life of the link was bound.
@@ -17,12 +17,12 @@ pub enum What {
     Beat,
     /// A route to a destination is needed.
     Need(Id),
-    /// The current life of a neighbour is to end at once, as where its carrier is lost.
+    /// The current life of a neighbour has to end at once, for instance because its carrier is lost.
     Cut(Id),
-    /// The core is to be shown.
+    /// The caller has to print the core.
     Show,
-    /// The core is to be told to a program.
+    /// A program asks for the status of the core.
     Status(Status),
-    /// The core is to end.
+    /// The caller has to end the core.
     Quit,
 }

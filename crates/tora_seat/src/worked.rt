@@ -1,8 +1,8 @@
-//! Servings of single items, computed.
+//! Examples of served items, computed.
 ghost use Rattle.tora_seat.specs.WorkedDowns.{Downs};
 
-/// The end of a life ends the current life where it is that one, takes back its pending cut where it is that one, and otherwise changes
-/// nothing.
+/// The end of a life ends the current life if it is the same life, withdraws the pending cut of that life if there is
+/// one, and otherwise changes nothing.
 pub fn worked_downs_hold()
     ensures { Downs }
 {}

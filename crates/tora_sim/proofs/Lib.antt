@@ -40,7 +40,6 @@ pub mod NodeReads
 pub mod Resting
 pub mod Quiets
 pub mod StillEnds
-pub mod PlainEnds
 pub mod StillBlocks
 pub mod DueBits
 pub mod ReadyEnds

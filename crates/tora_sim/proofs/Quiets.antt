@@ -16,8 +16,7 @@ use Rattle.tora_world.specs.World.{World, settings, is_empty, has_room, unless_p
 use Rattle.tora_sim.specs.Keyed.{IsFirst}
 use Rattle.tora_sim.specs.Links.{LinkView, is_at, key_of, ticked, with_state}
 use Rattle.tora_sim.specs.Nodes.{NodeView, is_of}
-use Rattle.tora_sim.specs.Plains.{MayOnlySend, IsPlain}
-use Rattle.tora_sim.specs.Quiet.{IsQuiet, IsQuietEnd, IsStill, is_idle, AreIdleIf, AreStill}
+use Rattle.tora_sim.specs.Quiet.{IsQuiet, IsQuietEnd, IsStill, is_idle}
 use Rattle.tora_sim.specs.Readers.{ends_in}
 use Rattle.tora_sim.specs.Store.{state_of, world_of, IsStore, EachOf, node_at, link_at}
 use Rattle.tora_sim.proofs.Keys.{read_first, read_first_node}
@@ -49,11 +48,6 @@ set_same (z ∷ links) (suc i) x y lt read e = ap (λ (ws : List LinkView). z �
 pub still_tick : (until now : ℕ) (link : LinkView) → now < until → IsStill until link → ticked now link ≡ link
 still_tick until now link lt h = ap (with_state link) (h.ticks now lt)
 
-pub still_ticks : (until now : ℕ) (links : List LinkView) → now < until → EachOf (IsStill until) links → map (ticked now) links ≡ links
-still_ticks until now [] lt h = refl
-still_ticks until now (x ∷ links) lt h =
-    ap₂ (λ (y : LinkView) (ys : List LinkView). y ∷ ys) (still_tick until now x lt (h zero x refl)) (still_ticks until now links lt (λ i y e. h (suc i) y e))
-
 -- ---- turns
 
 idle_at : (nodes : List NodeView) (i : ℕ) (x : NodeView) → list_all is_idle nodes ≡ true → slice_get nodes i ≡ Some x → length x.items ≡ 0
@@ -63,15 +57,6 @@ idle_at (y ∷ nodes) zero x all e =
     let same : y ≡ x = cc in
     subst (λ (z : NodeView). length z.items ≡ 0) same (eqb-true (length y.items) 0 (and_parts (is_idle y) (list_all is_idle nodes) all).0)
 idle_at (y ∷ nodes) (suc i) x all e = idle_at nodes i x (and_parts (is_idle y) (list_all is_idle nodes) all).1 e
-
-all_kept : (nodes : List NodeView) (home : ℕ) (x y : NodeView) → home < length nodes → x ≡ slice_index_or nodes home x → is_idle y ≡ is_idle x → list_all is_idle (set nodes home y) ≡ list_all is_idle nodes
-all_kept [] home x y lt read same = absurd (omega (arith, lt))
-all_kept (z ∷ nodes) zero x y lt read same = ap (λ (b : Bool). b && list_all is_idle nodes) (same ∙ ap is_idle read)
-all_kept (z ∷ nodes) (suc home) x y lt read same = ap (λ (b : Bool). is_idle z && b) (all_kept nodes home x y (omega (arith, lt)) read same)
-
--- where a node changes and as many items wait for its core, nothing else is known
-pub idle_kept : (known : Bool) (nodes : List NodeView) (home : ℕ) (x y : NodeView) → home < length nodes → x ≡ slice_index_or nodes home x → is_idle y ≡ is_idle x → AreIdleIf known nodes → AreIdleIf known (set nodes home y)
-idle_kept known nodes home x y lt read same h told = all_kept nodes home x y lt read same ∙ h told
 
 no_link : (w : World) (n k : ℕ) (possible : Bool) → is_link w.topology n k ≡ false → is_some (at_link w n k possible) ≡ true
 no_link w n k possible e = ap (λ (b : Bool). is_some (if b then unless_possible possible else Some Refused.NoNode)) e
@@ -104,15 +89,14 @@ module _ (t : Topology) (times : Times) (clock : ℕ) (nodes : List NodeView) (l
           let read = read_of nodes f.place x f.there in
           is_impossible w (CoreTurn n) (turn_refused t times clock nodes links ds h n f.place x (read_first_node n nodes f.place x h.rising_nodes (slice_get_within nodes f.place x f.there) read f.passes) read (idle_at nodes f.place x idle f.there))
 
-  pub quiet_now : (until : ℕ) → AreStill until nodes links → clock < until → IsQuiet w
-  quiet_now until still lt =
-      let all : (list_all is_idle nodes ≡ true) × EachOf (IsStill until) links = still (omega (arith, lt)) in
+  pub quiet_now : (until : ℕ) → clock < until → list_all is_idle nodes ≡ true → EachOf (IsStill until) links → IsQuiet w
+  quiet_now until lt idle still =
       record {
-        cores = λ n. at_nodes n all.0;
-        opens = λ n k. at_ends (Open n k) n k until all.1 (λ e. no_link w n k (is_closed (w.ends n k)) e) (λ x place first read s. is_impossible w (Open n k) (open_refused t times clock nodes links ds h n k place x first read s.opened));
-        pulls = λ n k. at_ends (Pull n k) n k until all.1 (λ e. no_link w n k (not (is_empty (w.cargoes n k))) e) (λ x place first read s. is_impossible w (Pull n k) (pull_refused t times clock nodes links ds h n k place x first read (ltb-false x.pulled (length x.put) s.lane)));
-        sends = λ n k. at_ends (Transmit n k) n k until all.1 (λ e. no_link w n k (is_some (frame_due (settings w n k) (w.ends n k) clock)) e) (λ x place first read s. is_impossible w (Transmit n k) (transmit_refused t times clock nodes links ds h n k place x first read (s.frames clock lt)));
-        pumps = λ n k. at_ends (Pump n k) n k until all.1 (λ e. no_link w n k (not (is_empty (w.ends n k).events) && has_room w n) e) (λ x place first read s. is_impossible w (Pump n k) (pump_without t times clock nodes links ds h n k place x first read (no_event (first_event x.state) s.events)));
+        cores = λ n. at_nodes n idle;
+        opens = λ n k. at_ends (Open n k) n k until still (λ e. no_link w n k (is_closed (w.ends n k)) e) (λ x place first read s. is_impossible w (Open n k) (open_refused t times clock nodes links ds h n k place x first read s.opened));
+        pulls = λ n k. at_ends (Pull n k) n k until still (λ e. no_link w n k (not (is_empty (w.cargoes n k))) e) (λ x place first read s. is_impossible w (Pull n k) (pull_refused t times clock nodes links ds h n k place x first read (ltb-false x.pulled (length x.put) s.lane)));
+        sends = λ n k. at_ends (Transmit n k) n k until still (λ e. no_link w n k (is_some (frame_due (settings w n k) (w.ends n k) clock)) e) (λ x place first read s. is_impossible w (Transmit n k) (transmit_refused t times clock nodes links ds h n k place x first read (s.frames clock lt)));
+        pumps = λ n k. at_ends (Pump n k) n k until still (λ e. no_link w n k (not (is_empty (w.ends n k).events) && has_room w n) e) (λ x place first read s. is_impossible w (Pump n k) (pump_without t times clock nodes links ds h n k place x first read (no_event (first_event x.state) s.events)));
       }
 
   -- nothing is to be done now at the end that stands where this key does
@@ -133,29 +117,6 @@ module _ (t : Topology) (times : Times) (clock : ℕ) (nodes : List NodeView) (l
             opens = is_impossible w (Open end.0 end.1) (open_refused t times clock nodes links ds h end.0 end.1 at x first value s.opened);
             pulls = is_impossible w (Pull end.0 end.1) (pull_refused t times clock nodes links ds h end.0 end.1 at x first value (ltb-false x.pulled (length x.put) s.lane));
             sends = is_impossible w (Transmit end.0 end.1) (transmit_refused t times clock nodes links ds h end.0 end.1 at x first value (s.frames clock (omega arith)));
-            pumps = is_impossible w (Pump end.0 end.1) (pump_without t times clock nodes links ds h end.0 end.1 at x first value (no_event (first_event x.state) s.events));
-          }
-        where
-          both : x.node ≡ end.0 → x.peer ≡ end.1 → is_at end.0 end.1 x ≡ true
-          both a b = and_from (nat_eq x.node end.0) (nat_eq x.peer end.1) (eq-eqb x.node end.0 a) (eq-eqb x.peer end.1 b)
-
-  -- nothing but a frame may be due at the end that stands where this key does
-  pub only_sends_at : (at : ℕ) (end : ℕ × ℕ) → slice_get (ends_in t) at ≡ Some end → ((link : LinkView) → slice_get links at ≡ Some link → IsPlain link) → MayOnlySend w end.0 end.1
-  only_sends_at at end there plain = go (slice_get links at) refl (sym (slice_get-map key_of links at) ∙ ap (λ (keys : List (ℕ × ℕ)). slice_get keys at) h.keys ∙ there)
-    where
-      go : (o : Option LinkView) → slice_get links at ≡ o → option_map key_of o ≡ Some end → MayOnlySend w end.0 end.1
-      go None read e = absurd (let none : None ≡ Some end = e in cc)
-      go (Some x) read e =
-          let key : Some (x.node, x.peer) ≡ Some end = e in
-          let same : (x.node, x.peer) ≡ end = cc in
-          let n : x.node ≡ end.0 = ap (λ (p : ℕ × ℕ). p.0) same in
-          let k : x.peer ≡ end.1 = ap (λ (p : ℕ × ℕ). p.1) same in
-          let value = read_of links at x read in
-          let first = read_first end.0 end.1 links at x h.rising_links (slice_get_within links at x read) value (both n k) in
-          let s = plain x read in
-          record {
-            opens = is_impossible w (Open end.0 end.1) (open_refused t times clock nodes links ds h end.0 end.1 at x first value s.opened);
-            pulls = is_impossible w (Pull end.0 end.1) (pull_refused t times clock nodes links ds h end.0 end.1 at x first value (ltb-false x.pulled (length x.put) s.lane));
             pumps = is_impossible w (Pump end.0 end.1) (pump_without t times clock nodes links ds h end.0 end.1 at x first value (no_event (first_event x.state) s.events));
           }
         where

@@ -22,7 +22,6 @@ use Rattle.tora_sim.specs.Links.{LinkView}
 use Rattle.tora_sim.specs.Nodes.{NodeView, is_of}
 use Rattle.tora_sim.specs.Steps.{IsDone, IsRefused, StopsWith, Happened, Repeats, repeats}
 use Rattle.tora_sim.specs.Store.{SimState, IsStore, state_of, world_of}
-use Rattle.tora_sim.specs.Plains.{ArePlainBut}
 use Rattle.tora_sim.specs.Quiet.{AreStillBut}
 use Rattle.tora_sim.specs.Taking.{AreTaken, Takes}
 use Rattle.tora_sim.specs.Turns.{IsNoted, Turns}
@@ -35,7 +34,6 @@ use Rattle.tora_sim.proofs.SameLinks.{same_alike, store_same}
 use Rattle.tora_sim.proofs.SameNodes.{no_node}
 use Rattle.tora_sim.proofs.Sendings.{Onward, begins, again, refused, starved_of, no_more, other_cause, still_first}
 use Rattle.tora_sim.proofs.StillEnds as Still
-use Rattle.tora_sim.proofs.PlainEnds as Plain
 use Rattle.tora_sim.proofs.Turning.{turn_refused, turn_starved, between_does, between_store}
 use Rattle.tora_sim.proofs.UnreadyEnds.{turned_place}
 
@@ -114,7 +112,6 @@ none_taken x links range seat many ready = record {
   room = λ place link lt off there. ready.room place link lt there;
   others = λ at away. refl;
   still = λ clock stills h. Still.all_but clock stills links x.first x.count h;
-  plain = λ clock plains h. Plain.all_but clock plains links x.first x.count h;
 }
 
 module _ (x0 x : NodeView) (links0 links links1 : List LinkView) (range : Unready) (seat : ℕ) (h : AreTaken x0 links0 x links range seat) (alike : AreAlike links links1) (others : AreOthersKept links links1 x.first x.count) where
@@ -135,7 +132,6 @@ module _ (x0 x : NodeView) (links0 links links1 : List LinkView) (range : Unread
     room = subst (λ (m : ℕ). HaveRoomBut links1 m x0.count seat) h.first (subst (λ (m : ℕ). HaveRoomBut links1 x.first m seat) h.count room);
     others = others_on;
     still = λ clock stills each. Still.alike_but clock stills links links1 x0.first x0.count alike (h.still clock stills each);
-    plain = λ clock plains each. Plain.alike_but clock plains links links1 x0.first x0.count alike (h.plain clock plains each);
   }
 
   module _ (y : NodeView) (links2 : List LinkView) (r : Result (Unit {0}) SimError) (d : Turns x (bare_between x.first x.count links1) r y (bare_between x.first x.count links2)) where
@@ -174,13 +170,6 @@ module _ (x0 x : NodeView) (links0 links links1 : List LinkView) (range : Unread
               (subst (λ (m : ℕ). AreStillBut clock stills links1 m x.count) (sym h.first)
               (subst (λ (m : ℕ). AreStillBut clock stills links1 x0.first m) (sym h.count)
               (Still.alike_but clock stills links links1 x0.first x0.count alike (h.still clock stills each))))));
-          plain = λ clock plains each.
-              subst (λ (m : ℕ). ArePlainBut clock plains links2 m x0.count) h.first
-              (subst (λ (m : ℕ). ArePlainBut clock plains links2 x.first m) h.count
-              (Plain.turned_plains clock plains x y links1 links2 r d
-              (subst (λ (m : ℕ). ArePlainBut clock plains links1 m x.count) (sym h.first)
-              (subst (λ (m : ℕ). ArePlainBut clock plains links1 x0.first m) (sym h.count)
-              (Plain.alike_but clock plains links links1 x0.first x0.count alike (h.plain clock plains each))))));
         }
 
 -- ---- the events of which this is made

@@ -1,4 +1,4 @@
--- Of each node the ends outside which each is known to be ready, as ends and nodes change.
+-- Which ends of a node are ready, as its core takes items.
 use Rattle.std.proofs.Common.{◌≡◌, ℕ, zero, suc, ◌+◌, ◌-◌, ◌<◌, ◌≤◌, ◌⊎◌, inl, inr, Bool, true, false, true≢false, List, [], ◌∷◌, ◌++◌, length, set, slice_get, get_or, Option, Some, None, Result, Ok, Err, MatchOption, MatchResult, OnOk, is_err, refl, sym, ap, ◌∙◌, subst, arith}
 use Rattle.std.specs.Prelude.{⊤, replicate, slice_index, slice_index_or}
 use Rattle.std.proofs.lemmas.Bool.{cases_eq}
@@ -22,7 +22,7 @@ use Rattle.tora_sim.specs.Possible.{has_cargo}
 use Rattle.tora_sim.specs.Quiet.{AreForgottenWhere}
 use Rattle.tora_sim.specs.Store.{IsStore, state_of}
 use Rattle.tora_sim.specs.Turns.{IsServed, IsNoted, Turns}
-use Rattle.tora_sim.specs.Unready.{ends_below, IsOutside, AreMarkedOutside, IsMarkedOutside, AreMarksKept, IsRemarked, AreRemarked}
+use Rattle.tora_sim.specs.Unready.{IsOutside, IsRemarked, AreRemarked}
 use Rattle.tora_datagrams.proofs.EachItem.{set_same, set_other}
 use Rattle.tora_sim.proofs.FreshEnds.{item_at, below_next}
 use Rattle.tora_sim.proofs.ReadyEnds.{room_of, mark_there}
@@ -30,40 +30,7 @@ use Rattle.tora_sim.proofs.Served.{lanes_stay}
 use Rattle.tora_datagrams.proofs.EachItem.{before_or_not}
 use Rattle.tora_sim.proofs.Stores.{set_read}
 
--- ---- at the start
-
-all_there : (n at : ℕ) (all range : Unready) → slice_get (replicate n all) at ≡ Some range → all ≡ range
-all_there zero at all range e = absurd (none-some range e)
-all_there (suc n) zero all range e = same_Some all range e
-all_there (suc n) (suc at) all range e = all_there n at all range e
-
-pub none_marked : (n most : ℕ) (ranges : List Unready) (nodes : List NodeView) (marks : List Bool) → ranges ≡ replicate n (ends_below most) → n ≡ length nodes → ((home : ℕ) (node : NodeView) → slice_get nodes home ≡ Some node → node.count ≤ most)
-    → AreMarkedOutside ranges nodes marks
-none_marked n most ranges nodes marks e many few = record {
-  as_many = ap length e ∙ length-replicate {A = Unready} n (ends_below most) ∙ many;
-  marked = λ home place node range at there lt out.
-      let all : ends_below most ≡ range = all_there n home (ends_below most) range (subst (λ (rs : List Unready). slice_get rs home ≡ Some range) e there) in
-      let le = few home node at in
-      absurd (subst (λ (r : Unready). IsOutside r place) (sym all) out (omega arith) (omega (arith, lt, le)));
-}
-
 -- ---- marks
-
-pub all_kept : (marks : List Bool) → AreMarksKept marks marks
-all_kept marks = record { as_many = refl; kept = λ at e. e }
-
-pub kept_on : (before marks after : List Bool) → AreMarksKept before marks → AreMarksKept marks after → AreMarksKept before after
-kept_on before marks after h k = record { as_many = k.as_many ∙ h.as_many; kept = λ at e. k.kept at (h.kept at e) }
-
-pub set_kept : (marks after : List Bool) (at : ℕ) (mark known : Bool) → at < length marks → mark ≡ slice_index_or marks at mark → mark ≡ false → after ≡ set marks at known → AreMarksKept marks after
-set_kept marks after at mark known within read off e = record {
-  as_many = ap length e ∙ length-set marks at known;
-  kept = λ j on. ap (λ (xs : List Bool). slice_get xs j) e ∙ go j on (cases_eq j at);
-}
-  where
-    go : (j : ℕ) → slice_get marks j ≡ Some true → (j ≡ at) ⊎ (j ≡ at → ⊥) → slice_get (set marks at known) j ≡ Some true
-    go j on (inl q) = absurd (true≢false (same_Some true false (sym on ∙ ap (slice_get marks) q ∙ mark_there marks at mark within read ∙ ap Some off)))
-    go j on (inr away) = set_other marks at j known away ∙ on
 
 pub none_remarked : (links : List LinkView) (but : ℕ) (marks : List Bool) (first : ℕ) → AreRemarked links but marks marks first 0
 none_remarked links but marks first = record { as_many = refl; here = λ place link lt. absurd (omega (arith, lt)); others = λ at away. refl }
@@ -88,38 +55,19 @@ one_more_remarked links but before marks after first place within (mark, e, told
     marked_at p link (inr same) (inr off) there on = absurd (off (ap (λ (m : ℕ). first + m) same))
 
 -- an end more is looked at
-pub one_more_left : (marks : List Bool) (first from at : ℕ) (before after : Unready) → ((place : ℕ) → from ≤ place → place < at → IsOutside before place → slice_get marks (first + place) ≡ Some true)
+pub one_more_left : (marks : List Bool) (first at : ℕ) (before after : Unready) → ((place : ℕ) → place < at → IsOutside before place → slice_get marks (first + place) ≡ Some true)
     → ((other : ℕ) → IsOutside after other → IsOutside before other) → (IsOutside after at → slice_get marks (first + at) ≡ Some true)
-    → (place : ℕ) → from ≤ place → place < at + 1 → IsOutside after place → slice_get marks (first + place) ≡ Some true
-one_more_left marks first from at before after h wider here place le lt out = go (below_next place at lt)
+    → (place : ℕ) → place < at + 1 → IsOutside after place → slice_get marks (first + place) ≡ Some true
+one_more_left marks first at before after h wider here place lt out = go (below_next place at lt)
   where
     go : (place < at) ⊎ (place ≡ at) → slice_get marks (first + place) ≡ Some true
-    go (inl less) = h place le less (wider place out)
+    go (inl less) = h place less (wider place out)
     go (inr same) = subst (λ (m : ℕ). slice_get marks (first + m) ≡ Some true) (sym same) (here (subst (λ (m : ℕ). IsOutside after m) same out))
 
 -- ---- nodes that change
 
--- a node keeps the place of its ends
-pub node_kept : (ranges : List Unready) (nodes : List NodeView) (marks : List Bool) (home : ℕ) (x y : NodeView) → home < length nodes → x ≡ slice_index_or nodes home x → (y.first ≡ x.first) × (y.count ≡ x.count) → AreMarkedOutside ranges nodes marks
-    → AreMarkedOutside ranges (set nodes home y) marks
-node_kept ranges nodes marks home x y within read same h = record {
-  as_many = h.as_many ∙ sym (length-set nodes home y);
-  marked = λ i place node range at there lt out. go i place node range (set_read nodes home y i node at) there lt out;
-}
-  where
-    go : (i place : ℕ) (node : NodeView) (range : Unready) → ((i ≡ home) × (y ≡ node)) ⊎ (slice_get nodes i ≡ Some node) → slice_get ranges i ≡ Some range → place < node.count → IsOutside range place → slice_get marks (node.first + place) ≡ Some true
-    go i place node range (inl p) there lt out =
-        let first : node.first ≡ x.first = ap (λ (z : NodeView). z.first) (sym p.1) ∙ same.0 in
-        let count : node.count ≡ x.count = ap (λ (z : NodeView). z.count) (sym p.1) ∙ same.1 in
-        ap (λ (m : ℕ). slice_get marks (m + place)) first ∙ h.marked i place x range (ap (slice_get nodes) p.0 ∙ slice_get_read nodes (length nodes) home x refl within read) there (omega (arith, lt, count)) out
-    go i place node range (inr old) there lt out = h.marked i place node range old there lt out
-
 pub same_place : (x y after : NodeView) → y ≡ after → (after.first ≡ x.first) × (after.count ≡ x.count) → (y.first ≡ x.first) × (y.count ≡ x.count)
 same_place x y after e same = (ap (λ (z : NodeView). z.first) e ∙ same.0, ap (λ (z : NodeView). z.count) e ∙ same.1)
-
-pub put_place : (x y : NodeView) (seat clock : ℕ) (what : What) (r : Result (Unit {0}) SimError) → MatchResult r (λ _. y ≡ after_item x seat clock what) (λ e. (e ≡ Refused.Memory) × (y ≡ x)) → (y.first ≡ x.first) × (y.count ≡ x.count)
-put_place x y seat clock what (Ok u) e = same_place x y (after_item x seat clock what) e (refl, refl)
-put_place x y seat clock what (Err r) e = same_place x y x e.1 (refl, refl)
 
 pub turned_place : (x y : NodeView) (links after : List LinkView) (r : Result (Unit {0}) SimError) → Turns x links r y after → (y.first ≡ x.first) × (y.count ≡ x.count)
 turned_place x y links after (Ok u) d = (ap (λ (z : NodeView). z.first) d.served.node, ap (λ (z : NodeView). z.count) d.served.node)
@@ -127,61 +75,18 @@ turned_place x y links after (Err e) d = same_place x y x d.1 (refl, refl)
 
 -- ---- ends of a node, before its turn
 
--- the ends outside the range of the node at a place are marked, and still are
-pub own_marked : (ranges : List Unready) (nodes : List NodeView) (before marks : List Bool) (home : ℕ) (x : NodeView) (range : Unready) → home < length nodes → x ≡ slice_index_or nodes home x → range ≡ slice_index_or ranges home range
-    → AreMarksKept before marks → AreMarkedOutside ranges nodes before → IsMarkedOutside range x.first x.count marks
-own_marked ranges nodes before marks home x range within read is kept h place lt out =
-    let many = h.as_many in
-    kept.kept (x.first + place) (h.marked home place x range (slice_get_read nodes (length nodes) home x refl within read) (slice_get_read ranges (length ranges) home range refl (omega (arith, within, many)) is) lt out)
-
-pub marks_kept : (ranges : List Unready) (nodes : List NodeView) (before marks : List Bool) → AreMarksKept before marks → AreMarkedOutside ranges nodes before → AreMarkedOutside ranges nodes marks
-marks_kept ranges nodes before marks kept h = record { as_many = h.as_many; marked = λ home place node range at there lt out. kept.kept (node.first + place) (h.marked home place node range at there lt out) }
-
--- the ends outside those that are still not ready
-pub narrowed : (old range left : Unready) (first count : ℕ) (marks : List Bool) → ((place : ℕ) → place < count → IsOutside range place → IsOutside old place)
-    → ((place : ℕ) → range.from ≤ place → place < range.behind → IsOutside left place → slice_get marks (first + place) ≡ Some true) → IsMarkedOutside old first count marks → IsMarkedOutside left first count marks
-narrowed old range left first count marks wider here h place lt out = go (before_or_not place range.from) (before_or_not place range.behind)
-  where
-    go : (place < range.from) ⊎ (range.from ≤ place) → (place < range.behind) ⊎ (range.behind ≤ place) → slice_get marks (first + place) ≡ Some true
-    go (inl less) r = h place lt (wider place lt (λ le less'. omega (arith, less, le)))
-    go (inr more) (inr behind) = h place lt (wider place lt (λ le less'. omega (arith, behind, less')))
-    go (inr more) (inl less) = here place more less out
-
--- the ends that are marked are ready, so that there is room at all ends, where there is at the others
-pub ready_before : (links : List LinkView) (first count : ℕ) (old range left : Unready) (marks : List Bool) → first + count ≤ length links → ((place : ℕ) → place < count → IsOutside range place → IsOutside old place)
-    → ((place : ℕ) → range.from ≤ place → place < range.behind → IsOutside left place → slice_get marks (first + place) ≡ Some true) → IsMarkedOutside old first count marks → AreReadyEach marks links
-    → HaveRoom links (first + range.from) (range.behind - range.from) → AreReady (lanes_of links first count) left
-ready_before links first count old range left marks within wider here h each room = record {
-  within = within;
-  room = λ place link lt there. go place link lt there (before_or_not place range.from) (before_or_not place range.behind);
-  ready = λ place link lt out there. each.ready (first + place) link (narrowed old range left first count marks wider here h place lt out) there;
-}
-  where
-    off : (place : ℕ) (link : LinkView) → place < count → slice_get links (first + place) ≡ Some link → IsOutside range place → HasRoom link
-    off place link lt there out = room_of link (each.ready (first + place) link (h place lt (wider place lt out)) there)
-
-    go : (place : ℕ) (link : LinkView) → place < count → slice_get links (first + place) ≡ Some link → (place < range.from) ⊎ (range.from ≤ place) → (place < range.behind) ⊎ (range.behind ≤ place) → HasRoom link
-    go place link lt there (inl less) r = off place link lt there (λ le less'. omega (arith, less, le))
-    go place link lt there (inr more) (inr behind) = off place link lt there (λ le less'. omega (arith, behind, less'))
-    go place link lt there (inr more) (inl less) =
-        let same : first + range.from + (place - range.from) ≡ first + place = omega (arith, more) in
-        room (place - range.from) link (omega (arith, more, less)) (ap (slice_get links) same ∙ there)
-
 pub ok_room : {P : Type 0} → (r : Result (Unit {0}) SimError) → is_err r ≡ false → OnOk r P → P
 ok_room (Ok u) e h = h
 ok_room (Err r) e h = absurd (true≢false e)
 
--- both, where the place of the node's ends was read
-pub before_turn : (ranges : List Unready) (nodes : List NodeView) (before marks : List Bool) (links : List LinkView) (home : ℕ) (x : NodeView) (old range left : Unready) (first count : ℕ) → home < length nodes → x ≡ slice_index_or nodes home x → old ≡ slice_index_or ranges home old
-    → first ≡ x.first → count ≡ x.count → x.first + x.count ≤ length links → AreMarksKept before marks → AreMarkedOutside ranges nodes before → ((place : ℕ) → place < count → IsOutside range place → IsOutside old place)
-    → ((place : ℕ) → range.from ≤ place → place < range.behind → IsOutside left place → slice_get marks (first + place) ≡ Some true) → AreReadyEach marks links → HaveRoom links (first + range.from) (range.behind - range.from)
-    → IsMarkedOutside left x.first x.count marks × AreReady (lanes_of links x.first x.count) left
-before_turn ranges nodes before marks links home x old range left first count within read is f n all kept h wider here each room =
-    let own = own_marked ranges nodes before marks home x old within read is kept h in
-    let wider' = subst (λ (m : ℕ). (place : ℕ) → place < m → IsOutside range place → IsOutside old place) n wider in
-    let here' = subst (λ (m : ℕ). (place : ℕ) → range.from ≤ place → place < range.behind → IsOutside left place → slice_get marks (m + place) ≡ Some true) f here in
-    let room' = subst (λ (m : ℕ). HaveRoom links (m + range.from) (range.behind - range.from)) f room in
-    (narrowed old range left x.first x.count marks wider' here' own, ready_before links x.first x.count old range left marks all wider' here' own each room')
+-- there is room at each end of the node, and those outside the range are ready
+pub before_turn : (marks : List Bool) (links : List LinkView) (left : Unready) (first count f n : ℕ) → first ≡ f → count ≡ n → f + n ≤ length links → ((place : ℕ) → place < count → IsOutside left place → slice_get marks (first + place) ≡ Some true)
+    → AreReadyEach marks links → HaveRoom links first count → AreReady (lanes_of links f n) left
+before_turn marks links left first count f n e d within here each room = record {
+  within = within;
+  room = λ place link lt there. room place link (omega (arith, lt, d)) (ap (λ (m : ℕ). slice_get links (m + place)) e ∙ there);
+  ready = λ place link lt out there. each.ready (f + place) link (ap (λ (m : ℕ). slice_get marks (m + place)) (sym e) ∙ here place (omega (arith, lt, d)) out) there;
+}
 
 -- ---- an end that changes in a turn
 
@@ -301,59 +206,3 @@ ready_after before links was marks first count seat but range seated roomy small
     from at link on there (inr more) (inl lt) =
         let here : at ≡ first + (at - first) = omega (arith, more) in
         own (at - first) link lt (ap (slice_get marks) (sym here) ∙ on) (ap (slice_get links) (sym here) ∙ there) (before_or_not (at - first) range.from) (before_or_not (at - first) range.behind)
-
-module _ (t : Topology) (times : Times) (clock : ℕ) (nodes : List NodeView) (links : List LinkView) (ds : List FrameParts) (h : IsStore (state_of t times clock nodes links ds)) where
-  -- an end of a node is of that node
-  home_of : (i : ℕ) (x : NodeView) → slice_get nodes i ≡ Some x → (place : ℕ) (link : LinkView) → place < x.count → slice_get links (x.first + place) ≡ Some link → link.node ≡ x.node
-  home_of i x e place link lt there =
-      let k = item_at (neighbours_of t x.node) place (let c = (h.each_node i x e).count in omega (arith, lt, c)) in
-      ((h.each_ends i x e).at place k.0 link k.1 there).0
-
-  before_it : (i j : ℕ) (x y : NodeView) → slice_get nodes i ≡ Some x → slice_get nodes j ≡ Some y → i < j → x.node < y.node
-  before_it i j x y a b lt =
-      subst (λ (z : NodeView). z.node < y.node) (get_or_from_slice_get nodes i x x a) (subst (λ (z : NodeView). (get_or nodes i x).node < z.node) (get_or_from_slice_get nodes j y x b) (h.rising_nodes i j x lt (slice_get_within nodes j y b)))
-
-  -- no end is of two nodes
-  pub apart_nodes : (i j : ℕ) (x y : NodeView) → slice_get nodes i ≡ Some x → slice_get nodes j ≡ Some y → (i ≡ j → ⊥) → (p q : ℕ) → p < x.count → q < y.count → x.first + p ≡ y.first + q → ⊥
-  apart_nodes i j x y a b off p q lt less e = go (before_or_not i j) (before_or_not j i)
-    where
-      link : (z : LinkView) × (slice_get links (x.first + p) ≡ Some z)
-      link = item_at links (x.first + p) (let w = (h.each_ends i x a).within in omega (arith, w, lt))
-
-      same : x.node ≡ y.node
-      same = sym (home_of i x a p link.0 lt link.1) ∙ home_of j y b q link.0 less (ap (slice_get links) (sym e) ∙ link.1)
-
-      go : (i < j) ⊎ (j ≤ i) → (j < i) ⊎ (i ≤ j) → ⊥
-      go (inl l) r = let c = before_it i j x y a b l in let s = same in omega (arith, c, s)
-      go (inr m) (inl l) = let c = before_it j i y x b a l in let s = same in omega (arith, c, s)
-      go (inr m) (inr n) = off (omega (arith, m, n))
-
-  pub few_ends : (i : ℕ) (x : NodeView) → slice_get nodes i ≡ Some x → x.count ≤ length links
-  few_ends i x e = let w = (h.each_ends i x e).within in omega (arith, w)
-
-  -- the range of a node whose core took its turn
-  pub marked_after : (links' : List LinkView) (but : ℕ) (ranges : List Unready) (was marks : List Bool) (home : ℕ) (x y : NodeView) (range : Unready) → home < length nodes → x ≡ slice_index_or nodes home x → (y.first ≡ x.first) × (y.count ≡ x.count) → range.behind ≤ x.count
-      → IsMarkedOutside range x.first x.count was → AreRemarked links' but was marks (x.first + range.from) (range.behind - range.from) → AreMarkedOutside ranges nodes was → AreMarkedOutside (set ranges home range) (set nodes home y) marks
-  marked_after links' but ranges was marks home x y range within read place_kept small own u each = record {
-    as_many = length-set ranges home range ∙ each.as_many ∙ sym (length-set nodes home y);
-    marked = λ i place node r at there lt out. go i place node r (cases_eq i home) at there lt out;
-  }
-    where
-      here : slice_get nodes home ≡ Some x
-      here = slice_get_read nodes (length nodes) home x refl within read
-
-      own_at : (place : ℕ) → place < x.count → IsOutside range place → slice_get marks (x.first + place) ≡ Some true
-      own_at place lt out =
-          u.others (x.first + place) (λ p less q. out (omega (arith, q)) (omega (arith, q, less))) ∙ own place lt out
-
-      go : (i place : ℕ) (node : NodeView) (r : Unready) → (i ≡ home) ⊎ (i ≡ home → ⊥) → slice_get (set nodes home y) i ≡ Some node → slice_get (set ranges home range) i ≡ Some r → place < node.count → IsOutside r place → slice_get marks (node.first + place) ≡ Some true
-      go i place node r (inl q) at there lt out =
-          let node_is : y ≡ node = same_Some y node (sym (set_same nodes home y within) ∙ ap (slice_get (set nodes home y)) (sym q) ∙ at) in
-          let range_is : range ≡ r = same_Some range r (sym (set_same ranges home range (let many = each.as_many in omega (arith, within, many))) ∙ ap (slice_get (set ranges home range)) (sym q) ∙ there) in
-          let first : node.first ≡ x.first = ap (λ (z : NodeView). z.first) (sym node_is) ∙ place_kept.0 in
-          let count : node.count ≡ x.count = ap (λ (z : NodeView). z.count) (sym node_is) ∙ place_kept.1 in
-          ap (λ (m : ℕ). slice_get marks (m + place)) first ∙ own_at place (omega (arith, lt, count)) (subst (λ (z : Unready). IsOutside z place) (sym range_is) out)
-      go i place node r (inr off) at there lt out =
-          let old = sym (set_other nodes home i y off) ∙ at in
-          u.others (node.first + place) (λ p less q. apart_nodes i home node x old here off place (range.from + p) lt (omega (arith, less, small)) (omega (arith, q)))
-          ∙ each.marked i place node r old (sym (set_other ranges home i range off) ∙ there) lt out

@@ -6,6 +6,7 @@ use Rattle.tora_world.specs.World.{World, own_choice}
 use Rattle.tora_world.specs.FreeWorld.{free_by}
 use Rattle.tora_world.specs.FreeWorld.FreeEvent.{CutsBound}
 
--- the end of n towards k cuts the life that it is bound to, which is an event of the world of all schedules; nothing where there is no such link
+-- the end of n towards k cuts the life that it is bound to, which is an event of the world of all schedules; nothing
+-- where there is no such link
 abbrev pub after_cut_at : World → ℕ → ℕ → World
 after_cut_at w n k = if is_link w.topology n k then free_by (own_choice w Tick) w (CutsBound n k) else w

@@ -17,7 +17,8 @@ use Rattle.tora_sim.specs.Nodes.{NodeView}
 use Rattle.tora_sim.specs.Store.{EachOf}
 use Rattle.tora_sim.specs.Readers.{ends_at}
 
--- the end of node n towards k, which speaks versions up to this one and has these times, and whose place among the neighbours this is
+-- the end of node n towards k, which speaks versions up to this one and has these times, and whose place among the
+-- neighbours this is
 pub record IsFirstEnd (version : Version) (times : Times) (n k place : ℕ) (link : LinkView) : Type 0 where
   pub node : link.node ≡ n
   pub peer : link.peer ≡ k
@@ -30,7 +31,8 @@ pub record IsFirstEnd (version : Version) (times : Times) (n k place : ℕ) (lin
   pub steps : link.steps ≡ []
 
 abbrev pub IsFirstLink : Topology → Times → LinkView → Type 0
-IsFirstLink t times link = IsFirstEnd (version_at t link.node) times link.node link.peer (place_of link.peer (neighbours_of t link.node)) link
+IsFirstLink t times link =
+    IsFirstEnd (version_at t link.node) times link.node link.peer (place_of link.peer (neighbours_of t link.node)) link
 
 pub record IsFirstNode (t : Topology) (node : NodeView) : Type 0 where
   pub count : node.count ≡ length (neighbours_of t node.node)
@@ -44,7 +46,8 @@ pub record IsFirstNode (t : Topology) (node : NodeView) : Type 0 where
 -- the ends of a node stand among these one behind the other, from its first on
 pub record HasEnds (t : Topology) (keys : List (ℕ × ℕ)) (node : NodeView) : Type 0 where
   pub within : node.first + length (neighbours_of t node.node) ≤ length keys
-  pub at : (place k : ℕ) → slice_get (neighbours_of t node.node) place ≡ Some k → slice_get keys (node.first + place) ≡ Some (node.node, k)
+  pub at : (place k : ℕ) → slice_get (neighbours_of t node.node) place ≡ Some k
+      → slice_get keys (node.first + place) ≡ Some (node.node, k)
 
 -- the ends of one node more
 pub record AreAdded (t : Topology) (times : Times) (n : ℕ) (links new : List LinkView) : Type 0 where
@@ -52,13 +55,15 @@ pub record AreAdded (t : Topology) (times : Times) (n : ℕ) (links new : List L
   pub each : EachOf (IsFirstLink t times) links → EachOf (IsFirstLink t times) new
 
 -- these nodes with their link ends
-pub record AreMade (t : Topology) (times : Times) (ns : List ℕ) (nodes : List NodeView) (links : List LinkView) : Type 0 where
-  pub names : map (λ node. node.node) nodes ≡ ns
-  pub keys : map key_of links ≡ flat_map (ends_at t) ns
-  pub each_node : EachOf (IsFirstNode t) nodes
-  pub each_link : EachOf (IsFirstLink t times) links
-  pub ends : EachOf (HasEnds t (map key_of links)) nodes
+pub record AreMade (t : Topology) (times : Times) (ns : List ℕ) (nodes : List NodeView) (links : List LinkView) : Type 0
+  where
+    pub names : map (λ node. node.node) nodes ≡ ns
+    pub keys : map key_of links ≡ flat_map (ends_at t) ns
+    pub each_node : EachOf (IsFirstNode t) nodes
+    pub each_link : EachOf (IsFirstLink t times) links
+    pub ends : EachOf (HasEnds t (map key_of links)) nodes
 
 -- one node more, with its link ends
 abbrev pub IsMade : Topology → Times → ℕ → List NodeView → List LinkView → List NodeView → List LinkView → Type 0
-IsMade t times n nodes links more_nodes more_links = (ns : List ℕ) → AreMade t times ns nodes links → AreMade t times (ns ++ n ∷ []) more_nodes more_links
+IsMade t times n nodes links more_nodes more_links =
+    (ns : List ℕ) → AreMade t times ns nodes links → AreMade t times (ns ++ n ∷ []) more_nodes more_links

@@ -9,4 +9,5 @@ pub record IsFirst {A : Type 0} (p : A → Bool) (xs : List A) (i : ℕ) : Type 
 
 -- each item stands so to each later one
 abbrev pub IsOrdered : {A : Type 0} → (A → A → Type 0) → List A → Type 0
-IsOrdered {A} Before xs = (i j : ℕ) (d : A) → i < j → j < length xs → Before (slice_index_or xs i d) (slice_index_or xs j d)
+IsOrdered {A} Before xs = (i j : ℕ) (d : A) → i < j → j < length xs
+    → Before (slice_index_or xs i d) (slice_index_or xs j d)

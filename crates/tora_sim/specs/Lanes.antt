@@ -1,4 +1,5 @@
--- The lanes from a node's core to its neighbours: the ends of the node's links stand one behind the other among all ends.
+-- The lanes from a node's core to its neighbours: the ends of the node's links stand one behind the other among all
+-- ends.
 use Rattle.std.specs.Prelude.{◌≡◌, ℕ, zero, suc, ◌+◌, ◌<◌, ◌≤◌, ◌⊎◌, nat_lt, Bool, true, false, List, [], ◌∷◌, ◌++◌, length, map, slice_get, slice_set, Some, if◌then◌else◌}
 use Rattle.tora_seat.specs.declared.cargo.Cargo.{Cargo}
 use Rattle.tora_seat.specs.declared.TheConstants.{MOST_CARGOES}
@@ -30,9 +31,13 @@ pub record DidOffer (before : LanesView) (place : ℕ) (cargo : Cargo) (put : Bo
   pub within : place < before.count
   pub there : slice_get before.links (before.first + place) ≡ Some link
   pub answer : put ≡ has_place link
-  pub lanes : after ≡ record before { links = slice_set before.links (before.first + place) (after_offer_at link cargo put) }
+  pub lanes : after ≡ record before {
+    links = slice_set before.links (before.first + place)
+        (after_offer_at link cargo put);
+  }
 
--- there is memory for as many cargoes as one item can put, or no list for them yet, and memory for the packet that it steps
+-- there is memory for as many cargoes as one item can put, or no list for them yet, and memory for the packet that it
+-- steps
 pub record HasRoom (link : LinkView) : Type 0 where
   pub cargoes : (link.room ≡ 0) ⊎ (link.pulled + MOST_CARGOES ≤ link.room)
   pub step : length link.steps < link.step_room
@@ -52,19 +57,23 @@ IsReady link = IsReadyLane link.put link.pulled link.room link.steps link.step_r
 -- that is so of each link end whose mark says so; of any other its mark says nothing
 pub record AreReadyEach (marks : List Bool) (links : List LinkView) : Type 0 where
   pub as_many : length marks ≡ length links
-  pub ready : (at : ℕ) (link : LinkView) → slice_get marks at ≡ Some true → slice_get links at ≡ Some link → IsReady link
+  pub ready : (at : ℕ) (link : LinkView) → slice_get marks at ≡ Some true → slice_get links at ≡ Some link
+      → IsReady link
 
 -- each of so many ends from a place on is ready, but for those of a range
 abbrev pub AreReadyOutside : List LinkView → ℕ → ℕ → Unready → Type 0
-AreReadyOutside links first count range = (place : ℕ) (link : LinkView) → place < count → IsOutside range place → slice_get links (first + place) ≡ Some link → IsReady link
+AreReadyOutside links first count range = (place : ℕ) (link : LinkView) → place < count → IsOutside range place
+    → slice_get links (first + place) ≡ Some link → IsReady link
 
 -- there is that memory at so many ends from a place on
 abbrev pub HaveRoom : List LinkView → ℕ → ℕ → Type 0
-HaveRoom links first count = (place : ℕ) (link : LinkView) → place < count → slice_get links (first + place) ≡ Some link → HasRoom link
+HaveRoom links first count =
+    (place : ℕ) (link : LinkView) → place < count → slice_get links (first + place) ≡ Some link → HasRoom link
 
 -- but for the one at a place
 abbrev pub HaveRoomBut : List LinkView → ℕ → ℕ → ℕ → Type 0
-HaveRoomBut links first count but = (place : ℕ) (link : LinkView) → place < count → (place ≡ but → ⊥) → slice_get links (first + place) ≡ Some link → HasRoom link
+HaveRoomBut links first count but = (place : ℕ) (link : LinkView) → place < count → (place ≡ but → ⊥)
+    → slice_get links (first + place) ≡ Some link → HasRoom link
 
 -- there is memory for all that one item can put into the lanes, and each end but for those of a range is ready
 pub record AreReady (lanes : LanesView) (range : Unready) : Type 0 where
@@ -74,7 +83,8 @@ pub record AreReady (lanes : LanesView) (range : Unready) : Type 0 where
 
 -- at each of so many ends from a place on, in whose lane there is no list, the spare list of its place is whole
 abbrev pub AreFitting : List LinkView → ℕ → ℕ → List ℕ → Type 0
-AreFitting links first count spares = (place : ℕ) (link : LinkView) → place < count → slice_get links (first + place) ≡ Some link → Fits link.pulled link.room spares place
+AreFitting links first count spares = (place : ℕ) (link : LinkView) → place < count
+    → slice_get links (first + place) ≡ Some link → Fits link.pulled link.room spares place
 
 -- a link end but for the memory that it has
 abbrev pub bare : LinkView → LinkView
@@ -102,4 +112,5 @@ AreOthersSame before after at = (i : ℕ) → (i ≡ at → ⊥) → slice_get a
 
 -- each end but those of so many from a place on is as it was
 abbrev pub AreOthersKept : List LinkView → List LinkView → ℕ → ℕ → Type 0
-AreOthersKept before after first count = (at : ℕ) → ((place : ℕ) → place < count → at ≡ first + place → ⊥) → slice_get after at ≡ slice_get before at
+AreOthersKept before after first count =
+    (at : ℕ) → ((place : ℕ) → place < count → at ≡ first + place → ⊥) → slice_get after at ≡ slice_get before at

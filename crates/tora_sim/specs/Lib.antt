@@ -18,7 +18,6 @@ pub mod Turns
 pub mod Restarts
 pub mod Resting
 pub mod Quiet
-pub mod Plains
 pub mod Stills
 pub mod Taking
 pub mod SteadyLinks

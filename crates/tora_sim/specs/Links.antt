@@ -63,7 +63,10 @@ abbrev pub with_state : LinkView → EndState → LinkView
 with_state link e = record link { state = e }
 
 abbrev pub after_open_at : LinkView → ℕ → LinkView
-after_open_at link now = record link { state = open_with link.state now (drawn_by DrawsNumber link.file); file = after_event DrawsNumber link.file }
+after_open_at link now = record link {
+  state = open_with link.state now (drawn_by DrawsNumber link.file);
+  file = after_event DrawsNumber link.file;
+}
 
 abbrev pub after_arm : LinkView → DiskCall → LinkView
 after_arm link call = record link { file = after_event (ArmsDisk call) link.file }
@@ -100,5 +103,7 @@ at_node n change link = if link.node == n then change link else link
 -- so many link ends from a place on are changed so, and the others are as they were
 pub record AreChanged (change : LinkView → LinkView) (before links : List LinkView) (first count : ℕ) : Type 0 where
   pub as_many : length links ≡ length before
-  pub done : (place : ℕ) (link : LinkView) → place < count → slice_get before (first + place) ≡ Some link → slice_get links (first + place) ≡ Some (change link)
-  pub rest : (i : ℕ) (link : LinkView) → ((place : ℕ) → place < count → i ≡ first + place → ⊥) → slice_get before i ≡ Some link → slice_get links i ≡ Some link
+  pub done : (place : ℕ) (link : LinkView) → place < count → slice_get before (first + place) ≡ Some link
+      → slice_get links (first + place) ≡ Some (change link)
+  pub rest : (i : ℕ) (link : LinkView) → ((place : ℕ) → place < count → i ≡ first + place → ⊥)
+      → slice_get before i ≡ Some link → slice_get links i ≡ Some link

@@ -26,7 +26,17 @@ pub record NodeView : Type 0 where
   pub receive : Bool
 
 abbrev pub node_of : ℕ → ℕ → ℕ → SeatView → List (Input × ℕ) → List Item → List ℕ → Sending → Bool → NodeView
-node_of node first count seat inputs items counts sending receive = record { node = node; first = first; count = count; seat = seat; inputs = inputs; items = items; counts = counts; sending = sending; receive = receive }
+node_of node first count seat inputs items counts sending receive = record {
+  node = node;
+  first = first;
+  count = count;
+  seat = seat;
+  inputs = inputs;
+  items = items;
+  counts = counts;
+  sending = sending;
+  receive = receive;
+}
 
 abbrev pub sending_of : Sending → SendingOfWorld
 sending_of Sends.Goes = Goes
@@ -45,6 +55,11 @@ AreRising nodes = IsOrdered ComesBefore nodes
 -- an item more in the lane
 abbrev pub after_item : NodeView → ℕ → ℕ → What → NodeView
 after_item node seat now what = record node {
-  items = node.items ++ record { seat = seat; number = suc (slice_index node.counts seat); now = now; what = what } ∷ [];
+  items = node.items ++ record {
+    seat = seat;
+    number = suc (slice_index node.counts seat);
+    now = now;
+    what = what;
+  } ∷ [];
   counts = set node.counts seat (suc (slice_index node.counts seat));
 }

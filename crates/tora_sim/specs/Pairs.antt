@@ -4,11 +4,13 @@ use Rattle.tora_frame.specs.FrameParts.{FrameParts}
 use Rattle.tora_arq.specs.LinkEnd.{after_transmit, frame_due}
 use Rattle.tora_sim.specs.Links.{LinkView, with_state}
 
--- the first frame due of an end went out, and then the next one: behind the datagrams that were sent before stand these two
+-- the first frame due of an end went out, and then the next one: behind the datagrams that were sent before stand these
+-- two
 pub record IsPairSent (before : LinkView) (now : ℕ) (after : LinkView) (sent all : List FrameParts) : Type 0 where
   pub first : FrameParts
   pub second : FrameParts
   pub due : frame_due before.settings before.state now ≡ Some first
   pub due_next : frame_due before.settings (after_transmit before.settings before.state now) now ≡ Some second
-  pub state : after ≡ with_state before (after_transmit before.settings (after_transmit before.settings before.state now) now)
+  pub state : after ≡ with_state before (after_transmit before.settings
+      (after_transmit before.settings before.state now) now)
   pub datagrams : all ≡ (sent ++ first ∷ []) ++ second ∷ []

@@ -26,9 +26,11 @@ may_happen nodes links clock place (Need n d) = true
 may_happen nodes links clock place Tick = true
 may_happen nodes links clock place (Open n k) = end_may n k (λ link. is_closed link.state) (slice_get links place)
 may_happen nodes links clock place (Pull n k) = end_may n k has_cargo (slice_get links place)
-may_happen nodes links clock place (Transmit n k) = end_may n k (λ link. is_some (frame_due link.settings link.state clock)) (slice_get links place)
+may_happen nodes links clock place (Transmit n k) = end_may n k (λ link.
+    is_some (frame_due link.settings link.state clock)) (slice_get links place)
 may_happen nodes links clock place (Deliver i) = true
-may_happen nodes links clock place (Pump n k) = end_may n k (λ link. is_some (first_event link.state)) (slice_get links place)
+may_happen nodes links clock place (Pump n k) = end_may n k (λ link. is_some (first_event link.state))
+    (slice_get links place)
 may_happen nodes links clock place (CoreTurn n) = node_may n (slice_get nodes place)
 may_happen nodes links clock place (Arm n call) = true
 may_happen nodes links clock place (Restart n torn) = true

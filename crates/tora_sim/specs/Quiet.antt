@@ -1,6 +1,5 @@
 -- Worlds in which nothing is to be done, and until which tick what is stored stays so.
 use Rattle.std.specs.Prelude.{◌≡◌, ℕ, ◌+◌, ◌<◌, ◌≤◌, ◌⊎◌, ◌==◌, Bool, true, false, is_some, List, length, slice_get, slice_index, slice_set, Some}
-use Rattle.std.specs.List.{list_all}
 use Rattle.tora_arq.specs.Settings.{Settings}
 use Rattle.tora_arq.specs.LinkEnd.{EndState, is_closed, first_event, frame_due, after_tick}
 use Rattle.tora_world.specs.declared.event.Event.TheVariants.{Open, Pull, Transmit, Pump, CoreTurn}
@@ -8,7 +7,6 @@ use Rattle.tora_world.specs.World.{World, refusal_of}
 use Rattle.tora_sim.specs.Links.{LinkView}
 use Rattle.tora_sim.specs.Nodes.{NodeView}
 use Rattle.tora_sim.specs.Possible.{has_cargo}
-use Rattle.tora_sim.specs.Store.{EachOf}
 
 -- no core has an item to take, and no link end can be opened, take a cargo, send a frame or give an event
 pub record IsQuiet (w : World) : Type 0 where
@@ -25,13 +23,20 @@ pub record IsQuietEnd (w : World) (n k : ℕ) : Type 0 where
   pub sends : is_some (refusal_of w (Transmit n k)) ≡ true
   pub pumps : is_some (refusal_of w (Pump n k)) ≡ true
 
--- nothing is to be done before a tick at an end of these settings and this state, in whose lane a cargo waits or none, and no tick before it changes the end
+-- nothing is to be done before a tick at an end of these settings and this state, in whose lane a cargo waits or none,
+-- and no tick before it changes the end
 pub record IsStillEnd (until : ℕ) (settings : Settings) (state : EndState) (waits : Bool) : Type 0 where
   pub opened : is_closed state ≡ false
   pub lane : waits ≡ false
   pub events : is_some (first_event state) ≡ false
   pub frames : (tick : ℕ) → tick < until → is_some (frame_due settings state tick) ≡ false
   pub ticks : (tick : ℕ) → tick < until → after_tick settings state tick ≡ state
+
+-- the end of a link is open, and has no cargo to take and no event to give
+pub record MayOnlySend (link : LinkView) : Type 0 where
+  pub opened : is_closed link.state ≡ false
+  pub lane : has_cargo link ≡ false
+  pub events : is_some (first_event link.state) ≡ false
 
 abbrev pub IsStill : ℕ → LinkView → Type 0
 IsStill until link = IsStillEnd until link.settings link.state (has_cargo link)
@@ -44,22 +49,16 @@ IsStillIf until link = 0 < until → IsStill until link
 abbrev pub is_idle : NodeView → Bool
 is_idle node = length node.items == 0
 
--- no item waits for any core, where that is known
-abbrev pub AreIdleIf : Bool → List NodeView → Type 0
-AreIdleIf known nodes = known ≡ true → list_all is_idle nodes ≡ true
-
--- nothing is to be done at any node or link end before a tick; of the tick 0 that says nothing
-abbrev pub AreStill : ℕ → List NodeView → List LinkView → Type 0
-AreStill until nodes links = 0 < until → (list_all is_idle nodes ≡ true) × EachOf (IsStill until) links
-
 -- of each link end whose tick is still to come nothing is to be done before it; of any other that says nothing
 pub record AreStillEach (clock : ℕ) (stills : List ℕ) (links : List LinkView) : Type 0 where
   pub as_many : length stills ≡ length links
-  pub still : (at : ℕ) (link : LinkView) → clock < slice_index stills at → slice_get links at ≡ Some link → IsStill (slice_index stills at) link
+  pub still : (at : ℕ) (link : LinkView) → clock < slice_index stills at → slice_get links at ≡ Some link
+      → IsStill (slice_index stills at) link
 
 -- the same of the link ends from a place on
 abbrev pub AreStillFrom : ℕ → ℕ → List ℕ → List LinkView → Type 0
-AreStillFrom from clock stills links = (at : ℕ) (link : LinkView) → from ≤ at → clock < slice_index stills at → slice_get links at ≡ Some link → IsStill (slice_index stills at) link
+AreStillFrom from clock stills links = (at : ℕ) (link : LinkView) → from ≤ at → clock < slice_index stills at
+    → slice_get links at ≡ Some link → IsStill (slice_index stills at) link
 
 -- of so many ends from a place on nothing is known any more, and of any other what was, or nothing
 pub record AreForgotten (before stills : List ℕ) (first count : ℕ) : Type 0 where
@@ -67,17 +66,23 @@ pub record AreForgotten (before stills : List ℕ) (first count : ℕ) : Type 0 
   pub here : (place : ℕ) → place < count → slice_index stills (first + place) ≡ 0
   pub others : (at : ℕ) → (slice_index stills at ≡ 0) ⊎ (slice_index stills at ≡ slice_index before at)
 
--- nothing is known any more of the link end at a place, or in its lane no cargo waits, and of each end is known what was
+-- nothing is known any more of the link end at a place, or in its lane no cargo waits, and of each end is known what
+-- was
 abbrev pub IsForgottenWhere : List LinkView → List ℕ → List ℕ → ℕ → Type 0
-IsForgottenWhere links before stills at = (stills ≡ slice_set before at 0) ⊎ ((stills ≡ before) × ((link : LinkView) → slice_get links at ≡ Some link → has_cargo link ≡ false))
+IsForgottenWhere links before stills at = (stills ≡ slice_set before at 0)
+    ⊎ ((stills ≡ before) × ((link : LinkView) → slice_get links at ≡ Some link → has_cargo link ≡ false))
 
--- nothing is known any more of those of so many link ends from a place on in whose lane a cargo waits, and of any other what was, or nothing
+-- nothing is known any more of those of so many link ends from a place on in whose lane a cargo waits, and of any other
+-- what was, or nothing
 pub record AreForgottenWhere (links : List LinkView) (before stills : List ℕ) (first count : ℕ) : Type 0 where
   pub as_many : length stills ≡ length before
-  pub here : (place : ℕ) (link : LinkView) → place < count → slice_get links (first + place) ≡ Some link → has_cargo link ≡ true → slice_index stills (first + place) ≡ 0
+  pub here : (place : ℕ) (link : LinkView) → place < count → slice_get links (first + place) ≡ Some link
+      → has_cargo link ≡ true → slice_index stills (first + place) ≡ 0
   pub others : (at : ℕ) → (slice_index stills at ≡ 0) ⊎ (slice_index stills at ≡ slice_index before at)
 
 -- what is known of each end but of those of so many from a place on in whose lane a cargo waits
 pub record AreStillBut (clock : ℕ) (stills : List ℕ) (links : List LinkView) (first count : ℕ) : Type 0 where
   pub as_many : length stills ≡ length links
-  pub still : (at : ℕ) (link : LinkView) → clock < slice_index stills at → slice_get links at ≡ Some link → ((place : ℕ) → place < count → at ≡ first + place → has_cargo link ≡ false) → IsStill (slice_index stills at) link
+  pub still : (at : ℕ) (link : LinkView) → clock < slice_index stills at → slice_get links at ≡ Some link
+      → ((place : ℕ) → place < count → at ≡ first + place → has_cargo link ≡ false)
+      → IsStill (slice_index stills at) link

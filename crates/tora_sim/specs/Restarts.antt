@@ -19,9 +19,15 @@ core_again core = first_core_of core.erasure core.me core.neighbours (destinatio
 
 -- a node: its lane is empty, and its core has accepted nothing
 abbrev pub restarted_node : SeatView → NodeView → NodeView
-restarted_node seat node = record node { seat = seat; inputs = []; items = []; counts = replicate (length node.counts) 0 }
+restarted_node seat node = record node {
+  seat = seat;
+  inputs = [];
+  items = [];
+  counts = replicate (length node.counts) 0;
+}
 
 -- there is a fresh end for each of so many link ends from a place on
 abbrev pub AreFresh : List LinkView → ℕ → ℕ → List LinkEndView → Type 0
 AreFresh links first count ends =
-    (place : ℕ) (link : LinkView) → place < count → slice_get links (first + place) ≡ Some link → slice_get ends place ≡ Some (link_end_of link.settings first_end)
+    (place : ℕ) (link : LinkView) → place < count → slice_get links (first + place) ≡ Some link
+    → slice_get ends place ≡ Some (link_end_of link.settings first_end)

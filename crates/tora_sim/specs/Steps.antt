@@ -18,7 +18,8 @@ pub record IsRefused (w : World) (event : Event) (error : SimError) (after : Wor
   pub world : after ≡ w
 
 abbrev pub Does : SimState → Event → Result (Unit {0}) SimError → SimState → Type 0
-Does before event result after = MatchResult result (λ _. IsDone (world_of before) event (world_of after)) (λ error. IsRefused (world_of before) event error (world_of after))
+Does before event result after = MatchResult result (λ _. IsDone (world_of before) event (world_of after)) (λ error.
+    IsRefused (world_of before) event error (world_of after))
 
 -- no event is refused, and the last one leaves this world
 abbrev pub AllAreDone : World → List Event → World → Type 0
@@ -28,10 +29,12 @@ AllAreDone w (event ∷ events) after = (refusal_of w event ≡ None) × AllAreD
 -- the first event that is not done leaves the world that the ones before it left
 abbrev pub StopsWith : World → List Event → SimError → World → Type 0
 StopsWith w [] error after = ⊥
-StopsWith w (event ∷ events) error after = IsRefused w event error after ⊎ ((refusal_of w event ≡ None) × StopsWith (world_after w event) events error after)
+StopsWith w (event ∷ events) error after = IsRefused w event error after
+    ⊎ ((refusal_of w event ≡ None) × StopsWith (world_after w event) events error after)
 
 abbrev pub Runs : SimState → List Event → Result (Unit {0}) SimError → SimState → Type 0
-Runs before events result after = MatchResult result (λ _. AllAreDone (world_of before) events (world_of after)) (λ error. StopsWith (world_of before) events error (world_of after))
+Runs before events result after = MatchResult result (λ _. AllAreDone (world_of before) events (world_of after))
+    (λ error. StopsWith (world_of before) events error (world_of after))
 
 -- an event again and again until it is refused, and so many times at most
 unfoldable pub repeats : ℕ → Event → World → List Event
@@ -45,5 +48,6 @@ pub record Happened (before : World) (events : List Event) (after : World) (some
 
 -- an event happened until it was refused, or until there was no memory for it
 abbrev pub Repeats : SimState → ℕ → Event → Result Bool AllocError → SimState → Type 0
-Repeats before most event result after = MatchResult result (λ some. Happened (world_of before) (repeats most event (world_of before)) (world_of after) some)
+Repeats before most event result after =
+    MatchResult result (λ some. Happened (world_of before) (repeats most event (world_of before)) (world_of after) some)
     (λ error. StopsWith (world_of before) (repeats most event (world_of before)) Refused.Memory (world_of after))

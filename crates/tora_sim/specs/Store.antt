@@ -36,7 +36,14 @@ pub record SimState : Type 0 where
   pub datagrams : List FrameParts
 
 abbrev pub state_of : Topology → Times → ℕ → List NodeView → List LinkView → List FrameParts → SimState
-state_of topology times clock nodes links datagrams = record { topology = topology; times = times; clock = clock; nodes = nodes; links = links; datagrams = datagrams }
+state_of topology times clock nodes links datagrams = record {
+  topology = topology;
+  times = times;
+  clock = clock;
+  nodes = nodes;
+  links = links;
+  datagrams = datagrams;
+}
 
 -- ---- what is stored of a node or link, and what the first world has where there is none
 
@@ -129,7 +136,8 @@ pub record IsNodeOf (t : Topology) (node : NodeView) : Type 0 where
 -- the link ends of a node stand one behind the other, in the order of its neighbours
 pub record AreEndsOf (t : Topology) (links : List LinkView) (node : NodeView) : Type 0 where
   pub within : node.first + node.count ≤ length links
-  pub at : (place k : ℕ) (link : LinkView) → slice_get (neighbours_of t node.node) place ≡ Some k → slice_get links (node.first + place) ≡ Some link → (link.node ≡ node.node) × (link.peer ≡ k)
+  pub at : (place k : ℕ) (link : LinkView) → slice_get (neighbours_of t node.node) place ≡ Some k
+      → slice_get links (node.first + place) ≡ Some link → (link.node ≡ node.node) × (link.peer ≡ k)
 
 -- a datagram came over a link, from its sender to its receiver
 abbrev pub IsOfLink : Topology → FrameParts → Type 0

@@ -11,13 +11,14 @@ use Rattle.tora_sim.specs.Keyed.{IsFirst}
 use Rattle.tora_sim.specs.Lanes.{AreOthersKept, AreReadyOutside, HaveRoomBut}
 use Rattle.tora_sim.specs.Links.{LinkView}
 use Rattle.tora_sim.specs.Nodes.{NodeView, is_of}
-use Rattle.tora_sim.specs.Plains.{ArePlainEach, ArePlainBut}
 use Rattle.tora_sim.specs.Quiet.{AreStillEach, AreStillBut}
 use Rattle.tora_sim.specs.Steps.{Happened, StopsWith, repeats}
 use Rattle.tora_sim.specs.Store.{SimState, IsStore, state_of, world_of}
 
--- what is known of a node and of all link ends once its core took items: where its ends stand, which of them are not ready and at which there may be no memory, that others are as they were, and what is still known of each
-pub record AreTaken (x : NodeView) (links : List LinkView) (y : NodeView) (after : List LinkView) (unready : Unready) (seat : ℕ) : Type 0 where
+-- what is known of a node and of all link ends once its core took items: where its ends stand, which of them are not
+-- ready and at which there may be no memory, that others are as they were, and what is still known of each
+pub record AreTaken (x : NodeView) (links : List LinkView) (y : NodeView) (after : List LinkView) (unready : Unready)
+    (seat : ℕ) : Type 0 where
   pub node : y.node ≡ x.node
   pub first : y.first ≡ x.first
   pub count : y.count ≡ x.count
@@ -26,16 +27,21 @@ pub record AreTaken (x : NodeView) (links : List LinkView) (y : NodeView) (after
   pub ready : AreReadyOutside after x.first x.count unready
   pub room : HaveRoomBut after x.first x.count seat
   pub others : AreOthersKept links after x.first x.count
-  pub still : (clock : ℕ) (stills : List ℕ) → AreStillEach clock stills links → AreStillBut clock stills after x.first x.count
-  pub plain : (clock : ℕ) (plains : List ℕ) → ArePlainEach clock plains links → ArePlainBut clock plains after x.first x.count
+  pub still : (clock : ℕ) (stills : List ℕ) → AreStillEach clock stills links
+      → AreStillBut clock stills after x.first x.count
 
 -- the core of node `n` took its items until none waited, so many at most, or until there was no memory for one
 pub record Takes (before after : SimState) (n most : ℕ) (result : Result Bool SimError) : Type 0 where
   pub store : IsStore after
-  pub events : MatchResult result (λ some. Happened (world_of before) (repeats most (CoreTurn n) (world_of before)) (world_of after) some)
-      (λ error. (error ≡ Refused.Memory) × StopsWith (world_of before) (repeats most (CoreTurn n) (world_of before)) Refused.Memory (world_of after))
+  pub events : MatchResult result (λ some. Happened (world_of before) (repeats most (CoreTurn n) (world_of before))
+      (world_of after) some)
+      (λ error. (error ≡ Refused.Memory) × StopsWith (world_of before) (repeats most (CoreTurn n) (world_of before))
+      Refused.Memory (world_of after))
 
 -- so it is in each world in which this is the node at a place, and these are all link ends
 abbrev pub TakesItems : ℕ → NodeView → List LinkView → Result Bool SimError → NodeView → List LinkView → Type 0
-TakesItems most x links result y after = (t : Topology) (times : Times) (clock : ℕ) (nodes : List NodeView) (ds : List FrameParts) (n home : ℕ) → IsStore (state_of t times clock nodes links ds) → IsFirst (is_of n) nodes home → x ≡ slice_index_or nodes home x
-    → Takes (state_of t times clock nodes links ds) (state_of t times clock (slice_set nodes home y) after ds) n most result
+TakesItems most x links result y after = (t : Topology) (times : Times) (clock : ℕ) (nodes : List NodeView)
+    (ds : List FrameParts) (n home : ℕ) → IsStore (state_of t times clock nodes links ds) → IsFirst (is_of n) nodes home
+    → x ≡ slice_index_or nodes home x
+    → Takes (state_of t times clock nodes links ds) (state_of t times clock (slice_set nodes home y) after ds) n most
+    result

@@ -14,7 +14,13 @@ abbrev pub links_in : List (ℕ × ℕ) → List Link
 links_in links = map link_in links
 
 abbrev pub topology_of : List (ℕ × ℕ) → List ℕ → Topology
-topology_of links destinations = record { links = links_in links; destinations = destinations; olds = []; erasure = Plain; choices = [] }
+topology_of links destinations = record {
+  links = links_in links;
+  destinations = destinations;
+  olds = [];
+  erasure = Plain;
+  choices = [];
+}
 
 -- the same, but for the nodes whose link ends speak version 1 of frames alone
 abbrev pub with_olds : Topology → List ℕ → Topology

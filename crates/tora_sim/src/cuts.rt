@@ -6,7 +6,8 @@ ghost use Rattle.tora_sim.specs.Links.{with_state};
 ghost use Rattle.tora_sim.specs.Cuts.{after_cut_at};
 ghost use Rattle.tora_sim.specs.Store.{world_of};
 
-use crate::links::{LinkParts, cut_bound, place};
+use crate::end_keys::place;
+use crate::links::{LinkParts, cut_bound};
 use crate::sim::Sim;
 use crate::stills::forget;
 use tora_arq::lives_are_bound_once;
@@ -23,15 +24,14 @@ impl LinkParts {
 }
 
 impl Sim {
-    /// Cuts the life that the end of node `n` towards `k` is bound to, if it is bound, as a link layer has it that tells of a
-    /// broken link. It is no event, and nothing where there is no such link; the world is one of those that threads may lead to.
+    /// Cuts the life that the end of node `n` towards `k` is bound to, if it is bound, as a link layer has it that
+    /// tells of a broken link. It is no event, and nothing where there is no such link; the world is one of those that
+    /// threads may lead to.
     pub fn cut_bound(&mut self, n: Id, k: Id)
         ensures { world_of self.new ≡ after_cut_at (world_of self.old) n k }
     {
         if let Some(at) = place(&self.links, &self.keys, n, k) {
-            self.quiet = 0;
             forget(&mut self.stills, at, 1);
-            forget(&mut self.plains, at, 1);
             self.links[at].cut_bound();
         }
     }

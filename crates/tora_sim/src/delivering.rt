@@ -1,17 +1,106 @@
-//! A datagram is delivered as often as it comes.
-ghost use Rattle.std.specs.Prelude.{MatchResult};
-ghost use Rattle.tora_sim.specs.Steps.{Repeats};
+//! Datagrams are delivered.
+ghost use Rattle.tora_sim.specs.Steps.{Repeats, Does, IsDone};
 ghost use Rattle.tora_world.specs.declared.event.Event.TheVariants.{Deliver};
+ghost use Rattle.std.specs.Prelude.{◌≡◌, true, false, Some, IfSome};
+ghost use Rattle.tora_frame.specs.FrameParts.{IsHeader, frame_of};
+ghost use Rattle.tora_frame.specs.declared.parts.Body.TheVariants.{Hello};
+ghost use Rattle.tora_sim.specs.Store.{numbered, world_of};
 
 use crate::SimError;
+use crate::end_keys::place_near;
+use crate::nodes::node_near;
+use crate::places::home_at;
 use crate::sim::Sim;
+use crate::stills::{keep_still, short};
 use std::alloc::AllocError;
+use tora_datagrams::Datagrams;
+use tora_frame::{BorrowedFrame, Header};
 
 impl Sim {
-    /// Lets `Deliver` of the datagram of a number happen until it is refused, and so many times at most, and answers whether it ever did.
+    /// Hands a datagram to its receiver, unless the receive is armed to fail, and keeps the deadline of the end anew.
+    #[inline(always)]
+    pub(crate) fn deliver(&mut self, i: u64) -> Result<(), SimError>
+        ensures { Does self.old (Deliver i) result self.new }
+    {
+        if self.deliver_hello(i) {
+            return Ok(());
+        }
+        self.deliver_frame(i)
+    }
+
+    /// Delivers a datagram if it is a HELLO and the receive isn't armed, and returns whether it did. Otherwise nothing
+    /// changes.
+    #[inline(always)]
+    fn deliver_hello(&mut self, i: u64) -> bool
+        ensures done { result ≡ true → IsDone (world_of self.old) (Deliver i) (world_of self.new) }
+        ensures same { result ≡ false → self.new ≡ self.old }
+    {
+        let Some((header, guess)) = numbered_hello(&self.datagrams, i) else {
+            return false;
+        };
+        let Some(home) = node_near(&self.nodes, home_at(&self.places, guess), header.receiver)
+        else {
+            return false;
+        };
+        if self.nodes[home].receive() {
+            return false;
+        }
+        let Some(at) = place_near(
+            &self.links,
+            &self.keys,
+            guess,
+            header.receiver,
+            header.sender,
+        ) else {
+            return false;
+        };
+        let Some(until) = self.links[at].receive_hello_and_look(&header, self.clock) else {
+            return false;
+        };
+        keep_still(&mut self.stills, at, short(until));
+        true
+    }
+
+    /// Delivers a datagram of any kind.
+    #[inline(never)]
+    fn deliver_frame(&mut self, i: u64) -> Result<(), SimError>
+        ensures { Does self.old (Deliver i) result self.new }
+    {
+        let far_end = numbered_far_end(&self.datagrams, i);
+        let Some(frame) = numbered(&self.datagrams, i) else {
+            return Err(SimError::NoDatagram);
+        };
+        let header = frame.header();
+        let Some(home) = node_near(&self.nodes, home_at(&self.places, far_end), header.receiver)
+        else {
+            return Err(SimError::NoDatagram);
+        };
+        if self.nodes[home].receive() {
+            self.nodes[home].arm_receive(false);
+            return Ok(());
+        }
+        let Some(at) = place_near(
+            &self.links,
+            &self.keys,
+            far_end,
+            header.receiver,
+            header.sender,
+        ) else {
+            return Err(SimError::NoDatagram);
+        };
+        let Some(until) = self.links[at].receive_and_look(&frame, self.clock) else {
+            return Err(SimError::Memory);
+        };
+        keep_still(&mut self.stills, at, short(until));
+        Ok(())
+    }
+
+    /// Makes `Deliver` of a datagram happen until it is refused, at most `most` times, and returns whether it happened
+    /// at all.
     ///
     /// # Errors
-    /// Where there is no memory for what waits at the end that takes it in. The world is then as after the deliveries before it.
+    /// Where there is no memory for what waits at the end that takes it in. The world is then as after the deliveries
+    /// before it.
     #[inline(always)]
     pub fn deliver_all(&mut self, i: u64, most: u64) -> Result<bool, AllocError>
         ensures { Repeats self.old most (Deliver i) result self.new }
@@ -27,5 +116,35 @@ impl Sim {
             }
         }
         Ok(some)
+    }
+}
+
+/// The datagram with this number, from 1.
+#[inline(always)]
+pub fn numbered(datagrams: &Datagrams, i: u64) -> Option<BorrowedFrame<'_>>
+    ensures { result ≡ numbered i datagrams.now.items }
+{
+    let place = usize::try_from(i).ok()?.checked_sub(1)?;
+    datagrams.get(place)
+}
+
+/// The header of a HELLO, given by its number from 1, and a guess at the index of the link end that receives it. `None`
+/// for any other datagram.
+#[inline(always)]
+fn numbered_hello(datagrams: &Datagrams, i: u64) -> Option<(Header, usize)>
+    ensures hello { IfSome result (λ told. numbered i datagrams.now.items ≡ Some (frame_of told.0 Hello)) }
+    ensures valid { IfSome result (λ told. IsHeader told.0) }
+{
+    let number = usize::try_from(i).ok()?;
+    let told = datagrams.hello(number.checked_sub(1)?)?;
+    Some((told.header(), told.far_end as usize))
+}
+
+/// A guess at the index of the link end that receives a datagram, given by its number from 1.
+#[inline(always)]
+fn numbered_far_end(datagrams: &Datagrams, i: u64) -> usize {
+    match usize::try_from(i) {
+        Ok(number) => datagrams.far_end(number.saturating_sub(1)),
+        Err(_) => 0,
     }
 }

@@ -1,6 +1,6 @@
 //! Where something may be to be done, among the link ends.
-ghost use Rattle.std.specs.Prelude.{◌≡◌, ◌+◌, ◌*◌, ◌<◌, ◌≤◌, ℕ, true, Some, IfNone, IfSome, length, max, slice_get, slice_index};
-ghost use Rattle.tora_sim.specs.Plains.{MayOnlySend};
+ghost use Rattle.std.specs.Prelude.{◌≡◌, ◌+◌, ◌*◌, ◌<◌, ◌≤◌, ℕ, true, Some, IfNone, IfSome, length, max, slice_get};
+ghost use Rattle.std.specs.Prelude.{slice_index};
 ghost use Rattle.tora_sim.specs.Quiet.{IsQuietEnd};
 ghost use Rattle.tora_sim.specs.Readers.{ends_in};
 ghost use Rattle.tora_sim.specs.Stills.{AreLater};
@@ -22,31 +22,22 @@ impl Sim {
         are_ends(self.keys.as_slice(), ends)
     }
 
-    /// The first place from `place` on, in the order of `ends` and from 0 on, at which a link end may have something to do: the
-    /// ends that are passed over can't be opened, take a cargo, send a frame or give an event. Only ends are passed over of which
-    /// `settle` found until which tick that is so, and at which no event happened since that may change it.
+    /// The first place from `place` on, in the order of `ends` and from 0 on, at which a link end may have something to
+    /// do: the ends that are passed over can't be opened, take a cargo, send a frame or give an event. Only ends are
+    /// passed over of which `settle` found until which tick that is so, and at which no event happened since that may
+    /// change it.
     #[inline(always)]
     pub fn next_due(&self, place: usize) -> usize
         ensures onward { place ≤ result }
-        ensures passed { (at : ℕ) (end : ℕ × ℕ) → place ≤ at → at < result → slice_get (ends_in self.now.topology) at ≡ Some end → IsQuietEnd (world_of self.now) end.0 end.1 }
+        ensures passed { (at : ℕ) (end : ℕ × ℕ) → place ≤ at → at < result
+            → slice_get (ends_in self.now.topology) at ≡ Some end → IsQuietEnd (world_of self.now) end.0 end.1 }
     {
         next_due(&self.stills, self.clock, place)
     }
-
-    /// The first place from `place` on, in the order of `ends` and from 0 on, at which more than a frame may be due: the ends that are
-    /// passed over can't be opened, take a cargo or give an event. Only ends are passed over that `settle` found to be so, and that no event
-    /// has made otherwise since.
-    #[inline(always)]
-    pub fn next_busy(&self, place: usize) -> usize
-        ensures onward { place ≤ result }
-        ensures passed { (at : ℕ) (end : ℕ × ℕ) → place ≤ at → at < result → slice_get (ends_in self.now.topology) at ≡ Some end → MayOnlySend (world_of self.now) end.0 end.1 }
-    {
-        next_due(&self.plains, self.clock, place)
-    }
 }
 
-/// Whether these are the same ends, in the same order. It looks at every end: several at once take less time than one after another up to the
-/// one that is another.
+/// Whether these are the same ends, in the same order. It looks at every end: several at once take less time than one
+/// after another up to the one that is another.
 fn are_ends(keys: &[(Id, Id)], ends: &[(Id, Id)]) -> bool
     ensures sound { result ≡ true → ends.now ≡ keys.now }
     ensures complete { ends.now ≡ keys.now → result ≡ true }
@@ -79,8 +70,7 @@ fn nodes_apart(n: Id, k: Id) -> Id
     n.wrapping_sub(k)
 }
 
-/// The first place from `place` on at which a tick is not still to come: in most passes in which many HELLOs are due the place itself; else it is
-/// looked for among the next 16 first.
+/// The first index from `place` on whose deadline has come. In most passes it is `place` itself or one of the next 16.
 #[inline(always)]
 pub fn next_due(stills: &Stills, now: u64, place: usize) -> usize
     ensures onward { place ≤ result }

@@ -5,7 +5,7 @@ ghost use Rattle.tora_sim.specs.Stills.{due_bits};
 use crate::stills::short;
 use std::simd::prelude::*;
 
-/// A bit for each of the 16 ticks from the place `first` on, the lowest for the first: it is set where the tick is not still to come.
+/// A bit for each of the 16 ticks from the index `first` on, the lowest for the first: it is set if the tick has come.
 #[inline(always)]
 pub fn due_bits(ticks: &[u32], first: usize, now: u64) -> u16
     requires { first + 16 ≤ length ticks.now }

@@ -53,7 +53,8 @@ impl FileSlot {
         ensures above { IfSome result (λ n. (earlier : ℕ) → IsDrawn earlier (disk_of self.old) → earlier < n) }
         ensures within { IfSome result (λ n. n ≤ 2 ^ 62) }
         ensures last { IfSome result (λ n. IsDrawn n (disk_of self.new)) }
-        ensures kept { IfNone result ((earlier : ℕ) → IsDrawn earlier (disk_of self.old) → IsDrawn earlier (disk_of self.new)) }
+        ensures kept { IfNone result ((earlier : ℕ) → IsDrawn earlier (disk_of self.old)
+            → IsDrawn earlier (disk_of self.new)) }
     {
         match self {
             FileSlot::Opened(file) => match file.draw() {

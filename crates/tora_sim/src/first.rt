@@ -10,10 +10,10 @@ ghost use Rattle.tora_sim.specs.Topologies.{IsTopology};
 ghost use Rattle.tora_sim.specs.Firsts.{IsFirstEnd, AreAdded, IsMade};
 
 use crate::SimError;
-use crate::ahead::Ahead;
+use crate::end_keys::keys_of;
 use crate::files::{apart, open};
 use crate::link_slot::LinkSlot;
-use crate::links::{LinkParts, end_of, keys_of};
+use crate::links::{LinkParts, end_of};
 use crate::nodes::{NodeSlot, Sending, no_counts};
 use crate::places::places_of;
 use crate::queue::Queue;
@@ -21,23 +21,22 @@ use crate::ready::none_ready;
 use crate::sim::Sim;
 use crate::stills::no_stills;
 use crate::topology::Topology;
-use crate::unready::all_unready;
 use std::alloc::Global;
 use tora_arq::{Times, standard_times};
 use tora_cargoes::{KeptCargoes, Lane, Spares};
-use tora_core::{Core, CoreLimits, Sends, numbers_are_put_in_order, numbers_come_and_go};
+use tora_core::{Core, CoreLimits, numbers_are_put_in_order, numbers_come_and_go};
 use tora_datagrams::Datagrams;
-use tora_frame::{Packets, Version};
+use tora_frame::Version;
 use tora_height::Id;
 use tora_life::{MemDisk, Owner};
 use tora_seat::BareSeat;
 
 impl Sim {
-    /// The world of a topology at its start: no link end is open, every life file is empty, nothing is under way, and the
-    /// clock stands at 0.
+    /// The world of a topology at its start: no link end is open, every life file is empty, nothing is under way, and
+    /// the clock stands at 0.
     ///
-    /// Each link end has the standard times: 10 ticks of 100 ms between HELLOs, 50 of silence, 5 between tries, 8 tries.
-    /// The lists of the topology are copied.
+    /// Each link end has the standard times: 10 ticks of 100 ms between HELLOs, 50 of silence, 5 between tries, 8
+    /// tries. The lists of the topology are copied.
     ///
     /// # Errors
     /// `Memory`.
@@ -49,8 +48,8 @@ impl Sim {
         Sim::with_times(alloc, topology, Times::STANDARD)
     }
 
-    /// The world of a topology at its start, as `Sim::new` makes it, but with these times of each link end, none of which
-    /// is 0.
+    /// The world of a topology at its start, as `Sim::new` makes it, but with these times of each link end, none of
+    /// which is 0.
     ///
     /// # Errors
     /// `Memory`.
@@ -72,12 +71,9 @@ impl Sim {
         }
         let count = links.len();
         let stills = no_stills(alloc, count)?;
-        let plains = no_stills(alloc, count)?;
         let ready = none_ready(alloc, count)?;
-        let unready = all_unready(alloc, nodes.len(), count)?;
         let keys = keys_of(alloc, &links)?;
         let places = places_of(alloc, &keys, &nodes)?;
-        let ahead = Ahead::of_ends(alloc, count)?;
         Ok(Sim {
             topology: own,
             times,
@@ -87,16 +83,9 @@ impl Sim {
             keys,
             places,
             datagrams: Datagrams::new(alloc),
-            quiet: 0,
             stills,
-            plains,
             ready,
-            unready,
             spares: Spares::new(alloc),
-            idle: false,
-            packets: Packets::new(),
-            sends: Sends::new(),
-            ahead,
         })
     }
 }
@@ -112,7 +101,8 @@ fn add_node(
 ) -> Result<(), SimError>
     requires times { IsTimes times }
     requires me { 0 < n }
-    ensures { MatchResult result (λ _. IsMade topology.now times n nodes.old.items links.old.items nodes.new.items links.new.items) (λ e. e ≡ SimError.Memory) }
+    ensures { MatchResult result (λ _. IsMade topology.now times n nodes.old.items links.old.items nodes.new.items
+        links.new.items) (λ e. e ≡ SimError.Memory) }
 {
     let first = links.len();
     let neighbours = topology.neighbours(n);
@@ -184,7 +174,8 @@ fn add_links(
     requires me { 0 < n }
     requires kept { IsTopology topology.now }
     requires peers { peers.now ≡ neighbours_of topology.now n }
-    ensures { MatchResult result (λ _. AreAdded topology.now times n links.old.items links.new.items) (λ e. e ≡ SimError.Memory) }
+    ensures { MatchResult result (λ _. AreAdded topology.now times n links.old.items links.new.items) (λ e.
+        e ≡ SimError.Memory) }
 {
     numbers_are_put_in_order();
     let version = topology.version_of(n);

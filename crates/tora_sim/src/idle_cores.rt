@@ -9,11 +9,13 @@ use crate::sim::Sim;
 use tora_height::Id;
 
 impl Sim {
-    /// The first place from `place` on, among these nodes and from 0 on, at which a core may have an item to take: `step` refuses each
-    /// `CoreTurn` of the nodes that are passed over. Only nodes are passed over that stand at the same place among `nodes`.
+    /// The first place from `place` on, among these nodes and from 0 on, at which a core may have an item to take:
+    /// `step` refuses each `CoreTurn` of the nodes that are passed over. Only nodes are passed over that stand at the
+    /// same place among `nodes`.
     pub fn next_core(&self, nodes: &[Id], place: usize) -> usize
         ensures onward { place ≤ result }
-        ensures passed { (at n : ℕ) → place ≤ at → at < result → slice_get nodes.now at ≡ Some n → is_some (refusal_of (world_of self.now) (CoreTurn n)) ≡ true }
+        ensures passed { (at n : ℕ) → place ≤ at → at < result → slice_get nodes.now at ≡ Some n
+            → is_some (refusal_of (world_of self.now) (CoreTurn n)) ≡ true }
     {
         let many = nodes.len().min(self.nodes.len());
         for at in place..many {

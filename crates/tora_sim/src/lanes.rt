@@ -1,10 +1,11 @@
 //! The lanes from a node's core to its neighbours.
-ghost use Rattle.std.specs.Prelude.{◌≡◌, ◌+◌, ◌<◌, ◌≤◌, ◌++◌, ◌∷◌, [], ⊤, Some, length, slice_get, slice_set, OnOk, IfErr, MatchOption};
+ghost use Rattle.std.specs.Prelude.{◌≡◌, ◌+◌, ◌<◌, ◌≤◌, ◌++◌, ◌∷◌, [], ⊤, Some, length, slice_get, slice_set, OnOk};
+ghost use Rattle.std.specs.Prelude.{IfErr, MatchOption};
 ghost use Rattle.tora_cargoes.specs.Lane.{AreWhole};
-ghost use Rattle.tora_sim.specs.Lanes.{lanes_of, bare_between, AreReady, AreReadyEach, AreReadyOutside, AreAlike, AreOthersSame, HasRoomAt, HaveRoom, HaveRoomBut};
+ghost use Rattle.tora_sim.specs.Lanes.{lanes_of, bare_between, AreReady, AreReadyEach, AreReadyOutside, AreAlike};
+ghost use Rattle.tora_sim.specs.Lanes.{AreOthersSame, HasRoomAt, HaveRoom, HaveRoomBut};
 ghost use Rattle.tora_sim.specs.Links.{LinkView};
 ghost use Rattle.tora_sim.specs.Turns.{IsNoted};
-ghost use Rattle.tora_sim.specs.Unready.{AreMarksKept};
 
 use crate::SimError;
 use crate::link_slot::LinkSlot;
@@ -14,15 +15,14 @@ use std::marker::Model;
 use tora_cargoes::Spares;
 use tora_seat::{Cargo, OutLanes, Stepped};
 
-/// The ends of all links, with the place of one node's: its ends stand one behind the other, in the order of its
-/// neighbours. There is memory for all that one item of the node can put: in the lanes that have a list, or in the spare lists of their places. What
-/// memory there is at the node's ends isn't seen.
+/// The lanes of one node, among all link ends: the node's ends are adjacent, in the order of its neighbours. The lanes
+/// and the spare lists have memory for all that one item of the node can put.
 #[derive(Drop)]
 pub struct NodeLanes {
     links: Vec<LinkSlot>,
     first: usize,
     count: usize,
-    /// At each of the node's other ends the lane is empty, and there is memory for all that another item can put.
+    /// The ends that may not be ready.
     unready: Unready,
     spares: Spares,
 }
@@ -34,7 +34,8 @@ impl Model for NodeLanes {
 
     ghost view = { λ l. lanes_of (bare_between l.first l.count l.links.items) l.first l.count };
 
-    ghost invariant = { λ l. AreReady (lanes_of l.links.items l.first l.count) l.unready × AreFitting l.links.items l.first l.count l.spares };
+    ghost invariant = { λ l. AreReady (lanes_of l.links.items l.first l.count) l.unready
+        × AreFitting l.links.items l.first l.count l.spares };
 }
 
 impl OutLanes for NodeLanes {
@@ -52,8 +53,7 @@ impl OutLanes for NodeLanes {
 }
 
 impl NodeLanes {
-    /// The lanes of the node whose `count` ends stand from the place `first` on. Those of them that are not `unready` are ready, and as many spare
-    /// lists are whole.
+    /// The lanes of the node whose `count` ends begin at the index `first`.
     #[inline(always)]
     pub fn new(
         links: Vec<LinkSlot>,
@@ -75,8 +75,8 @@ impl NodeLanes {
         }
     }
 
-    /// The ends, with the packet that was stepped, if one was, noted at the end at a place of the node. Those of the node outside which each
-    /// is ready are put into `unready`, and the spare lists into `spares`.
+    /// The ends, with the packet that was stepped, if one was, noted at the end at a place of the node. Those of the
+    /// node outside which each is ready are put into `unready`, and the spare lists into `spares`.
     #[inline(always)]
     pub fn into_links(
         self,
@@ -113,34 +113,36 @@ impl NodeLanes {
 fn note(links: &mut Vec<LinkSlot>, at: usize, step: &Stepped)
     requires within { at < length links.old.items }
     requires room { HasRoomAt links.old.items at }
-    ensures { (link : LinkView) × (slice_get links.old.items at ≡ Some link) × (links.new.items ≡ slice_set links.old.items at (record link { steps = link.steps ++ record { life = step.now.life; packet = step.now.packet } ∷ [] })) }
+    ensures { (link : LinkView) × (slice_get links.old.items at ≡ Some link)
+        × (links.new.items ≡ slice_set links.old.items at (record link {
+          steps =
+              link.steps ++ record { life = step.now.life; packet = step.now.packet } ∷ [];
+        })) }
 {
     links[at].note_step(step.life, step.packet);
 }
 
-/// Takes the memory for all that one item can put at the `count` ends from the place `first` on, and makes `lists` spare lists whole. Ends of which
-/// it is known that there is are not looked at.
+/// Allocates memory for all that one item can put at the `count` ends from the index `first` on: at the ends that are
+/// not marked as ready, and in as many spare lists.
 ///
 /// # Errors
-/// `Memory`. The ends are as they were either way.
+/// `Memory`. The ends do not change.
 pub fn make_room(
     links: &mut Vec<LinkSlot>,
     ready: &mut Vec<bool>,
     spares: &mut Spares,
     first: usize,
     count: usize,
-    lists: usize,
 ) -> Result<(), SimError>
     requires within { first + count ≤ length links.old.items }
     requires marks { AreReadyEach ready.old.items links.old.items }
     ensures same { AreAlike links.old.items links.new.items }
     ensures room { OnOk result (HaveRoom links.new.items first count) }
     ensures marks { AreReadyEach ready.new.items links.new.items }
-    ensures kept { AreMarksKept ready.old.items ready.new.items }
-    ensures whole { OnOk result (AreWhole spares.new lists) }
+    ensures whole { OnOk result (AreWhole spares.new count) }
     ensures memory { IfErr result (λ e. e ≡ SimError.Memory) }
 {
-    if spares.make_whole(lists).is_err() {
+    if spares.make_whole(count).is_err() {
         return Err(SimError::Memory);
     }
     for place in 0..count {
@@ -150,10 +152,10 @@ pub fn make_room(
     Ok(())
 }
 
-/// Takes the memory for all that one item can put at the end at a place, unless it is known that there is.
+/// The same at the end at one index.
 ///
 /// # Errors
-/// `Memory`. The end is as it was either way.
+/// `Memory`. The end does not change.
 #[inline(always)]
 pub fn make_room_at(
     links: &mut Vec<LinkSlot>,
@@ -166,7 +168,6 @@ pub fn make_room_at(
     ensures room { OnOk result (HasRoomAt links.new.items at) }
     ensures others { AreOthersSame links.old.items links.new.items at }
     ensures marks { AreReadyEach ready.new.items links.new.items }
-    ensures kept { AreMarksKept ready.old.items ready.new.items }
     ensures memory { IfErr result (λ e. e ≡ SimError.Memory) }
 {
     if is_ready(ready, at) {
@@ -177,9 +178,8 @@ pub fn make_room_at(
     Ok(())
 }
 
-/// Of the lanes at the `count` ends from the place `first` on, puts the cargoes of each whose list has memory for more than four times as many into one that
-/// is no longer than they need: the long ones go to the spare ones, from which the next lanes take them, so that the same few are written. Ends that are
-/// ready are not looked at.
+/// Moves the cargoes of lanes with long lists into short lists, at the `count` ends from the index `first` on, and
+/// gives the long lists to the spare ones, so that the next lanes use the same few.
 pub fn shorten(
     links: &mut Vec<LinkSlot>,
     ready: &Vec<bool>,
@@ -199,7 +199,7 @@ pub fn shorten(
     }
 }
 
-/// The same at the end at a place, which gives its list to the spare place `spare`.
+/// The same at one end, whose list goes to the spare lists at the index `spare`.
 #[inline(always)]
 fn shorten_at(
     links: &mut Vec<LinkSlot>,

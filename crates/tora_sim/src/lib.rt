@@ -1,8 +1,8 @@
 //! A simulated world of nodes, links and datagrams.
 //!
-//! `Sim` is the world that the prefix law speaks of, with its cores, link ends, life files and lanes, as a value: `step` lets
-//! one event happen, or refuses it and changes nothing. Nothing happens by itself, and nothing is random. All datagrams that
-//! were ever sent stay, so that each can be delivered late, twice or never.
+//! `Sim` is the world that the prefix law speaks of, with its cores, link ends, life files and lanes, as a value:
+//! `step` lets one event happen, or refuses it and changes nothing. Nothing happens by itself, and nothing is random.
+//! All datagrams that were ever sent stay, so that each can be delivered late, twice or never.
 //!
 //! ```rust
 //! let topology = Topology::new(alloc, &[(1, 2)], &[2])?; // one link, and tables for the destination 2
@@ -14,27 +14,32 @@
 //! ```
 #![tactic(auto)]
 
-mod ahead;
 mod cuts;
 mod delivering;
 mod due;
 mod due_bits;
 mod duplicates;
+mod end_events;
+mod end_keys;
 mod files;
 mod first;
 mod idle_cores;
+mod lane_memory;
 mod lanes;
+mod link_calls;
 mod link_keys;
+mod link_nodes;
 mod link_slot;
 mod links;
 mod looks;
+mod node_events;
 mod nodes;
 mod pairs;
 mod places;
-mod plains;
 mod possible;
 mod queue;
 mod quiet;
+mod quiet_ends;
 mod readers;
 mod ready;
 mod rest;

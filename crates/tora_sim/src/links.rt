@@ -1,14 +1,14 @@
 //! The link ends of all nodes, one behind the other.
 ghost use Rattle.tora_arq.specs.Settings.{IsTimes, settings_of};
-ghost use Rattle.std.specs.Prelude.{◌≡◌, ◌==◌, ◌≢◌, ◌<◌, ◌≤◌, ◌+◌, ◌++◌, ◌∷◌, [], ℕ, ⊤, true, false, IsTrue, IfSome, IfNone, OnOk, IfOk, IfErr, None, Some, MatchOption, MatchResult, find, length, map, is_some, nat_lt, slice_get};
+ghost use Rattle.std.specs.Prelude.{◌≡◌, ◌≢◌, ◌<◌, ◌≤◌, ◌+◌, ◌++◌, ◌∷◌, [], ℕ, true, false, IsTrue, IfSome, OnOk, IfOk};
+ghost use Rattle.std.specs.Prelude.{IfErr, length, is_some, nat_lt, slice_get};
 ghost use Rattle.tora_seat.specs.Between.{after_cargo, after_cut_of_bound};
-ghost use Rattle.tora_arq.specs.LinkEnd.{bound_life, is_closed, after_frame, after_tick, frame_due, after_transmit, first_event, after_poll_event};
-ghost use Rattle.tora_sim.specs.Links.{with_state, after_open_at, after_arm, after_pull_at, is_at, is_key, key_of, AreRising, AreRisingKeys, AreChanged};
-ghost use Rattle.tora_arq.specs.LinkEnd.{first_end};
+ghost use Rattle.tora_arq.specs.LinkEnd.{bound_life, is_closed, after_frame, after_tick, frame_due, after_transmit};
+ghost use Rattle.tora_arq.specs.LinkEnd.{first_event, after_poll_event, first_end};
+ghost use Rattle.tora_sim.specs.Links.{with_state, after_open_at, after_arm, after_pull_at, AreChanged};
 ghost use Rattle.tora_frame.specs.FrameParts.{IsHeader, frame_of};
 ghost use Rattle.tora_frame.specs.declared.parts.Body.{Body};
 ghost use Rattle.tora_arq.specs.EndRange.{link_end_of};
-ghost use Rattle.tora_sim.specs.Keyed.{IsFirst};
 ghost use Rattle.tora_sim.specs.Restarts.{restarted};
 ghost use Rattle.tora_sim.specs.SteadyLinks.{IsSteadyLink};
 ghost use Rattle.tora_arq.specs.Steady.{resumed};
@@ -29,10 +29,10 @@ use tora_life::{DiskCall, MemDisk, Owner};
 use tora_packet::Packet;
 use tora_seat::Cargo;
 
-/// All that stands at the end of a link at one node: the link end, its life file, and the lane from the node's core to it.
+/// One end of a link: the link end, its life file, and the lane from the node's core to it.
 #[derive(Drop)]
 pub struct LinkParts {
-    /// In a place of its own, since it is seldom looked at.
+    /// Boxed, because it is seldom read.
     pub(crate) file: Box<FileSlot>,
     /// The place of the peer among the node's neighbours.
     pub(crate) seat: usize,
@@ -53,24 +53,14 @@ impl Model for LinkParts {
 
     ghost Value = { LinkView };
 
-    ghost view = { λ s. link_of s.end.settings.me s.end.settings.peer s.seat s.end (disk_of s.file.value) s.lane.put s.lane.pulled s.lane.room s.steps.items (length (parcels_in s.steps.items) + s.steps.places) };
+    ghost view = { λ s. link_of s.end.settings.me s.end.settings.peer s.seat s.end (disk_of s.file.value) s.lane.put
+        s.lane.pulled s.lane.room s.steps.items (length (parcels_in s.steps.items) + s.steps.places) };
 
-    ghost invariant = { λ s. IsDrawn s.end.state.last_life (disk_of s.file.value) × (s.lane.pulled ≤ length s.lane.put) × (owner_in (disk_of s.file.value) ≡ owner_of s.end.settings.me s.end.settings.peer) };
+    ghost invariant = { λ s. IsDrawn s.end.state.last_life (disk_of s.file.value) × (s.lane.pulled ≤ length s.lane.put)
+        × (owner_in (disk_of s.file.value) ≡ owner_of s.end.settings.me s.end.settings.peer) };
 }
 
 impl LinkParts {
-    /// Reads what a frame, a pull and a pump read of the end and its lane. The number says nothing.
-    #[inline(always)]
-    pub fn prefetch(&self) -> u64 {
-        self.end.prefetch() ^ self.prefetch_lane()
-    }
-
-    /// Reads what a turn of the node's core reads of the lane and of what was stepped. The number says nothing.
-    #[inline(always)]
-    pub fn prefetch_lane(&self) -> u64 {
-        self.lane.prefetch() ^ self.steps.prefetch()
-    }
-
     /// Its node and its peer, by which the ends are in order.
     pub fn key(&self) -> (Id, Id)
         ensures { result ≡ (self.now.node, self.now.peer) }
@@ -117,7 +107,8 @@ impl LinkParts {
     /// Before which tick no frame is due, and no tick ends the life.
     #[inline(always)]
     pub fn quiet_end_until(&self) -> u64
-        ensures frames { (tick : ℕ) → tick < result → is_some (frame_due self.now.settings self.now.state tick) ≡ false }
+        ensures frames { (tick : ℕ) → tick < result → is_some (frame_due self.now.settings self.now.state tick)
+            ≡ false }
         ensures ticks { (tick : ℕ) → tick < result → after_tick self.now.settings self.now.state tick ≡ self.now.state }
     {
         self.end.still_until()
@@ -144,7 +135,8 @@ impl LinkParts {
     /// Takes a frame in, and says whether it did: it does not where there is no memory, and then nothing is changed.
     #[inline(always)]
     pub fn receive(&mut self, frame: &BorrowedFrame<'_>, now: u64) -> bool
-        ensures state { result ≡ true → self.new ≡ with_state self.old (after_frame self.old.settings self.old.state frame.now now) }
+        ensures state { result ≡ true → self.new ≡ with_state self.old
+            (after_frame self.old.settings self.old.state frame.now now) }
         ensures same { result ≡ false → self.new ≡ self.old }
     {
         lives_are_bound_once();
@@ -155,7 +147,8 @@ impl LinkParts {
     #[inline(always)]
     pub fn receive_hello(&mut self, header: &Header, now: u64) -> bool
         requires { IsHeader header.now }
-        ensures state { result ≡ true → self.new ≡ with_state self.old (after_frame self.old.settings self.old.state (frame_of header.now Body.Hello) now) }
+        ensures state { result ≡ true → self.new ≡ with_state self.old
+            (after_frame self.old.settings self.old.state (frame_of header.now Body.Hello) now) }
         ensures same { result ≡ false → self.new ≡ self.old }
     {
         lives_are_bound_once();
@@ -214,8 +207,8 @@ impl LinkParts {
         self.lane.has_cargo()
     }
 
-    /// Takes a cargo of the lane, and submits its packet or cuts its life, and says whether it did: it does not where there is no memory, and
-    /// then nothing is changed.
+    /// Takes a cargo of the lane, and submits its packet or cuts its life. Returns `false` if memory is refused;
+    /// nothing changes then.
     pub fn pull(&mut self) -> bool
         requires { self.old.pulled < length self.old.put }
         ensures pulled { result ≡ true → self.new ≡ after_pull_at self.old (slice_get self.old.put self.old.pulled) }
@@ -230,11 +223,11 @@ impl LinkParts {
         true
     }
 
-    /// Takes the memory for all that one item of the node can put here: cargoes up to as many as a lane holds, where the lane has a list, and a
-    /// packet that is stepped.
+    /// Allocates memory for all that one item of the node can put here: as many cargoes as a lane holds, if the lane
+    /// has a list, and a stepped packet.
     ///
     /// # Errors
-    /// `Memory`. The end is as it was either way.
+    /// `Memory`. The end does not change.
     fn make_room(&mut self) -> Result<(), SimError>
         ensures same { bare self.new ≡ bare self.old }
         ensures room { OnOk result (HasRoom self.new) }
@@ -249,10 +242,10 @@ impl LinkParts {
         Ok(())
     }
 
-    /// Takes that memory as `make_room` does, and answers whether no cargo waits in the lane.
+    /// Allocates memory as `make_room` does, and returns whether the lane is empty.
     ///
     /// # Errors
-    /// `Memory`. The end is as it was either way.
+    /// `Memory`. The end does not change.
     pub fn make_ready(&mut self) -> Result<bool, SimError>
         ensures same { bare self.new ≡ bare self.old }
         ensures room { OnOk result (HasRoom self.new) }
@@ -263,8 +256,8 @@ impl LinkParts {
         Ok(!self.has_cargo())
     }
 
-    /// Where the list of the lane has memory for more than four times its cargoes, puts them into one that is no longer than they need, as `Lane::shorten`
-    /// does: the long one goes to the spare ones, in the place of that of the place `spare`.
+    /// Shortens a long list of the lane, as `Lane::shorten` does. The long list goes to the spare lists at the index
+    /// `spare`.
     #[inline(always)]
     pub fn shorten(&mut self, spares: &mut Spares, spare: usize)
         ensures { bare self.new ≡ bare self.old }
@@ -272,8 +265,8 @@ impl LinkParts {
         self.lane.shorten(spares, spare);
     }
 
-    /// Puts a cargo at the back of the lane, where fewer wait than it holds, and answers whether it was put. A lane that has no place left takes
-    /// the spare list of the place `spare`.
+    /// Puts a cargo at the back of the lane, unless the lane is full, and returns whether it did. If the lane needs a
+    /// list, it takes the spare list at the index `spare`.
     #[inline(always)]
     pub fn offer(&mut self, cargo: Cargo, spares: &mut Spares, spare: usize) -> bool
         requires { Fits self.old.pulled self.old.room spares.old spare }
@@ -306,8 +299,7 @@ impl LinkParts {
         }
     }
 
-    /// Takes a fresh end in place of its own, which is behind `end` then, empties the lane, and opens the life file after
-    /// a crash of its disk.
+    /// Swaps its end with a fresh one, empties the lane, and opens the life file after a crash of its disk.
     pub fn restart(&mut self, end: &mut GrowingEnd, torn: Option<[u8; 16]>)
         requires { end.old ≡ link_end_of self.old.settings first_end }
         ensures { self.new ≡ restarted torn self.old }
@@ -331,8 +323,8 @@ impl LinkParts {
     }
 }
 
-/// Hands a cargo to the link end: submits its packet, or cuts its life, and says whether it did: it does not where there is no memory, and then
-/// nothing is changed. A packet that the end refuses is dropped: its life has ended.
+/// Submits the packet of a cargo, or cuts its life. Returns `false` if memory is refused; nothing changes then. A
+/// packet whose life has ended is dropped.
 fn hand_in(end: &mut GrowingEnd, cargo: &Cargo) -> bool
     ensures state { result ≡ true → end.new ≡ record end.old { state = after_cargo end.old.state cargo.now } }
     ensures same { result ≡ false → end.new ≡ end.old }
@@ -372,83 +364,7 @@ pub fn end_of(
     GrowingEnd::new(alloc, version, me, peer, times)
 }
 
-/// The keys of the link ends, in their order.
-///
-/// # Errors
-/// `Memory`.
-pub fn keys_of(alloc: Global, links: &[LinkSlot]) -> Result<Vec<(Id, Id)>, SimError>
-    ensures { MatchResult result (λ keys. keys.items ≡ map key_of links.now) (λ e. e ≡ SimError.Memory) }
-{
-    let mut keys = Vec::new(alloc);
-    for link in links {
-        match keys.push(link.key()) {
-            Ok(()) => {}
-            Err(_) => return Err(SimError::Memory),
-        }
-    }
-    Ok(keys)
-}
-
-/// Whether a key is that of the end of node `n` towards `k`.
-#[inline(always)]
-pub fn is_key(key: (Id, Id), n: Id, k: Id) -> bool
-    ensures { result ≡ is_key n k key }
-{
-    key.0 == n && key.1 == k
-}
-
-/// The place of the end of node `n` towards `k`, by the keys of the ends.
-pub fn place(_links: &Vec<LinkSlot>, keys: &Vec<(Id, Id)>, n: Id, k: Id) -> Option<usize>
-    requires rising { AreRising _links.now.items }
-    requires keys { keys.now.items ≡ map key_of _links.now.items }
-    ensures first { IfSome result (λ i. IsFirst (is_at n k) _links.now.items i) }
-    ensures none { IfNone result (find (is_at n k) _links.now.items ≡ None) }
-{
-    let ends = keys.as_slice();
-    search(ends, n, k)
-}
-
-/// The place of the end of node `n` towards `k`. It is `at`, if that end is there; otherwise the ends are searched.
-#[inline(always)]
-pub fn place_near(
-    links: &Vec<LinkSlot>,
-    keys: &Vec<(Id, Id)>,
-    at: usize,
-    n: Id,
-    k: Id,
-) -> Option<usize>
-    requires rising { AreRising links.now.items }
-    requires keys { keys.now.items ≡ map key_of links.now.items }
-    ensures first { IfSome result (λ i. IsFirst (is_at n k) links.now.items i) }
-    ensures none { IfNone result (find (is_at n k) links.now.items ≡ None) }
-{
-    let ends = keys.as_slice();
-    match stands_at(ends, at, n, k) {
-        Some(at) => Some(at),
-        None => place(links, keys, n, k),
-    }
-}
-
-/// The index `at`, if the end of node `n` towards `k` is there.
-#[inline(always)]
-fn stands_at(keys: &[(Id, Id)], at: usize, n: Id, k: Id) -> Option<usize>
-    ensures { IfSome result (λ i. slice_get keys.now i ≡ Some (n, k)) }
-{
-    match keys.get(at) {
-        Some(key) => { if is_key(*key, n, k) { Some(at) } else { None } }
-        None => None,
-    }
-}
-
-fn search(keys: &[(Id, Id)], n: Id, k: Id) -> Option<usize>
-    requires { AreRisingKeys keys.now }
-    ensures first { IfSome result (λ i. slice_get keys.now i ≡ Some (n, k)) }
-    ensures none { IfNone result (find (is_key n k) keys.now ≡ None) }
-{
-    keys.binary_search(&(n, k)).ok()
-}
-
-/// The next such call of each life file fails, at the `count` ends from the place `first` on.
+/// Makes the next such call of each life file fail, at the `count` ends from the index `first` on.
 pub fn arm(links: &mut Vec<LinkSlot>, first: usize, count: usize, call: DiskCall)
     requires { first + count ≤ length links.old.items }
     ensures { AreChanged (λ link. after_arm link call) links.old.items links.new.items first count }

@@ -1,5 +1,6 @@
 //! The nodes: the core of each, and the lane into it.
-ghost use Rattle.std.specs.Prelude.{◌≡◌, ◌<◌, ◌≤◌, ◌+◌, ◌++◌, ℕ, None, Some, IfSome, IfNone, IfOk, IfErr, OnErr, OnOk, MatchResult, find, length, map, replicate, slice_index, vec_len, vec_capacity};
+ghost use Rattle.std.specs.Prelude.{◌≡◌, ◌<◌, ◌≤◌, ◌+◌, ◌++◌, ℕ, None, Some, IfSome, IfNone, IfOk, IfErr, OnErr, OnOk};
+ghost use Rattle.std.specs.Prelude.{MatchResult, find, length, map, replicate, slice_index, vec_len, vec_capacity};
 ghost use Rattle.tora_core.specs.CoreRun.{core_refusal_within};
 ghost use Rattle.tora_core.specs.declared.TheConstants.{GREATEST_NEIGHBOURS, MOST_DESTINATIONS};
 ghost use Rattle.tora_core.specs.Kept.{IsCore, destinations_of};
@@ -42,7 +43,8 @@ pub struct NodeSlot {
     pub(crate) first: usize,
     /// How many neighbours it has.
     pub(crate) count: usize,
-    /// How many items each seat has put since the node's last restart: those of the neighbours, and that of the commands.
+    /// How many items each seat has put since the node's last restart: those of the neighbours, and that of the
+    /// commands.
     pub(crate) counts: Vec<u64>,
     /// The inputs that its core accepted since the node's last restart, each with its tick.
     pub(crate) inputs: Vec<(Input, u64)>,
@@ -55,41 +57,11 @@ impl Model for NodeSlot {
 
     ghost Value = { NodeView };
 
-    ghost view = { λ s. node_of s.node s.first s.count s.seat.value s.inputs.items s.items.items s.counts.items s.sending s.receive };
+    ghost view = { λ s. node_of s.node s.first s.count s.seat.value s.inputs.items s.items.items s.counts.items
+        s.sending s.receive };
 }
 
 impl NodeSlot {
-    /// The items that wait for the core.
-    #[inline(always)]
-    pub fn items(&self) -> &[Item]
-        ensures { result.now ≡ self.now.items }
-    {
-        self.items.as_slice()
-    }
-
-    /// Reads what serving an item reads of the node. The number says nothing.
-    #[inline(always)]
-    pub fn prefetch(&self, item: &Item) -> u64 {
-        let last = match self.inputs.last() {
-            Some(input) => input.1,
-            None => 0,
-        };
-        last ^ self.seat.prefetch(item)
-    }
-
-    /// Reads what putting an item of a seat reads of the node. The number says nothing.
-    #[inline(always)]
-    pub fn prefetch_put(&self, seat: usize) -> u64 {
-        let number = match self.items.first() {
-            Some(item) => item.number,
-            None => 0,
-        };
-        match self.counts.get(seat) {
-            Some(count) => number ^ *count,
-            None => number,
-        }
-    }
-
     /// Its number, by which the nodes are in order.
     #[inline(always)]
     pub fn key(&self) -> Id
@@ -159,7 +131,8 @@ impl NodeSlot {
     /// `Memory`, which changes nothing: also where the seat has put 2^64 - 1 items.
     pub fn put_item(&mut self, seat: usize, now: u64, what: What) -> Result<(), SimError>
         requires { seat < length self.old.counts }
-        ensures { MatchResult result (λ _. self.new ≡ after_item self.old seat now what) (λ e. (e ≡ SimError.Memory) × (self.new ≡ self.old)) }
+        ensures { MatchResult result (λ _. self.new ≡ after_item self.old seat now what) (λ e. (e ≡ SimError.Memory)
+            × (self.new ≡ self.old)) }
     {
         let Some(number) = self.counts[seat].checked_add(1) else {
             return Err(SimError::Memory);
@@ -198,7 +171,8 @@ impl NodeSlot {
     pub fn new_seat(&self, alloc: Global) -> Result<BareSeat, SimError>
         ensures made { IfOk result (λ seat. seat ≡ first_seat (core_again self.now.seat.core)) }
         ensures kept { IsCore self.now.seat.core }
-        ensures accepted { core_refusal_within GREATEST_NEIGHBOURS MOST_DESTINATIONS self.now.seat.core.me self.now.seat.core.neighbours (destinations_of self.now.seat.core.views) ≡ None }
+        ensures accepted { core_refusal_within GREATEST_NEIGHBOURS MOST_DESTINATIONS self.now.seat.core.me
+            self.now.seat.core.neighbours (destinations_of self.now.seat.core.views) ≡ None }
         ensures memory { IfErr result (λ e. e ≡ SimError.Memory) }
     {
         let core = self.seat.core();
@@ -272,7 +246,8 @@ pub fn no_counts(alloc: Global, seats: usize) -> Result<Vec<u64>, SimError>
     }
 }
 
-/// Makes room for so many more inputs. Where memory is taken, it is taken for three times as many as there are: so they are seldom moved.
+/// Makes room for `most` more inputs, and for three times as many as there are if the list must grow, so that it seldom
+/// moves.
 ///
 /// # Errors
 /// Want of memory.

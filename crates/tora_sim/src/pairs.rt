@@ -1,4 +1,5 @@
-//! Two frames of a link end go out at once: a HELLO in both versions, as long as the peer isn't known to speak the newer one.
+//! Two frames of a link end go out at once: a HELLO in both versions, as long as the peer isn't known to speak the
+//! newer one.
 ghost use Rattle.std.specs.Prelude.{◌≡◌, ◌≤◌, ◌∷◌, [], true, IfSome, IfNone};
 ghost use Rattle.tora_world.specs.declared.event.Event.TheVariants.{Transmit};
 ghost use Rattle.tora_sim.specs.Keyed.{IsFirst};
@@ -32,7 +33,8 @@ impl Sim {
     ) -> Option<bool>
         requires end { IsFirst (is_at _n _k) self.old.links at }
         requires node { IsFirst (is_of _n) self.old.nodes home }
-        ensures done { IfSome result (λ _. (2 ≤ most) × AllAreDone (world_of self.old) (Transmit _n _k ∷ Transmit _n _k ∷ []) (world_of self.new)) }
+        ensures done { IfSome result (λ _. (2 ≤ most) × AllAreDone (world_of self.old)
+            (Transmit _n _k ∷ Transmit _n _k ∷ []) (world_of self.new)) }
         ensures over { IfSome result (λ over. over ≡ true → IsOver self.new at) }
         ensures same { IfNone result (self.new ≡ self.old) }
         ensures end { IsFirst (is_at _n _k) self.new.links at }
@@ -56,7 +58,6 @@ impl Sim {
         else {
             return None;
         };
-        self.quiet = 0;
         if self.clock >= until {
             return Some(false);
         }

@@ -7,8 +7,8 @@ ghost use Rattle.tora_sim.specs.Store.{world_of};
 ghost use Rattle.tora_sim.specs.Possible.{end_may, node_may, may_happen, has_cargo};
 
 use crate::Event;
+use crate::end_keys::is_key;
 use crate::link_slot::LinkSlot;
-use crate::links::is_key;
 use crate::nodes::NodeSlot;
 use crate::sim::Sim;
 use tora_height::Id;
@@ -73,7 +73,7 @@ fn may_turn(nodes: &[NodeSlot], place: usize, n: Id) -> bool
     }
 }
 
-/// Whether the end at a place is that of node `n` towards `k`, by the keys of the ends: the end itself is not looked at.
+/// Whether the end at an index is that of node `n` towards `k`. It reads only the keys.
 #[inline(always)]
 fn stands_there(_links: &[LinkSlot], keys: &[(Id, Id)], place: usize, n: Id, k: Id) -> bool
     requires keys { keys.now ≡ map key_of _links.now }
@@ -115,7 +115,8 @@ fn may_transmit(
     k: Id,
 ) -> bool
     requires { keys.now ≡ map key_of links.now }
-    ensures { result ≡ end_may n k (λ link. is_some (frame_due link.settings link.state clock)) (slice_get links.now place) }
+    ensures { result ≡ end_may n k (λ link. is_some (frame_due link.settings link.state clock))
+        (slice_get links.now place) }
 {
     match links.get(place) {
         Some(link) => !stands_there(links, keys, place, n, k) || link.has_frame_due(clock),

@@ -1,5 +1,6 @@
 //! Queues that begin at their first place again.
-ghost use Rattle.std.specs.Prelude.{◌≡◌, ◌<◌, ◌≤◌, ◌+◌, ◌++◌, ◌∷◌, [], drop, length, option_to_list, slice_get, MatchResult, IfOk, IfNone};
+ghost use Rattle.std.specs.Prelude.{◌≡◌, ◌<◌, ◌≤◌, ◌+◌, ◌++◌, ◌∷◌, [], drop, length, option_to_list, slice_get};
+ghost use Rattle.std.specs.Prelude.{MatchResult, IfOk, IfNone};
 
 use std::alloc::{AllocError, Global};
 use std::marker::Model;
@@ -7,8 +8,8 @@ use std::marker::Model;
 /// The initial room of a queue, in items. It lies beside the node's other data, so few queues ever move to other pages.
 const FIRST_ROOM: usize = 32;
 
-/// Items in the order in which they came. Where none is left, it begins at its first place again: a core takes all in each pass, so the same few
-/// places are written, and lie where memory is at hand.
+/// Items in the order in which they came. An empty queue begins at its first place again, so it uses the same memory
+/// each time.
 #[derive(Drop)]
 pub struct Queue<T> {
     list: Vec<T>,
@@ -45,14 +46,6 @@ impl<T: Copy + Drop> Queue<T> {
         ensures { result ≡ length self.now.items }
     {
         self.list.len() - self.taken
-    }
-
-    /// All of them.
-    #[inline(always)]
-    pub fn as_slice(&self) -> &[T]
-        ensures { result.now ≡ self.now.items }
-    {
-        &self.list[self.taken..]
     }
 
     /// The first one, which stays.

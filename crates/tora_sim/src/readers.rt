@@ -9,7 +9,8 @@ ghost use Rattle.tora_sim.specs.Store.{world_of, numbered};
 ghost use Rattle.tora_datagrams.specs.Datagrams.{way_of};
 ghost use Rattle.tora_sim.specs.Readers.{ends_at, ends_in};
 
-use crate::links::{LinkParts, place};
+use crate::end_keys::place;
+use crate::links::LinkParts;
 use crate::nodes::{NodeSlot, place as node_place};
 use crate::sim::Sim;
 use crate::topology::Topology;
@@ -124,7 +125,8 @@ impl Sim {
         }
     }
 
-    /// The next hop of a node to a destination; `None` where it has none, or where there is no such node or destination.
+    /// The next hop of a node to a destination; `None` where it has none, or where there is no such node or
+    /// destination.
     pub fn next_hop(&self, n: Id, d: Id) -> Option<Id>
         ensures { result ≡ hop_at (world_of self.now) n d }
     {
@@ -134,8 +136,8 @@ impl Sim {
         }
     }
 
-    /// How many packets the core of `a` put into the lane to `b` in a life, as the end of `a` writes it; 0 where there is
-    /// no such link or life.
+    /// How many packets the core of `a` put into the lane to `b` in a life, as the end of `a` writes it; 0 where there
+    /// is no such link or life.
     pub fn sent_count(&self, a: Id, b: Id, life: Life) -> usize
         ensures { result ≡ length (sent_packets (world_of self.now) a b life) }
     {
@@ -145,8 +147,8 @@ impl Sim {
         }
     }
 
-    /// The packets that the core of `a` put into the lane to `b` in a life, as the end of `a` writes it, the first of them
-    /// first; none where there is no such link or life.
+    /// The packets that the core of `a` put into the lane to `b` in a life, as the end of `a` writes it, the first of
+    /// them first; none where there is no such link or life.
     ///
     /// The packets of one life are not kept apart, so that the list is made at each call.
     ///

@@ -1,10 +1,11 @@
-//! Of each link end whether it is known that its lane is empty, and that there is memory at it for all that one item of its node can put.
+//! Marks of link ends that are ready: the lane is empty, and the end has memory for all that one item of its node can
+//! put.
 ghost use Rattle.std.specs.Prelude.{◌≡◌, ◌<◌, false, MatchResult, length, replicate, slice_index_or, slice_set};
 
 use crate::SimError;
 use std::alloc::Global;
 
-/// For each of `count` ends: nothing is known.
+/// Marks for `count` ends, none of which is marked.
 pub fn none_ready(alloc: Global, count: usize) -> Result<Vec<bool>, SimError>
     ensures { MatchResult result (λ ready. ready.items ≡ replicate count false) (λ e. e ≡ SimError.Memory) }
 {
@@ -15,7 +16,7 @@ pub fn none_ready(alloc: Global, count: usize) -> Result<Vec<bool>, SimError>
     }
 }
 
-/// Whether it is known of the end at a place.
+/// Whether the end at an index is marked.
 #[inline(always)]
 pub fn is_ready(ready: &Vec<bool>, at: usize) -> bool
     requires { at < length ready.now.items }
@@ -24,7 +25,7 @@ pub fn is_ready(ready: &Vec<bool>, at: usize) -> bool
     ready[at]
 }
 
-/// From now on it is known of the end at a place, or not.
+/// Marks the end at an index, or removes its mark.
 #[inline(always)]
 pub fn set_ready(ready: &mut Vec<bool>, at: usize, known: bool)
     requires { at < length ready.old.items }

@@ -11,7 +11,8 @@ ghost use Rattle.tora_sim.specs.Links.{waiting};
 ghost use Rattle.tora_sim.specs.Store.{world_of};
 ghost use Rattle.tora_sim.specs.Resting.{is_idle};
 
-use crate::links::{LinkParts, place};
+use crate::end_keys::place;
+use crate::links::LinkParts;
 use crate::nodes::{NodeSlot, place as node_place};
 use crate::sim::Sim;
 use tora_arq::Life;
@@ -19,13 +20,13 @@ use tora_core::numbers_come_and_go;
 use tora_height::Id;
 
 impl Sim {
-    /// Whether nothing is under way: no item waits for a core, no cargo in a lane and no event in a link end; all packets
-    /// that were submitted are acknowledged; and each link is up at both cores in one life, in which both its ends are
-    /// bound, or at neither.
+    /// Whether nothing is under way: no item waits for a core, no cargo in a lane and no event in a link end; all
+    /// packets that were submitted are acknowledged; and each link is up at both cores in one life, in which both its
+    /// ends are bound, or at neither.
     ///
-    /// Frames may go on that say HELLO or repeat an ACK, datagrams may lie about, and a need may come at any time. In a world
-    /// at rest each entry is NULL, or the height of its neighbour, or the neighbour has no height, and walks go down, as
-    /// `tora_world::entries_at_rest_are_heights` and `tora_world::walks_at_rest_go_down` have it.
+    /// Frames may go on that say HELLO or repeat an ACK, datagrams may lie about, and a need may come at any time. In a
+    /// world at rest each entry is NULL, or the height of its neighbour, or the neighbour has no height, and walks go
+    /// down, as `tora_world::entries_at_rest_are_heights` and `tora_world::walks_at_rest_go_down` have it.
     ///
     /// ```rust
     /// let topology = Topology::new(alloc, &[(1, 2)], &[2])?;
@@ -92,7 +93,8 @@ impl Sim {
         }
     }
 
-    /// The life that the end of node `n` towards `k` is bound in; `None` where it is not bound, or where there is no such link.
+    /// The life that the end of node `n` towards `k` is bound in; `None` where it is not bound, or where there is no
+    /// such link.
     pub fn bound_life(&self, n: Id, k: Id) -> Option<Life>
         ensures { result ≡ bound_life ((world_of self.now).ends n k) }
     {
@@ -186,7 +188,8 @@ impl LinkParts {
 impl NodeSlot {
     /// The life that is current for the neighbour at a place.
     fn current(&self, seat: usize) -> Option<Life>
-        ensures { MatchOption (slice_get self.now.seat.core.neighbours seat) (result ≡ None) (λ k. result ≡ current_of self.now.seat.rows k) }
+        ensures { MatchOption (slice_get self.now.seat.core.neighbours seat) (result ≡ None) (λ k.
+            result ≡ current_of self.now.seat.rows k) }
     {
         self.seat.current(seat)
     }

@@ -1,24 +1,82 @@
 //! The frames of a link end go out, one after another.
-ghost use Rattle.std.specs.Prelude.{◌≡◌, ◌<◌, ℕ, true, false, MatchResult, length};
+ghost use Rattle.std.specs.Prelude.{◌≡◌, ◌<◌, true, false, length};
 ghost use Rattle.tora_sim.specs.Keyed.{IsFirst};
 ghost use Rattle.tora_sim.specs.Links.{is_at};
-ghost use Rattle.tora_sim.specs.Nodes.{is_of};
+ghost use Rattle.tora_sim.specs.Nodes.{is_of, sending_of};
 ghost use Rattle.tora_sim.specs.Store.{world_of};
 ghost use Rattle.tora_sim.specs.Sending.{IsOver};
-ghost use Rattle.tora_sim.specs.Steps.{Does, IsDone, IsRefused, Repeats};
+ghost use Rattle.tora_sim.specs.Steps.{Does, IsDone, Repeats};
 ghost use Rattle.tora_world.specs.declared.event.Event.TheVariants.{Transmit};
+ghost use Rattle.tora_frame.specs.FrameParts.{IsHeader, frame_of};
+ghost use Rattle.tora_frame.specs.declared.parts.Body.TheVariants.{Hello};
+ghost use Rattle.tora_world.specs.World.{with_datagram};
+ghost use Rattle.tora_datagrams.specs.Datagrams.{HasRoom};
 
 use crate::SimError;
-use crate::links::place_near;
-use crate::nodes::node_near;
+use crate::end_keys::{place, place_near};
+use crate::nodes::{NodeSlot, Sending, node_near};
 use crate::places::{far_end_at, home_at};
-use crate::sim::{Sim, note_hello};
+use crate::sim::Sim;
 use crate::stills::{keep_still, short};
 use std::alloc::AllocError;
-use tora_arq::data_frames_are_what_was_submitted;
+use tora_arq::{calls_keep_an_end, data_frames_are_what_was_submitted};
+use tora_datagrams::Datagrams;
+use tora_frame::{BorrowedFrame, Header, Packets};
 use tora_height::Id;
 
 impl Sim {
+    /// Sends the first due frame of an end, unless the send is armed to lose it.
+    pub(crate) fn transmit(&mut self, n: Id, k: Id) -> Result<(), SimError>
+        ensures { Does self.old (Transmit n k) result self.new }
+    {
+        let Some(at) = place(&self.links, &self.keys, n, k) else {
+            return Err(SimError::NoNode);
+        };
+        let Some(home) = node_near(&self.nodes, home_at(&self.places, at), n) else {
+            return Err(SimError::NoNode);
+        };
+        self.transmit_at(n, k, at, home)
+    }
+
+    /// Sends the first due frame of the end of node `_n` towards `_k`, whose index is `at`; the node's index is `home`.
+    /// It is never inlined, so that the loop that sends HELLOs has registers of its own.
+    #[inline(never)]
+    pub(crate) fn transmit_at(
+        &mut self,
+        _n: Id,
+        _k: Id,
+        at: usize,
+        home: usize,
+    ) -> Result<(), SimError>
+        requires end { IsFirst (is_at _n _k) self.old.links at }
+        requires node { IsFirst (is_of _n) self.old.nodes home }
+        ensures done { Does self.old (Transmit _n _k) result self.new }
+        ensures end { IsFirst (is_at _n _k) self.new.links at }
+        ensures node { IsFirst (is_of _n) self.new.nodes home }
+    {
+        if self.datagrams.reserve(at).is_err() {
+            if !self.links[at].has_frame_due(self.clock) {
+                return Err(SimError::NotPossible);
+            }
+            return Err(SimError::Memory);
+        }
+        data_frames_are_what_was_submitted();
+        calls_keep_an_end();
+        let mut packets = Packets::new();
+        let Some(frame) = self.links[at].send(self.clock, &mut packets) else {
+            return Err(SimError::NotPossible);
+        };
+        let far_end = far_end_at(&self.places, at);
+        note_sent(
+            &mut self.nodes[home],
+            &mut self.datagrams,
+            at,
+            far_end,
+            &frame,
+        );
+        Ok(())
+    }
+
     /// Makes `Transmit` happen at the end of node `n` towards `k` until it is refused, at most `most` times, and
     /// returns whether it happened at all. The end and its node are looked up once.
     ///
@@ -82,7 +140,6 @@ impl Sim {
         let Some(header) = self.links[at].send_hello(self.clock) else {
             return false;
         };
-        self.quiet = 0;
         let far_end = far_end_at(&self.places, at);
         note_hello(
             &mut self.nodes[home],
@@ -94,8 +151,7 @@ impl Sim {
         true
     }
 
-    /// The first frame due of an end goes out, as `transmit_at` has it. A HELLO of an end of which something is kept is made of its header, at
-    /// less cost than any other frame.
+    /// Sends the first due frame of an end: a HELLO by its idle fields, if they show one.
     #[inline(always)]
     fn transmit_first(&mut self, n: Id, k: Id, at: usize, home: usize) -> Result<(), SimError>
         requires end { IsFirst (is_at n k) self.old.links at }
@@ -143,5 +199,54 @@ impl Sim {
             }
         }
         Ok(some)
+    }
+}
+
+/// Appends a datagram that a node sent by its link end at the index `end`, unless the send is armed to lose it. The arm
+/// is used up. `far_end` is a guess at the index of the receiving end.
+#[inline(always)]
+pub fn note_sent(
+    node: &mut NodeSlot,
+    datagrams: &mut Datagrams,
+    end: usize,
+    far_end: u32,
+    frame: &BorrowedFrame<'_>,
+)
+    requires { HasRoom datagrams.old }
+    ensures node { node.new ≡ record node.old { sending = Sending.Goes } }
+    ensures datagrams { datagrams.new.items ≡ with_datagram (sending_of node.old.sending) datagrams.old.items frame.now }
+{
+    match node.sending() {
+        Sending::Goes => datagrams.push(end, far_end, frame),
+        Sending::IsLost => node.arm_sending(Sending::Goes),
+        Sending::IsGone => {
+            datagrams.push(end, far_end, frame);
+            node.arm_sending(Sending::Goes);
+        }
+    }
+}
+
+/// Appends a HELLO with this header, as `note_sent` appends any frame.
+#[inline(always)]
+pub fn note_hello(
+    node: &mut NodeSlot,
+    datagrams: &mut Datagrams,
+    end: usize,
+    far_end: u32,
+    header: &Header,
+)
+    requires room { HasRoom datagrams.old }
+    requires valid { IsHeader header.now }
+    ensures node { node.new ≡ record node.old { sending = Sending.Goes } }
+    ensures datagrams { datagrams.new.items ≡ with_datagram (sending_of node.old.sending) datagrams.old.items
+        (frame_of header.now Hello) }
+{
+    match node.sending() {
+        Sending::Goes => datagrams.push_hello(end, far_end, header),
+        Sending::IsLost => node.arm_sending(Sending::Goes),
+        Sending::IsGone => {
+            datagrams.push_hello(end, far_end, header);
+            node.arm_sending(Sending::Goes);
+        }
     }
 }

@@ -3,7 +3,8 @@
 //!
 //! Deadlines are stored in four bytes, so sixteen fit into a cache line. A later tick is stored as the greatest such
 //! number. After more than four thousand million rounds, every end is therefore examined in each round.
-ghost use Rattle.std.specs.Prelude.{◌≡◌, ◌+◌, ◌*◌, ◌-◌, ◌^◌, ◌<◌, ◌≤◌, ℕ, true, IfNone, IfSome, MatchResult, length, min, replicate, slice_index, slice_set};
+ghost use Rattle.std.specs.Prelude.{◌≡◌, ◌+◌, ◌*◌, ◌-◌, ◌^◌, ◌<◌, ◌≤◌, ℕ, true, IfNone, IfSome, MatchResult, length};
+ghost use Rattle.std.specs.Prelude.{min, replicate, slice_index, slice_set};
 ghost use Rattle.tora_sim.specs.Quiet.{AreForgotten};
 ghost use Rattle.tora_sim.specs.Stills.{AreBlocks, AreLater, due_bits, short};
 
@@ -129,7 +130,8 @@ pub fn still_at(stills: &Stills, at: usize) -> u64
     u64::from(stills.ends[at])
 }
 
-/// At which of the 16 ends from the place `first` on the tick is not still to come: a bit for each, the lowest for the first.
+/// A bit for each of the 16 ends from the index `first` on, the lowest for the first: it is set if the deadline has
+/// come.
 #[inline(always)]
 pub fn dues_of(stills: &Stills, first: usize, now: u64) -> u16
     requires { first + 16 ≤ length stills.now }
@@ -156,7 +158,7 @@ pub fn next_block(stills: &Stills, block: usize, now: u64) -> usize
     next_in(&stills.tops, &stills.blocks, block, now)
 }
 
-/// The first place from `from` on at which a tick is not still to come, where each 16 ticks have one that none of them is before.
+/// The first index from `from` on whose deadline has come. Each 16 deadlines have a lower bound in `firsts`.
 fn next_in(firsts: &Vec<u32>, ticks: &Vec<u32>, from: usize, now: u64) -> usize
     requires { AreBlocks firsts.now.items ticks.now.items }
     ensures onward { from ≤ result }
@@ -302,17 +304,19 @@ pub fn forget(stills: &mut Stills, first: usize, count: usize)
     }
 }
 
-/// Before which tick nothing is to be done at any of the ends; 0 where something may be to be done at once. It looks at the ticks of 16 blocks
-/// each alone.
+/// The tick before which no end has anything to do; 0 if one may have something to do at once. It reads one deadline
+/// for each 16 blocks.
 pub fn still_until(stills: &Stills, now: u64) -> u64
-    ensures { 0 < result → (at : ℕ) → at < length stills.now → (now < slice_index stills.now at) × (result ≤ slice_index stills.now at) }
+    ensures { 0 < result → (at : ℕ) → at < length stills.now → (now < slice_index stills.now at)
+        × (result ≤ slice_index stills.now at) }
 {
     first_after(&stills.tops, now)
 }
 
 /// The earliest of these ticks if all are in the future, otherwise 0.
 fn first_after(ticks: &Vec<u32>, now: u64) -> u64
-    ensures { 0 < result → (at : ℕ) → at < length ticks.now.items → (now < slice_index ticks.now.items at) × (result ≤ slice_index ticks.now.items at) }
+    ensures { 0 < result → (at : ℕ) → at < length ticks.now.items
+        → (now < slice_index ticks.now.items at) × (result ≤ slice_index ticks.now.items at) }
 {
     let mut until = u64::MAX;
     for at in 0..ticks.len() {

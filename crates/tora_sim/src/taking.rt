@@ -9,13 +9,15 @@ use crate::lanes::make_room;
 use crate::nodes::node_near;
 use crate::sim::Sim;
 use crate::turns::{forget_waiting, take_items};
-use crate::unready::{set_unready, still_unready, unready_at};
+use crate::unready::still_unready;
 use std::alloc::AllocError;
+use tora_core::Sends;
 use tora_height::Id;
 
 impl Sim {
-    /// Repeats `CoreTurn` at node `n` until it is refused, at most `most` times, and answers whether it happened at all: its core takes all
-    /// items that wait. The node is found once, and what is known of its link ends is noted once.
+    /// Repeats `CoreTurn` at node `n` until it is refused, at most `most` times, and answers whether it happened at
+    /// all: its core takes all items that wait. The node is found once, and what is known of its link ends is noted
+    /// once.
     ///
     /// `place` is that of the node among `nodes`, from 0 on; if another node is there, the node is searched.
     ///
@@ -44,33 +46,28 @@ impl Sim {
         }
         let first = self.nodes[home].first();
         let count = self.nodes[home].count();
-        self.ahead.on_turn(&self.nodes, &self.links, home);
-        self.quiet = 0;
-        self.idle = false;
-        let range = unready_at(&self.unready, home).within(count);
-        let start = first + range.from;
         if make_room(
             &mut self.links,
             &mut self.ready,
             &mut self.spares,
-            start,
-            range.behind - range.from,
+            first,
             count,
         )
         .is_err()
         {
             return Err(AllocError);
         }
-        let before = still_unready(&self.ready, first, range);
+        let before = still_unready(&self.ready, first, count);
         let mut unready = before;
         let mut seat = count;
+        let mut sends = Sends::new();
         let taken = take_items(
             &mut self.nodes[home],
             &mut self.links,
             &mut unready,
             &mut seat,
             &mut self.spares,
-            &mut self.sends,
+            &mut sends,
             most,
         );
         // what the items changed, and what they left as it was
@@ -80,12 +77,10 @@ impl Sim {
             &self.links,
             &mut self.ready,
             &mut self.stills,
-            &mut self.plains,
             start,
             after.behind - after.from,
             first.saturating_add(seat),
         );
-        set_unready(&mut self.unready, home, after);
         self.shorten_lanes(home, start, after.behind - after.from);
         self.make_seat_ready(first, count, seat);
         match taken {

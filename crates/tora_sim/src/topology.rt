@@ -1,31 +1,31 @@
 //! Which nodes there are, which links, and the destinations of their tables.
-ghost use Rattle.std.specs.Prelude.{◌≡◌, ◌⊎◌, ◌<◌, ◌≤◌, ◌-◌, ◌++◌, ◌∷◌, [], if◌then◌else◌, None, Some, IfErr, IfOk, OnOk, true, false, MatchOption, MatchBool, length, map, nat_lt, position};
+ghost use Rattle.std.specs.Prelude.{◌≡◌, ◌⊎◌, ◌++◌, ◌∷◌, [], None, Some, IfErr, IfOk, OnOk, true, false, MatchBool};
+ghost use Rattle.std.specs.Prelude.{length, map, nat_lt};
 ghost use Rattle.std.specs.List.{list_any};
-ghost use Rattle.tora_core.specs.Numbers.{ascending, has_number, has_repeat, with_number};
-ghost use Rattle.tora_world.specs.Topology.{Link, chosen_by, erasure_at, is_node, version_at, topology_fault, topology_fault_within, most_neighbours, nodes_in, neighbours_of, with_node, different, different_neighbours, other_ends, has_too_many_within, has_own_link};
-ghost use Rattle.tora_sim.specs.Topologies.{topology_of, with_olds, with_old, link_in, links_in, is_named, with_end, AreNumbers, IsTopology};
-ghost use Rattle.arrayvec.specs.ArrayVec.{array_vec_len};
+ghost use Rattle.tora_core.specs.Numbers.{has_number};
+ghost use Rattle.tora_world.specs.Topology.{chosen_by, erasure_at, is_node, version_at, topology_fault};
+ghost use Rattle.tora_world.specs.Topology.{topology_fault_within, most_neighbours, nodes_in, neighbours_of};
+ghost use Rattle.tora_world.specs.Topology.{different_neighbours, has_too_many_within, has_own_link};
+ghost use Rattle.tora_sim.specs.Topologies.{topology_of, with_olds, with_old, link_in, links_in, AreNumbers};
+ghost use Rattle.tora_sim.specs.Topologies.{IsTopology};
 
 use crate::SimError;
 use crate::duplicates::has_repeated_link;
+use crate::link_nodes::{has_many_neighbours, names_node, neighbours_of, nodes_of};
 use arrayvec::ArrayVec;
 use std::alloc::{AllocError, Global};
 use std::marker::Model;
-use tora_core::numbers::{has_number, has_repeat, insert_number};
+use tora_core::numbers::{has_number, has_repeat};
 use tora_core::{CoreError, Erasure, GREATEST_NEIGHBOURS};
 use tora_frame::Version;
 use tora_height::Id;
 use tora_world::{GREATEST_NODES, Limits};
 
-/// The most nodes at the other ends of a node's links: one more than its neighbours within any limits, since a link of the node to itself
-/// names the node.
-pub(crate) const MOST_ENDS: usize = GREATEST_NEIGHBOURS + 1;
-
 /// The links of a world and the destinations that each node's table has.
 ///
-/// There are at most 64 nodes, each with at most 32 neighbours, and at most 64 destinations, or as many as the limits allow
-/// within which it was made. No link, either way round, and no destination is named twice, and no link leads from a node to
-/// itself. No number is 0. The link ends of some nodes may speak version 1 of frames alone.
+/// There are at most 64 nodes, each with at most 32 neighbours, and at most 64 destinations, or as many as the limits
+/// allow within which it was made. No link, either way round, and no destination is named twice, and no link leads from
+/// a node to itself. No number is 0. The link ends of some nodes may speak version 1 of frames alone.
 #[derive(Debug, Drop)]
 pub struct Topology {
     links: Vec<(Id, Id)>,
@@ -44,20 +44,23 @@ impl Model for Topology {
 
     ghost Value = { Topology };
 
-    ghost view = { λ t. with_choices (with_olds (topology_of t.links.items t.destinations.items) t.olds.items) t.erasure t.choices.items };
+    ghost view = { λ t. with_choices (with_olds (topology_of t.links.items t.destinations.items) t.olds.items) t.erasure
+        t.choices.items };
 
-    ghost invariant = { λ t. IsTopology (with_choices (with_olds (topology_of t.links.items t.destinations.items) t.olds.items) t.erasure t.choices.items) };
+    ghost invariant = { λ t. IsTopology (with_choices (with_olds (topology_of t.links.items t.destinations.items)
+        t.olds.items) t.erasure t.choices.items) };
 }
 
 impl Topology {
     /// The topology of these links, each between two nodes, and these destinations.
     ///
-    /// The nodes are those that the links name. The lists are in any order, and no number in them is 0. They are copied.
+    /// The nodes are those that the links name. The lists are in any order, and no number in them is 0. They are
+    /// copied.
     ///
     /// # Errors
     /// In this order: `TooMany` where there are more than 64 nodes, more than 32 neighbours of a node, or more than 64
-    /// destinations; `Repeated` where a link, either way round, or a destination is named twice; `OwnId` where a link leads
-    /// from a node to itself; `Memory`.
+    /// destinations; `Repeated` where a link, either way round, or a destination is named twice; `OwnId` where a link
+    /// leads from a node to itself; `Memory`.
     pub fn new(
         alloc: Global,
         links: &[(Id, Id)],
@@ -66,7 +69,8 @@ impl Topology {
         requires { AreNumbers (topology_of links.now destinations.now) }
         ensures made { IfOk result (λ t. t ≡ topology_of links.now destinations.now) }
         ensures sound { IfOk result (λ _. topology_fault (topology_of links.now destinations.now) ≡ None) }
-        ensures fault { IfErr result (λ e. ((e ≡ CoreError.Memory) × (topology_fault (topology_of links.now destinations.now) ≡ None))
+        ensures fault { IfErr result (λ e. ((e ≡ CoreError.Memory)
+            × (topology_fault (topology_of links.now destinations.now) ≡ None))
             ⊎ (topology_fault (topology_of links.now destinations.now) ≡ Some e)) }
     {
         Topology::with_limits(alloc, Limits::STANDARD, links, destinations)
@@ -76,8 +80,8 @@ impl Topology {
     ///
     /// # Errors
     /// In this order: `TooMany` where there are more nodes, neighbours of a node or destinations than the limits allow;
-    /// `Repeated` where a link, either way round, or a destination is named twice; `OwnId` where a link leads from a node to
-    /// itself; `Memory`.
+    /// `Repeated` where a link, either way round, or a destination is named twice; `OwnId` where a link leads from a
+    /// node to itself; `Memory`.
     pub fn with_limits(
         alloc: Global,
         limits: Limits,
@@ -87,7 +91,8 @@ impl Topology {
         requires { AreNumbers (topology_of links.now destinations.now) }
         ensures made { IfOk result (λ t. t ≡ topology_of links.now destinations.now) }
         ensures sound { IfOk result (λ _. topology_fault_within limits (topology_of links.now destinations.now) ≡ None) }
-        ensures fault { IfErr result (λ e. ((e ≡ CoreError.Memory) × (topology_fault_within limits (topology_of links.now destinations.now) ≡ None))
+        ensures fault { IfErr result (λ e. ((e ≡ CoreError.Memory)
+            × (topology_fault_within limits (topology_of links.now destinations.now) ≡ None))
             ⊎ (topology_fault_within limits (topology_of links.now destinations.now) ≡ Some e)) }
     {
         if let Some(error) = topology_fault_within(limits, links, destinations) {
@@ -113,7 +118,8 @@ impl Topology {
     /// # Errors
     /// `NoNode` where there is no such node, which changes nothing.
     pub fn set_old(&mut self, n: Id) -> Result<(), SimError>
-        ensures ok { OnOk result ((is_node self.old n ≡ true) × (self.new ≡ with_olds self.old (with_old n self.old.olds))) }
+        ensures ok { OnOk result ((is_node self.old n ≡ true) × (self.new
+            ≡ with_olds self.old (with_old n self.old.olds))) }
         ensures err { IfErr result (λ e. (e ≡ SimError.NoNode) × (is_node self.old n ≡ false) × (self.new ≡ self.old)) }
     {
         if !self.has_node(n) {
@@ -137,8 +143,10 @@ impl Topology {
     /// # Errors
     /// `NoNode` where there is no such node, and `Memory`; either changes nothing.
     pub fn choose(&mut self, n: Id, erasure: Erasure) -> Result<(), SimError>
-        ensures ok { OnOk result ((is_node self.old n ≡ true) × (self.new ≡ record self.old { choices = self.old.choices ++ (n, erasure) ∷ [] })) }
-        ensures err { IfErr result (λ e. (self.new ≡ self.old) × MatchBool (is_node self.old n) (e ≡ SimError.Memory) (e ≡ SimError.NoNode)) }
+        ensures ok { OnOk result ((is_node self.old n ≡ true) × (self.new
+            ≡ record self.old { choices = self.old.choices ++ (n, erasure) ∷ [] })) }
+        ensures err { IfErr result (λ e. (self.new ≡ self.old) × MatchBool (is_node self.old n) (e ≡ SimError.Memory) (e
+            ≡ SimError.NoNode)) }
     {
         if !self.has_node(n) {
             return Err(SimError::NoNode);
@@ -252,36 +260,6 @@ fn chosen_by(n: Id, erasure: Erasure, choice: (Id, Erasure)) -> Erasure
     if choice.0 == n { choice.1 } else { erasure }
 }
 
-/// Whether a link names a number.
-fn is_named(n: Id, links: &[(Id, Id)]) -> bool
-    ensures { result ≡ is_named n links.now }
-{
-    links.iter().any(|link| link.0 == n || link.1 == n)
-}
-
-/// Whether a link names this node. It builds no list of the nodes.
-fn names_node(n: Id, links: &[(Id, Id)]) -> bool
-    ensures { result ≡ has_number n (nodes_in (links_in links.now)) }
-{
-    is_named(n, links)
-}
-
-/// The neighbours that links give a node, in ascending order.
-fn neighbours_of(links: &[(Id, Id)], n: Id) -> ArrayVec<Id, GREATEST_NEIGHBOURS>
-    requires { length (other_ends n (links_in links.now)) ≤ GREATEST_NEIGHBOURS }
-    ensures { result.items ≡ ascending (other_ends n (links_in links.now)) }
-{
-    let mut neighbours = ArrayVec::new();
-    for link in links {
-        if link.0 == n {
-            insert_number(&mut neighbours, link.1);
-        } else if link.1 == n {
-            insert_number(&mut neighbours, link.0);
-        }
-    }
-    neighbours
-}
-
 // ---- why there is no such topology
 
 /// The cause for which `Topology::new` refuses these links and destinations, apart from `Memory`; `None` if it accepts
@@ -330,99 +308,10 @@ fn has_too_many(limits: Limits, links: &[(Id, Id)], destinations: &[Id]) -> bool
 
 /// Whether one of the nodes has more neighbours than the limits allow.
 fn some_has_many_neighbours(limits: Limits, nodes: &[Id], links: &[(Id, Id)]) -> bool
-    ensures { result ≡ list_any (λ n. nat_lt (most_neighbours limits) (length (different_neighbours n (links_in links.now)))) nodes.now }
+    ensures { result ≡ list_any (λ n. nat_lt (most_neighbours limits)
+        (length (different_neighbours n (links_in links.now)))) nodes.now }
 {
     nodes.iter().any(|n| has_many_neighbours(limits.most_neighbours(), *n, links))
-}
-
-/// The nodes that links name, ascending, where there are at most as many as any limits allow.
-pub(crate) fn nodes_of(links: &[(Id, Id)]) -> Option<ArrayVec<Id, GREATEST_NODES>>
-    ensures { MatchOption result (GREATEST_NODES < length (nodes_in (links_in links.now))) (λ nodes. nodes.items ≡ nodes_in (links_in links.now)) }
-{
-    let mut nodes = ArrayVec::new();
-    let mut left = links.len();
-    while left > 0 {
-        left -= 1;
-        let (a, b) = links[left];
-        if !put(&mut nodes, b) {
-            return None;
-        }
-        if !put(&mut nodes, a) {
-            return None;
-        }
-    }
-    Some(nodes)
-}
-
-/// Whether a node has links to more than `most` others.
-fn has_many_neighbours(most: usize, n: Id, links: &[(Id, Id)]) -> bool
-    requires { most ≤ GREATEST_NEIGHBOURS }
-    ensures { result ≡ nat_lt most (length (different_neighbours n (links_in links.now))) }
-{
-    let mut ends: ArrayVec<Id, MOST_ENDS> = ArrayVec::new();
-    let mut left = links.len();
-    while left > 0 {
-        left -= 1;
-        if !put_end(&mut ends, n, links[left]) {
-            return true;
-        }
-    }
-    count_others(n, ends.as_slice()) > most
-}
-
-/// How many of the ends, which differ, are other nodes.
-fn count_others(n: Id, ends: &[Id]) -> usize
-    ensures { result ≡ (if has_number n ends.now then length ends.now - 1 else length ends.now) }
-{
-    if has_number(n, ends) {
-        ends.len().saturating_sub(1)
-    } else {
-        ends.len()
-    }
-}
-
-/// Puts the other end of a link of the node, if it is one; answers whether there was room.
-pub(crate) fn put_end<const N: usize>(ends: &mut ArrayVec<Id, N>, n: Id, link: (Id, Id)) -> bool
-    ensures { MatchBool result (ends.new.items ≡ with_end n (link_in link) ends.old.items) (N < length (with_end n (link_in link) ends.old.items)) }
-{
-    if link.0 == n {
-        put(ends, link.1)
-    } else if link.1 == n {
-        put(ends, link.0)
-    } else {
-        true
-    }
-}
-
-/// Puts a number at its place, where it is not there; answers whether there was room.
-fn put<const N: usize>(numbers: &mut ArrayVec<Id, N>, n: Id) -> bool
-    ensures { MatchBool result (numbers.new.items ≡ with_node n numbers.old.items) (N < length (with_node n numbers.old.items)) }
-{
-    if is_among(n, numbers.as_slice()) {
-        return true;
-    }
-    if numbers.is_full() {
-        return false;
-    }
-    insert_number(numbers, n);
-    true
-}
-
-/// Whether a number is in a list: one of ascending numbers is found by halves, and all are looked at only where it is not found so.
-fn is_among(n: Id, numbers: &[Id]) -> bool
-    ensures { result ≡ has_number n numbers.now }
-{
-    is_found(n, numbers) || has_number(n, numbers)
-}
-
-/// Whether a number is found by halves.
-fn is_found(n: Id, numbers: &[Id]) -> bool
-    ensures { result ≡ true → has_number n numbers.now ≡ true }
-{
-    match numbers.binary_search(&n) {
-        Ok(at) => numbers[at] == n,
-        Err(_) => false,
-    }
 }
 
 fn has_own_link(links: &[(Id, Id)]) -> bool

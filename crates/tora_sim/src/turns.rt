@@ -1,7 +1,8 @@
 //! Turns of a node's core.
 ghost use Rattle.std.specs.Prelude.{◌≡◌, ◌+◌, ◌<◌, ◌≤◌, length, OnOk, IfErr};
 ghost use Rattle.tora_cargoes.specs.Lane.{AreWhole};
-ghost use Rattle.tora_sim.specs.Lanes.{lanes_of, bare_between, AreAlike, AreReady, AreReadyOutside, AreOthersKept, HaveRoom, HaveRoomBut};
+ghost use Rattle.tora_sim.specs.Lanes.{lanes_of, bare_between, AreAlike, AreReady, AreReadyOutside, AreOthersKept};
+ghost use Rattle.tora_sim.specs.Lanes.{HaveRoom, HaveRoomBut};
 ghost use Rattle.tora_sim.specs.Quiet.{AreForgottenWhere, IsForgottenWhere};
 ghost use Rattle.tora_sim.specs.Taking.{AreTaken, TakesItems};
 ghost use Rattle.tora_sim.specs.Turns.{Turns};
@@ -19,12 +20,11 @@ use tora_cargoes::Spares;
 use tora_core::Sends;
 use tora_seat::offers_are_their_own_answers;
 
-/// Serves the first item of a node's lane. There is memory for all that it can put at the node's link ends, and as many spare lists are whole. Each of
-/// those ends but for those in `unready` is ready, before the turn and after it; and at each but the one at `seat` there is memory for another one
-/// then. What is said of the node's ends is said of them without the memory that they have.
+/// Serves the first item of a node's lane. The node's link ends must have memory for all that it can put; those outside
+/// `unready` are ready, before and after. Afterwards all but the one at `seat` have memory for another item.
 ///
 /// # Errors
-/// `Memory`, which changes nothing but `unready` and `seat`.
+/// `Memory`, which changes only `unready` and `seat`.
 pub fn turn(
     node: &mut NodeSlot,
     links: &mut Vec<LinkSlot>,
@@ -37,7 +37,8 @@ pub fn turn(
     requires room { AreReady (lanes_of links.old.items node.old.first node.old.count) unready.old }
     requires waits { 0 < length node.old.items }
     requires neighbours { length node.old.seat.core.neighbours ≡ node.old.count }
-    ensures turned { Turns node.old (bare_between node.old.first node.old.count links.old.items) result node.new (bare_between node.old.first node.old.count links.new.items) }
+    ensures turned { Turns node.old (bare_between node.old.first node.old.count links.old.items) result node.new
+        (bare_between node.old.first node.old.count links.new.items) }
     ensures ready { AreReadyOutside links.new.items node.old.first node.old.count unready.new }
     ensures others { AreOthersKept links.old.items links.new.items node.old.first node.old.count }
     ensures room { HaveRoomBut links.new.items node.old.first node.old.count seat.new }
@@ -61,11 +62,11 @@ pub fn turn(
     }
 }
 
-/// Takes once more the memory for all that one item of a node can put: at its end at the place `seat`, the only one at which there may be none, unless it
-/// is known to be ready; and in as many spare lists as it has ends.
+/// Allocates memory for all that one more item of a node can put: at the end at `seat`, the only one that may have
+/// none, and in a spare list for each end.
 ///
 /// # Errors
-/// `Memory`. The ends are as they were either way.
+/// `Memory`. The ends do not change.
 fn make_room_again(
     links: &mut Vec<LinkSlot>,
     spares: &mut Spares,
@@ -99,10 +100,8 @@ fn make_room_again(
     Ok(())
 }
 
-/// Serves the items of a node's lane one after another until none waits, and so many at most, and answers whether any was served. There is memory for
-/// all that one of them can put at the node's link ends, and each of those ends but for those in `unready` is ready. Between two items that memory is
-/// taken again where the one before used it, so that no other end is looked at. Behind the last one each of the node's ends but for those in
-/// `unready` is ready, and at each but the one at `seat` there is memory for another item.
+/// Serves the items of a node's lane until none waits, at most `most`, and returns whether any was served. `unready`
+/// and `seat` are those of `turn`. Between two items, only the end at `seat` is looked at for memory.
 ///
 /// # Errors
 /// `Memory`. The items before are served.
@@ -138,14 +137,13 @@ pub fn take_items(
     Ok(some)
 }
 
-/// Of the `count` link ends from the place `first` on those are known to be ready in whose lane no cargo waits, but the one at the place `but`;
-/// and of those in whose lane one waits it isn't known any more how long they are still, nor whether they are plain. Of a node's ends a turn of its
-/// core changes the lanes and the packets that were stepped alone, so that any other is as still, and as plain, as it was.
+/// Of the `count` link ends from the index `first` on, marks those with an empty lane as ready, but for the one at
+/// `but`, and forgets the deadlines of those with a cargo. The other deadlines stay: a turn changes only lanes and
+/// stepped packets.
 pub fn forget_waiting(
     links: &Vec<LinkSlot>,
     ready: &mut Vec<bool>,
     stills: &mut Stills,
-    plains: &mut Stills,
     first: usize,
     count: usize,
     but: usize,
@@ -153,44 +151,38 @@ pub fn forget_waiting(
     requires within { first + count ≤ length links.now.items }
     requires ready { length ready.old.items ≡ length links.now.items }
     requires stills { length stills.old ≡ length links.now.items }
-    requires plains { length plains.old ≡ length links.now.items }
     ensures ready { AreRemarked links.now.items but ready.old.items ready.new.items first count }
     ensures stills { AreForgottenWhere links.now.items stills.old stills.new first count }
-    ensures plains { AreForgottenWhere links.now.items plains.old plains.new first count }
 {
     for place in 0..count {
         let at = first + place;
-        forget_if_waiting(links, ready, stills, plains, at, but);
+        forget_if_waiting(links, ready, stills, at, but);
     }
 }
 
-/// Marks the link end at a place anew; and nothing is known of it, where a cargo waits in its lane.
+/// Marks the link end at an index anew, and forgets its deadline if a cargo waits.
 #[inline(always)]
 fn forget_if_waiting(
     links: &Vec<LinkSlot>,
     ready: &mut Vec<bool>,
     stills: &mut Stills,
-    plains: &mut Stills,
     at: usize,
     but: usize,
 )
     requires within { at < length links.now.items }
     requires ready { at < length ready.old.items }
     requires stills { at < length stills.old }
-    requires plains { at < length plains.old }
     ensures ready { IsRemarked links.now.items but ready.old.items ready.new.items at }
     ensures stills { IsForgottenWhere links.now.items stills.old stills.new at }
-    ensures plains { IsForgottenWhere links.now.items plains.old plains.new at }
 {
     remark(links, ready, at, but);
     if !links[at].has_cargo() {
         return;
     }
     keep_still(stills, at, 0);
-    keep_still(plains, at, 0);
 }
 
-/// The link end at a place is known to be ready where no cargo waits in its lane, and it is not the one at the place `but`.
+/// Marks the link end at an index as ready if its lane is empty and the index is not `but`.
 #[inline(always)]
 fn remark(links: &Vec<LinkSlot>, ready: &mut Vec<bool>, at: usize, but: usize)
     requires within { at < length links.now.items }

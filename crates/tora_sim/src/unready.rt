@@ -1,18 +1,15 @@
-//! Of each node the link ends outside which each of its ends is known to be ready: its lane is empty, and there is memory at it for all that one
-//! item of the node can put.
-ghost use Rattle.std.specs.Prelude.{◌≡◌, ◌+◌, ◌<◌, ◌≤◌, ℕ, true, false, MatchResult, length, replicate, slice_get, slice_index_or, slice_set, Some};
-ghost use Rattle.tora_sim.specs.Unready.{IsOutside, ends_below};
+//! The link ends of a node that may not be ready, as a range.
+ghost use Rattle.std.specs.Prelude.{◌≡◌, ◌+◌, ◌<◌, ◌≤◌, ℕ, true, false, length, slice_get, Some};
+ghost use Rattle.tora_sim.specs.Unready.{IsOutside};
 
-use crate::SimError;
 use crate::ready::is_ready;
-use std::alloc::Global;
 
-/// Some of a node's link ends, by their places among the node's.
+/// A range of a node's link ends, by their indices among the node's ends.
 #[derive(Clone, Copy, Debug)]
 pub struct Unready {
-    /// The place of the first one.
+    /// The first index.
     pub from: usize,
-    /// The place behind the last one.
+    /// The index after the last one.
     pub behind: usize,
 }
 
@@ -23,7 +20,7 @@ impl Unready {
         behind: 0,
     };
 
-    /// Those of them that are among the node's `count` ends.
+    /// The part of the range within the node's `count` ends.
     #[inline(always)]
     pub fn within(self, count: usize) -> Unready
         ensures ordered { result.from ≤ result.behind }
@@ -37,7 +34,7 @@ impl Unready {
         }
     }
 
-    /// Whether the end at a place is one of them.
+    /// Whether an index is in the range.
     #[inline(always)]
     pub fn has(self, place: usize) -> bool
         ensures none { result ≡ false → IsOutside self place }
@@ -46,7 +43,7 @@ impl Unready {
         self.from <= place && place < self.behind
     }
 
-    /// The list with the end at an index appended.
+    /// The least range with one more index.
     #[inline(always)]
     pub fn with_place(self, place: usize) -> Unready
         requires { place < 18446744073709551615 }
@@ -59,7 +56,7 @@ impl Unready {
         }
     }
 
-    /// These and others.
+    /// The least range with both ranges.
     #[inline(always)]
     pub fn joined(self, other: Unready) -> Unready
         ensures these { (place : ℕ) → IsOutside result place → IsOutside self place }
@@ -72,53 +69,20 @@ impl Unready {
     }
 }
 
-/// The lists of `nodes` nodes with at most `most` ends each, in which nothing is known of any end.
-pub fn all_unready(alloc: Global, nodes: usize, most: usize) -> Result<Vec<Unready>, SimError>
-    ensures { MatchResult result (λ ranges. ranges.items ≡ replicate nodes (ends_below most)) (λ e. e ≡ SimError.Memory) }
-{
-    let all = Unready {
-        from: 0,
-        behind: most,
-    };
-    let mut ranges = Vec::new(alloc);
-    match ranges.resize(nodes, all) {
-        Ok(()) => Ok(ranges),
-        Err(_) => Err(SimError::Memory),
-    }
-}
-
-/// The ends of the node at a place.
-#[inline(always)]
-pub fn unready_at(ranges: &Vec<Unready>, home: usize) -> Unready
-    requires { home < length ranges.now.items }
-    ensures { result ≡ slice_index_or ranges.now.items home result }
-{
-    ranges[home]
-}
-
-/// From now on those are the ends of the node at a place.
-#[inline(always)]
-pub fn set_unready(ranges: &mut Vec<Unready>, home: usize, range: Unready)
-    requires { home < length ranges.old.items }
-    ensures { ranges.new.items ≡ slice_set ranges.old.items home range }
-{
-    ranges[home] = range;
-}
-
-/// The ends of this range that are not ready, of the node whose ends begin at the index `first`.
-pub fn still_unready(ready: &Vec<bool>, first: usize, range: Unready) -> Unready
-    requires ordered { range.from ≤ range.behind }
-    requires within { first + range.behind ≤ length ready.now.items }
-    ensures { (place : ℕ) → range.from ≤ place → place < range.behind → IsOutside result place → slice_get ready.now.items (first + place) ≡ Some true }
+/// A range that has each end without a mark, of the `count` ends of a node from the index `first` on.
+pub fn still_unready(ready: &Vec<bool>, first: usize, count: usize) -> Unready
+    requires { first + count ≤ length ready.now.items }
+    ensures { (place : ℕ) → place < count → IsOutside result place
+        → slice_get ready.now.items (first + place) ≡ Some true }
 {
     let mut unready = Unready::NONE;
-    for place in range.from..range.behind {
+    for place in 0..count {
         unready = with_unready(ready, first + place, unready, place);
     }
     unready
 }
 
-/// Some ends, and the one at a place, which stands at the place `at` among all, unless it is ready.
+/// The range with one more index, unless the end there is marked. Among all ends its index is `at`.
 #[inline(always)]
 fn with_unready(ready: &Vec<bool>, at: usize, unready: Unready, place: usize) -> Unready
     requires within { at < length ready.now.items }

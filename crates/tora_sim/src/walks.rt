@@ -4,7 +4,8 @@ ghost use Rattle.std.specs.List.{list_all};
 ghost use Rattle.tora_core.specs.Numbers.{has_number};
 ghost use Rattle.tora_core.specs.CoreRun.{entry_of};
 ghost use Rattle.tora_world.specs.Topology.{is_node};
-ghost use Rattle.tora_world.specs.Walks.{entry_at, height_at, is_exact_entry, is_exact_node, exact_in, walk_within, walk_of};
+ghost use Rattle.tora_world.specs.Walks.{entry_at, height_at, is_exact_entry, is_exact_node, exact_in, walk_within};
+ghost use Rattle.tora_world.specs.Walks.{walk_of};
 ghost use Rattle.tora_sim.specs.Store.{world_of};
 
 use crate::SimError;
@@ -16,11 +17,11 @@ use tora_core::numbers_come_and_go;
 use tora_height::{Entry, Id};
 
 impl Sim {
-    /// Whether entries are exact: each entry for destination `d` that is not NULL, of any node and any of its neighbours
-    /// whose link is up, is the height of that neighbour.
+    /// Whether entries are exact: each entry for destination `d` that is not NULL, of any node and any of its
+    /// neighbours whose link is up, is the height of that neighbour.
     ///
-    /// It is asked of a destination of the topology; of any other number there are no entries. Where entries are exact, the
-    /// hops from any node with a height reach `d` within as many hops as there are nodes, and `walk` gives them, as
+    /// It is asked of a destination of the topology; of any other number there are no entries. Where entries are exact,
+    /// the hops from any node with a height reach `d` within as many hops as there are nodes, and `walk` gives them, as
     /// `tora_world::exact_entries_give_walks` has it. Nothing says that entries ever become exact.
     ///
     /// ```rust
@@ -36,8 +37,8 @@ impl Sim {
         self.are_exact(&self.nodes, d)
     }
 
-    /// The nodes that are met from node `n` to destination `d` by next hops, both of them included; `n` alone where it is
-    /// `d`.
+    /// The nodes that are met from node `n` to destination `d` by next hops, both of them included; `n` alone where it
+    /// is `d`.
     ///
     /// `None` where a node before `d` has no next hop, or where `d` is not met within as many hops as there are nodes.
     ///

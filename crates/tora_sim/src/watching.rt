@@ -1,12 +1,14 @@
-//! What a trace or a drive reads of a simulated world: what waits for a core, what it accepted and requires, and what was sent.
+//! What a trace or a drive reads of a simulated world: what waits for a core, what it accepted and requires, and what
+//! was sent.
 ghost use Rattle.std.specs.Prelude.{◌≡◌, slice_get};
 ghost use Rattle.tora_world.specs.World.{datagram};
 ghost use Rattle.tora_core.specs.CoreRun.{flag_of};
 ghost use Rattle.tora_sim.specs.Readers.{flag_at};
 ghost use Rattle.tora_sim.specs.Store.{world_of};
 
+use crate::delivering::numbered;
 use crate::nodes::{NodeSlot, place as node_place};
-use crate::sim::{Sim, numbered};
+use crate::sim::Sim;
 use tora_core::Input;
 use tora_frame::{BorrowedFrame, Frame};
 use tora_height::Id;
@@ -23,8 +25,8 @@ impl Sim {
         }
     }
 
-    /// The inputs that the core of a node accepted since the node's last restart, each with its tick; none where there is no
-    /// such node.
+    /// The inputs that the core of a node accepted since the node's last restart, each with its tick; none where there
+    /// is no such node.
     pub fn inputs(&self, n: Id) -> &[(Input, u64)]
         ensures { result.now ≡ (world_of self.now).inputs n }
     {

@@ -12,9 +12,11 @@ use Rattle.tora_lines.specs.declared.ended.ReplayError.{ReplayError}
 use Rattle.tora_lines.specs.declared.ended.ReplayError.TheVariants.{Write}
 use Rattle.tora_lines.specs.Flushing.{IsFlushed}
 
--- The status is that of an end of the engine over a reader that gives this input: the whole text of the input was written, or a front of it
--- where memory or the reader failed; and all of it was handed on. Where a trace is lost the status is not 0.
-pub record EndsWith {W : Type 0} (text : List ℕ → Text) (contents : W → Option (List ℕ)) (did_flush : W → Bool → W → Type 0) (input : Option (List ℕ)) (old new : W) (is_lost : Bool) (status : ℕ) : Type 0 where
+-- The status is that of an end of the engine over a reader that gives this input: the whole text of the input was
+-- written, or a front of it where memory or the reader failed; and all of it was handed on. Where a trace is lost the
+-- status is not 0.
+pub record EndsWith {W : Type 0} (text : List ℕ → Text) (contents : W → Option (List ℕ)) (did_flush : W → Bool → W
+    → Type 0) (input : Option (List ℕ)) (old new : W) (is_lost : Bool) (status : ℕ) : Type 0 where
   pub ended : Result Ended ReplayError
   pub rest : Option (List ℕ)  -- of the input
   pub whole : IfOk ended (λ e. IfSome input (λ bytes. IsWholeText text bytes (contents old) (contents new) e))
@@ -24,8 +26,10 @@ pub record EndsWith {W : Type 0} (text : List ℕ → Text) (contents : W → Op
   pub status_is : status ≡ traced_status is_lost ended
 
 -- The same, where rules make the text.
-abbrev pub EndsBy : {S W : Type 0} → Rules S → (W → Option (List ℕ)) → (W → Bool → W → Type 0) → Option (List ℕ) → W → W → Bool → ℕ → Type 0
-EndsBy rules contents did_flush input old new is_lost status = EndsWith (whole_text rules) contents did_flush input old new is_lost status
+abbrev pub EndsBy : {S W : Type 0} → Rules S → (W → Option (List ℕ)) → (W → Bool → W → Type 0) → Option (List ℕ) → W → W
+    → Bool → ℕ → Type 0
+EndsBy rules contents did_flush input old new is_lost status =
+    EndsWith (whole_text rules) contents did_flush input old new is_lost status
 
 -- A call for a file gave an error: the status says which, and nothing was written.
 pub record IsUnopened {W : Type 0} (gave : Error → Type 0) (old new : W) (status : ℕ) : Type 0 where
@@ -44,17 +48,23 @@ pub record IsOnePlace {W : Type 0} (path place : List ℕ) (old new : W) (status
   pub nothing : new ≡ old
 
 -- Opening this path gave a reader, and the status is that of an end of the engine over it; or it gave an error.
-abbrev pub EndsFile : {R S W : Type 0} → (List ℕ → Result R Error → Type 0) → (R → Option (List ℕ)) → Rules S → (W → Option (List ℕ)) → (W → Bool → W → Type 0) → List ℕ → W → W → ℕ → Type 0
+abbrev pub EndsFile : {R S W : Type 0} → (List ℕ → Result R Error → Type 0) → (R → Option (List ℕ)) → Rules S
+    → (W → Option (List ℕ)) → (W → Bool → W → Type 0) → List ℕ → W → W → ℕ → Type 0
 EndsFile {R} did_open remaining rules contents did_flush path old new status =
     ((reader : R) × did_open path (Ok reader) × EndsBy rules contents did_flush (remaining reader) old new false status)
     ⊎ IsUnopened (λ e. did_open path (Err e)) old new status
 
 -- Opening a path gave this error, or it gave a reader and making the trace's path anew gave the error.
-abbrev pub IsUntraced : {R : Type 0} → (List ℕ → Result R Error → Type 0) → (List ℕ → Result R Error → Type 0) → List ℕ → List ℕ → Error → Type 0
-IsUntraced {R} did_open did_create path trace error = did_open path (Err error) ⊎ ((reader : R) × did_open path (Ok reader) × did_create trace (Err error))
+abbrev pub IsUntraced : {R : Type 0} → (List ℕ → Result R Error → Type 0) → (List ℕ → Result R Error → Type 0) → List ℕ
+    → List ℕ → Error → Type 0
+IsUntraced {R} did_open did_create path trace error = did_open path (Err error)
+    ⊎ ((reader : R) × did_open path (Ok reader) × did_create trace (Err error))
 
--- The same where a trace is written, and lost or not, to the file that making its path anew gave; none is where that would take the place of the file.
-abbrev pub EndsTraced : {R S W : Type 0} → (List ℕ → Result R Error → Type 0) → (List ℕ → Result R Error → Type 0) → (R → Option (List ℕ)) → Rules S → (W → Option (List ℕ)) → (W → Bool → W → Type 0) → List ℕ → List ℕ → W → W → ℕ → Type 0
+-- The same where a trace is written, and lost or not, to the file that making its path anew gave; none is where that
+-- would take the place of the file.
+abbrev pub EndsTraced : {R S W : Type 0} → (List ℕ → Result R Error → Type 0) → (List ℕ → Result R Error → Type 0)
+    → (R → Option (List ℕ)) → Rules S → (W → Option (List ℕ)) → (W → Bool → W → Type 0) → List ℕ → List ℕ → W → W → ℕ
+    → Type 0
 EndsTraced {R} did_open did_create remaining rules contents did_flush path trace old new status =
     ((reader : R) × (made : R) × (is_lost : Bool) × did_open path (Ok reader) × did_create trace (Ok made)
     × EndsBy rules contents did_flush (remaining reader) old new is_lost status)
@@ -62,6 +72,10 @@ EndsTraced {R} did_open did_create remaining rules contents did_flush path trace
     ⊎ (HasNoMemory old new status ⊎ IsOnePlace path trace old new status))
 
 -- The same with a trace or without one.
-abbrev pub EndsSimulated : {R S W : Type 0} → (List ℕ → Result R Error → Type 0) → (List ℕ → Result R Error → Type 0) → (R → Option (List ℕ)) → Rules S → (W → Option (List ℕ)) → (W → Bool → W → Type 0) → List ℕ → Option (List ℕ) → W → W → ℕ → Type 0
-EndsSimulated did_open did_create remaining rules contents did_flush path None old new status = EndsFile did_open remaining rules contents did_flush path old new status
-EndsSimulated did_open did_create remaining rules contents did_flush path (Some trace) old new status = EndsTraced did_open did_create remaining rules contents did_flush path trace old new status
+abbrev pub EndsSimulated : {R S W : Type 0} → (List ℕ → Result R Error → Type 0) → (List ℕ → Result R Error → Type 0)
+    → (R → Option (List ℕ)) → Rules S → (W → Option (List ℕ)) → (W → Bool → W → Type 0) → List ℕ → Option (List ℕ) → W
+    → W → ℕ → Type 0
+EndsSimulated did_open did_create remaining rules contents did_flush path None old new status =
+    EndsFile did_open remaining rules contents did_flush path old new status
+EndsSimulated did_open did_create remaining rules contents did_flush path (Some trace) old new status =
+    EndsTraced did_open did_create remaining rules contents did_flush path trace old new status

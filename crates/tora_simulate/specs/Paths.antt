@@ -5,7 +5,8 @@ use Rattle.std.specs.declared.io.Error.{Error}
 use Rattle.std.specs.declared.io.ErrorKind.TheVariants.{OutOfMemory}
 
 -- Opening a path gave a reader, and reading that one to its end gave these bytes.
-pub record IsRead {R : Type 0} (opened : Result R Error → Type 0) (did_read : R → Result (List ℕ) Error → Type 0) (remaining : R → Option (List ℕ)) (bytes : List ℕ) : Type 0 where
+pub record IsRead {R : Type 0} (opened : Result R Error → Type 0) (did_read : R → Result (List ℕ) Error
+    → Type 0) (remaining : R → Option (List ℕ)) (bytes : List ℕ) : Type 0 where
   pub reader : R
   pub opens : opened (Ok reader)
   pub reads : did_read reader (Ok bytes)
@@ -13,7 +14,8 @@ pub record IsRead {R : Type 0} (opened : Result R Error → Type 0) (did_read : 
 
 -- Opening a path gave this error, or reading what it gave did.
 abbrev pub IsUnread : {R : Type 0} → (Result R Error → Type 0) → (R → Result (List ℕ) Error → Type 0) → Error → Type 0
-IsUnread {R} opened did_read error = opened (Err error) ⊎ ((reader : R) × opened (Ok reader) × did_read reader (Err error))
+IsUnread {R} opened did_read error = opened (Err error) ⊎ ((reader : R) × opened (Ok reader)
+    × did_read reader (Err error))
 
 -- the status where a file can't be had: 5 where memory was refused, and otherwise 1
 pub record IsStatusOfError (error : Error) (status : ℕ) : Type 0 where

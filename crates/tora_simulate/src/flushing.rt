@@ -28,16 +28,19 @@ pub fn simulate_telling_and_flush<S: Simulator, T: Eprint, R: Read, W: Output>(
     ensures whole { IfOk result (λ ended. IfSome (R.remaining reader.old) (λ input.
         SimulatesWith setup (lines_of table) input (W.contents writer.old) (W.contents writer.new) ended)) }
     ensures at_end { result ≡ Ok Ended.Whole → IsAtEnd (R.remaining reader.new) }
-    ensures fault { IfOk result (λ ended. IfSome (R.remaining reader.old) (λ input. fault_of ended ≡ first_fault_with setup (lines_of table) input)) }
+    ensures fault { IfOk result (λ ended. IfSome (R.remaining reader.old) (λ input.
+        fault_of ended ≡ first_fault_with setup (lines_of table) input)) }
     ensures begun { IfErr result (λ e. e ≢ ReplayError.Write →
-        IsBegunWith setup (lines_of table) (R.remaining reader.old) (R.remaining reader.new) (W.contents writer.old) (W.contents writer.new)) }
+        IsBegunWith setup (lines_of table) (R.remaining reader.old) (R.remaining reader.new) (W.contents writer.old)
+        (W.contents writer.new)) }
     ensures flushed { IsFlushed W.did_flush result writer.new }
 {
     let ended = simulate_telling::<S, T, R, W>(rt, alloc, setup, table, reader, writer, is_verbose);
     flushed(writer, ended)
 }
 
-/// Simulates as `simulate_telling_and_flush` does, for a program that ends behind it: what the world took is not given back (`simulate_telling_last`).
+/// Simulates as `simulate_telling_and_flush` does, for a program that ends behind it: what the world took is not given
+/// back (`simulate_telling_last`).
 pub fn simulate_last_and_flush<S: Simulator, T: Eprint, R: Read, W: Output>(
     rt: &T,
     alloc: Global,
@@ -51,9 +54,11 @@ pub fn simulate_last_and_flush<S: Simulator, T: Eprint, R: Read, W: Output>(
     ensures whole { IfOk result (λ ended. IfSome (R.remaining reader.old) (λ input.
         SimulatesWith setup (lines_of table) input (W.contents writer.old) (W.contents writer.new) ended)) }
     ensures at_end { result ≡ Ok Ended.Whole → IsAtEnd (R.remaining reader.new) }
-    ensures fault { IfOk result (λ ended. IfSome (R.remaining reader.old) (λ input. fault_of ended ≡ first_fault_with setup (lines_of table) input)) }
+    ensures fault { IfOk result (λ ended. IfSome (R.remaining reader.old) (λ input.
+        fault_of ended ≡ first_fault_with setup (lines_of table) input)) }
     ensures begun { IfErr result (λ e. e ≢ ReplayError.Write →
-        IsBegunWith setup (lines_of table) (R.remaining reader.old) (R.remaining reader.new) (W.contents writer.old) (W.contents writer.new)) }
+        IsBegunWith setup (lines_of table) (R.remaining reader.old) (R.remaining reader.new) (W.contents writer.old)
+        (W.contents writer.new)) }
     ensures flushed { IsFlushed W.did_flush result writer.new }
 {
     let ended = simulate_telling_last::<S, T, R, W>(

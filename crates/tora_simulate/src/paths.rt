@@ -78,7 +78,8 @@ pub fn bytes_at<T: Paths>(rt: &T, alloc: Global, path: &str) -> io::Result<Vec<u
 
 /// The text of the file at a path.
 pub fn text_at<T: Paths>(rt: &T, alloc: Global, path: &str) -> io::Result<String>
-    ensures read { IfOk result (λ text. IsRead (T.did_open rt.now path.now) T.did_read T.File.remaining (string_bytes text)) }
+    ensures read { IfOk result (λ text. IsRead (T.did_open rt.now path.now) T.did_read T.File.remaining
+        (string_bytes text)) }
     ensures failed { IfErr result (IsUnread (T.did_open rt.now path.now) T.did_read) }
 {
     let file = rt.open_path(path)?;

@@ -44,10 +44,10 @@ pub fn tell<T: Eprint, R: Read>(rt: &T, reader: &Recent<R>, ended: Result<Ended,
     }
 }
 
-/// Simulates the lines that a reader gives, in a world that is made with this and over a channel that the lines of a table
-/// change, and ends with a status: 0 at its end, 1 where a line is a fault or reading or writing failed, 5 where memory was
-/// refused. It says why a line is a fault and what failed, and with `is_verbose` why events are refused. The program ends behind it: what the
-/// world took is not given back.
+/// Simulates the lines that a reader gives, in a world that is made with this and over a channel that the lines of a
+/// table change, and ends with a status: 0 at its end, 1 where a line is a fault or reading or writing failed, 5 where
+/// memory was refused. It says why a line is a fault and what failed, and with `is_verbose` why events are refused. The
+/// program ends behind it: what the world took is not given back.
 pub fn run_over<S: Simulator, T: AllocGlobal + Eprint, R: Read + Drop, W: Output>(
     rt: &T,
     setup: Setup,
@@ -57,7 +57,8 @@ pub fn run_over<S: Simulator, T: AllocGlobal + Eprint, R: Read + Drop, W: Output
     writer: &mut W,
 ) -> ExitCode
     requires { IsTimes setup.times }
-    ensures { EndsBy (rules_with setup (lines_of table)) W.contents W.did_flush (R.remaining reader) writer.old writer.new false (exit_status result) }
+    ensures { EndsBy (rules_with setup (lines_of table)) W.contents W.did_flush (R.remaining reader) writer.old
+        writer.new false (exit_status result) }
 {
     let alloc = rt.alloc();
     let mut reader = Recent::new(alloc, reader);
@@ -74,9 +75,9 @@ pub fn run_over<S: Simulator, T: AllocGlobal + Eprint, R: Read + Drop, W: Output
     status(rt, result)
 }
 
-/// Simulates the lines of the file at a path, in a world that is made with this and over a channel that the lines of a table
-/// change, and ends with a status: that of `run_over` over the file, 1 where it can't be opened, and 5 where memory was refused
-/// for that. Nothing is written where it is not opened.
+/// Simulates the lines of the file at a path, in a world that is made with this and over a channel that the lines of a
+/// table change, and ends with a status: that of `run_over` over the file, 1 where it can't be opened, and 5 where
+/// memory was refused for that. Nothing is written where it is not opened.
 pub fn run<S: Simulator, T: Paths + AllocGlobal + Eprint, W: Output>(
     rt: &T,
     setup: Setup,
@@ -86,7 +87,8 @@ pub fn run<S: Simulator, T: Paths + AllocGlobal + Eprint, W: Output>(
     writer: &mut W,
 ) -> ExitCode
     requires { IsTimes setup.times }
-    ensures { EndsFile (T.did_open rt.now) T.File.remaining (rules_with setup (lines_of table)) W.contents W.did_flush path.now writer.old writer.new (exit_status result) }
+    ensures { EndsFile (T.did_open rt.now) T.File.remaining (rules_with setup (lines_of table)) W.contents W.did_flush
+        path.now writer.old writer.new (exit_status result) }
 {
     match rt.open_path(path) {
         Ok(file) => run_over::<S, T, T::File, W>(rt, setup, table, file, is_verbose, writer),

@@ -5,29 +5,29 @@ ghost use Rattle.tora_arq.specs.declared.times.TheConstants.Times.{STANDARD};
 ghost use Rattle.tora_arq.specs.Settings.{IsTimes};
 ghost use Rattle.tora_lines.specs.LineText.{fault_of};
 ghost use Rattle.tora_script.specs.SimulationText.{first_simulation_fault, Simulates, IsSimulationBegun};
+ghost use Rattle.tora_lines.specs.Reads.{IsReadSo, IsUnwritten};
 
 use std::alloc::Global;
-use std::io::{Read, Write};
 use tora_arq::{Times, standard_times};
-use tora_lines::{Ended, ReplayError};
+use tora_lines::{Ended, Input, Output, ReplayError};
 use tora_script::simulate_in;
 use tora_sim::Sim;
 
-/// Reads the lines of a simulation file to the end of the input or to the first line that is a fault, and writes what is
-/// printed for each.
+/// Reads the lines of a simulation file to the end of the input or to the first line that is a fault, and writes what
+/// is printed for each.
 ///
-/// The first line is `dests LIST`, then come lines `link A B`, one or more, then any lines `old N`, and then the lines of
-/// `docs/formats.md`, "Simulation files". A line has at most 4,096 bytes without its LF. What is printed for a line is
-/// written whole, by one call of the writer's `write_all`. The world keeps all that was ever sent, so that its memory grows
-/// with the run. Its link ends have the times of the program, `Times::STANDARD`.
+/// The first line is `dests LIST`, then come lines `link A B`, one or more, then any lines `old N`, and then the lines
+/// of `docs/formats.md`, "Simulation files". A line has at most 4,096 bytes without its LF. What is printed for a line
+/// is written whole, by one call of the writer's `write_all`. The world keeps all that was ever sent, so that its
+/// memory grows with the run. Its link ends have the times of the program, `Times::STANDARD`.
 ///
 /// A fault is no error: `fault N` is written, and the answer is `Ended::Fault(N)`.
 ///
 /// # Errors
 /// `Memory` where memory was refused; `Read` where a read failed, or 2^32 reads came to no end (a read that was
-/// interrupted is made again, and counts); `Write` where a write failed. No line is taken in part: at `Memory` and `Read`
-/// whole lines' answers were written.
-pub fn simulate<R: Read, W: Write>(
+/// interrupted is made again, and counts); `Write` where a write failed. No line is taken in part: at `Memory` and
+/// `Read` whole lines' answers were written.
+pub fn simulate<R: Input, W: Output>(
     alloc: Global,
     reader: &mut R,
     writer: &mut W,
@@ -36,10 +36,14 @@ pub fn simulate<R: Read, W: Write>(
     ensures whole { IfOk result (λ ended. IfSome (R.remaining reader.old) (λ input.
         Simulates STANDARD input (W.contents writer.old) (W.contents writer.new) ended)) }
     ensures at_end { result ≡ Ok Ended.Whole → IsAtEnd (R.remaining reader.new) }
-    ensures fault { IfOk result (λ ended. IfSome (R.remaining reader.old) (λ input. fault_of ended ≡ first_simulation_fault STANDARD input)) }
+    ensures fault { IfOk result (λ ended. IfSome (R.remaining reader.old) (λ input.
+        fault_of ended ≡ first_simulation_fault STANDARD input)) }
     // What was written begins the text of what was read.
     ensures begun { IfErr result (λ e. e ≢ ReplayError.Write →
-        IsSimulationBegun STANDARD (R.remaining reader.old) (R.remaining reader.new) (W.contents writer.old) (W.contents writer.new)) }
+        IsSimulationBegun STANDARD (R.remaining reader.old) (R.remaining reader.new) (W.contents writer.old)
+        (W.contents writer.new)) }
+    ensures reads { IsReadSo R.did_read reader.old reader.new result }
+    ensures failed { IfErr result (λ e. e ≡ ReplayError.Write → IsUnwritten W.did_write writer.new) }
 {
     standard_times();
     simulate_with(alloc, Times::STANDARD, reader, writer)
@@ -49,7 +53,7 @@ pub fn simulate<R: Read, W: Write>(
 ///
 /// # Errors
 /// Those of `simulate`.
-pub fn simulate_with<R: Read, W: Write>(
+pub fn simulate_with<R: Input, W: Output>(
     alloc: Global,
     times: Times,
     reader: &mut R,
@@ -60,10 +64,14 @@ pub fn simulate_with<R: Read, W: Write>(
     ensures whole { IfOk result (λ ended. IfSome (R.remaining reader.old) (λ input.
         Simulates times input (W.contents writer.old) (W.contents writer.new) ended)) }
     ensures at_end { result ≡ Ok Ended.Whole → IsAtEnd (R.remaining reader.new) }
-    ensures fault { IfOk result (λ ended. IfSome (R.remaining reader.old) (λ input. fault_of ended ≡ first_simulation_fault times input)) }
+    ensures fault { IfOk result (λ ended. IfSome (R.remaining reader.old) (λ input.
+        fault_of ended ≡ first_simulation_fault times input)) }
     // What was written begins the text of what was read.
     ensures begun { IfErr result (λ e. e ≢ ReplayError.Write →
-        IsSimulationBegun times (R.remaining reader.old) (R.remaining reader.new) (W.contents writer.old) (W.contents writer.new)) }
+        IsSimulationBegun times (R.remaining reader.old) (R.remaining reader.new) (W.contents writer.old)
+        (W.contents writer.new)) }
+    ensures reads { IsReadSo R.did_read reader.old reader.new result }
+    ensures failed { IfErr result (λ e. e ≡ ReplayError.Write → IsUnwritten W.did_write writer.new) }
 {
     simulate_in::<Sim, R, W>(alloc, times, reader, writer)
 }

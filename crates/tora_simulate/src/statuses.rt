@@ -7,7 +7,8 @@ use crate::telling::tell;
 use std::process::ExitCode;
 use tora_lines::{Ended, ReplayError};
 
-/// The exit status of a fault of input or configuration, and of a failed read or write. 0 stands for an end without a fault.
+/// The exit status of a fault of input or configuration, and of a failed read or write. 0 stands for an end without a
+/// fault.
 pub const INPUT: u8 = 1;
 
 /// The exit status of a fault of usage.

@@ -1,4 +1,4 @@
--- The link ends of a node, where all stand by ascending node.
+-- The link ends of a node, if all are in ascending order of nodes.
 use Rattle.std.proofs.Common.{◌≡◌, refl, sym, ap, ◌∙◌, subst, ℕ, zero, suc, ◌+◌, ◌-◌, ◌<◌, ◌≤◌, ◌==◌, ◌⊎◌, inl, inr, true, false, List, [], ◌∷◌, ◌++◌, length, take, drop, get_or, cond, Some, None, arith, leb, ltb, ltb-true, ltb-false}
 use Rattle.std.specs.List.{cons_option}
 use Rattle.std.proofs.lemmas.Bool.{cases_Bool, leb-false}
@@ -9,7 +9,7 @@ use Rattle.tora_trace.specs.Trace.{peer_of, neighbours_in}
 
 -- ---- ends that rise
 
--- of the ends so far none is of a lesser node than one before it
+-- the ends so far are in ascending order of nodes
 pub rising_on : (ends : List (ℕ × ℕ)) (i : ℕ) → 0 < i → ((j k : ℕ) → j ≤ k → k < i → (get_or ends j (0, 0)).0 ≤ (get_or ends k (0, 0)).0) → (get_or ends (i - 1) (0, 0)).0 ≤ (get_or ends i (0, 0)).0
     → (j k : ℕ) → j ≤ k → k < i + 1 → (get_or ends j (0, 0)).0 ≤ (get_or ends k (0, 0)).0
 rising_on ends i some h here j k le lt = go (cases_Bool (ltb k i)) (cases_Bool (ltb j i))
@@ -55,7 +55,7 @@ take-below (x ∷ ends) zero i lt = absurd (omega (arith, lt))
 take-below (x ∷ ends) (suc count) zero lt = omega arith
 take-below (x ∷ ends) (suc count) (suc i) lt = let less = take-below ends count i (omega (arith, lt)) in omega (arith, less)
 
--- the first ends are of lesser nodes
+-- the first ends are of smaller nodes
 pub none_before : (n : ℕ) (ends : List (ℕ × ℕ)) (count : ℕ) → ((i : ℕ) (d : ℕ × ℕ) → 0 ≤ i → i < count → ltb (get_or ends i d).0 n ≡ true) → neighbours_in (take count ends) n ≡ []
 none_before n ends count below = others-none n (take count ends) (λ i lt.
     subst (λ (end : ℕ × ℕ). (end.0 == n) ≡ false) (sym (take-read ends count i (0, 0) lt)) (less-apart (get_or ends i (0, 0)).0 n (below i (0, 0) (omega arith) (take-below ends count i lt))))
@@ -66,7 +66,7 @@ none_behind n ends zero above = others-none n ends (λ i lt. more-apart (get_or 
 none_behind n [] (suc count) above = refl
 none_behind n (x ∷ ends) (suc count) above = none_behind n ends count (λ i d le lt. above (suc i) d (omega (arith, le)) (omega (arith, lt)))
 
--- ---- what is left has all ends of the node
+-- ---- the rest has all ends of the node
 
 pub ends_between : (n : ℕ) (ends rest own : List (ℕ × ℕ)) (first count : ℕ) → rest ≡ drop first ends → own ≡ take count rest → neighbours_in (take first ends) n ≡ [] → neighbours_in (drop count rest) n ≡ []
     → neighbours_in own n ≡ neighbours_in ends n

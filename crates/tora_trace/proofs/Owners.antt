@@ -23,7 +23,7 @@ owners_set [] i x y is same = refl
 owners_set (z ∷ copies) zero x y is same = ap (λ (n : ℕ). n ∷ owners_of copies) (same ∙ ap owner_of is)
 owners_set (z ∷ copies) (suc i) x y is same = ap (λ (ns : List ℕ). owner_of z ∷ ns) (owners_set copies i x y is same)
 
--- a node stands where its copy does
+-- a node is at the place of its copy
 place-owners : (n : ℕ) (copies : List CopyState) → position_or_len (λ m. m == n) (owners_of copies) ≡ position_or_len (is_copy_of n) copies
 place-owners n [] = refl
 place-owners n (copy ∷ copies) = ap (λ (k : ℕ). if not (owner_of copy == n) then 1 + k else 0) (place-owners n copies)

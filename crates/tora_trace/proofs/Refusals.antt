@@ -8,7 +8,7 @@ use Rattle.tora_trace.specs.Trace.{first_refusal, refusal_or}
 pub first_step : (f : ℕ → Option CoreError) (nodes : List ℕ) (i : ℕ) → i < length nodes → first_refusal f (drop i nodes) ≡ refusal_or (f (get_or nodes i 0)) (first_refusal f (drop (i + 1) nodes))
 first_step f nodes i h = rw (drop-cons nodes i 0 h, add-one) refl
 
--- where nothing refuses the node here, the refusal is that of those behind it
+-- if this node is not refused, the refusal is that of the following nodes
 pub first_on : (f : ℕ → Option CoreError) (nodes : List ℕ) (i : ℕ) → i < length nodes → first_refusal f nodes ≡ first_refusal f (drop i nodes) → f (get_or nodes i 0) ≡ None → first_refusal f nodes ≡ first_refusal f (drop (i + 1) nodes)
 first_on f nodes i h so none = so ∙ first_step f nodes i h ∙ ap (λ (r : Option CoreError). refusal_or r (first_refusal f (drop (i + 1) nodes))) none
 

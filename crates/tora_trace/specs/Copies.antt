@@ -17,7 +17,7 @@ use Rattle.tora_core.specs.CoreRun.{CoreView, core_refusal_within, first_core_of
 use Rattle.tora_trace.specs.declared.route.Route.{Route}
 use Rattle.tora_trace.specs.Records.{up_record, down_record, packet_record, route_record}
 
--- the copy of a core, the life in which each link came up last, and what was told last of each destination
+-- the copy of a core, the life in which each link came up last, and the last recorded route to each destination
 pub record CopyState : Type 0 where
   pub core : CoreView
   pub lives : List (ℕ × Life)
@@ -25,7 +25,7 @@ pub record CopyState : Type 0 where
 
 -- ---- routes
 
--- NULL where the table does not have the destination
+-- NULL if the table does not have the destination
 abbrev pub known_height : Option (Option Quintuple) → Option Quintuple
 known_height None = None
 known_height (Some entry) = entry
@@ -50,9 +50,10 @@ is_same_hop None (Some b) = false
 is_same_hop (Some a) None = false
 is_same_hop (Some a) (Some b) = a == b
 
--- the height or the next hop of a destination is another one than was told last
+-- the height or the next hop of a destination differs from the last recorded one
 abbrev pub is_changed : CoreView → Route → Bool
-is_changed c told = not (is_same_height told.height (known_height (height_of c told.destination)) && is_same_hop told.hop (hop_of c told.destination))
+is_changed c told = not (is_same_height told.height (known_height (height_of c told.destination)) && is_same_hop
+    told.hop (hop_of c told.destination))
 
 -- the record of a core's route to a destination
 abbrev pub core_record : ℕ → CoreView → ℕ → List ℕ
@@ -64,7 +65,7 @@ route_change t c told = if is_changed c told then core_record t c told.destinati
 abbrev pub route_changes : ℕ → CoreView → List Route → List ℕ
 route_changes t c routes = flat_map (route_change t c) routes
 
--- what is told then
+-- the recorded route after that
 unfoldable pub route_told : CoreView → Route → Route
 route_told c told = route_of c told.destination
 
@@ -87,7 +88,7 @@ abbrev pub with_life : List (ℕ × Life) → ℕ → Option Life → List (ℕ 
 with_life lives k None = lives
 with_life lives k (Some life) = filter (is_elsewhere k) lives ++ (k, life) ∷ []
 
--- a link comes up in the life that the item tells, if it tells one
+-- a link comes up in the life that the item reports, if it reports one
 abbrev pub lives_after : Option Life → List (ℕ × Life) → Input → List (ℕ × Life)
 lives_after life lives (In.LinkUp k) = with_life lives k life
 lives_after life lives (In.LinkDown k) = lives
@@ -96,7 +97,7 @@ lives_after life lives (In.Need d) = lives
 
 -- ---- one input
 
--- a link that no item told to be up has no record
+-- a link that no item reported as up has no record
 abbrev pub up_of : ℕ → ℕ → ℕ → Option Life → List ℕ
 up_of t n k None = []
 up_of t n k (Some life) = up_record t n k life
@@ -111,7 +112,7 @@ link_record t n lives (In.LinkDown k) = down_of t n k (life_at lives k)
 link_record t n lives (In.Packet k packet) = []
 link_record t n lives (In.Need d) = []
 
--- the copy after an input, where the item that brought it tells this life
+-- the copy after an input whose item reports this life
 unfoldable pub copy_after : Option Life → CopyState → Input → ℕ → CopyState
 copy_after life c input t = record {
   core = core_after c.core input t;
@@ -123,11 +124,13 @@ copy_after life c input t = record {
 unfoldable pub input_records : Option Life → CopyState → Input → ℕ → List ℕ
 input_records life c input t =
     link_record t (core_after c.core input t).me (lives_after life c.lives input) input
-    ++ flat_map (packet_record t (core_after c.core input t).me (length (core_after c.core input t).up)) (sends_of c.core input t)
+    ++ flat_map (packet_record t (core_after c.core input t).me (length (core_after c.core input t).up))
+    (sends_of c.core input t)
     ++ route_changes t (core_after c.core input t) c.routes
 
--- An input was taken, and its records stand behind the text.
-pub record TakesInput (life : Option Life) (old : CopyState) (input : Input) (t : ℕ) (new : CopyState) (before after : List ℕ) : Type 0 where
+-- An input was taken, and its records were appended to the text.
+pub record TakesInput (life : Option Life) (old : CopyState) (input : Input) (t : ℕ) (new : CopyState)
+    (before after : List ℕ) : Type 0 where
   pub copy_is : new ≡ copy_after life old input t
   pub text_is : after ≡ before ++ input_records life old input t
 
@@ -138,13 +141,14 @@ abbrev pub Told : Type 0
 Told = CopyState × List ℕ
 
 abbrev pub after_input : Option Life → Told → Input × ℕ → Told
-after_input life told input = (copy_after life told.0 input.0 input.1, told.1 ++ input_records life told.0 input.0 input.1)
+after_input life told input =
+    (copy_after life told.0 input.0 input.1, told.1 ++ input_records life told.0 input.0 input.1)
 
 -- one input after another
 abbrev pub after_inputs : Option Life → List (Input × ℕ) → Told → Told
 after_inputs life inputs told = fold (after_input life) told inputs
 
--- Inputs were taken, and their records stand behind the text.
+-- Inputs were taken, and their records were appended to the text.
 abbrev pub TakesInputs : Option Life → CopyState → List (Input × ℕ) → CopyState → List ℕ → List ℕ → Type 0
 TakesInputs life old inputs new before after = (new, after) ≡ after_inputs life inputs (old, before)
 
@@ -154,29 +158,33 @@ TakesInputs life old inputs new before after = (new, after) ≡ after_inputs lif
 abbrev pub are_ids : List ℕ → Bool
 are_ids numbers = list_all (λ n. nat_lt 0 n) numbers
 
--- why there is no copy of a core: a number is 0, or what refuses a new core within the greatest limits
+-- why a core has no copy: a number is 0, or a new core is refused within the greatest limits
 abbrev pub copy_refusal : ℕ → List ℕ → List ℕ → Option CoreError
-copy_refusal me neighbours destinations = if nat_lt 0 me && are_ids neighbours && are_ids destinations then core_refusal_within GREATEST_NEIGHBOURS MOST_DESTINATIONS me neighbours destinations else Some OwnId
+copy_refusal me neighbours destinations = if nat_lt 0 me && are_ids neighbours && are_ids destinations
+    then core_refusal_within GREATEST_NEIGHBOURS MOST_DESTINATIONS me neighbours destinations else Some OwnId
 
 abbrev pub first_copy : Erasure → ℕ → List ℕ → List ℕ → CopyState
 first_copy erasure me neighbours destinations = record {
   core = first_core_of erasure me neighbours destinations;
   lives = [];
-  routes = map (route_of (first_core_of erasure me neighbours destinations)) (destinations_of (first_core_of erasure me neighbours destinations).views);
+  routes = map (route_of (first_core_of erasure me neighbours destinations))
+      (destinations_of (first_core_of erasure me neighbours destinations).views);
 }
 
--- the core is made anew, with the same choice; what was told is kept, and told again where it changed
+-- the core is new, with the same choice; recorded routes are kept, and recorded again if they changed
 unfoldable pub copy_restarted : CopyState → CopyState
 copy_restarted c = record {
   core = first_core_of c.core.erasure c.core.me c.core.neighbours (destinations_of c.core.views);
   lives = [];
-  routes = routes_told (first_core_of c.core.erasure c.core.me c.core.neighbours (destinations_of c.core.views)) c.routes;
+  routes = routes_told (first_core_of c.core.erasure c.core.me c.core.neighbours (destinations_of c.core.views))
+      c.routes;
 }
 
 unfoldable pub restart_records : ℕ → CopyState → List ℕ
-restart_records t c = route_changes t (first_core_of c.core.erasure c.core.me c.core.neighbours (destinations_of c.core.views)) c.routes
+restart_records t c =
+    route_changes t (first_core_of c.core.erasure c.core.me c.core.neighbours (destinations_of c.core.views)) c.routes
 
--- The core was made anew, and the records of its routes stand behind the text.
+-- The core is new, and the records of its routes were appended to the text.
 pub record Restarts (t : ℕ) (old new : CopyState) (before after : List ℕ) : Type 0 where
   pub copy_is : new ≡ copy_restarted old
   pub text_is : after ≡ before ++ restart_records t old

@@ -1,4 +1,4 @@
--- Link ends, each as its node and its neighbour, that stand by ascending node.
+-- Link ends, each as its node and its neighbour, in ascending order of nodes.
 use Rattle.std.specs.Prelude.{ℕ, List}
 use Rattle.std.specs.List.Sorted.{IsNonDecreasingBy}
 

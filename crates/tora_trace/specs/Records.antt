@@ -1,4 +1,4 @@
--- The text of each record of a trace: the tick, a word, and what it tells, between blanks.
+-- The text of each record of a trace: the tick, a word, and its fields, separated by blanks.
 use Rattle.std.specs.Prelude.{ℕ, codes, List, [], ◌∷◌, ◌++◌, Option}
 use Rattle.std.specs.Fmt.{decimal}
 use Rattle.tora_height.specs.Height.{Quintuple}
@@ -24,23 +24,29 @@ part_record t a b = decimal t ++ codes " part " ++ decimal a ++ codes " " ++ dec
 unfoldable pub mend_record : ℕ → ℕ → ℕ → List ℕ
 mend_record t a b = decimal t ++ codes " mend " ++ decimal a ++ codes " " ++ decimal b ++ line_end
 
--- `T up N K X Y`: the core of n stepped the link to k up, in the life that its end writes {X, Y}
+-- `T up N K X Y`: the link to k came up at the core of n, in the life that its end writes {X, Y}
 unfoldable pub up_record : ℕ → ℕ → ℕ → Life → List ℕ
-up_record t n k life = decimal t ++ codes " up " ++ decimal n ++ codes " " ++ decimal k ++ codes " " ++ decimal life.own ++ codes " " ++ decimal life.peer ++ line_end
+up_record t n k life = decimal t ++ codes " up " ++ decimal n ++ codes " " ++ decimal k ++ codes " " ++ decimal life.own
+    ++ codes " " ++ decimal life.peer ++ line_end
 
 -- `T down N K X Y`
 unfoldable pub down_record : ℕ → ℕ → ℕ → Life → List ℕ
-down_record t n k life = decimal t ++ codes " down " ++ decimal n ++ codes " " ++ decimal k ++ codes " " ++ decimal life.own ++ codes " " ++ decimal life.peer ++ line_end
+down_record t n k life = decimal t ++ codes " down " ++ decimal n ++ codes " " ++ decimal k ++ codes " "
+    ++ decimal life.own ++ codes " " ++ decimal life.peer ++ line_end
 
--- `T qry N D C`, `T upd N D C H` or `T clr N D C TAU OID`: a packet of n for its neighbours, of which so many are up
+-- `T qry N D C`, `T upd N D C H` or `T clr N D C TAU OID`: a packet of n for its neighbours, C of which are up
 unfoldable pub packet_record : ℕ → ℕ → ℕ → Packet → List ℕ
-packet_record t n count (Qry d) = decimal t ++ codes " qry " ++ decimal n ++ codes " " ++ decimal d ++ codes " " ++ decimal count ++ line_end
-packet_record t n count (Upd u) = decimal t ++ codes " upd " ++ decimal n ++ codes " " ++ decimal u.destination ++ codes " " ++ decimal count ++ codes " " ++ written_height u.height ++ line_end
-packet_record t n count (Clr c) = decimal t ++ codes " clr " ++ decimal n ++ codes " " ++ decimal c.destination ++ codes " " ++ decimal count ++ codes " " ++ decimal c.tau ++ codes " " ++ decimal c.oid ++ line_end
+packet_record t n count (Qry d) = decimal t ++ codes " qry " ++ decimal n ++ codes " " ++ decimal d ++ codes " "
+    ++ decimal count ++ line_end
+packet_record t n count (Upd u) = decimal t ++ codes " upd " ++ decimal n ++ codes " " ++ decimal u.destination
+    ++ codes " " ++ decimal count ++ codes " " ++ written_height u.height ++ line_end
+packet_record t n count (Clr c) = decimal t ++ codes " clr " ++ decimal n ++ codes " " ++ decimal c.destination
+    ++ codes " " ++ decimal count ++ codes " " ++ decimal c.tau ++ codes " " ++ decimal c.oid ++ line_end
 
 -- `T route N D H K`
 unfoldable pub route_record : ℕ → ℕ → ℕ → Option Quintuple → Option ℕ → List ℕ
-route_record t n d height hop = decimal t ++ codes " route " ++ decimal n ++ codes " " ++ decimal d ++ codes " " ++ height_text height ++ codes " " ++ hop_text hop ++ line_end
+route_record t n d height hop = decimal t ++ codes " route " ++ decimal n ++ codes " " ++ decimal d ++ codes " "
+    ++ height_text height ++ codes " " ++ hop_text hop ++ line_end
 
 -- two counts
 abbrev pub counts_text : ℕ → ℕ → List ℕ
@@ -48,4 +54,5 @@ counts_text a b = codes " " ++ decimal a ++ codes " " ++ decimal b
 
 -- `T frames H D A L`
 unfoldable pub frames_record : ℕ → FrameCounts → List ℕ
-frames_record t c = decimal t ++ codes " frames" ++ counts_text c.hellos c.datas ++ counts_text c.acks c.losts ++ line_end
+frames_record t c =
+    decimal t ++ codes " frames" ++ counts_text c.hellos c.datas ++ counts_text c.acks c.losts ++ line_end

@@ -1,4 +1,4 @@
--- What a trace keeps between two events, and what each event makes of it.
+-- The state of a trace between two events, and the effect of each event.
 use Rattle.std.specs.Prelude.{◌≡◌, ℕ, ◌+◌, ◌==◌, ◌&&◌, Bool, true, false, if◌then◌else◌, List, [], ◌∷◌, ◌++◌, map, filter_map, fold, slice_get, slice_set, Option, Some, None}
 use Rattle.std.specs.List.{position}
 use Rattle.tora_frame.specs.declared.parts.Body.{Body}
@@ -12,14 +12,14 @@ use Rattle.tora_trace.specs.Copies.{CopyState, Told, copy_refusal, first_copy, c
 pub record TraceState : Type 0 where
   pub copies : List CopyState  -- of each node's core
   pub counts : FrameCounts  -- of the datagrams since the last record of them
-  pub text : List ℕ  -- the records that were not handed on yet
+  pub text : List ℕ  -- the records that the caller has not taken yet
 
 -- ---- datagrams
 
 abbrev pub no_frames : FrameCounts
 no_frames = record { hellos = 0; datas = 0; acks = 0; losts = 0 }
 
--- one more where it is so
+-- one more if the condition holds
 abbrev pub one_more : Bool → ℕ → ℕ
 one_more true n = n + 1
 one_more false n = n
@@ -29,7 +29,7 @@ with_body Hello c = record c { hellos = c.hellos + 1 }
 with_body (Data n a packets) c = record c { datas = c.datas + 1 }
 with_body (Ack a) c = record c { acks = c.acks + 1 }
 
--- a datagram more, which is not delivered where its link is parted
+-- one more datagram, which is not delivered if its link is parted
 abbrev pub with_frame : Bool → Body → FrameCounts → FrameCounts
 with_frame is_parted body c = record (with_body body c) { losts = one_more is_parted (with_body body c).losts }
 
@@ -37,7 +37,7 @@ with_frame is_parted body c = record (with_body body c) { losts = one_more is_pa
 abbrev pub has_none : FrameCounts → Bool
 has_none c = (c.hellos == 0) && (c.datas == 0) && (c.acks == 0)
 
--- ---- what each event makes of a trace
+-- ---- the effect of each event on a trace
 
 abbrev pub with_text : TraceState → List ℕ → TraceState
 with_text s more = record s { text = s.text ++ more }
@@ -45,20 +45,20 @@ with_text s more = record s { text = s.text ++ more }
 abbrev pub frames_told : TraceState → ℕ → TraceState
 frames_told s t = record s { counts = no_frames; text = s.text ++ frames_record t s.counts }
 
--- the datagrams since the last record of them get one, unless there are none
+-- a record of the datagrams since the last such record, unless there are none
 abbrev pub after_frames : TraceState → ℕ → TraceState
 after_frames s t = if has_none s.counts then s else frames_told s t
 
 -- ---- cores
 
--- the neighbours of a node, of link ends each as its node and its neighbour
+-- the neighbours of a node; each link end is its node and its neighbour
 abbrev pub peer_of : ℕ → ℕ × ℕ → Option ℕ
 peer_of n e = if e.0 == n then Some e.1 else None
 
 abbrev pub neighbours_in : List (ℕ × ℕ) → ℕ → List ℕ
 neighbours_in ends n = filter_map (peer_of n) ends
 
--- what a node makes of erased levels: the last choice of a single node holds
+-- how a node treats erased levels: the last choice of a single node holds
 abbrev pub chosen_by : ℕ → Erasure → ℕ × Erasure → Erasure
 chosen_by n erasure choice = if choice.0 == n then choice.1 else erasure
 
@@ -66,7 +66,8 @@ abbrev pub chosen : Erasure → List (ℕ × Erasure) → ℕ → Erasure
 chosen erasure choices n = fold (chosen_by n) erasure choices
 
 abbrev pub first_copy_of : Erasure → List (ℕ × Erasure) → List (ℕ × ℕ) → List ℕ → ℕ → CopyState
-first_copy_of erasure choices ends destinations n = first_copy (chosen erasure choices n) n (neighbours_in ends n) destinations
+first_copy_of erasure choices ends destinations n =
+    first_copy (chosen erasure choices n) n (neighbours_in ends n) destinations
 
 abbrev pub refusal_or : Option CoreError → Option CoreError → Option CoreError
 refusal_or (Some error) other = Some error
@@ -77,17 +78,23 @@ abbrev pub first_refusal : (ℕ → Option CoreError) → List ℕ → Option Co
 first_refusal refusal [] = None
 first_refusal refusal (n ∷ ns) = refusal_or (refusal n) (first_refusal refusal ns)
 
--- why there is no copy of a node's core
+-- why a node's core has no copy
 abbrev pub refusal_of : List (ℕ × ℕ) → List ℕ → ℕ → Option CoreError
 refusal_of ends destinations n = copy_refusal n (neighbours_in ends n) destinations
 
--- why there is no trace: that of the first node of whose core there is no copy
+-- why there is no trace: the cause for the first node whose core has no copy
 abbrev pub trace_refusal : List ℕ → List (ℕ × ℕ) → List ℕ → Option CoreError
 trace_refusal nodes ends destinations = first_refusal (refusal_of ends destinations) nodes
 
--- a trace of these nodes and link ends that has no record yet; all nodes make this of erased levels, but for those that chose
+-- a trace of these nodes and link ends without a record; all nodes have this treatment of erased levels, except those
+-- with a choice
 abbrev pub first_trace : Erasure → List (ℕ × Erasure) → List ℕ → List (ℕ × ℕ) → List ℕ → TraceState
-first_trace erasure choices nodes ends destinations = record { copies = map (first_copy_of erasure choices ends destinations) nodes; counts = no_frames; text = [] }
+first_trace erasure choices nodes ends destinations = record {
+  copies =
+      map (first_copy_of erasure choices ends destinations) nodes;
+  counts = no_frames;
+  text = [];
+}
 
 abbrev pub is_copy_of : ℕ → CopyState → Bool
 is_copy_of n c = c.core.me == n
@@ -99,14 +106,15 @@ owner_of c = c.core.me
 abbrev pub owners_of : List CopyState → List ℕ
 owners_of copies = map owner_of copies
 
--- the copy at a place, and the text, are others
+-- replaces the copy at a place, and the text
 abbrev pub with_told : TraceState → ℕ → Told → TraceState
 with_told s at told = record s { copies = slice_set s.copies at told.0; text = told.1 }
 
--- The first copy of the core of n, if there is one, and the text became what a change makes of them.
+-- A change was applied to the first copy of the core of n, if there is one, and to the text.
 abbrev pub TellsAt : ℕ → TraceState → (Told → Told) → TraceState → Option ℕ → Type 0
 TellsAt n old change new None = new ≡ old
-TellsAt n old change new (Some at) = (copy : CopyState) × (slice_get old.copies at ≡ Some copy) × (new ≡ with_told old at (change (copy, old.text)))
+TellsAt n old change new (Some at) = (copy : CopyState) × (slice_get old.copies at ≡ Some copy)
+    × (new ≡ with_told old at (change (copy, old.text)))
 
 abbrev pub Tells : ℕ → TraceState → (Told → Told) → TraceState → Type 0
 Tells n old change new = TellsAt n old change new (position (is_copy_of n) old.copies)

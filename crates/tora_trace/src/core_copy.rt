@@ -1,7 +1,10 @@
-//! A copy of a node's core, which tells of each input that the core accepted.
-ghost use Rattle.std.specs.Prelude.{◌≡◌, ◌<◌, All, true, nat_lt, IfOk, IfErr, OnOk, MatchOption, Err, None, string_bytes};
+//! A copy of a node's core, which records each input that the core accepted.
+ghost use Rattle.std.specs.Prelude.{◌≡◌, ◌<◌, All, true, nat_lt, IfOk, IfErr, OnOk, MatchOption, Err, None};
+ghost use Rattle.std.specs.Prelude.{string_bytes};
 ghost use Rattle.std.specs.List.{list_all};
-ghost use Rattle.tora_trace.specs.Copies.{TakesInput, TakesInputs, Restarts, are_ids, copy_refusal, first_copy, copy_after, input_records, after_input, after_inputs, copy_restarted, restart_records};
+ghost use Rattle.tora_trace.specs.Copies.{TakesInput, TakesInputs, Restarts, are_ids, copy_refusal, first_copy};
+ghost use Rattle.tora_trace.specs.Copies.{copy_after, input_records, after_input, after_inputs, copy_restarted};
+ghost use Rattle.tora_trace.specs.Copies.{restart_records};
 
 use crate::lives::{note_lives, write_link};
 use crate::packets::write_packets;
@@ -12,7 +15,8 @@ use tora_arq::Life;
 use tora_core::{Core, CoreError, CoreLimits, Erasure, Input, Sends};
 use tora_height::Id;
 
-/// A copy of a node's core, the life in which each of its links came up last, and what was told last of each destination.
+/// A copy of a node's core, the life in which each of its links came up last, and the last recorded route to each
+/// destination.
 #[derive(Drop)]
 pub struct CoreCopy {
     core: Core,
@@ -28,7 +32,7 @@ impl Model for CoreCopy {
     ghost view = { λ c. record { core = c.core; lives = c.lives.items; routes = c.routes.items } };
 }
 
-/// Whether no number is 0, as it is computed.
+/// Whether no number is 0.
 fn has_no_zero(numbers: &[Id]) -> bool
     ensures { result ≡ list_all (λ n. nat_lt 0 n) numbers.now }
 {
@@ -44,11 +48,11 @@ fn are_ids(numbers: &[Id]) -> bool
 }
 
 impl CoreCopy {
-    /// The copy of a new core with this choice of what becomes of erased levels; of each destination its first route counts as told.
+    /// The copy of a new core with this treatment of erased levels. The first route to each destination counts as
+    /// recorded.
     ///
     /// # Errors
-    /// `OwnId` where a number is 0, and those of a new core within the greatest limits: the limits of a simulated world are
-    /// those of its topology.
+    /// `OwnId` if a number is 0, and those of a new core within the greatest limits.
     pub fn new(
         alloc: Global,
         erasure: Erasure,
@@ -82,7 +86,7 @@ impl CoreCopy {
         })
     }
 
-    /// Steps an input that the core accepted, and puts its records behind a text.
+    /// Steps an input that the core accepted, and appends its records to a text.
     #[tactic(auto, unfolding(crate::specs::Copies::copy_after, crate::specs::Copies::input_records), using(crate::proofs::Owners::me_stays))]
     fn step(
         &mut self,
@@ -92,7 +96,8 @@ impl CoreCopy {
         sends: &mut Sends,
         out: &mut String,
     ) -> Result<(), AllocError>
-        ensures told { OnOk result (TakesInput life self.old input.now now self.new (string_bytes out.old) (string_bytes out.new)) }
+        ensures told { OnOk result (TakesInput life self.old input.now now self.new (string_bytes out.old)
+            (string_bytes out.new)) }
         ensures me { self.new.core.me ≡ self.old.core.me }
     {
         note_lives(&mut self.lives, input, life)?;
@@ -106,8 +111,8 @@ impl CoreCopy {
         Ok(())
     }
 
-    /// Steps the inputs that the core accepted in an item, each at its tick, and puts their records behind a text. The life
-    /// is that which the item told to be up, if it told one.
+    /// Steps the inputs that the core accepted in an item, each at its tick, and appends their records to a text. The
+    /// life is the one that the item reported as up, if it did.
     pub fn step_all(
         &mut self,
         inputs: &[(Input, u64)],
@@ -115,7 +120,8 @@ impl CoreCopy {
         sends: &mut Sends,
         out: &mut String,
     ) -> Result<(), AllocError>
-        ensures told { OnOk result (TakesInputs life self.old inputs.now self.new (string_bytes out.old) (string_bytes out.new)) }
+        ensures told { OnOk result (TakesInputs life self.old inputs.now self.new (string_bytes out.old)
+            (string_bytes out.new)) }
         ensures me { self.new.core.me ≡ self.old.core.me }
     {
         for (input, now) in inputs {
@@ -124,7 +130,8 @@ impl CoreCopy {
         Ok(())
     }
 
-    /// Takes a new core of the same choice in place of its own, and puts the records of the routes that changed so behind a text.
+    /// Replaces the core by a new one with the same treatment of erased levels, and appends the records of the routes
+    /// that changed to a text.
     #[tactic(auto, unfolding(crate::specs::Copies::copy_restarted, crate::specs::Copies::restart_records))]
     pub fn restart(&mut self, alloc: Global, now: u64, out: &mut String) -> Result<(), AllocError>
         ensures told { OnOk result (Restarts now self.old self.new (string_bytes out.old) (string_bytes out.new)) }

@@ -15,11 +15,11 @@ pub struct FrameCounts {
     pub datas: u64,
     /// ACKs.
     pub acks: u64,
-    /// Those of them that are not delivered, since their link was parted.
+    /// Those of them that are not delivered because their link was parted.
     pub losts: u64,
 }
 
-/// A count and one more; there is no memory for 2^64 datagrams.
+/// The count, plus one if `is_more`. A count of 2^64 is an error.
 fn one_more(is_more: bool, count: u64) -> Result<u64, AllocError>
     ensures { IfOk result (λ n. n ≡ one_more is_more count) }
 {
@@ -52,7 +52,7 @@ impl FrameCounts {
         self.hellos == 0 && self.datas == 0 && self.acks == 0
     }
 
-    /// One datagram more of the kind of this body.
+    /// The counts with one more datagram of the kind of this body.
     fn and_body(self, body: &Body) -> Result<FrameCounts, AllocError>
         ensures { IfOk result (λ counts. counts ≡ with_body body.now self) }
     {
@@ -72,7 +72,7 @@ impl FrameCounts {
         }
     }
 
-    /// One datagram more, which is not delivered where its link is parted.
+    /// The counts with one more datagram, which is not delivered if its link is parted.
     pub fn and(self, body: &Body, is_parted: bool) -> Result<FrameCounts, AllocError>
         ensures { IfOk result (λ counts. counts ≡ with_frame is_parted body.now self) }
     {
@@ -84,14 +84,14 @@ impl FrameCounts {
     }
 }
 
-/// Puts two counts behind a text.
+/// Appends two counts to a text.
 fn write_counts(out: &mut String, a: u64, b: u64) -> Result<(), AllocError>
     ensures { OnOk result (string_bytes out.new ≡ string_bytes out.old ++ counts_text a b) }
 {
     write!(out, " {a} {b}")
 }
 
-/// Puts the record of datagrams behind a text.
+/// Appends the record of datagrams to a text.
 #[tactic(auto, unfolding(crate::specs::Records::frames_record))]
 pub fn write_frames(out: &mut String, now: u64, counts: &FrameCounts) -> Result<(), AllocError>
     ensures { OnOk result (string_bytes out.new ≡ string_bytes out.old ++ frames_record now counts.now) }

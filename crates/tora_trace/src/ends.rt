@@ -1,4 +1,4 @@
-//! The link ends of a node among all.
+//! The link ends of a node among those of all nodes.
 ghost use Rattle.std.specs.Prelude.{◌≡◌, ◌≤◌, ⊤, [], MatchBool, drop, length, take};
 ghost use Rattle.tora_trace.specs.NodeEnds.{AreByNode};
 ghost use Rattle.tora_trace.specs.Trace.{neighbours_in};

@@ -1,6 +1,7 @@
 //! The life in which each link of a node came up last.
 ghost use Rattle.std.specs.Prelude.{◌≡◌, ◌++◌, OnOk, string_bytes, filter};
-ghost use Rattle.tora_trace.specs.Copies.{is_at, is_elsewhere, life_at, with_life, lives_after, up_of, down_of, link_record};
+ghost use Rattle.tora_trace.specs.Copies.{is_at, is_elsewhere, life_at, with_life, lives_after, up_of, down_of};
+ghost use Rattle.tora_trace.specs.Copies.{link_record};
 
 use std::alloc::AllocError;
 use tora_arq::Life;
@@ -14,14 +15,14 @@ fn life_at(lives: &[(Id, Life)], k: Id) -> Option<Life>
     lives.iter().find(|row| row.0 == k).map(|row| row.1)
 }
 
-/// Forgets the life of a link.
+/// Removes the life of a link.
 fn forget(lives: &mut Vec<(Id, Life)>, k: Id)
     ensures { lives.new.items ≡ filter (is_elsewhere k) lives.old.items }
 {
     lives.retain(|row| row.0 != k);
 }
 
-/// Notes the life in which a link comes up, if an item told one.
+/// Notes the life in which a link comes up, if an item reported one.
 fn note_life(lives: &mut Vec<(Id, Life)>, k: Id, life: Option<Life>) -> Result<(), AllocError>
     ensures { OnOk result (lives.new.items ≡ with_life lives.old.items k life) }
 {
@@ -83,7 +84,7 @@ fn write_down(
     }
 }
 
-/// Puts the record of an input that brings a link up or down behind a text.
+/// Appends the record of an input that brings a link up or down to a text.
 pub fn write_link(
     out: &mut String,
     now: u64,

@@ -12,7 +12,7 @@ use tora_height::Id;
 #[derive(Drop)]
 pub struct Names {
     nodes: Vec<Id>,
-    /// Whether each is known to be less than the next: then a place is found by halves.
+    /// Whether each is less than the next. If so, a place is found by binary search.
     is_rising: bool,
 }
 
@@ -31,7 +31,7 @@ impl Names {
     /// The names of these nodes, which are copied.
     ///
     /// # Errors
-    /// Want of memory.
+    /// Out of memory.
     pub fn new(alloc: Global, nodes: &[Id]) -> Result<Names, AllocError>
         ensures { IfOk result (λ names. names ≡ nodes.now) }
     {
@@ -66,7 +66,7 @@ fn is_rising(numbers: &[Id]) -> bool
     true
 }
 
-/// The first place of a number, where it may be known that each number is less than the next.
+/// The first place of a number. `is_rising` says that each number is less than the next.
 fn place_among(numbers: &[Id], is_rising: bool, n: Id) -> Option<usize>
     requires { MatchBool is_rising (IsStrictlyIncreasing numbers.now) ⊤ }
     ensures { result ≡ position (λ m. m == n) numbers.now }
@@ -78,7 +78,7 @@ fn place_among(numbers: &[Id], is_rising: bool, n: Id) -> Option<usize>
     }
 }
 
-/// The place of a number, where each is less than the next.
+/// The place of a number in an ascending list.
 fn place_by_halves(numbers: &[Id], n: Id) -> Option<usize>
     requires { IsStrictlyIncreasing numbers.now }
     ensures { result ≡ position (λ m. m == n) numbers.now }

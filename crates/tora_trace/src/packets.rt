@@ -34,7 +34,7 @@ fn write_packet(
     }
 }
 
-/// Puts the record of each packet behind a text, in their order.
+/// Appends the record of each packet to a text, in order.
 pub fn write_packets(
     out: &mut String,
     now: u64,
@@ -42,7 +42,8 @@ pub fn write_packets(
     count: usize,
     packets: &[Packet],
 ) -> Result<(), AllocError>
-    ensures { OnOk result (string_bytes out.new ≡ string_bytes out.old ++ flat_map (packet_record now n count) packets.now) }
+    ensures { OnOk result (string_bytes out.new ≡ string_bytes out.old
+        ++ flat_map (packet_record now n count) packets.now) }
 {
     for packet in packets {
         write_packet(out, now, n, count, packet)?;

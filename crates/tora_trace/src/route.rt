@@ -1,7 +1,8 @@
 //! The last recorded route to a destination, and its changes.
 ghost use Rattle.std.specs.Prelude.{◌≡◌, ◌++◌, IfOk, OnOk, map, string_bytes};
 ghost use Rattle.tora_trace.specs.Records.{route_record};
-ghost use Rattle.tora_trace.specs.Copies.{known_height, is_same_height, is_same_hop, is_changed, route_of, route_told, routes_told, route_change, route_changes};
+ghost use Rattle.tora_trace.specs.Copies.{known_height, is_same_height, is_same_hop, is_changed, route_of, route_told};
+ghost use Rattle.tora_trace.specs.Copies.{routes_told, route_change, route_changes};
 
 use crate::text::{HeightText, HopText};
 use std::alloc::{AllocError, Global};
@@ -19,7 +20,7 @@ pub struct Route {
     pub hop: Option<Id>,
 }
 
-/// The height for a destination; NULL where the table does not have it.
+/// The height for a destination; NULL if the table does not have it.
 fn known_height(height: Option<Entry>) -> Entry
     ensures { result ≡ known_height height }
 {
@@ -85,10 +86,11 @@ fn is_changed(core: &Core, told: &Route) -> bool
         && is_same_hop(told.hop, core.next_hop(d)))
 }
 
-/// Puts the record of a route behind a text.
+/// Appends the record of a route to a text.
 #[tactic(auto, unfolding(crate::specs::Records::route_record))]
 fn write_route(out: &mut String, now: u64, n: Id, route: &Route) -> Result<(), AllocError>
-    ensures { OnOk result (string_bytes out.new ≡ string_bytes out.old ++ route_record now n route.now.destination route.now.height route.now.hop) }
+    ensures { OnOk result (string_bytes out.new ≡ string_bytes out.old
+        ++ route_record now n route.now.destination route.now.height route.now.hop) }
 {
     let d = route.destination;
     let height = HeightText(route.height);
@@ -109,7 +111,7 @@ fn write_change(out: &mut String, now: u64, core: &Core, told: &Route) -> Result
     write_route(out, now, core.me(), &route)
 }
 
-/// Puts the records of the routes that changed behind a text.
+/// Appends the records of the routes that changed to a text.
 pub fn write_routes(
     out: &mut String,
     now: u64,
@@ -124,7 +126,7 @@ pub fn write_routes(
     Ok(())
 }
 
-/// Notes that a route was told.
+/// Notes a route as recorded.
 #[tactic(auto, unfolding(crate::specs::Copies::route_told))]
 fn note_route(core: &Core, told: &mut Route)
     ensures { told.new ≡ route_told core.now told.old }
@@ -133,7 +135,7 @@ fn note_route(core: &Core, told: &mut Route)
     *told = route_of(core, d);
 }
 
-/// Notes that the routes were told.
+/// Notes the routes as recorded.
 pub fn note_routes(core: &Core, routes: &mut [Route])
     ensures { routes.new ≡ routes_told core.now routes.old }
 {

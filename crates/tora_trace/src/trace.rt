@@ -1,10 +1,13 @@
 //! The state of a trace between two events, and the calls that extend it.
-ghost use Rattle.std.specs.Prelude.{◌≡◌, ◌⊎◌, ◌++◌, if◌then◌else◌, ◌==◌, ⊤, IfOk, IfErr, MatchBool, OnOk, None, Some, [], map, filter_map};
+ghost use Rattle.std.specs.Prelude.{◌≡◌, ◌⊎◌, ◌++◌, if◌then◌else◌, ◌==◌, ⊤, IfOk, IfErr, MatchBool, OnOk, None, Some};
+ghost use Rattle.std.specs.Prelude.{[], map, filter_map};
 ghost use Rattle.std.specs.List.{position};
 ghost use Rattle.tora_trace.specs.Records.{need_record, part_record, mend_record};
 ghost use Rattle.tora_trace.specs.Copies.{after_inputs, first_copy};
 ghost use Rattle.tora_trace.specs.NodeEnds.{AreByNode};
-ghost use Rattle.tora_trace.specs.Trace.{Tells, chosen, chosen_by, first_trace, refusal_of, trace_refusal, first_copy_of, peer_of, neighbours_in, is_copy_of, owners_of, with_text, with_frame, after_frames, frames_told, after_restart};
+ghost use Rattle.tora_trace.specs.Trace.{Tells, chosen, chosen_by, first_trace, refusal_of, trace_refusal};
+ghost use Rattle.tora_trace.specs.Trace.{first_copy_of, peer_of, neighbours_in, is_copy_of, owners_of, with_text};
+ghost use Rattle.tora_trace.specs.Trace.{with_frame, after_frames, frames_told, after_restart};
 
 use crate::core_copy::CoreCopy;
 use crate::counts::{FrameCounts, write_frames};
@@ -17,14 +20,14 @@ use tora_core::{CoreError, Erasure, Input, Sends};
 use tora_frame::Frame;
 use tora_height::Id;
 
-/// The trace of a simulation: a copy of each node's core, the counts of datagrams since their last record, and the text of
-/// the records that were not handed on yet.
+/// The trace of a simulation: a copy of each node's core, the counts of datagrams since their last record, and the text
+/// of the records that the caller has not taken yet.
 ///
-/// It is told what happened behind each event, in order. A method that answers `AllocError` may have put a part of its
-/// records; the trace is then of no more use but for its text.
+/// The caller reports what happened after each event, in order. A method that returns `AllocError` may have appended a
+/// part of its records; then only the text of the trace is still useful.
 #[derive(Drop)]
 pub struct Trace {
-    /// The nodes, by whose places the copies stand.
+    /// The nodes; the copies are in the same order.
     names: Names,
     copies: Vec<CoreCopy>,
     counts: FrameCounts,
@@ -44,7 +47,7 @@ impl Model for Trace {
     ghost invariant = { λ t. owners_of t.copies.items ≡ t.names };
 }
 
-/// The neighbour of a link end, where it is one of this node.
+/// The neighbour of a link end, if it is an end of this node.
 fn peer_of(n: Id, end: (Id, Id)) -> Option<Id>
     ensures { result ≡ peer_of n end }
 {
@@ -60,7 +63,7 @@ fn neighbours_in(alloc: Global, ends: &[(Id, Id)], n: Id) -> Result<Vec<Id>, All
         .collect::<Vec<Id>>(alloc)
 }
 
-/// The neighbours of a node, where the ends may be known to stand by ascending node.
+/// The neighbours of a node. `is_by_node` says that the ends are in ascending order of nodes.
 fn neighbours_among(
     alloc: Global,
     ends: &[(Id, Id)],
@@ -89,7 +92,7 @@ fn chosen(erasure: Erasure, choices: &[(Id, Erasure)], n: Id) -> Erasure
         .fold(erasure, |erasure, choice| chosen_by(n, erasure, *choice))
 }
 
-/// The copy of a node's first core. `is_by_node` says that the ends are known to be in ascending order of nodes.
+/// The copy of a node's first core. `is_by_node` says that the ends are in ascending order of nodes.
 fn first_copy(
     alloc: Global,
     erasure: Erasure,
@@ -119,11 +122,11 @@ fn place(names: &Names, copies: &[CoreCopy], n: Id) -> Option<usize>
 }
 
 impl Trace {
-    /// The trace of nodes that begin anew, without a record: `ends` are the link ends, each as its node and its neighbour,
-    /// and `destinations` those of every node's table. All nodes make `erasure` of erased levels, but for those of `choices`.
+    /// The trace of new nodes, without a record. `ends` are the link ends, each as its node and its neighbour, and
+    /// `destinations` those of every node's table. All nodes have `erasure`, except those in `choices`.
     ///
     /// # Errors
-    /// `OwnId` where a number is 0, those of a new core within the greatest limits, and `Memory`.
+    /// `OwnId` if a number is 0, those of a new core within the greatest limits, and `Memory`.
     #[tactic(auto, using(crate::proofs::Refusals::first_on, crate::proofs::Refusals::first_none, crate::proofs::Refusals::first_here))]
     pub fn new(
         alloc: Global,
@@ -133,9 +136,11 @@ impl Trace {
         ends: &[(Id, Id)],
         destinations: &[Id],
     ) -> Result<Trace, CoreError>
-        ensures made { IfOk result (λ trace. trace ≡ first_trace erasure choices.now nodes.now ends.now destinations.now) }
+        ensures made { IfOk result (λ trace. trace ≡ first_trace erasure choices.now nodes.now ends.now
+            destinations.now) }
         ensures accepted { OnOk result (trace_refusal nodes.now ends.now destinations.now ≡ None) }
-        ensures refused { IfErr result (λ e. (e ≡ CoreError.Memory) ⊎ (trace_refusal nodes.now ends.now destinations.now ≡ Some e)) }
+        ensures refused { IfErr result (λ e. (e ≡ CoreError.Memory)
+            ⊎ (trace_refusal nodes.now ends.now destinations.now ≡ Some e)) }
     {
         let Ok(names) = Names::new(alloc, nodes) else {
             return Err(CoreError::Memory);
@@ -160,24 +165,24 @@ impl Trace {
         })
     }
 
-    /// The records that were not handed on yet, each a line with its line feed.
+    /// The records that the caller has not taken yet, each a line with its line feed.
     pub fn text(&self) -> &str
         ensures { result.now ≡ self.now.text }
     {
         self.text.as_str()
     }
 
-    /// The records were handed on.
+    /// Clears the text, once the caller has taken the records.
     pub fn clear(&mut self)
         ensures { self.new ≡ record self.old { text = [] } }
     {
         self.text.clear();
     }
 
-    /// The need of a destination went into a node's lane at a tick.
+    /// Reports that a need of a destination went into a node's lane at a tick.
     ///
     /// # Errors
-    /// Want of memory.
+    /// Out of memory.
     #[tactic(auto, unfolding(crate::specs::Records::need_record))]
     pub fn need(&mut self, now: u64, n: Id, d: Id) -> Result<(), AllocError>
         ensures { OnOk result (self.new ≡ with_text self.old (need_record now n d)) }
@@ -185,10 +190,10 @@ impl Trace {
         writeln!(&mut self.text, "{now} need {n} {d}")
     }
 
-    /// A link was parted at a tick.
+    /// Reports that a link was parted at a tick.
     ///
     /// # Errors
-    /// Want of memory.
+    /// Out of memory.
     #[tactic(auto, unfolding(crate::specs::Records::part_record))]
     pub fn part(&mut self, now: u64, a: Id, b: Id) -> Result<(), AllocError>
         ensures { OnOk result (self.new ≡ with_text self.old (part_record now a b)) }
@@ -196,10 +201,10 @@ impl Trace {
         writeln!(&mut self.text, "{now} part {a} {b}")
     }
 
-    /// A link was mended at a tick.
+    /// Reports that a link was mended at a tick.
     ///
     /// # Errors
-    /// Want of memory.
+    /// Out of memory.
     #[tactic(auto, unfolding(crate::specs::Records::mend_record))]
     pub fn mend(&mut self, now: u64, a: Id, b: Id) -> Result<(), AllocError>
         ensures { OnOk result (self.new ≡ with_text self.old (mend_record now a b)) }
@@ -207,11 +212,11 @@ impl Trace {
         writeln!(&mut self.text, "{now} mend {a} {b}")
     }
 
-    /// The core of a node accepted these inputs in an item, each at its tick. `life` is that which the item told to be up,
-    /// if it told one.
+    /// Reports that the core of a node accepted these inputs in an item, each at its tick. `life` is the one that the
+    /// item reported as up, if it did.
     ///
     /// # Errors
-    /// Want of memory.
+    /// Out of memory.
     pub fn turn(
         &mut self,
         n: Id,
@@ -226,10 +231,10 @@ impl Trace {
         }
     }
 
-    /// A node began anew at a tick.
+    /// Reports that a node restarted at a tick.
     ///
     /// # Errors
-    /// Want of memory.
+    /// Out of memory.
     pub fn restart(&mut self, now: u64, n: Id) -> Result<(), AllocError>
         ensures { OnOk result (Tells n self.old (after_restart now) self.new) }
     {
@@ -240,21 +245,24 @@ impl Trace {
         }
     }
 
-    /// A datagram was sent, over a link that is parted or not.
+    /// Reports that a datagram was sent, over a link that is parted or not.
     ///
     /// # Errors
-    /// Want of memory: for 2^64 datagrams without a record there is none.
+    /// Out of memory; 2^64 datagrams without a record count as this error.
     pub fn sent(&mut self, frame: &Frame, is_parted: bool) -> Result<(), AllocError>
-        ensures { OnOk result (self.new ≡ record self.old { counts = with_frame is_parted frame.now.body self.old.counts }) }
+        ensures { OnOk result (self.new ≡ record self.old {
+          counts =
+              with_frame is_parted frame.now.body self.old.counts;
+        }) }
     {
         self.counts = self.counts.and(frame.body(), is_parted)?;
         Ok(())
     }
 
-    /// The datagrams since the last record of them get one at a tick, if there are any.
+    /// Appends a record of the datagrams since the last such record, with this tick, if there are any.
     ///
     /// # Errors
-    /// Want of memory.
+    /// Out of memory.
     pub fn frames(&mut self, now: u64) -> Result<(), AllocError>
         ensures { OnOk result (self.new ≡ after_frames self.old now) }
     {
@@ -264,7 +272,7 @@ impl Trace {
         self.write_frames(now)
     }
 
-    /// The datagrams since the last record of them get one.
+    /// Appends a record of the datagrams since the last such record.
     fn write_frames(&mut self, now: u64) -> Result<(), AllocError>
         ensures { OnOk result (self.new ≡ frames_told self.old now) }
     {

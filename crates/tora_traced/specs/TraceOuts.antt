@@ -8,8 +8,10 @@ use Rattle.tora_traced.specs.declared.traced_simulator.Traced.{Traced}
 use Rattle.tora_script.specs.SimulationLines.{simulation_line_of}
 use Rattle.tora_traced.specs.Tracing.{after_line}
 
--- Bytes were put, by one write whose answer says whether the writer has failed; where it had failed before, nothing was done.
-pub record IsPut {W : Type 0} (did_write : W → List ℕ → Bool → W → Type 0) (old : TraceOut W) (bytes : List ℕ) (new : TraceOut W) : Type 0 where
+-- Bytes were put, by one write whose answer says whether the writer has failed; where it had failed before, nothing was
+-- done.
+pub record IsPut {W : Type 0} (did_write : W → List ℕ → Bool → W
+    → Type 0) (old : TraceOut W) (bytes : List ℕ) (new : TraceOut W) : Type 0 where
   pub stays : is_some old.failure ≡ true → new ≡ old
   pub call : is_some old.failure ≡ false → did_write old.writer bytes (not (is_some new.failure)) new.writer
 
@@ -28,7 +30,8 @@ waiting (Runs s) = Some s.sim.trace.text
 abbrev pub waiting_behind : {S : Type 0} → (S → World) → List ℕ → Stage (Traced S) → Option (List ℕ)
 waiting_behind world line First = None
 waiting_behind world line (Links lines) = None
-waiting_behind world line (Runs s) = Some (after_line (world s.sim.sim).clock (simulation_line_of line) s.sim.trace).text
+waiting_behind world line (Runs s) = Some (after_line (world s.sim.sim).clock (simulation_line_of line)
+    s.sim.trace).text
 
 -- the same where none is left
 abbrev pub emptied : Option (List ℕ) → Option (List ℕ)

@@ -37,11 +37,15 @@ life_told (Some item) = life_of_what item.what
 -- a datagram more, if it is one
 abbrev pub with_sent : List (ℕ × ℕ) → TraceState → Option FrameParts → TraceState
 with_sent parted trace None = trace
-with_sent parted trace (Some f) = record trace { counts = with_frame (is_parted parted f.header.sender f.header.receiver) f.body trace.counts }
+with_sent parted trace (Some f) = record trace {
+  counts = with_frame
+      (is_parted parted f.header.sender f.header.receiver) f.body trace.counts;
+}
 
 -- the last datagram, where there are others than so many
 abbrev pub after_sent : List (ℕ × ℕ) → ℕ → World → TraceState → TraceState
-after_sent parted count after trace = if length after.datagrams == count then trace else with_sent parted trace (datagram after (length after.datagrams))
+after_sent parted count after trace =
+    if length after.datagrams == count then trace else with_sent parted trace (datagram after (length after.datagrams))
 
 -- ---- one event
 
@@ -71,13 +75,19 @@ life_before w (Restart n torn) = None
 
 -- what the records of an event need of the world before it
 abbrev pub before_of : World → Event → Before
-before_of w event = record { clock = w.clock; datagrams = length w.datagrams; inputs = inputs_before w event; life = life_before w event }
+before_of w event = record {
+  clock = w.clock;
+  datagrams = length w.datagrams;
+  inputs = inputs_before w event;
+  life = life_before w event;
+}
 
 -- An event that was not refused led to a world, and the trace has its records.
 abbrev pub HasRecords : List (ℕ × ℕ) → Before → Event → World → TraceState → TraceState → Type 0
 HasRecords parted b (Need n d) after old new = new ≡ with_text old (need_record b.clock n d)
 HasRecords parted b Tick after old new = new ≡ after_frames old b.clock
-HasRecords parted b (CoreTurn n) after old new = TellsOf n old (after_inputs b.life (drop b.inputs (after.inputs n))) new
+HasRecords parted b (CoreTurn n) after old new = TellsOf n old (after_inputs b.life (drop b.inputs (after.inputs n)))
+    new
 HasRecords parted b (Restart n torn) after old new = TellsOf n old (after_restart b.clock) new
 HasRecords parted b (Transmit n k) after old new = new ≡ after_sent parted b.datagrams after old
 HasRecords parted b (Open n k) after old new = new ≡ old

@@ -15,6 +15,8 @@ traced_world world t = world t.sim
 
 abbrev pub tracing_kind : {S T W : Type 0} → (S → World) → Kind (Tracing S T W)
 tracing_kind world = record {
-  text = λ s. text_from (rules_with s.told.state.setup (lines_of s.told.state.table)) (progress_of (traced_world world) s.told.state.stage);
-  long = λ s line h. long_lines_are_faults (rules_with s.told.state.setup (lines_of s.told.state.table)) (progress_of (traced_world world) s.told.state.stage) line h;
+  text = λ s. text_from (rules_with s.told.state.setup (lines_of s.told.state.table))
+      (progress_of (traced_world world) s.told.state.stage);
+  long = λ s line h. long_lines_are_faults (rules_with s.told.state.setup (lines_of s.told.state.table))
+      (progress_of (traced_world world) s.told.state.stage) line h;
 }

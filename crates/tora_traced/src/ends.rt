@@ -1,7 +1,8 @@
 //! The first and the last record of a trace.
 ghost use Rattle.std.specs.Prelude.{◌≡◌, ◌++◌, false, is_some, option_map, IfOk, OnOk, string_bytes};
 ghost use Rattle.std.specs.Io.KnownBytes.{Appends};
-ghost use Rattle.tora_traced.specs.Ends.{field, flag, more_fields, until_field, file_field, remembered_fields, erasure_fields, first_record, last_record};
+ghost use Rattle.tora_traced.specs.Ends.{field, flag, more_fields, until_field, file_field, remembered_fields};
+ghost use Rattle.tora_traced.specs.Ends.{erasure_fields, first_record, last_record};
 
 use crate::trace_out::TraceOut;
 use std::alloc::{AllocError, Global};
@@ -25,7 +26,8 @@ fn flag(is: bool) -> u64
 
 /// Puts ` UNTIL FILE` behind a text, where there is a last round or a channel file, with `-` for the other.
 fn more_fields(out: &mut String, until: Option<u64>, file: Option<&str>) -> Result<(), AllocError>
-    ensures { OnOk result (string_bytes out.new ≡ string_bytes out.old ++ more_fields until (option_map (λ w. w.now) file.entry)) }
+    ensures { OnOk result (string_bytes out.new ≡ string_bytes out.old
+        ++ more_fields until (option_map (λ w. w.now) file.entry)) }
 {
     match (until, file) {
         (None, None) => Ok(()),
@@ -49,7 +51,8 @@ fn until_field(out: &mut String, until: Option<u64>) -> Result<(), AllocError>
 /// Appends a blank and the digest of the channel file to a text; `-` if there is none.
 #[tactic(auto, unfolding(crate::specs::Ends::file_field))]
 fn file_field(out: &mut String, file: Option<&str>) -> Result<(), AllocError>
-    ensures { OnOk result (string_bytes out.new ≡ string_bytes out.old ++ file_field (option_map (λ w. w.now) file.entry)) }
+    ensures { OnOk result (string_bytes out.new ≡ string_bytes out.old
+        ++ file_field (option_map (λ w. w.now) file.entry)) }
 {
     match file {
         None => out.push_str(" -"),
@@ -63,7 +66,8 @@ fn remembered_fields(
     until: Option<u64>,
     file: Option<&str>,
 ) -> Result<(), AllocError>
-    ensures { OnOk result (string_bytes out.new ≡ string_bytes out.old ++ remembered_fields until (option_map (λ w. w.now) file.entry)) }
+    ensures { OnOk result (string_bytes out.new ≡ string_bytes out.old
+        ++ remembered_fields until (option_map (λ w. w.now) file.entry)) }
 {
     until_field(out, until)?;
     file_field(out, file)?;
@@ -77,7 +81,8 @@ fn erasure_fields(
     until: Option<u64>,
     file: Option<&str>,
 ) -> Result<(), AllocError>
-    ensures { OnOk result (string_bytes out.new ≡ string_bytes out.old ++ erasure_fields erasure until (option_map (λ w. w.now) file.entry)) }
+    ensures { OnOk result (string_bytes out.new ≡ string_bytes out.old
+        ++ erasure_fields erasure until (option_map (λ w. w.now) file.entry)) }
 {
     match erasure {
         Erasure::Plain => more_fields(out, until, file),
@@ -85,8 +90,8 @@ fn erasure_fields(
     }
 }
 
-/// `0 trace 1 HELLO SILENCE RETRY TRIES LOSS LEAST MOST REPEAT SEED NOTICE`, and ` UNTIL FILE` where there is a last round or a
-/// channel file, or ` UNTIL FILE remembered` where nodes remember erased levels, a line.
+/// `0 trace 1 HELLO SILENCE RETRY TRIES LOSS LEAST MOST REPEAT SEED NOTICE`, and ` UNTIL FILE` where there is a last
+/// round or a channel file, or ` UNTIL FILE remembered` where nodes remember erased levels, a line.
 #[tactic(auto, unfolding(crate::specs::Ends::first_record))]
 fn first_line(alloc: Global, setup: Setup, file: Option<&str>) -> Result<String, AllocError>
     ensures { IfOk result (λ text. string_bytes text ≡ first_record setup (option_map (λ w. w.now) file.entry)) }
@@ -120,10 +125,11 @@ fn last_line(alloc: Global, now: u64, digest: &str) -> Result<String, AllocError
 }
 
 impl<W: Output> TraceOut<W> {
-    /// Writes the first record: the version of the format, what the simulation is made with, and the digest of the channel
-    /// file, if there is one. Want of memory is a failure of the writer.
+    /// Writes the first record: the version of the format, what the simulation is made with, and the digest of the
+    /// channel file, if there is one. Want of memory is a failure of the writer.
     pub fn begin(&mut self, alloc: Global, setup: Setup, file: Option<&str>)
-        ensures { is_some self.new.failure ≡ false → Appends (W.contents self.old.writer) (W.contents self.new.writer) (first_record setup (option_map (λ w. w.now) file.entry)) }
+        ensures { is_some self.new.failure ≡ false → Appends (W.contents self.old.writer) (W.contents self.new.writer)
+            (first_record setup (option_map (λ w. w.now) file.entry)) }
     {
         match first_line(alloc, setup, file) {
             Ok(text) => self.put(0, text.as_bytes()),
@@ -131,10 +137,11 @@ impl<W: Output> TraceOut<W> {
         }
     }
 
-    /// Writes the last record, at the clock of the last line: the digest of the input. Want of memory is a failure of the
-    /// writer.
+    /// Writes the last record, at the clock of the last line: the digest of the input. Want of memory is a failure of
+    /// the writer.
     pub fn finish(&mut self, alloc: Global, digest: &str)
-        ensures { is_some self.new.failure ≡ false → Appends (W.contents self.old.writer) (W.contents self.new.writer) (last_record self.old.clock digest.now) }
+        ensures { is_some self.new.failure ≡ false → Appends (W.contents self.old.writer) (W.contents self.new.writer)
+            (last_record self.old.clock digest.now) }
     {
         match last_line(alloc, self.clock, digest) {
             Ok(text) => self.put(self.clock, text.as_bytes()),

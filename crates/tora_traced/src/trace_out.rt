@@ -33,7 +33,8 @@ impl<W: Output> TraceOut<W> {
     pub fn put(&mut self, now: u64, bytes: &[u8])
         ensures call { IsPut W.did_write self.old bytes.now self.new }
         ensures clock { is_some self.new.failure ≡ false → self.new.clock ≡ now }
-        ensures bytes { is_some self.new.failure ≡ false → Appends (W.contents self.old.writer) (W.contents self.new.writer) bytes.now }
+        ensures bytes { is_some self.new.failure ≡ false → Appends (W.contents self.old.writer)
+            (W.contents self.new.writer) bytes.now }
     {
         if self.failure.is_some() {
             return;

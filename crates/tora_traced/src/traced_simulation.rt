@@ -12,19 +12,19 @@ ghost use Rattle.tora_traced.specs.TracingView.{traced_world, tracing_kind};
 ghost use Rattle.tora_channel.specs.Table.{lines_of};
 ghost use Rattle.tora_traced.specs.TraceOuts.{waiting, waiting_behind, emptied, ArePut};
 ghost use Rattle.tora_script.specs.SimulationText.{first_fault_with, SimulatesWith, IsBegunWith};
+ghost use Rattle.tora_lines.specs.Reads.{IsReadSo, IsUnwritten};
 
 use crate::trace_out::TraceOut;
 use crate::traced_simulator::Traced;
 use crate::watched::Watched;
 use std::alloc::{AllocError, Global};
-use std::io::{Read, Write};
 use tora_channel::ChannelTable;
 use tora_lines::words::LineError;
-use tora_lines::{Ended, FileKind, Output, ReplayError, read_lines};
+use tora_lines::{Ended, FileKind, Input, Output, ReplayError, read_lines};
 use tora_script::{Running, Setup, Simulation, SimulationLine, Stage, Told, simulation_line};
 
-/// A simulation file whose trace is written line by line; why a line is a fault is told and, where it is verbose, why an event is
-/// refused.
+/// A simulation file whose trace is written line by line; why a line is a fault is told and, where it is verbose, why
+/// an event is refused.
 #[derive(Drop)]
 pub struct Tracing<'a, S, T, W> {
     told: Told<'a, Traced<S>, T>,
@@ -34,8 +34,10 @@ pub struct Tracing<'a, S, T, W> {
 /// Notes what a line did that is no event: a part, a mend, and the datagrams of rounds.
 fn note<S: Watched>(running: &mut Running<Traced<S>>, line: &[u8]) -> Result<(), AllocError>
     ensures view { running_view (traced_world S.world) running.new ≡ running_view (traced_world S.world) running.old }
-    ensures trace { OnOk result (running.new.sim.trace ≡ after_line (S.world running.old.sim.sim).clock (simulation_line_of line.now) running.old.sim.trace) }
-    ensures parted { OnOk result (running.new.sim.parted ≡ parted_after (simulation_line_of line.now) running.old.sim.parted) }
+    ensures trace { OnOk result (running.new.sim.trace ≡ after_line (S.world running.old.sim.sim).clock
+        (simulation_line_of line.now) running.old.sim.trace) }
+    ensures parted { OnOk result (running.new.sim.parted ≡ parted_after (simulation_line_of line.now)
+        running.old.sim.parted) }
 {
     let now = running.sim.sim.clock();
     match simulation_line(line) {
@@ -114,13 +116,13 @@ impl<S: Watched, T: Eprint, W: Output> FileKind for Tracing<'_, S, T, W> {
     }
 }
 
-/// Simulates what is made with this over a channel that the lines of a table change, and writes the trace: of each line, what
-/// happened in it. It tells on standard error why a line is a fault, unless it is too long, and where it is verbose, why an event
-/// is refused.
+/// Simulates what is made with this over a channel that the lines of a table change, and writes the trace: of each
+/// line, what happened in it. It tells on standard error why a line is a fault, unless it is too long, and where it is
+/// verbose, why an event is refused.
 ///
 /// A trace that can't be written stops nothing; `out` says so then.
 #[tactic(auto, unfolding(tora_lines::specs::Engine::text_of))]
-pub fn simulate_traced<S: Watched, T: Eprint, R: Read, W: Write, V: Output>(
+pub fn simulate_traced<S: Watched, T: Eprint, R: Input, W: Output, V: Output>(
     rt: &T,
     alloc: Global,
     setup: Setup,
@@ -134,9 +136,13 @@ pub fn simulate_traced<S: Watched, T: Eprint, R: Read, W: Write, V: Output>(
     ensures whole { IfOk result (λ ended. IfSome (R.remaining reader.old) (λ input.
         SimulatesWith setup (lines_of table) input (W.contents writer.old) (W.contents writer.new) ended)) }
     ensures at_end { result ≡ Ok Ended.Whole → IsAtEnd (R.remaining reader.new) }
-    ensures fault { IfOk result (λ ended. IfSome (R.remaining reader.old) (λ input. fault_of ended ≡ first_fault_with setup (lines_of table) input)) }
+    ensures fault { IfOk result (λ ended. IfSome (R.remaining reader.old) (λ input.
+        fault_of ended ≡ first_fault_with setup (lines_of table) input)) }
     ensures begun { IfErr result (λ e. e ≢ ReplayError.Write →
-        IsBegunWith setup (lines_of table) (R.remaining reader.old) (R.remaining reader.new) (W.contents writer.old) (W.contents writer.new)) }
+        IsBegunWith setup (lines_of table) (R.remaining reader.old) (R.remaining reader.new) (W.contents writer.old)
+        (W.contents writer.new)) }
+    ensures reads { IsReadSo R.did_read reader.old reader.new result }
+    ensures failed { IfErr result (λ e. e ≡ ReplayError.Write → IsUnwritten W.did_write writer.new) }
 {
     let state: Tracing<'_, S, T, V> = Tracing {
         told: Told {

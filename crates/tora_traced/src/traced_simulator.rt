@@ -6,7 +6,8 @@ ghost use Rattle.tora_trace.specs.Trace.{first_trace};
 ghost use Rattle.tora_sim.specs.Readers.{ends_in};
 ghost use Rattle.tora_script.specs.Marks.{choices_in};
 ghost use Rattle.tora_script.specs.Simulator.{nodes_of};
-ghost use Rattle.tora_traced.specs.Tracing.{life_of_what, life_told, before_of, HasRecords, Records, with_sent, after_sent};
+ghost use Rattle.tora_traced.specs.Tracing.{life_of_what, life_told, before_of, HasRecords, Records, with_sent};
+ghost use Rattle.tora_traced.specs.Tracing.{after_sent};
 
 use crate::watched::Watched;
 use std::alloc::{AllocError, Global};
@@ -86,7 +87,8 @@ impl<S: Watched> Traced<S> {
         dests: &[Id],
     ) -> Result<Traced<S>, AllocError>
         ensures sim { IfOk result (λ t. t.sim ≡ sim) }
-        ensures trace { IfOk result (λ t. t.trace ≡ first_trace erasure (choices_in marks.now) (nodes_of (S.world sim)) (ends_in (S.world sim).topology) dests.now) }
+        ensures trace { IfOk result (λ t. t.trace ≡ first_trace erasure (choices_in marks.now) (nodes_of (S.world sim))
+            (ends_in (S.world sim).topology) dests.now) }
         ensures parted { IfOk result (λ t. t.parted ≡ []) }
     {
         let nodes = sim.nodes(alloc)?;
@@ -127,7 +129,8 @@ impl<S: Watched> Traced<S> {
     /// Records the datagram that was sent, if there are now more than `count` datagrams.
     fn tell_sent(&mut self, count: u64) -> Result<(), AllocError>
         ensures kept { self.new ≡ record self.old { trace = self.new.trace } }
-        ensures told { OnOk result (self.new.trace ≡ after_sent self.old.parted count (S.world self.old.sim) self.old.trace) }
+        ensures told { OnOk result (self.new.trace ≡ after_sent self.old.parted count (S.world self.old.sim)
+            self.old.trace) }
     {
         let last = self.sim.datagrams();
         if last == count {
@@ -146,7 +149,8 @@ impl<S: Watched> Traced<S> {
     /// Tells what an event did that was not refused.
     fn tell(&mut self, event: &Event, before: Before) -> Result<(), AllocError>
         ensures kept { self.new ≡ record self.old { trace = self.new.trace } }
-        ensures told { OnOk result (HasRecords self.old.parted before event.now (S.world self.old.sim) self.old.trace self.new.trace) }
+        ensures told { OnOk result (HasRecords self.old.parted before event.now (S.world self.old.sim) self.old.trace
+            self.new.trace) }
     {
         match event {
             Event::Need(n, d) => self.trace.need(before.clock, *n, *d),
@@ -169,7 +173,8 @@ impl<S: Watched> Traced<S> {
     fn step(&mut self, place: usize, event: &Event) -> Result<Option<SimError>, AllocError>
         ensures refused { IfOk result (λ refused. refused ≡ refusal_of (S.world self.old.sim) event.now) }
         ensures after { IfOk result (λ _. S.world self.new.sim ≡ world_after (S.world self.old.sim) event.now) }
-        ensures told { IfOk result (λ refused. Records self.old.parted (S.world self.old.sim) event.now (S.world self.new.sim) self.old.trace self.new.trace refused) }
+        ensures told { IfOk result (λ refused. Records self.old.parted (S.world self.old.sim) event.now
+            (S.world self.new.sim) self.old.trace self.new.trace refused) }
         ensures kept { self.new.parted ≡ self.old.parted }
     {
         let before = self.before(event);
@@ -186,7 +191,8 @@ impl<S: Watched> Traced<S> {
     /// Makes an event happen until it is refused, at most `most` times, and records each time what it did. Returns
     /// whether it happened at all. `place` is the index of its node or link end.
     fn step_on(&mut self, place: usize, event: &Event, most: u64) -> Result<bool, AllocError>
-        ensures { IfOk result (λ some. Happened (S.world self.old.sim) (repeats most event.now (S.world self.old.sim)) (S.world self.new.sim) some) }
+        ensures { IfOk result (λ some. Happened (S.world self.old.sim) (repeats most event.now (S.world self.old.sim))
+            (S.world self.new.sim) some) }
     {
         let mut some = false;
         for _ in 0..most {
@@ -248,11 +254,6 @@ impl<S: Watched> Simulator for Traced<S> {
     #[inline(always)]
     fn next_due(&self, place: usize) -> usize {
         self.sim.next_due(place)
-    }
-
-    #[inline(always)]
-    fn next_busy(&self, place: usize) -> usize {
-        self.sim.next_busy(place)
     }
 
     fn settle(&mut self) {

@@ -136,7 +136,7 @@ module _ (cores : CoreLaws) (seats : SeatLaws) (n : ℕ) (ks : List ℕ) (answer
 
   -- ---- inputs
 
-  -- what is asked where an input is stepped: all but the links up and the packets agreed
+  -- the condition when the core takes an input: everything except the links up and the packets
   record Ready (v : Serving) : Type 0 where
     near : (j : ℕ) → has_number j ks ≡ true → has_number j v.seat.core.neighbours ≡ true
     silent : (e : StepError) → v.answer ≡ Says.Refused e → Excuse e
@@ -187,7 +187,7 @@ module _ (cores : CoreLaws) (seats : SeatLaws) (n : ℕ) (ks : List ℕ) (answer
           let f = seats.next ks v.seat j e in
           again (after_step answers ks (In.LinkDown j) now v) (down_sound v j now f.neighbour f.up f.none h)
 
-  -- a link that is down stays so
+  -- a link that is down stays down
   stays_down : (k most now : ℕ) (v : Serving) → Sound v → has_number k v.seat.core.up ≡ false → has_number k (after_settling most answers ks now v).seat.core.up ≡ false
   unfolding after_settling
   stays_down k zero now v h off = off

@@ -1,4 +1,5 @@
--- How many packets an end has accepted in a life only grows, and a life is bound once: what was seen of the count holds as long as the life is bound.
+-- How many packets an end has accepted in a life only grows, and a life is bound once: what was seen of the count holds
+-- as long as the life is bound.
 use Rattle.std.proofs.Common.{◌≡◌, ◌≢◌, ℕ, suc, ◌+◌, ◌≤◌, Bool, true, false, true≢false, not, ◌&&◌, ◌⊎◌, inl, inr, List, [], ◌∷◌, Option, Some, None, nat_eq, if◌then◌else◌, refl, sym, ap, ◌∙◌, subst, arith}
 use Rattle.std.proofs.lemmas.Bool.{cond_both, cases_Bool}
 use Rattle.std.specs.Prelude.{is_some, nat_lt, nat_le, ◌==◌, ◌^◌, length, Result}

@@ -1,4 +1,4 @@
--- A change at one end, and the step of the machine for it, keep what is said of all ends.
+-- A change at one end, with its step of the machine, keeps the invariant of all ends.
 use Rattle.std.proofs.Common.{◌≡◌, ◌≢◌, ℕ, ◌<◌, ◌≤◌, true, false, true≢false, ◌⊎◌, inl, inr, ⊎_elim, List, [], ◌∷◌, ◌++◌, Option, Some, None, nat_eq, eq-eqb, refl, sym, ◌∙◌, ap, subst, subst₂, arith}
 use Rattle.std.proofs.lemmas.Bool.{cases_Bool}
 use Rattle.tora_packet.specs.declared.Packet.{Packet}
@@ -24,7 +24,7 @@ use Rattle.tora_world.proofs.Invariant.Arrival.{PacketComes}
 use Rattle.tora_world.proofs.MachineLaw.{machine_keeps}
 use Rattle.tora_world.proofs.Moves.{Grows, grows, opens, takes, takes_next, puts, closes, ClosesMore, current_bound, current_open, IsCall, called, call_stays, call_binds}
 
--- the ends are as before, but for one
+-- all ends except one are as before
 pub record Changes (view view' : ℕ → ℕ → EndView) (n k : ℕ) (v v' : EndView) : Type 0 where
   pub was : view n k ≡ v
   pub here : view' n k ≡ v'
@@ -156,7 +156,7 @@ module _ (steps : List MachineStep) (view view' : ℕ → ℕ → EndView) (fram
       (Draw n k x) (λ p. drawing p x) (λ m. refl) (older_drawing x) g (λ h. opens v (machine_after steps n k) (machine_after steps k n).sent (seen_at_other seen n k) x now file f h)
       (Each_mono (λ y. y ≤ r.histories.floor) (λ y. y < x) (λ y e. omega (arith, e, above)) (machine_after steps n k).drawn r.histories.drawn)
 
-  -- a call of the end that neither opens it nor hands in a frame
+  -- a call of the end that neither opens it nor passes in a frame
   pub call_follows : (laws : LinkLaws) (call : LinkCall) (out : List Parcel) → Changes view view' n k v (called v call out) →
       (g : AllEndsFollow steps view frames seen) → IsCall v (machine_after steps n k) (machine_after steps k n).sent (seen_at_other seen n k) call out → ((l : Life) → HandsInFrameOf v.settings l call → ⊥) → AllEndsFollow steps view' frames seen
   call_follows laws call out c g ok no_frame =
@@ -167,7 +167,7 @@ module _ (steps : List MachineStep) (view view' : ℕ → ℕ → EndView) (fram
   abbrev Heard : Phase → Phase → Type 0
   Heard ph ph' = AllEndsFollow (made (steps_of_binding n k (life_in ph) (life_in ph')) steps) view' frames seen
 
-  -- a call that hands in a frame, after which a life may be bound
+  -- a call that passes in a frame, after which a life may be bound
   pub frame_follows : (laws : LinkLaws) (call : LinkCall) (out : List Parcel) → ((l : Life) → seen k n (reversed l) 0) → Changes view view' n k v (called v call out) →
       (g : AllEndsFollow steps view frames seen) → IsCall v (machine_after steps n k) (machine_after steps k n).sent (seen_at_other seen n k) call out → ((l : Life) → HandsInFrameOf v.settings l call → IsIn l.peer (machine_after steps k n).drawn) →
       AllEndsFollow (made (steps_of_binding n k (life_in v.endpoint.phase) (life_in (after_call v.settings v.endpoint call).phase)) steps) view' frames seen
@@ -218,7 +218,7 @@ module _ (steps : List MachineStep) (view view' : ℕ → ℕ → EndView) (fram
       one_step steps view view' frames seen n k v (record v { current = None }) c
       (Close n k l) (λ p. closing p l) (λ m. refl) (older_closing l) g (λ h. closes v (machine_after steps n k) (machine_after steps k n).sent (seen_at_other seen n k) l on h) tt
 
--- what it all comes to
+-- the conclusion
 pub prefix_follows : (steps : List MachineStep) (view : ℕ → ℕ → EndView) (frames : List FrameParts) (seen : Seen) → AllEndsFollow steps view frames seen → (n k : ℕ) (l : Life) → Begins (packets_of l (view n k).taken) (packets_of (reversed l) (view k n).sent)
 prefix_follows steps view frames seen g n k l =
     subst₂ (λ t s. Begins (packets_of l t) (packets_of (reversed l) s)) (g.sides n k).histories.taken_is (g.sides k n).histories.sent_is (machine_keeps steps g.legal n k l)

@@ -1,4 +1,4 @@
--- Every run keeps what is said of all ends.
+-- Every run keeps the invariant of all ends.
 use Rattle.std.proofs.Common.{◌≡◌, ℕ, List, Bool, true, false, true≢false, ◌⊎◌, inl, inr, ⊎_elim, [], ◌∷◌, Some, None, if◌then◌else◌, refl, subst, arith}
 use Rattle.std.specs.Prelude.{is_some, not, ◌&&◌}
 use Rattle.tora_arq.specs.declared.life.Life.{Life}

@@ -39,14 +39,14 @@ use Rattle.tora_world.specs.Layers.{LinkLaws, LifeLaws}
 use Rattle.tora_world.proofs.PacketLists.{put_here, put_there, by_pair, same_true, same_refl}
 use Rattle.tora_world.proofs.Events.{one_number}
 
--- what one call makes of the phase
+-- the effect of one call on the phase
 abbrev To : Phase → Phase → Type 0
 To ph ph' = (ph' ≡ ph) ⊎ ((ph' ≡ Closed) ⊎ ((l : Life) × (ph ≡ Unbound l.own) × (ph' ≡ Bound l)))
 
 abbrev Opens : Phase → LifeDisk → LifeDisk → Type 0
 Opens ph file file' = (own : ℕ) × (ph ≡ Unbound own) × ((m : ℕ) → IsFloor m file → (m < own) × IsFloor own file')
 
--- what an event makes of an end and its life file
+-- the effect of an event on an end and its life file
 record Onward (e e' : EndState) (file file' : LifeDisk) : Type 0 where
   floors : (m : ℕ) → IsFloor m file → IsFloor m file'
   phase : To e.phase e'.phase ⊎ Opens e'.phase file file'

@@ -1,4 +1,4 @@
--- What a node of a run knows of its neighbours: its core's view of a destination, the entries, and the next hop.
+-- The view that the core of a node in a run has of a destination: the entries, and the next hop.
 use Rattle.std.proofs.Common.{◌≡◌, ℕ, ◌<◌, ◌==◌, ◌||◌, Bool, true, false, inl, inr, List, [], ◌∷◌, Option, None, Some, is_some, if◌then◌else◌, refl, sym, ap, ◌∙◌, subst, arith, eq-eqb, eqb-true}
 use Rattle.std.specs.Prelude.{IfSome, cond, find, option_map}
 use Rattle.std.specs.List.{AllByRecursion}

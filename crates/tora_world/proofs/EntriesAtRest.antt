@@ -113,7 +113,7 @@ module _ (laws : LinkLaws) (lows : LifeLaws) (cores : CoreLaws) (seats : SeatLaw
   destinations_in n =
       ap (λ (c : CoreView). destinations_of c.views) (end.received.follows n) ∙ destinations_after (new_core t n) (last.inputs n) ∙ first_destinations (erasure_at t n) n (ascending t.destinations)
 
-  -- what is known of a link that is up at a core
+  -- facts about a link that is up at a core
   record IsUp (n k : ℕ) : Type 0 where
     link : is_link last.topology n k ≡ true
     life : Life
@@ -230,7 +230,7 @@ module _ (laws : LinkLaws) (lows : LifeLaws) (cores : CoreLaws) (seats : SeatLaw
           let height : its.0.height ≡ Some (destination_height its.0.destination) = vk.view.kept.at_destination (vk.view.owner ∙ (core_of k b.node).me ∙ q ∙ sym vk.destination) in
           inl (as_height (Some x) (height ∙ ap (λ m. Some (destination_height m)) (vk.destination ∙ sym vi.destination) ∙ ap Some (sym is)))
 
-      -- another one has told it
+      -- another packet has set it
       another : k ≢ d → (height_at last k d ≡ Some (Some x)) ⊎ Gone n k d x
       another other =
           let received : heard (erasure_at t n) d None (received_from k (new_core t n) (last.inputs n) []) ≡ Some x =

@@ -1,4 +1,4 @@
--- Each event but the core's turn keeps what is said of all ends.
+-- Each event except the core's turn keeps the invariant of all ends.
 use Rattle.std.proofs.Common.{◌≡◌, ◌≢◌, ℕ, zero, suc, Bool, true, false, true≢false, ◌&&◌, ◌⊎◌, inl, inr, ⊎_elim, List, [], ◌∷◌, ◌++◌, length, map, drop, Option, Some, None, nat_eq, if◌then◌else◌, refl, sym, ap, ap₂, ◌∙◌, subst, subst₂, append_assoc, append-nil, eqb-true, eq-eqb, Ok, Err}
 use Rattle.tora_seat.proofs.Places.{turned}
 use Rattle.std.proofs.lemmas.Bool.{cond_both, cases_Bool}
@@ -54,7 +54,7 @@ put_one_here f n v = ap (λ t. if t then v else f n) (eq-eqb n n refl)
 pub put_one_there : {A : Type 0} (f : ℕ → A) (n : ℕ) (v : A) (a : ℕ) → nat_eq a n ≡ false → put_one f n v a ≡ f a
 put_one_there f n v a e = ap (λ t. if t then v else f a) e
 
--- ---- what frames tell
+-- ---- the contents of frames
 
 -- each packet of a frame is that of its number
 body_tells : (sent : List Parcel) (done : Life → ℕ → Type 0) (l : Life) (b : Body) → Tells sent done l b → BodyTells (IsPacketAt (packets_of l sent)) b
@@ -67,7 +67,7 @@ body_counts sent done l Hello z t = z
 body_counts sent done l (Data number count packets) z t = t.1
 body_counts sent done l (Ack count) z t = t
 
--- what a frame of an end tells
+-- the content of a frame of an end
 module _ (m : Machine) (seen : Seen) (n k : ℕ) where
   told_by : (newest : Version) (own heard : ℕ) (f : FrameParts) (times : Times) → f ≡ frame_sent (settings_of newest n k times) f.header.version own heard f.body → IsIn own (m n k).drawn → Tells (m n k).sent (seen n k) (life_of own heard) f.body → Told m seen f
   told_by newest own heard f times e i t = subst (λ h. IsIn h.life (m h.sender h.receiver).drawn × Tells (m h.sender h.receiver).sent (seen h.sender h.receiver) (life_of h.life h.heard) f.body) (sym (ap (λ (x : FrameParts). x.header) e)) (i, t)
@@ -82,7 +82,7 @@ last_in : (x : ℕ) (xs : List ℕ) → IsLast x xs → IsIn x xs
 last_in x [] e = absurd e
 last_in x (y ∷ ys) e = inl e
 
--- what an end that makes a call without a frame hands in
+-- the input of a call of an end without a frame
 module _ (v : EndView) (p : MachineEnd) (other : List Parcel) (done : Life → ℕ → Type 0) where
   pub tick_call : (now : ℕ) → AllOf p.bound v.out → IsCall v p other done (Ticks now) v.out
   tick_call now a = record { possible = tt; not_open = λ x o. o; tells = λ l. tt; counts = λ l c o. absurd o; outs = λ l e e'. refl; all_out = a }
@@ -357,7 +357,7 @@ module _ (laws : LinkLaws) (lows : LifeLaws) (steps : List MachineStep) (w : Wor
   arming_keeps n Fails.Write g = armed_keeps n Disk.Write g
   arming_keeps n Fails.Sync g = armed_keeps n Disk.Sync g
 
-  -- a node is made anew, its life files are these, and no number is drawn again
+  -- a node restarts with these life files, and no number is drawn again
   pub anew_keeps : (n : ℕ) (torn : Option (List ℕ)) (files : ℕ → ℕ → LifeDisk) → ((a b : ℕ) → nat_eq a n ≡ false → files a b ≡ w.files a b) → ((a b m : ℕ) → IsFloor m (w.files a b) → IsFloor m (files a b)) →
       WorldFollows w → WorldFollowsBy (steps_of_restart n (w.seats n).current (neighbours w n)) (record (after_restart w n torn) { files = files })
   anew_keeps n torn files same floors g = restart_follows n (w.seats n).current steps (end_views w) (end_views (record (after_restart w n torn) { files = files })) w.datagrams seen (neighbours w n) off on g

@@ -1,4 +1,5 @@
--- What only threads do changes at most ends, life files and lanes into the cores, but for a start, which is a Restart with other life files.
+-- Events that only threads make change at most ends, life files and lanes into the cores, except a start, which is a
+-- Restart with other life files.
 use Rattle.std.proofs.Common.{ℕ, List, [], ◌∷◌, Option, Some, None, refl}
 use Rattle.std.proofs.lemmas.Bool.{cond_both}
 use Rattle.tora_arq.specs.declared.link_event.LinkEvent.{LinkEvent}
@@ -26,8 +27,8 @@ module _ (w : World) where
   pump_leaves c n k None = leaves w.ends w.files w.items w.counts
   pump_leaves c n k (Some event) = let after : World = after_pump w c n k (Some event) in leaves after.ends w.files after.items after.counts
 
-  -- what holds after each event of the simulator and of each world that leaves the cores, whatever the life files are, holds after each event of
-  -- the free world. It may also speak of what an event of the simulator makes of values that stay at the other events
+  -- a property that holds after each event of the simulator, and in each world with the same cores and any life files,
+  -- holds after each event of the free world. It may also speak of values that only events of the simulator change
   pub free_cases : (Holds : ((A : Type 0) → (Event → A) → A → A) → World → Type 0) (c : Choice) → ((event : Event) → Holds (λ A f value. f event) (world_by c w event)) → ((after : World) → LeavesCores w after → Holds (λ A f value. value) after) →
       ((of : (A : Type 0) → (Event → A) → A → A) (after : World) → Holds of after → Holds of (record after { files = w.files })) →
       (event : FreeEvent) → Holds (λ A f value. if_happens f value event) (free_by c w event)

@@ -26,7 +26,7 @@ use Rattle.tora_world.proofs.ToldHeights.{heard_in, heard, heard-append, heard_o
 
 -- ---- rows
 
--- a row of neighbour k stands only while its link is up, and its entry is NULL or this
+-- a row of neighbour k exists only while its link is up, and its entry is NULL or this
 abbrev pub IsHeardRow : ℕ → Bool → Option Quintuple → Row → Type 0
 IsHeardRow k up e row = row.neighbour ≡ k → (up ≡ true) × ((row.entry ≡ None) ⊎ (row.entry ≡ e))
 
@@ -89,7 +89,7 @@ module _ (d k : ℕ) (other : k ≢ d) (up : Bool) where
               let left : is_entry_at level row.entry ≡ false = and_true (is_entry_at level row.entry) (ap (λ (b : Bool). not b && is_entry_at level row.entry) (sym (off row q)) ∙ f) in
               inr (is ∙ sym (keep (ap (is_entry_at level) (sym is) ∙ left)))
 
-  -- what a neighbour told is withdrawn: an entry goes or stays, and that of the neighbour itself goes
+  -- an entry is withdrawn: any entry is removed or stays, and that of the neighbour itself is removed
   withdrawn_rows : (j : ℕ) (e : Option Quintuple) (rows : List Row) → AreHeardRows k up e rows → AreHeardRows k up e (without_entry d j rows)
   withdrawn_rows j e rows h = all_map (IsHeardRow k up e) (IsHeardRow k up e) (withdrawn_row d j) one rows h
     where
@@ -110,12 +110,12 @@ module _ (d k : ℕ) (other : k ≢ d) (up : Bool) where
       one : (row : Row) → IsHeardRow k up e row → IsHeardRow k up e (untold_row j row)
       one row p = cond_both (row.neighbour == j) (record row { told = false }) row (IsHeardRow k up e) (λ _ q. p q) (λ _. p)
 
-  -- a clear is heard from a neighbour, before its level is cleared
+  -- a clear comes from a neighbour, before its level is cleared
   behind_rows : (choice : Erasure) (j : ℕ) (e : Option Quintuple) (rows : List Row) → AreHeardRows k up e rows → AreHeardRows k up e (rows_behind_clear choice d j rows)
   behind_rows Plain j e rows h = h
   behind_rows Remembered j e rows h = untold_rows j e (without_entry d j rows) (withdrawn_rows j e rows h)
 
-  -- and behind it: what the neighbour itself told stays only where a clear of it does not take that
+  -- after that, the neighbour's own entry stays only if its clear does not remove it
   own_clear_rows : (choice : Erasure) (level : Level) (e e' : Option Quintuple) → (takes_entry choice level e ≡ false → e' ≡ e) → (rows : List Row) → AreHeardRows k up e rows
       → AreHeardRows k up e' (all_cleared d level (rows_behind_clear choice d k rows))
   own_clear_rows Plain level e e' keep rows h = cleared_rows level e e' keep rows h
@@ -251,7 +251,7 @@ module _ (choice : Erasure) (me d k : ℕ) (other : k ≢ d) (up : Bool) (e : Op
 
 -- ---- a view after an input that is accepted
 
--- what the entry of k is told after an input
+-- the entry of k after an input
 abbrev heard_at : Erasure → ℕ → ℕ → Option Quintuple → Input → Option Quintuple
 heard_at choice d k e (In.LinkUp j) = if j == k then None else e
 heard_at choice d k e (In.LinkDown j) = e
@@ -448,7 +448,7 @@ module _ (choice : Erasure) (cores : CoreLaws) (me d k : ℕ) (other : k ≢ d) 
           subst (HeardView false None) q (record { owner = refl; destination = eqb-true m d t; erasure = refl; rows = tt })
       go false t f again = again f
 
-  -- an entry that is not NULL is what the neighbour's packets say
+  -- an entry that is not NULL is the height in the neighbour's packets
   entry_heard : (up : Bool) (e : Option Quintuple) (x : Quintuple) (rows : List Row) → AreHeardRows k up e rows → option_map (λ (row : Row). row.entry) (find (λ (row : Row). row.neighbour == k) rows) ≡ Some (Some x) → e ≡ Some x
   entry_heard up e x [] h f = absurd cc
   entry_heard up e x (row ∷ rows) h f = go (row.neighbour == k) refl f (entry_heard up e x rows h.1)

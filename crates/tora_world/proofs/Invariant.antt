@@ -1,6 +1,6 @@
--- The invariant of the prefix law: what is said of every end of a link, its lanes, its core's seat and its life file, beside a run of the
--- link machine. Read it from the bottom: AllEndsFollow is the whole, FollowsMachine the part of one node and one neighbour. Timers, tries,
--- what is owed, the window, pending cuts, answers and the core's views are not looked at.
+-- The invariant of the prefix law: it relates every link end, its lanes, its core's seat and its life file to a run of
+-- the link machine. Read it from the bottom: AllEndsFollow is the whole, FollowsMachine the part of one node and one
+-- neighbour. It does not mention timers, tries, owed frames, the window, pending cuts, results and the core's views.
 use Rattle.std.proofs.Common.{◌≡◌, ◌≢◌, ℕ, ◌<◌, ◌≤◌, Bool, true, false, ◌&&◌, List, [], ◌∷◌, ◌++◌, length, Option, Some, None, if◌then◌else◌}
 use Rattle.tora_packet.specs.declared.Packet.{Packet}
 use Rattle.tora_frame.specs.declared.parts.Body.{Body}
@@ -20,7 +20,7 @@ use Rattle.tora_seat.specs.Serving.{Parcel}
 use Rattle.tora_world.specs.Lists.{packets_of, Begins, IsIn, Each}
 use Rattle.tora_world.specs.LinkMachine.{MachineEnd, Machine, MachineStep, IsMachineRun, machine_after, IsLast}
 
--- what comes to the core from one neighbour
+-- the arrivals at the core from one neighbour
 pub data Arrival : Type 0 where
   LifeComes : (l : Life) → Arrival
   PacketComes : (l : Life) (p : Packet) → Arrival
@@ -34,7 +34,7 @@ arrival_of (Down l r) = OtherComes
 -- what is looked at of a node and a neighbour
 pub record EndView : Type 0 where
   pub settings : Settings
-  pub endpoint : EndState  -- the link end, but for its events, which are among what comes
+  pub endpoint : EndState  -- the link end, except its events, which are among the arrivals
   pub file : LifeDisk  -- its life file
   pub current : Option Life  -- the life that is current at the core
   pub coming : List Arrival  -- in the lane, and then the events not polled
@@ -101,8 +101,9 @@ abbrev pub Counted : Life → ℕ → Option Life → List Arrival → List Parc
 Counted l accepted current coming taken =
     lives l (is_the_current l current) coming ≡ true → length (packets_of l taken ++ awaited l (is_the_current l current) coming) ≡ accepted
 
--- a bound end: the life is bound and its number drawn; what waits was sent; what was accepted is taken or comes; what is held is what the
--- other end sent at that place; and the other end was seen to have accepted what counts as acknowledged
+-- a bound end: the life is bound and its number drawn; what waits was sent; what was accepted is taken or comes; what
+-- is held is what the other end sent at that place; and the other end was seen to have accepted what counts as
+-- acknowledged
 pub record InLife (l : Life) (e : EndState) (current : Option Life) (coming : List Arrival) (out sent taken other : List Parcel) (p : MachineEnd) (done : Life → ℕ → Type 0) : Type 0 where
   pub bound : IsIn l p.bound
   pub drawn : IsIn l.own p.drawn
@@ -122,10 +123,11 @@ InPhase Closed v p other done = Unit {0}
 InPhase (Unbound own) v p other done = InWait own p
 InPhase (Bound l) v p other done = InLife l v.endpoint v.current v.coming v.out v.sent v.taken other p done
 
--- numbers drawn and bound are no greater than the floor of the life file; the machine's lists are the world's; each packet is of a life bound
+-- numbers drawn and bound are no greater than the floor of the life file; the machine's lists are the world's; each
+-- packet is of a life bound
 pub record Histories (file : LifeDisk) (last : ℕ) (out sent taken : List Parcel) (p : MachineEnd) : Type 0 where
   pub floor : ℕ
-  pub kept : IsFloor floor file  -- no later draw gives this number or a lesser one
+  pub kept : IsFloor floor file  -- no later draw gives this number or a smaller one
   pub opened : last ≤ floor
   pub drawn : Each (λ x. x ≤ floor) p.drawn
   pub bound : Each (λ l. l.own ≤ floor) p.bound
@@ -144,8 +146,9 @@ IsLatest latest (Some l) = latest ≡ Some l
 abbrev pub IsOver : Option Life → Option Life → Life → Type 0
 IsOver latest current l = (l.own ≤ number_of latest) × (current ≢ Some l)
 
--- what comes to the core: lives come up with rising numbers, above that of the last one; nothing was sent or taken in a life yet to come up; a life
--- that is closed does not come up again; and of every life, what was taken and what is awaited begins what the other end has sent
+-- the arrivals at the core: lives come up with rising numbers, above that of the last one; nothing was sent or taken in
+-- a life yet to come up; a closed life does not come up again; and for every life the packets taken and awaited are a
+-- prefix of those that the other end has sent
 pub record Arriving (current : Option Life) (coming : List Arrival) (sent taken other : List Parcel) (bound closed : List Life) : Type 0 where
   pub latest : Option Life  -- the life that came up last at the core
   pub was_bound : IsOf bound latest
@@ -157,14 +160,15 @@ pub record Arriving (current : Option Life) (coming : List Arrival) (sent taken 
   pub over : Each (IsOver latest current) closed
   pub chain : (l : Life) → Begins (packets_of l taken ++ awaited l (is_the_current l current) coming) (packets_of (reversed l) other)
 
--- one end, what the machine has of it, what the other end has sent to it, and how much of each life it was seen to have accepted
+-- one end, what the machine has of it, what the other end has sent to it, and how much of each life it was seen to have
+-- accepted
 pub record FollowsMachine (v : EndView) (p : MachineEnd) (other : List Parcel) (done : Life → ℕ → Type 0) : Type 0 where
   pub kept : IsEnd v.settings v.endpoint
   pub histories : Histories v.file v.endpoint.last_life v.out v.sent v.taken p
   pub arriving : Arriving v.current v.coming v.sent v.taken other p.bound p.closed
   pub phase : InPhase v.endpoint.phase v p other done
 
--- a frame tells what its sender has sent, and no more than it has accepted
+-- a frame carries packets that its sender has sent, and at most its count of accepted packets
 abbrev pub Tells : List Parcel → (Life → ℕ → Type 0) → Life → Body → Type 0
 Tells sent done l Hello = Unit {0}
 Tells sent done l (Data number count packets) = BodyTells (IsPacketAt (packets_of l sent)) (Data number count packets) × done l count
@@ -174,7 +178,7 @@ Tells sent done l (Ack count) = done l count
 abbrev pub Seen : Type 1
 Seen = ℕ → ℕ → Life → ℕ → Type 0
 
--- what is known of every datagram ever sent: its number was drawn, and its body tells no more than its sender's history
+-- the invariant of every datagram ever sent: its number was drawn, and its body agrees with its sender's history
 abbrev pub Told : Machine → Seen → FrameParts → Type 0
 Told m seen f =
     IsIn f.header.life (m f.header.sender f.header.receiver).drawn

@@ -81,7 +81,7 @@ inputs_push : (is : List (Input × ℕ)) (input : Input) (now : ℕ) → AreInpu
 inputs_push [] input now h ok = (ok, tt)
 inputs_push ((i, t) ∷ is) input now h ok = (h.0, inputs_push is input now h.1 ok)
 
--- ---- one node: its core, from the first on, keeps the laws whatever packets come
+-- ---- one node: its core keeps the invariants, whatever packets come
 
 abbrev pub KeepsLaws : Topology → ℕ → Type 0
 KeepsLaws t n = (is : List (Input × ℕ)) → AreInputs is → IsCore (core_after_all (new_core t n) is)

@@ -1,4 +1,4 @@
--- In every run of the machine, what was taken begins what was sent.
+-- In every run of the machine, what was taken is a prefix of what was sent.
 use Rattle.std.proofs.Common.{◌≡◌, ℕ, List, [], ◌∷◌, length, Some, sym, subst}
 use Rattle.tora_arq.specs.declared.life.Life.{Life}
 use Rattle.std.specs.Prelude.{slice_get}

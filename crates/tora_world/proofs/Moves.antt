@@ -1,4 +1,4 @@
--- What an end, its lanes and its core's seat may do: each move keeps what is said of them.
+-- The moves of an end, its lanes and its core's seat: each keeps the invariant.
 use Rattle.std.proofs.Common.{◌≡◌, ◌≢◌, ℕ, suc, ◌+◌, ◌<◌, ◌≤◌, Bool, true, false, true≢false, ◌&&◌, ◌⊎◌, inl, inr, ⊎_elim, List, [], ◌∷◌, ◌++◌, map, length, Option, Some, None, if◌then◌else◌, refl, sym, ap, ◌∙◌, subst, ap₂, append_assoc, append-nil, arith, length-append}
 use Rattle.std.proofs.lemmas.Bool.{cases_Bool, and_parts}
 use Rattle.std.specs.Prelude.{slice_get}
@@ -153,7 +153,7 @@ opens v p other done x now file f h =
       };
     }
 
--- ---- what comes behind
+-- ---- later arrivals
 
 -- what brings no life up comes
 quiet_arriving : (current : Option Life) (q r : List Arrival) (sent taken other : List Parcel) (bound closed : List Life) → BringsNoLife r
@@ -179,7 +179,7 @@ rest_arriving current q sent taken other bound closed f =
     quiet_arriving current q (OtherComes ∷ []) sent taken other bound closed tt
     (λ l b. subst (λ xs. Begins (packets_of l taken ++ xs) (packets_of (reversed l) other)) (sym (same_rest l (is_the_current l current) q)) b) f
 
--- the packets that come, behind those awaited
+-- the packets that arrive, after those awaited
 gives_awaited : (j l : Life) (b : Bool) (q : List Arrival) (xs : List Packet) (ps : List Packet) →
     xs ++ awaited j b (q ++ map (PacketComes l) ps) ≡ (xs ++ awaited j b q) ++ (if lives j b q && is_same_life j l then ps else [])
 gives_awaited j l b q xs ps =
@@ -227,7 +227,7 @@ arrivals_of_packets : (l : Life) (ps : List Packet) → map arrival_of (map (Del
 arrivals_of_packets l [] = refl
 arrivals_of_packets l (p ∷ ps) = ap (λ xs. PacketComes l p ∷ xs) (arrivals_of_packets l ps)
 
--- what is said of a call that is not an opening, and of what it hands in
+-- the effect of a call that does not open the end, and its input
 pub record IsCall (v : EndView) (p : MachineEnd) (other : List Parcel) (done : Life → ℕ → Type 0) (call : LinkCall) (out : List Parcel) : Type 0 where
   pub possible : IsPossible v.endpoint call
   pub not_open : (x : ℕ) → OpensWith x call → ⊥
@@ -290,7 +290,7 @@ module _ (laws : LinkLaws) (v : EndView) (p : MachineEnd) (other : List Parcel) 
     phase = subst (λ x. InPhase x (called v call out) p other done) (sym e) k;
   }
 
-  -- the bound life goes on
+  -- the bound life continues
   goes_on : (l : Life) → v.endpoint.phase ≡ Bound l → after.phase ≡ Bound l → FollowsMachine v p other done → FollowsMachine (called v call out) p other done
   goes_on l e e' h =
       let k : InLife l v.endpoint v.current v.coming v.out v.sent v.taken other p done = subst (λ x. InPhase x v p other done) e h.phase in
@@ -709,7 +709,7 @@ pub record ClosesMore (current : Option Life) (p p' : MachineEnd) : Type 0 where
   pub taken : p'.taken ≡ p.taken
   pub closed : Each (λ l. (current ≡ Some l) ⊎ IsIn l p.closed) p'.closed
 
--- the node begins anew, and the current life is lost
+-- the node restarts, and the current life is lost
 pub restarts : (laws : LinkLaws) (v : EndView) (p p' : MachineEnd) (other : List Parcel) (done : Life → ℕ → Type 0) (file : LifeDisk) → ClosesMore v.current p p' → ((n : ℕ) → IsFloor n v.file → IsFloor n file) → FollowsMachine v p other done →
     FollowsMachine (record v { endpoint = first_end; file = file; current = None; coming = []; out = [] }) p' other done
 restarts laws v p p' other done file more f h = record {

@@ -1,5 +1,5 @@
--- A life file may become any file after which no number is drawn that was not to be drawn before: the change that makes this one that one, and
--- leaves every other as it is, forgets nothing.
+-- A life file may become any file after which no number is drawn that was not to be drawn before: the change that makes
+-- this one that one, and leaves every other as it is, forgets nothing.
 use Rattle.std.proofs.Common.{◌≡◌, ℕ, Bool, true, false, true≢false, List, [], ◌∷◌, Option, Some, None, refl, sym, ap, ap₂, ◌∙◌, subst}
 use native.Mathlib.Decide.{ℕ_discrete}
 use Rattle.tora_life.specs.declared.numbers.Numbers.{Numbers}
@@ -132,6 +132,6 @@ module _ (before after : LifeDisk) where
   pub may_become : ((m : ℕ) → IsFloor m before → IsFloor m after) → MayBecome before after
   may_become kept = (λ disk. instead disk (discrete_disk disk before), λ n disk h. forgets_nothing kept n disk (discrete_disk disk before) h, here (discrete_disk before before))
 
--- so does whatever a call or a crash makes of it
+-- the same holds after any call and any crash
 pub becomes_by_event : LifeLaws → (event : LifeEvent) (disk : LifeDisk) → MayHappen event disk → MayBecome disk (after_event event disk)
 becomes_by_event lows event disk may = may_become disk (after_event event disk) (λ m h. lows.keep m event disk h may)

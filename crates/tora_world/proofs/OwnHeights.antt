@@ -1,4 +1,4 @@
--- An update that a core sends tells the height of its own node.
+-- An update that a core sends has the height of its own node.
 use Rattle.std.proofs.Common.{◌≡◌, ℕ, Bool, true, false, List, [], ◌∷◌, map, Option, Some, None, refl, sym, subst, eq-eqb, eqb-true}
 use Rattle.std.proofs.lemmas.Bool.{cond_both}
 use Rattle.std.specs.Prelude.{is_some, is_none, not, ◌&&◌, ◌==◌, filter_map, option_map, ℤ, pos, if◌then◌else◌}

@@ -1,4 +1,4 @@
--- What an item puts into the lane to a neighbour leaves it within its room, with the simulator's own answers.
+-- What an item puts into the lane to a neighbour leaves it within its room, with the results of the simulator's lanes.
 use Rattle.std.proofs.Common.{◌≡◌, ℕ, suc, ◌≤◌, Bool, true, false, ◌&&◌, List, [], ◌∷◌, ◌++◌, length, nat_eq, if◌then◌else◌, refl, sym, ap, ◌∙◌, subst, append_assoc, append-nil, length-append, ltb-true, eqb-true, arith}
 use Rattle.tora_core.specs.declared.Input.{Input}
 use Rattle.tora_core.specs.CoreRun.{CoreView}

@@ -109,7 +109,7 @@ module _ (cores : CoreLaws) (seats : SeatLaws) (ks : List ℕ) (answers : Answer
 
   -- ---- inputs
 
-  -- what is asked where an input is stepped: all but the links up and what was received
+  -- the condition when the core takes an input: everything except the links up and the received packets
   record Ready (ss : List Step) (v : Serving) : Type 0 where
     near : (j : ℕ) → has_number j ks ≡ true → has_number j v.seat.core.neighbours ≡ true
     stepped : v.steps ≡ ss
@@ -158,7 +158,7 @@ module _ (cores : CoreLaws) (seats : SeatLaws) (ks : List ℕ) (answers : Answer
           let f = seats.next ks v.seat j e in
           again (after_step answers ks (In.LinkDown j) now v) (down_sound ss v j now f.neighbour f.up f.none h)
 
-  -- a link that is down stays so
+  -- a link that is down stays down
   stays_down : (ss : List Step) (k most now : ℕ) (v : Serving) → Sound ss v → has_number k v.seat.core.up ≡ false → has_number k (after_settling most answers ks now v).seat.core.up ≡ false
   unfolding after_settling
   stays_down ss k zero now v h off = off

@@ -1,4 +1,5 @@
--- In every world of a run, what a core has taken in a current life is what it has accepted from the neighbour since the link came up.
+-- In every world of a run, what a core has taken in a current life is what it has accepted from the neighbour since the
+-- link came up.
 use Rattle.std.proofs.Common.{◌≡◌, ℕ, Bool, true, false, ◌⊎◌, inl, inr, List, [], ◌∷◌, ◌++◌, map, Option, Some, nat_eq, if◌then◌else◌, refl, sym, ap, ap₂, ◌∙◌, subst, append-nil, eqb-true, eq-eqb, arith}
 use Rattle.std.proofs.lemmas.Bool.{cond_both, cases_Bool}
 use Rattle.std.specs.Prelude.{slice_get, is_some}

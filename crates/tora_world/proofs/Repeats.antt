@@ -89,7 +89,7 @@ items_in_run [] w all n = all n
 items_in_run (e ∷ es) w all n = items_in_run es (world_by e.1 w e.0) (items_within e.1 w (step_holds e.1 w e.0) all) n
 
 module _ (w : World) where
-  -- the lanes out of the cores, with the simulator's own answers
+  -- the lanes out of the cores, with the results of the simulator's lanes
   cargoes_within : (c : Choice) {event : Event} {after : World} → ((n : ℕ) → event ≡ CoreTurn n → c.answers ≡ own_answers w n) → IsStepBy c w event after → ((n k : ℕ) → IsLaneOut (w.cargoes n k)) → (n k : ℕ) → IsLaneOut (after.cargoes n k)
   cargoes_within c own (refused r h) all n k = subst (λ (f : ℕ → ℕ → List Cargo). IsLaneOut (f n k)) (sym h.cargoes) (all n k)
   cargoes_within c own (needed there room puts h) all n k = subst (λ (f : ℕ → ℕ → List Cargo). IsLaneOut (f n k)) (sym h.cargoes) (all n k)
@@ -210,7 +210,7 @@ transmit_once w n k e =
     go None some q = absurd (true≢false (sym some ∙ ap (λ (o : Option FrameParts). is_some o) q))
     go (Some f) some q = record { same = refl; clock = refl; end = ap₂ (λ (x y : Bool). if x && y then after_transmit (settings w n k) (w.ends n k) w.clock else w.ends n k) (eq-eqb n n refl) (eq-eqb k k refl) }
 
--- so many polls leave no frame due
+-- this many polls leave no frame due
 abbrev IsIdle : ℕ → Settings → EndState → ℕ → Type 0
 IsIdle polls s e now = frame_due s (after_polls s e now polls) now ≡ None
 

@@ -30,7 +30,7 @@ drop_none zero xs e = let z : length xs ≡ 0 = ap length e in omega (arith, z)
 drop_none (suc count) [] e = omega arith
 drop_none (suc count) (x ∷ xs) e = let r = drop_none count xs e in omega (arith, r)
 
--- what begins a list that is no longer is the list
+-- a prefix of a list that is at least as long is the list
 begins_all : (xs ys : List Packet) → Begins xs ys → length ys ≤ length xs → xs ≡ ys
 begins_all [] [] b le = refl
 begins_all [] (y ∷ ys) b le = absurd (omega (arith, le))

@@ -1,4 +1,4 @@
--- A turn of the core keeps what is said of all ends, and makes the steps of the machine that are stated for it.
+-- A turn of the core keeps the invariant of all ends, and makes the steps of the machine that are stated for it.
 use Rattle.std.proofs.Common.{◌≡◌, ◌≢◌, ℕ, zero, suc, Bool, true, false, true≢false, ◌&&◌, ◌⊎◌, inl, inr, List, [], ◌∷◌, ◌++◌, length, map, Option, Some, None, nat_eq, if◌then◌else◌, refl, sym, ap, ap₂, ◌∙◌, subst, append_assoc, append-nil, eqb-true, eq-eqb}
 use Rattle.tora_seat.proofs.Places.{turned}
 use Rattle.std.proofs.lemmas.Bool.{cond_both, cases_Bool}
@@ -51,7 +51,7 @@ offer_parcels k cs offers o =
     ap (λ ys. parcels_in (cs ++ ys)) (put-push k offers o) ∙ ap parcels_in (sym (append_assoc cs (put_to k offers) (cargo_where k o)))
     ∙ parcels-append (cs ++ put_to k offers) (cargo_where k o)
 
--- a cargo that is no packet for this neighbour, or was handed back
+-- a cargo that is not a packet for this neighbour, or was returned
 pub nothing_more : (k : ℕ) (cs : List Cargo) (offers : List Offer) (o : Offer) → parcels_in (cargo_where k o) ≡ [] → parcels_in (cs ++ put_to k (offers ++ o ∷ [])) ≡ parcels_in (cs ++ put_to k offers)
 nothing_more k cs offers o e = offer_parcels k cs offers o ∙ ap (λ ys. parcels_in (cs ++ put_to k offers) ++ ys) e ∙ append-nil (parcels_in (cs ++ put_to k offers))
 
@@ -150,7 +150,7 @@ module _ (w : World) (seen : Seen) (n : ℕ) where
         (λ b. ap₂ (λ xs ys. record (seen_at b v (arrivals_of ks b lane)) { out = xs; sent = ys })
         (nothing_more b (w.cargoes n b) v.offers o (no_cut b k life put)) (nothing_more b (w.put n b) v.offers o (no_cut b k life put))) g)
 
-    -- a packet of the current life is handed back
+    -- a packet of the current life is returned
     hand_back : (lane : List Item) (v : Serving) (k : ℕ) (life : Life) (packet : Packet) → v.seat.current k ≡ Some life → Served before lane v → Served before lane (with_current (offered v k (Gives.Packet life packet) false) k None)
     hand_back lane v k life packet on g =
         let o : Offer = record { to = k; cargo = Gives.Packet life packet; put = false } in
@@ -351,7 +351,7 @@ module _ (w : World) (seen : Seen) (n : ℕ) where
   link_item_keeps before answers lane lane' k now (Tells.Status status) front v q g = pass_keeps before lane lane' k (Tells.Status status) front v refl g
   link_item_keeps before answers lane lane' k now Tells.Quit front v q g = pass_keeps before lane lane' k Tells.Quit front v refl g
 
-  -- a cut that is tried changes no current life, and is no step
+  -- an offered cut changes no current life, and is not a step
   cut_quiet : (answers : Answers) (v : Serving) (j : ℕ) (o : Option Life) → SendsNothingYet v → SendsNothingYet (after_cut_tried answers v j o) × ((after_cut_tried answers v j o).seat.current ≡ v.seat.current)
   cut_quiet answers v j None q = (q, refl)
   cut_quiet answers v j (Some l) q =

@@ -1,4 +1,4 @@
--- What comes to a core and tells no life changes nothing that the invariant says.
+-- An arrival at a core that reports no life changes nothing in the invariant.
 use Rattle.std.proofs.Common.{◌≡◌, ℕ, Bool, List, [], ◌∷◌, ◌++◌, length, ap, ◌∙◌, refl, sym, subst}
 use Rattle.tora_arq.specs.declared.life.Life.{Life}
 use Rattle.tora_arq.specs.Lives.{is_same_life, reversed}

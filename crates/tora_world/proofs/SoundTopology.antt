@@ -1,4 +1,5 @@
--- A topology that has no fault: how many neighbours a node has, and that they are different from each other and from the node.
+-- A topology that has no fault: how many neighbours a node has, and that they are different from each other and from
+-- the node.
 use Rattle.std.proofs.Common.{◌≡◌, refl, sym, ap, ap₂, ◌∙◌, subst, ℕ, suc, ◌+◌, ◌≤◌, ◌==◌, Bool, true, false, not, ◌||◌, ◌&&◌, nat_lt, List, [], ◌∷◌, length, cond, arith, if◌then◌else◌, Some, None, eqb-true}
 use Rattle.tora_core.proofs.AfterInputs.{has-with}
 use Rattle.std.specs.List.{list_any}

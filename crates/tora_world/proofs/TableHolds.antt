@@ -1,4 +1,4 @@
--- What the definition computes stands in the table.
+-- The table allows what the definition computes.
 use Rattle.std.proofs.Common.{◌≡◌, ℕ, suc, true, false, true≢false, not, List, [], ◌∷◌, ◌++◌, length, Option, Some, None, is_some, if◌then◌else◌, refl, sym, ap, subst, slice_get, ltb-true}
 use Rattle.std.proofs.lemmas.Bool.{cond_both}
 use Rattle.tora_frame.specs.FrameParts.{FrameParts}
@@ -150,7 +150,7 @@ module _ (c : Choice) (w : World) where
       (change_files n (λ disk. after_event (OpensAnew (after_crash torn (state_in disk))) disk) w (after_restart w n torn) refl)
       (record { topology = refl; times = refl; clock = refl; seats = tt; ends = tt; files = tt; items = tt; counts = tt; cargoes = tt; arms = refl; datagrams = refl; put = refl; inputs = tt; steps = refl })
 
-  -- an event that is not refused
+  -- the effect of an event that is not refused
   effect_holds : (event : Event) → refusal_by c w event ≡ None → IsStepBy c w event (effect_by c w event)
   unfolding effect_by
   effect_holds (Need n d) e = let x = is_open c w (Need n d) (λ i q. cc) e in need_holds n d x.0 x.1

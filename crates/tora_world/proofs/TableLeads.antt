@@ -1,4 +1,4 @@
--- What stands in the table is what the definition computes.
+-- What the table allows is what the definition computes.
 use Rattle.std.proofs.Common.{◌≡◌, ℕ, Bool, true, false, not, ◌&&◌, List, [], ◌∷◌, length, Option, Some, None, is_some, if◌then◌else◌, refl, sym, ap, ap₂, ◌∙◌, slice_get, lt-ltb}
 use mathlib.Core.Path.{fun_ext}
 use Rattle.tora_frame.specs.FrameParts.{FrameParts}
@@ -36,14 +36,14 @@ module _ (c : Choice) (w : World) where
   delivery : (i : ℕ) (f : FrameParts) → datagram w i ≡ Some f → refusal_by c w (Deliver i) ≡ None
   delivery i f e = ap (λ (o : Option FrameParts). if is_some o then None else Some Refused.NoDatagram) e
 
-  -- a datagram is handed to its receiver, or dropped
+  -- a datagram is passed to its receiver, or dropped
   abbrev handed : FrameParts → World
   handed f = with_end w f.header.receiver f.header.sender (after_frame (settings w f.header.receiver f.header.sender) (w.ends f.header.receiver f.header.sender) f (c.now f.header.receiver f.header.sender))
 
   abbrev dropped : FrameParts → World
   dropped f = record w { arms = put_one w.arms f.header.receiver (record (w.arms f.header.receiver) { receive = false }) }
 
-  -- the first event of an end stands in the lane
+  -- the first event of an end is in the lane
   abbrev put_there : ℕ → ℕ → ℕ → What → World
   put_there n k seat what = with_item (with_end w n k (after_poll_event (w.ends n k))) n seat c.stamp what
 

@@ -76,7 +76,7 @@ choice_is w event c h = λ i. record {
   answers = c.answers;
 }
 
--- the answers count in a turn alone
+-- the results of lanes matter only in a turn
 answers_count : (w : World) (now : ℕ) (a b : Answers) (event : Event) → ((n : ℕ) → event ≡ CoreTurn n → a ≡ b) → world_by (choice_at now a) w event ≡ world_by (choice_at now b) w event
 unfolding world_by effect_by
 answers_count w now a b (Need n d) h = refl

@@ -61,7 +61,7 @@ false_and true y e = e
 false_and false y e = refl
 
 module _ (c : Choice) (w : World) where
-  -- whether an event is possible, but for a delivery
+  -- whether an event other than a delivery is possible
   abbrev pub is_possible : Event → Bool
   is_possible (Need n d) = has_room w n
   is_possible Tick = true
@@ -121,7 +121,7 @@ module _ (c : Choice) (w : World) where
   is_impossible (Arm n call) h = absurd h
   is_impossible (Restart n torn) h = absurd h
 
-  -- ---- both ways
+  -- ---- both directions
 
   pub refused_leads : {event : Event} {error : SimError} → IsRefusedBy c w event error → refusal_by c w event ≡ Some error
   refused_leads (no_node {event} e) =

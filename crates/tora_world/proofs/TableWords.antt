@@ -186,7 +186,7 @@ is_seat k (j ∷ js) e = go (cases_Bool (nat_eq j k)) (λ h. is_seat k js h)
           place = ap (λ (b : Bool). if b then 0 else suc (place_of k js)) f ∙ ap suc s.place;
         }
 
--- ---- what is told
+-- ---- reports
 
 pub told_is : {event : LinkEvent} {what : What} → IsTold event what → what_of event ≡ what
 told_is up_told = refl

@@ -1,4 +1,4 @@
--- Each event that only threads make keeps what is said of all ends.
+-- Each event that only threads make keeps the invariant of all ends.
 use Rattle.std.proofs.Common.{◌≡◌, ℕ, suc, ◌⊎◌, inl, inr, List, [], ◌∷◌, ◌++◌, map, Option, Some, None, nat_eq, if◌then◌else◌, refl, sym, ap, ◌∙◌, subst, append_assoc, append-nil, eqb-true}
 use Rattle.std.proofs.lemmas.Bool.{cond_both}
 use Rattle.std.specs.Prelude.{slice_get}
@@ -26,7 +26,7 @@ use Rattle.tora_world.proofs.EndViews.{arrival_in, arrivals_in, arrivals_of, vie
 use Rattle.tora_world.proofs.Events.{tick_call, cut_call, end_changes, pump_keeps}
 use Rattle.tora_world.proofs.SilentItems.{silent_comes}
 
--- the sign of an item that tells no life
+-- the property of an item that reports no life
 arrival_silent : (what : What) → TellsNoLife what → arrival_in what ≡ OtherComes
 arrival_silent (Tells.Up l) h = absurd h
 arrival_silent (Tells.Packet l p) h = absurd h
@@ -47,11 +47,11 @@ module _ (laws : LinkLaws) (lows : LifeLaws) (steps : List MachineStep) (w : Wor
   abbrev Keeps : World → Type 0
   Keeps after = AllEndsFollow steps (end_views after) after.datagrams seen
 
-  -- what one end may hand in
+  -- what one end may pass in
   abbrev HandsIn : ℕ → ℕ → LinkCall → Type 0
   HandsIn n k call = IsCall (end_views w n k) (machine_after steps n k) (machine_after steps k n).sent (seen_at_other seen n k) call (end_views w n k).out
 
-  -- one end makes a call that polls nothing and hands in no frame
+  -- one end makes a call that polls nothing and passes in no frame
   call_keeps : (n k : ℕ) (call : LinkCall) → IsPossible (w.ends n k) call → events_left (w.ends n k) call ≡ (w.ends n k).events → ((l : Life) → HandsInFrameOf (settings w n k) l call → ⊥) → HandsIn n k call →
       Keeps (with_end w n k (after_call (settings w n k) (w.ends n k) call))
   call_keeps n k call ok left no_frame is =

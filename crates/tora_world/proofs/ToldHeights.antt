@@ -1,4 +1,5 @@
--- What a core has broadcast of a destination tells its height, or it has none: each height that it takes is broadcast, in an update, to all up neighbours.
+-- The broadcasts of a core about a destination determine its height, or it has none: each height that it takes is
+-- broadcast in an update to all up neighbours.
 use Rattle.std.proofs.Common.{◌≡◌, ℕ, ◌<◌, Bool, true, false, ◌&&◌, ◌||◌, ◌⊎◌, inl, inr, List, [], ◌∷◌, ◌++◌, map, Option, Some, None, nat_eq, if◌then◌else◌, refl, sym, ap, ◌∙◌, subst, eqb-true, eq-eqb, append_assoc, append-nil, true≢false, arith}
 use Rattle.tora_seat.specs.SeatLaws.{is_link_down}
 use Rattle.std.proofs.lemmas.Bool.{cond_both, cases_Bool, false_from_ne_true}
@@ -190,12 +191,12 @@ above_others d x [] all e = tt
 above_others d x (v ∷ views) all e = (false_from_ne_true (nat_eq d v.destination) (λ t. let q = eqb-true d v.destination t in let less = all.0 in absurd (omega (arith, q, e, less))), above_others d x views all.1 e)
 
 -- what is sent of other destinations says nothing
--- ---- at a neighbour that makes this of erased levels
+-- ---- at a neighbour with this treatment of erased levels
 
 module _ (choice : Erasure) where
-  -- ---- what packets say of a height
+  -- ---- the height in packets
 
-  -- the entry after a packet: an update of this destination tells it, and a clear erases it where it is of the level
+  -- the entry after a packet: an update of this destination sets it, and a clear erases it if it is at the level
   abbrev pub heard_in : ℕ → Option Quintuple → Packet → Option Quintuple
   heard_in d e (Qry q) = e
   heard_in d e (Upd u) = if d == u.destination then Some u.height else e
@@ -209,7 +210,7 @@ module _ (choice : Erasure) where
   heard-append d e [] qs = refl
   heard-append d e (p ∷ ps) qs = heard-append d (heard_in d e p) ps qs
 
-  -- a packet of another destination says nothing
+  -- a packet of another destination changes nothing
   pub heard_other : (d : ℕ) (e : Option Quintuple) (p : Packet) → (d == destination_of p) ≡ false → heard_in d e p ≡ e
   heard_other d e (Qry q) off = refl
   heard_other d e (Upd u) off = ap (λ (b : Bool). if b then Some u.height else e) off
@@ -217,7 +218,7 @@ module _ (choice : Erasure) where
 
   -- ---- the packets of one view
 
-  -- a height is the one that was heard, or there is none, for this reason
+  -- a height is the one that was received, or there is none, for this reason
   abbrev pub IsHeard : (Quintuple → Type 0) → Option Quintuple → Option Quintuple → Type 0
   IsHeard Why None height = Unit {0}
   IsHeard Why (Some g) height = (height ≡ Some g) ⊎ ((height ≡ None) × Why g)
@@ -255,7 +256,7 @@ module _ (choice : Erasure) where
           go true f = tt
           go false f = none_heard (Some g) v.height after q (λ j is. loses j is (clears_another_level tau oid b (same j is f))) h
             where
-              -- the height that is lost is the one that was heard
+              -- the height that is lost is the one that was received
               same : (j : Quintuple) → v.height ≡ Some j → takes_entry choice (cleared_level tau oid) (Some g) ≡ false → takes_entry choice (cleared_level tau oid) (Some j) ≡ false
               same j is f = of_heard h
                 where
@@ -347,7 +348,7 @@ module _ (choice : Erasure) where
 
   -- ---- a core over inputs
 
-  -- the height of the destination is the last that these packets tell, or there is none, for this reason
+  -- the height for the destination is the last one in these packets, or there is none, for this reason
   abbrev pub IsTold : (Quintuple → Type 0) → ℕ → CoreView → List Packet → Type 0
   IsTold Why d c ps = (v : View) → view_of c d ≡ Some v → IsHeard Why (heard d None ps) v.height
 

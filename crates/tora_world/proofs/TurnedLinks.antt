@@ -1,4 +1,4 @@
--- A link leads both ways, and each of its ends is a node.
+-- A link leads in both directions, and each of its ends is a node.
 use Rattle.std.proofs.Common.{◌≡◌, ℕ, Bool, true, false, true≢false, ◌||◌, ◌⊎◌, inl, inr, List, [], ◌∷◌, nat_eq, if◌then◌else◌, refl, sym, ap, ◌∙◌, subst, eqb-true, eq-eqb}
 use Rattle.std.proofs.lemmas.Bool.{cases_Bool, or_left, or_right}
 use Rattle.tora_core.specs.Numbers.{has_number}
@@ -6,7 +6,7 @@ use Rattle.tora_world.specs.Topology.{Topology, Link, other_ends, is_node, is_li
 use Rattle.tora_world.specs.Layers.{CoreLaws}
 use Rattle.tora_world.proofs.SoundTopology.{unnamed}
 
--- the ends behind a link more
+-- the ends after one more link
 abbrev ends_with : Bool → Bool → Link → List ℕ → List ℕ
 ends_with p q x ends = if p then x.b ∷ ends else if q then x.a ∷ ends else ends
 
@@ -27,7 +27,7 @@ turned_ends n k (x ∷ links) e = go (nat_eq x.a n) (nat_eq x.b n) refl refl e (
     first a b true t = or_left (nat_eq x.b n) (has_number n (other_ends k links)) (eq-eqb x.b n (b ∙ sym (eqb-true x.a k t) ∙ a))
     first a b false t = subst (λ (q : Bool). has_number n (ends_with false q x (other_ends k links)) ≡ true) (sym (eq-eqb x.b k b)) (or_left (nat_eq x.a n) (has_number n (other_ends k links)) (eq-eqb x.a n a))
 
-    -- the other way round
+    -- the other direction
     second : x.b ≡ n → x.a ≡ k → has_number n (ends_with (nat_eq x.a k) (nat_eq x.b k) x (other_ends k links)) ≡ true
     second b a = subst (λ (p : Bool). has_number n (ends_with p (nat_eq x.b k) x (other_ends k links)) ≡ true) (sym (eq-eqb x.a k a)) (or_left (nat_eq x.b n) (has_number n (other_ends k links)) (eq-eqb x.b n b))
 

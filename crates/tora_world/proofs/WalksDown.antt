@@ -18,7 +18,7 @@ use Rattle.tora_world.specs.Walks.{height_at, hop_at, entry_at, IsExact, LeadsOn
 use Rattle.tora_world.proofs.Entries.{IsCoreOf, view_in, has_view, has_hop, entry_found}
 use Rattle.tora_world.proofs.ExactEntries.{itself}
 
--- ---- the walk of at most so many hops
+-- ---- walks of at most a number of hops
 
 pub walk_found : (w : World) (d hops n : ℕ) (after : List ℕ) → LeadsOn w d n after → length after ≤ hops → walk_within hops w n d ≡ Some (n ∷ after)
 walk_found w d zero n [] is le = ap (λ b. if b then Some (n ∷ []) else None) (eq-eqb n d is)
@@ -69,7 +69,7 @@ walk_is_found w d hops n [] is le = absurd is
 walk_is_found w d hops n (m ∷ after) is le =
     walk_found w d hops n after is.1 (omega arith) ∙ ap (λ x. Some (x ∷ after)) (sym is.0)
 
--- the walk of a node is that of as many hops as there are nodes, at most
+-- the walk of a node has at most as many hops as there are nodes
 pub walks_computed : (w : World) (n d : ℕ) (nodes : List ℕ) → (walk_of w n d ≡ Some nodes) ↔ (IsWalk w n d nodes × (length nodes ≤ suc (length (nodes_in w.topology.links))))
 walks_computed w n d nodes = (
   (λ e. let x = walk_is w d (length (nodes_in w.topology.links)) n nodes e in (x.walk, x.short)),
@@ -173,7 +173,7 @@ module _ (rules : RuleLaws) where
     lower : (n : ℕ) (h : Quintuple) (x : Hops w d n h) → height_at w x.hop d ≡ Some (Some x.low)
     lower n h x = exact n x.hop x.low x.entry
 
-    -- the nodes after n, with at most so many hops
+    -- the nodes after n, with at most this many hops
     record GoesDown (n most : ℕ) : Type 0 where
       after : List ℕ
       leads : LeadsOn w d n after

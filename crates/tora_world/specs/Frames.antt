@@ -41,12 +41,12 @@ abbrev pub is_among : Part → List Part → Bool
 is_among part [] = false
 is_among part (other ∷ parts) = (part_number part == part_number other) || is_among part parts
 
--- nothing is said where this is so
+-- a statement that need not hold if this is so
 abbrev pub Unless : Bool → Type 0 → Type 0
 Unless true P = Unit {0}
 Unless false P = P
 
--- all parts but these are as they were; which nodes and links there are, and the times of the link ends, no event changes
+-- all other parts are unchanged; no event changes the nodes, the links and the times of the link ends
 pub record AllElse (changed : List Part) (w after : World) : Type 0 where
   pub topology : after.topology ≡ w.topology
   pub times : after.times ≡ w.times
@@ -63,27 +63,33 @@ pub record AllElse (changed : List Part) (w after : World) : Type 0 where
   pub inputs : Unless (is_among Inputs changed) (after.inputs ≡ w.inputs)
   pub steps : Unless (is_among Steps changed) (after.steps ≡ w.steps)
 
--- of what each node has, one node's becomes this, and all others' is as it was
+-- of the values for each node, one node's becomes this, and all others are unchanged
 pub record ChangesAt {A : Type 0} (n : ℕ) (value : A) (old new : ℕ → A) : Type 0 where
   pub here : new n ≡ value
   pub elsewhere : (a : ℕ) → a ≢ n → new a ≡ old a
 
--- the same of what each link end has
+-- the same for the values for each link end
 pub record ChangesAtEnd {A : Type 0} (n k : ℕ) (value : A) (old new : ℕ → ℕ → A) : Type 0 where
   pub here : new n k ≡ value
   pub elsewhere : (a b : ℕ) → ¬ ((a ≡ n) × (b ≡ k)) → new a b ≡ old a b
 
--- each life file of a node becomes what this makes of it, and all others are as they were
+-- each life file of a node changes by this function, and all others are unchanged
 pub record ChangesFiles (n : ℕ) (next : LifeDisk → LifeDisk) (w after : World) : Type 0 where
   pub own : (k : ℕ) → is_link w.topology n k ≡ true → after.files n k ≡ next (w.files n k)
   pub others : (a b : ℕ) → ¬ ((a ≡ n) × (is_link w.topology n b ≡ true)) → after.files a b ≡ w.files a b
 
--- an item stands at the end of a node's lane, with the number behind the last one of its seat
+-- an item is at the end of a node's lane, with the next number of its seat
 pub record PutsItem (w : World) (n seat now : ℕ) (what : What) (after : World) : Type 0 where
-  pub item : ChangesAt n (w.items n ++ record { seat = seat; number = suc (w.counts n seat); now = now; what = what } ∷ []) w.items after.items
+  pub item : ChangesAt n (w.items n ++ record {
+    seat = seat;
+    number = suc (w.counts n seat);
+    now = now;
+    what = what;
+  } ∷ []) w.items after.items
   pub count : ChangesAtEnd n seat (suc (w.counts n seat)) w.counts after.counts
 
--- what serving an item leaves: the seat, the rest of the lane, the cargoes that were put, the inputs that the core accepted, the packets that it stepped
+-- the results of serving an item: the seat, the rest of the lane, the cargoes put, the inputs that the core accepted,
+-- and the packets that it took
 pub record LeavesServed (w : World) (n : ℕ) (rest : List Item) (served : Serving) (after : World) : Type 0 where
   pub seat : ChangesAt n served.seat w.seats after.seats
   pub items : ChangesAt n rest w.items after.items

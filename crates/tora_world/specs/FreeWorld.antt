@@ -1,4 +1,5 @@
--- The free world: the events of the simulator with any ticks and any answers, and what the threads of a running node do beside them.
+-- The free world: the events of the simulator with any ticks and any results of lanes, and the events that only threads
+-- of a running node make.
 use Rattle.std.specs.Prelude.{◌≡◌, ℕ, if◌then◌else◌, List, [], ◌∷◌, None}
 use Rattle.tora_arq.specs.LinkEnd.{bound_life, after_tick, first_event}
 use Rattle.tora_life.specs.LifeRun.{LifeDisk, IsFloor}
@@ -13,7 +14,7 @@ use Rattle.tora_world.specs.World.{World, Choice, settings, with_end, with_item,
 
 -- ---- what happens
 
--- an item that is told by no link end: it brings no life up or down and no packet
+-- an item that no link end reports: it brings no life up or down and no packet
 abbrev pub TellsNoLife : What → Type 0
 TellsNoLife (Tells.Up life) = ⊥
 TellsNoLife (Tells.Packet life packet) = ⊥
@@ -25,7 +26,7 @@ TellsNoLife Tells.Show = Unit {0}
 TellsNoLife (Tells.Status status) = Unit {0}
 TellsNoLife Tells.Quit = Unit {0}
 
--- a change of a life file after which no number is drawn that was not to be drawn before it
+-- a change of a life file that allows no number which the old file would not draw
 abbrev pub ForgetsNothing : (LifeDisk → LifeDisk) → Type 0
 ForgetsNothing change = (n : ℕ) (disk : LifeDisk) → IsFloor n disk → IsFloor n (change disk)
 
@@ -33,23 +34,24 @@ ForgetsNothing change = (n : ℕ) (disk : LifeDisk) → IsFloor n disk → IsFlo
 abbrev pub MayBecome : LifeDisk → LifeDisk → Type 0
 MayBecome before after = (change : LifeDisk → LifeDisk) × ForgetsNothing change × (change before ≡ after)
 
--- an event of the simulator, or what only threads do
+-- an event of the simulator, or one that only threads make
 pub data FreeEvent : Type 0 where
   Happens : Event → FreeEvent
-  -- one end is handed a tick, whatever the others are handed
+  -- one link end gets a tick, and the others do not
   TicksEnd : (n k : ℕ) → FreeEvent
   -- an event of an end goes into the lane, however many items wait there
   PumpsOver : (n k : ℕ) → FreeEvent
-  -- an item of any seat that tells no life goes into the lane
+  -- an item of any seat that reports no life goes into the lane
   Puts : (n seat : ℕ) (what : What) → TellsNoLife what → FreeEvent
-  -- the bound life is cut, as where a wire is broken
+  -- the bound life is cut, for instance because a wire is broken
   CutsBound : (n k : ℕ) → FreeEvent
-  -- a life file is another one than before: calls of it failed, or a crash in the middle of a call left it so
+  -- a life file changes: calls of it failed, or a crash in the middle of a call changed it
   ChangesFile : (n k : ℕ) (change : LifeDisk → LifeDisk) → ForgetsNothing change → FreeEvent
-  -- core, ends and lanes of a node are made anew, as by a Restart, and its life files are as they are
+  -- the core, the ends and the lanes of a node are new, as after a Restart, and its life files are unchanged
   StartsAnew : (n : ℕ) → FreeEvent
 
--- of an event of the simulator what the function says, of a start what it says of a Restart, and of all else that only threads do the value
+-- the function for an event of the simulator, its value for a Restart for a start, and the given value for all other
+-- events
 abbrev pub if_happens : {A : Type 0} → (Event → A) → A → FreeEvent → A
 if_happens f value (Happens event) = f event
 if_happens f value (TicksEnd n k) = value
@@ -61,7 +63,7 @@ if_happens f value (StartsAnew n) = f (Restart n None)
 
 -- ---- what it does
 
--- the event, handed the ticks and answers of this choice
+-- the event, with the ticks and results of this choice
 abbrev pub free_by : Choice → World → FreeEvent → World
 free_by c w (Happens event) = world_by c w event
 free_by c w (TicksEnd n k) = with_end w n k (after_tick (settings w n k) (w.ends n k) (c.now n k))
@@ -71,13 +73,13 @@ free_by c w (CutsBound n k) = with_end w n k (after_cut_of_bound (w.ends n k) (b
 free_by c w (ChangesFile n k change kept) = record w { files = put_at w.files n k (change (w.files n k)) }
 free_by c w (StartsAnew n) = record (world_by c w (Restart n None)) { files = w.files }
 
--- the event leaves this world, whatever ticks its calls are handed and whatever is answered for its cargoes
+-- the event may lead to this world, with some ticks for its calls and some results for its cargoes
 abbrev pub MayHappen : World → FreeEvent → World → Type 0
 MayHappen w event after = (c : Choice) × (after ≡ free_by c w event)
 
 -- ---- schedules
 
--- events, each with the ticks and answers of its calls
+-- events, each with the ticks and results of its calls
 abbrev pub Schedule : Type 0
 Schedule = List (FreeEvent × Choice)
 
@@ -85,7 +87,7 @@ unfoldable pub after_schedule : Schedule → World → World
 after_schedule [] w = w
 after_schedule (e ∷ es) w = after_schedule es (free_by e.1 w e.0)
 
--- events of the simulator alone, with any ticks and answers
+-- events of the simulator only, with any ticks and results
 abbrev pub happening : List (Event × Choice) → Schedule
 happening [] = []
 happening (e ∷ es) = (Happens e.0, e.1) ∷ happening es

@@ -1,4 +1,4 @@
--- What a core broadcasts to a neighbour, and how that stands to what was sent.
+-- What a core broadcasts to a neighbour, compared with what was sent.
 use Rattle.std.specs.Prelude.{◌≡◌, ℕ, ◌==◌, ◌⊎◌, Bool, true, false, is_some, if◌then◌else◌, List, [], ◌∷◌, ◌++◌, slice_get, Option, Some, None}
 use Rattle.tora_packet.specs.declared.Packet.{Packet}
 use Rattle.tora_arq.specs.declared.life.Life.{Life}
@@ -24,7 +24,8 @@ is_link_up k (In.LinkDown j) = false
 is_link_up k (In.Packet j packet) = false
 is_link_up k (In.Need d) = false
 
--- the packets broadcast to a neighbour since its link came up last: an input broadcasts to each neighbour whose link is up after it
+-- the packets broadcast to a neighbour since its link came up last: an input broadcasts to each neighbour whose link is
+-- up after it
 abbrev pub with_sends : ℕ → CoreView → Input → ℕ → List Packet → List Packet
 with_sends k c input now packets =
     if is_link_up k input then sends_of c input now
@@ -33,7 +34,8 @@ with_sends k c input now packets =
 
 abbrev pub broadcast_from : ℕ → CoreView → List (Input × ℕ) → List Packet → List Packet
 broadcast_from k c [] packets = packets
-broadcast_from k c ((input, now) ∷ inputs) packets = broadcast_from k (core_after c input now) inputs (with_sends k c input now packets)
+broadcast_from k c ((input, now) ∷ inputs) packets = broadcast_from k (core_after c input now) inputs
+    (with_sends k c input now packets)
 
 -- of the core of n, in this world
 abbrev pub broadcast_packets : Topology → World → ℕ → ℕ → List Packet
@@ -72,7 +74,7 @@ life_by w n k (Arm m call) life = life
 abbrev pub life_after : Choice → World → ℕ → ℕ → Event → Option Life → Option Life
 life_after c w n k event life = if is_some (refusal_by c w event) then life else life_by w n k event life
 
--- a start forgets it as a Restart does, and all else that only threads do takes no life from the lane
+-- a start clears it as a Restart does, and no other event of threads takes a life from the lane
 abbrev pub free_life_after : Choice → World → ℕ → ℕ → FreeEvent → Option Life → Option Life
 free_life_after c w n k event life = if_happens (λ e. life_after c w n k e life) life event
 
@@ -86,7 +88,8 @@ latest_life n k (e ∷ es) w life = latest_life n k es (free_by e.1 w e.0) (free
 abbrev pub IsCut : ℕ → ℕ → Life → World → Type 0
 IsCut n k life w = (w.seats n).pending k ≡ Some life
 
--- of a life that came up last: what was sent begins what the core broadcast while its link was up, and is all of it unless the life was cut
+-- for a life that came up last: what was sent is a prefix of what the core broadcast while its link was up, and all of
+-- it unless the life was cut
 pub record HasNoGap (broadcast sent : List Packet) (WasCut : Type 0) : Type 0 where
   pub begins : Begins sent broadcast
   pub whole : (sent ≡ broadcast) ⊎ WasCut
@@ -95,14 +98,16 @@ pub record IsWithoutGap (t : Topology) (first : World) (es : Schedule) (w : Worl
   -- while a life is current, all that the core broadcast since its link came up was sent in it
   pub now : (life : Life) → (w.seats n).current k ≡ Some life → sent_packets w n k life ≡ broadcast_packets t w n k
   pub current : (life : Life) → (w.seats n).current k ≡ Some life → latest_life n k es first None ≡ Some life
-  pub latest : (life : Life) → latest_life n k es first None ≡ Some life → HasNoGap (broadcast_packets t w n k) (sent_packets w n k life) (Sometime (IsCut n k life) es first)
+  pub latest : (life : Life) → latest_life n k es first None ≡ Some life
+      → HasNoGap (broadcast_packets t w n k) (sent_packets w n k life) (Sometime (IsCut n k life) es first)
 
--- an event sends in no other life than the one that came up last
+-- an event sends only in the life that came up last
 abbrev pub SendsInLatest : World → Schedule → World → ℕ → ℕ → Type 0
 SendsInLatest first es w n k =
-    (event : FreeEvent) (c : Choice) (life : Life) → (free_life_after c w n k event (latest_life n k es first None) ≡ Some life → ⊥) → sent_packets (free_by c w event) n k life ≡ sent_packets w n k life
+    (event : FreeEvent) (c : Choice) (life : Life) → (free_life_after c w n k event (latest_life n k es first None)
+    ≡ Some life → ⊥) → sent_packets (free_by c w event) n k life ≡ sent_packets w n k life
 
--- this holds of every link end of every run over a topology that is not refused within some limits
+-- this holds for every link end of every run over a topology that is not refused within some limits
 abbrev pub EveryEnd : (Topology → World → Schedule → World → ℕ → ℕ → Type 0) → Type 0
 EveryEnd Holds =
     (t : Topology) (times : Times) (es : Schedule) (n k : ℕ) → IsWithinLimits t → is_link t n k ≡ true

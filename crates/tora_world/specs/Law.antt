@@ -1,4 +1,4 @@
--- What holds of every run of the world.
+-- What holds for every run of the world.
 use Rattle.std.specs.Prelude.{◌≡◌, ℕ, ◌≤◌, ◌⊎◌, ◌+◌, Bool, false, not, ◌&&◌, if◌then◌else◌, List, [], ◌∷◌}
 use Rattle.tora_arq.specs.declared.life.Life.{Life}
 use Rattle.tora_arq.specs.declared.times.Times.{Times}
@@ -12,15 +12,16 @@ use Rattle.tora_world.specs.LinkMachine.{MachineStep, machine_after, IsMachineRu
 use Rattle.tora_world.specs.World.{World, first_world, sent_packets, taken_packets}
 use Rattle.tora_world.specs.FreeWorld.{Schedule, free_by, after_schedule}
 
--- this holds of every run from the first world on: of the topology, the schedule, and the world after it
+-- this holds for every run from a first world on: of that world, the schedule, and the world after it
 abbrev pub EveryRun : (World → Schedule → World → Type 0) → Type 0
-EveryRun Holds = (t : Topology) (times : Times) (es : Schedule) → Holds (first_world t times) es (after_schedule es (first_world t times))
+EveryRun Holds = (t : Topology) (times : Times) (es : Schedule) →
+    Holds (first_world t times) es (after_schedule es (first_world t times))
 
--- what was taken in a life begins what was sent in it
+-- what was taken in a life is a prefix of what was sent in it
 abbrev pub TakenBeginsSent : World → Type 0
 TakenBeginsSent w = (a b : ℕ) (life : Life) → Begins (taken_packets w b a (reversed life)) (sent_packets w a b life)
 
--- these are steps of the link machine, each of which might be made when it was made, and its lists are those of this world
+-- these are steps of the link machine, each allowed when it was made, and its lists are those of this world
 pub record IsOfMachine (steps : List MachineStep) (w : World) : Type 0 where
   pub is_run : IsMachineRun steps
   pub sent : (n k : ℕ) → (machine_after steps n k).sent ≡ parcels_in (w.put n k)
@@ -31,12 +32,12 @@ abbrev pub Sometime : (World → Type 0) → Schedule → World → Type 0
 Sometime P [] w = P w
 Sometime P (e ∷ es) w = P w ⊎ Sometime P es (free_by e.1 w e.0)
 
--- the end of n towards k, bound in this life, has accepted so many packets or more
+-- the end of n towards k, bound in this life, has accepted at least this many packets
 pub record HasAccepted (n k : ℕ) (life : Life) (count : ℕ) (w : World) : Type 0 where
   pub bound : (w.ends n k).phase ≡ Bound life
   pub accepted : count ≤ (w.ends n k).accepted
 
--- what an end counts as acknowledged the other end has accepted
+-- the other end has accepted the packets that an end counts as acknowledged
 abbrev pub AcknowledgedIsAccepted : World → Schedule → World → Type 0
 AcknowledgedIsAccepted first es w =
     (a b : ℕ) (life : Life) → (w.ends a b).phase ≡ Bound life
@@ -51,13 +52,14 @@ is_bound_to life (Bound other) = is_same_life life other
 abbrev pub times_bound : ℕ → ℕ → Life → Schedule → World → ℕ
 times_bound n k life [] w = 0
 times_bound n k life (e ∷ es) w =
-    (if is_bound_to life ((free_by e.1 w e.0).ends n k).phase && not (is_bound_to life (w.ends n k).phase) then 1 else 0)
+    (if is_bound_to life ((free_by e.1 w e.0).ends n k).phase && not (is_bound_to life (w.ends n k).phase) then 1
+    else 0)
     + times_bound n k life es (free_by e.1 w e.0)
 
 -- each end binds each pair of numbers at most once
 abbrev pub BindsOnce : World → Schedule → Type 0
 BindsOnce first es = (n k : ℕ) (life : Life) → times_bound n k life es first ≤ 1
 
--- each core is what the inputs that it accepted make of it
+-- each core is the result of the inputs that it accepted
 abbrev pub CoresFollow : Topology → World → Type 0
 CoresFollow t w = (n : ℕ) → (w.seats n).core ≡ core_after_all (new_core t n) (w.inputs n)

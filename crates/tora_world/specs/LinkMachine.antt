@@ -1,4 +1,4 @@
--- The link machine: no frames, windows, timers, retries or files.
+-- The link machine, an abstract link without frames, windows, timers, retries or files.
 use Rattle.std.specs.Prelude.{◌≡◌, ◌≢◌, ℕ, ◌<◌, ◌==◌, ◌&&◌, List, [], ◌∷◌, ◌++◌, length, slice_get, Some, if◌then◌else◌}
 use Rattle.tora_packet.specs.declared.Packet.{Packet}
 use Rattle.tora_arq.specs.declared.life.Life.{Life}
@@ -6,10 +6,10 @@ use Rattle.tora_arq.specs.Lives.{life_of, reversed}
 use Rattle.tora_seat.specs.Serving.{Parcel}
 use Rattle.tora_world.specs.Lists.{parcel_of, packets_of, IsIn, Each}
 
--- what there is of one end of a link
+-- the state of one end of a link
 pub record MachineEnd : Type 0 where
-  pub drawn : List ℕ  -- its numbers, the last first
-  pub bound : List Life  -- the lives that it has bound, the last first
+  pub drawn : List ℕ  -- its numbers, last one first
+  pub bound : List Life  -- the lives that it has bound, last one first
   pub closed : List Life
   pub sent : List Parcel  -- to the other end, in order
   pub taken : List Parcel  -- from the other end, in order
@@ -25,7 +25,7 @@ pub data MachineStep : Type 0 where
   Take : (n k : ℕ) (life : Life) (packet : Packet) → MachineStep
   Close : (n k : ℕ) (life : Life) → MachineStep
 
--- a value for each pair of nodes, changed at one
+-- a function on pairs of nodes, changed at one
 abbrev pub put_at : {A : Type 0} → (ℕ → ℕ → A) → ℕ → ℕ → A → ℕ → ℕ → A
 put_at f n k v a b = if (a == n) && (b == k) then v else f a b
 
@@ -38,10 +38,11 @@ abbrev pub MayStep : Machine → MachineStep → Type 0
 -- a number above all earlier ones of this end
 MayStep m (Draw n k number) = Each (λ earlier. earlier < number) (m n k).drawn
 -- the last number of this end, which it has not bound before, with one that the other end has drawn
-MayStep m (Bind n k own peer) = IsLast own (m n k).drawn × Each (λ life. life.own ≢ own) (m n k).bound × IsIn peer (m k n).drawn
--- in a life that is bound and not closed
+MayStep m (Bind n k own peer) = IsLast own (m n k).drawn × Each (λ life. life.own ≢ own) (m n k).bound
+    × IsIn peer (m k n).drawn
+-- a packet is sent in a life that is bound and not closed
 MayStep m (Send n k life packet) = IsIn life (m n k).bound × Each (λ closed. closed ≢ life) (m n k).closed
--- the next packet that the other end has sent in such a life
+-- the packet taken is the next one that the other end has sent in that life
 MayStep m (Take n k life packet) =
     IsIn life (m n k).bound × Each (λ closed. closed ≢ life) (m n k).closed
     × (slice_get (packets_of (reversed life) (m k n).sent) (length (packets_of life (m n k).taken)) ≡ Some packet)
@@ -72,17 +73,17 @@ after_machine_step m (Close n k life) = put_at m n k (closing (m n k) life)
 abbrev pub empty_machine : Machine
 empty_machine n k = record { drawn = []; bound = []; closed = []; sent = []; taken = [] }
 
--- where the machine is after these steps, the last of which stands first
+-- the machine after these steps, last one first
 abbrev pub machine_after : List MachineStep → Machine
 machine_after [] = empty_machine
 machine_after (s ∷ steps) = after_machine_step (machine_after steps) s
 
--- steps that are made, in their order, behind those before them; of the steps made the last stands first
+-- the steps made so far, last one first, with these steps added in their order
 abbrev pub made : List MachineStep → List MachineStep → List MachineStep
 made [] before = before
 made (s ∷ steps) before = made steps (s ∷ before)
 
--- each step might be made when it was made
+-- each step was allowed when it was made
 abbrev pub IsMachineRun : List MachineStep → Type 0
 IsMachineRun [] = Unit {0}
 IsMachineRun (s ∷ steps) = MayStep (machine_after steps) s × IsMachineRun steps

@@ -1,4 +1,4 @@
--- Packets by the lives that they go in.
+-- Packets by the lives in which they are sent.
 use Rattle.std.specs.Prelude.{◌≡◌, ◌⊎◌, if◌then◌else◌, List, [], ◌∷◌, ◌++◌}
 use Rattle.tora_packet.specs.declared.Packet.{Packet}
 use Rattle.tora_arq.specs.declared.life.Life.{Life}
@@ -10,7 +10,7 @@ use Rattle.tora_seat.specs.Serving.{Parcel}
 abbrev pub parcel_of : Life → Packet → Parcel
 parcel_of life packet = record { life = life; packet = packet }
 
--- the packet, where it is of this life
+-- the packet, if it is of this life
 abbrev pub packet_where : Life → Parcel → List Packet
 packet_where life x = if is_same_life life x.life then x.packet ∷ [] else []
 
@@ -25,7 +25,7 @@ parcels_in [] = []
 parcels_in (Gives.Packet life packet ∷ cargoes) = parcel_of life packet ∷ parcels_in cargoes
 parcels_in (Gives.Cut life ∷ cargoes) = parcels_in cargoes
 
--- one list begins another
+-- one list is a prefix of another
 abbrev pub Begins : List Packet → List Packet → Type 0
 Begins xs ys = (rest : List Packet) × (xs ++ rest ≡ ys)
 

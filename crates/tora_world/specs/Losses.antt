@@ -1,4 +1,4 @@
--- How a node loses its height so that an entry of it stays at a neighbour.
+-- How a node can lose its height while a neighbour keeps an entry for it.
 use Rattle.std.specs.Prelude.{◌≡◌, ◌≢◌, ℕ, Bool, true, false, Option, List, [], ◌∷◌, ◌++◌, None, Some}
 use Rattle.tora_height.specs.declared.level.Level.{Level}
 use Rattle.tora_height.specs.Height.{Quintuple}
@@ -14,22 +14,29 @@ use Rattle.tora_world.specs.World.{World}
 use Rattle.tora_world.specs.Walks.{entry_at}
 use Rattle.tora_world.specs.Rest.{LacksHeight}
 
--- a clear of this level takes the entry of the node that sends it, at a neighbour of this choice: one that remembers erased levels takes any
+-- a clear of this level removes the entry of its sender at a neighbour with this choice; one that remembers erased
+-- levels removes any
 abbrev pub takes_entry : Erasure → Level → Option Quintuple → Bool
 takes_entry Plain level entry = is_entry_at level entry
 takes_entry Remembered level entry = true
 
--- an input takes this height from a view, and the entry of it at a neighbour of this choice does not go by what is broadcast
+-- an input removes this height from a view, and the broadcast does not remove the entry of it at a neighbour with this
+-- choice
 pub data LosesQuietly (choice : Erasure) (v : View) (input : Input) (now : ℕ) (height : Quintuple) : Type 0 where
-  -- a clear is broadcast, of another level than that of the height; so only where the neighbour does not remember erased levels
-  clears_another_level : (tau oid : ℕ) → (outcome_of v input now).broadcast ≡ Some (Tell.Clear tau oid) → takes_entry choice (cleared_level tau oid) (Some height) ≡ false → LosesQuietly choice v input now height
+  -- a clear of another level than that of the height is broadcast; possible only if the neighbour does not remember
+  -- erased levels
+  clears_another_level : (tau oid : ℕ) → (outcome_of v input now).broadcast ≡ Some (Tell.Clear tau oid)
+      → takes_entry choice (cleared_level tau oid) (Some height) ≡ false → LosesQuietly choice v input now height
   -- no entry is left, and nothing is broadcast
-  loses_last_entry : (outcome_of v input now).broadcast ≡ None → (view_after v input now).height ≡ None → known_heights (view_after v input now) ≡ [] → LosesQuietly choice v input now height
-  -- an entry is left and yet there is no height: by the rules the one that is computed is out of range; and nothing is broadcast
-  finds_no_height : (outcome_of v input now).broadcast ≡ None → (view_after v input now).height ≡ None → known_heights (view_after v input now) ≢ [] → LosesQuietly choice v input now height
+  loses_last_entry : (outcome_of v input now).broadcast ≡ None → (view_after v input now).height ≡ None
+      → known_heights (view_after v input now) ≡ [] → LosesQuietly choice v input now height
+  -- an entry is left, but the computed height is out of range, so there is none; nothing is broadcast
+  finds_no_height : (outcome_of v input now).broadcast ≡ None → (view_after v input now).height ≡ None
+      → known_heights (view_after v input now) ≢ [] → LosesQuietly choice v input now height
 
--- one of these inputs of a core did so
-pub record WasLost (choice : Erasure) (first : CoreView) (inputs : List (Input × ℕ)) (d : ℕ) (height : Quintuple) : Type 0 where
+-- one of these inputs of a core did this
+pub record WasLost (choice : Erasure) (first : CoreView) (inputs : List (Input × ℕ)) (d : ℕ) (height : Quintuple) :
+    Type 0 where
   pub before : List (Input × ℕ)
   pub input : Input
   pub now : ℕ
@@ -40,12 +47,15 @@ pub record WasLost (choice : Erasure) (first : CoreView) (inputs : List (Input �
   pub had : view.height ≡ Some height
   pub loses : LosesQuietly choice view input now height
 
--- where an entry is not NULL and its neighbour has no height, the entry is a height that the neighbour had and lost so
+-- if an entry is not NULL and its neighbour has no height, the entry is a height that the neighbour lost in this way
 abbrev pub StaleAreLost : World → Type 0
-StaleAreLost w = (n k d : ℕ) (entry : Quintuple) → entry_at w n k d ≡ Some (Some entry) → LacksHeight w k d → WasLost (erasure_at w.topology n) (new_core w.topology k) (w.inputs k) d entry
+StaleAreLost w = (n k d : ℕ) (entry : Quintuple) → entry_at w n k d ≡ Some (Some entry) → LacksHeight w k d
+    → WasLost (erasure_at w.topology n) (new_core w.topology k) (w.inputs k) d entry
 
--- at a node that remembers erased levels such a height was lost without a broadcast
+-- for a node that remembers erased levels, the neighbour lost that height without a broadcast
 abbrev pub RememberedAreLostInSilence : World → Type 0
 RememberedAreLostInSilence w =
-    (n k d : ℕ) (entry : Quintuple) → erasure_at w.topology n ≡ Remembered → entry_at w n k d ≡ Some (Some entry) → LacksHeight w k d
-    → (lost : WasLost Remembered (new_core w.topology k) (w.inputs k) d entry) × ((outcome_of lost.view lost.input lost.now).broadcast ≡ None)
+    (n k d : ℕ) (entry : Quintuple) → erasure_at w.topology n ≡ Remembered → entry_at w n k d ≡ Some (Some entry)
+    → LacksHeight w k d
+    → (lost : WasLost Remembered (new_core w.topology k) (w.inputs k) d entry)
+    × ((outcome_of lost.view lost.input lost.now).broadcast ≡ None)

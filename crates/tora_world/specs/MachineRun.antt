@@ -34,17 +34,19 @@ steps_of_frame w c None = []
 steps_of_frame w c (Some f) =
     if (w.arms f.header.receiver).receive then []
     else steps_of_binding f.header.receiver f.header.sender (bound_life (w.ends f.header.receiver f.header.sender))
-    (bound_life (after_frame (settings w f.header.receiver f.header.sender) (w.ends f.header.receiver f.header.sender) f (c.now f.header.receiver f.header.sender)))
+    (bound_life (after_frame (settings w f.header.receiver f.header.sender) (w.ends f.header.receiver f.header.sender) f
+    (c.now f.header.receiver f.header.sender)))
 
 -- a current life that ends here: Close
 abbrev pub steps_of_end : ℕ → ℕ → Option Life → List MachineStep
 steps_of_end n k None = []
 steps_of_end n k (Some life) = Close n k life ∷ []
 
--- an item of the link to k, by the life that is current: a life that comes up closes it, a packet of it is taken, and its Down closes it
+-- an item of the link to k, by the current life: a new life closes it, a packet of it is taken, and its Down closes it
 abbrev pub steps_of_link_item : ℕ → ℕ → Option Life → What → List MachineStep
 steps_of_link_item n k current (Tells.Up life) = steps_of_end n k current
-steps_of_link_item n k current (Tells.Packet life packet) = if is_current life current then Take n k life packet ∷ [] else []
+steps_of_link_item n k current (Tells.Packet life packet) = if is_current life current then Take n k life packet ∷ []
+    else []
 steps_of_link_item n k current (Tells.Down life reason) = if is_current life current then Close n k life ∷ [] else []
 steps_of_link_item n k current Tells.Beat = []
 steps_of_link_item n k current (Tells.Need d) = []
@@ -53,7 +55,7 @@ steps_of_link_item n k current Tells.Show = []
 steps_of_link_item n k current (Tells.Status status) = []
 steps_of_link_item n k current Tells.Quit = []
 
--- an item of a seat that is no link: a cut closes the life that is current at that neighbour
+-- an item of a seat that is not a link: a cut closes the life that is current at that neighbour
 abbrev pub steps_of_other_item : ℕ → List ℕ → (ℕ → Option Life) → What → List MachineStep
 steps_of_other_item n ks current (Tells.Up life) = []
 steps_of_other_item n ks current (Tells.Packet life packet) = []
@@ -70,7 +72,7 @@ abbrev pub steps_of_item : ℕ → List ℕ → Option ℕ → (ℕ → Option L
 steps_of_item n ks None current what = steps_of_other_item n ks current what
 steps_of_item n ks (Some k) current what = steps_of_link_item n k (current k) what
 
--- a packet that is put into the lane: Send; one that is handed back ends its life: Close
+-- a packet that is put into the lane: Send; one that the lane returns ends its life: Close
 abbrev pub steps_of_cargo : ℕ → ℕ → Cargo → Bool → List MachineStep
 steps_of_cargo n k (Gives.Packet life packet) put = (if put then Send n k life packet else Close n k life) ∷ []
 steps_of_cargo n k (Gives.Cut life) put = []
@@ -80,7 +82,7 @@ abbrev pub steps_of_offers : ℕ → List Offer → List MachineStep
 steps_of_offers n [] = []
 steps_of_offers n (o ∷ offers) = steps_of_cargo n o.to o.cargo o.put ++ steps_of_offers n offers
 
--- a turn of the core: what the item itself does comes before what is sent for it, as in serving
+-- a turn of the core: the steps of the item come before those of its sends, as in serving
 abbrev pub steps_of_turn : World → Choice → ℕ → List Item → List MachineStep
 steps_of_turn w c n [] = []
 steps_of_turn w c n (item ∷ items) =
@@ -92,7 +94,7 @@ abbrev pub steps_of_restart : ℕ → (ℕ → Option Life) → List ℕ → Lis
 steps_of_restart n current [] = []
 steps_of_restart n current (k ∷ ks) = steps_of_end n k (current k) ++ steps_of_restart n current ks
 
--- an event that is not refused
+-- the effect of an event that is not refused
 abbrev pub steps_of_effect : Choice → World → Event → List MachineStep
 steps_of_effect c w (Open n k) = steps_of_opening n k (drawn_by DrawsNumber (w.files n k))
 steps_of_effect c w (Deliver i) = steps_of_frame w c (datagram w i)
@@ -105,15 +107,15 @@ steps_of_effect c w (Transmit n k) = []
 steps_of_effect c w (Pump n k) = []
 steps_of_effect c w (Arm n call) = []
 
--- any event, the first step standing first
+-- any event, first step first
 abbrev pub steps_by : Choice → World → Event → List MachineStep
 steps_by c w event = if is_some (refusal_by c w event) then [] else steps_of_effect c w event
 
--- a start makes the steps of a Restart, and all else that only threads do is no step
+-- a start makes the steps of a Restart, and the other events of threads make no step
 abbrev pub free_steps_by : Choice → World → FreeEvent → List MachineStep
 free_steps_by c w event = if_happens (λ e. steps_by c w e) [] event
 
--- all steps of a run behind those before it, the last step standing first
+-- all steps of a run added to those before it, last one first
 abbrev pub machine_steps : Schedule → World → List MachineStep → List MachineStep
 machine_steps [] w before = before
 machine_steps (e ∷ es) w before = machine_steps es (free_by e.1 w e.0) (made (free_steps_by e.1 w e.0) before)

@@ -1,4 +1,4 @@
--- Worlds at rest: nothing is under way. What entries, next hops and walks are then.
+-- Worlds at rest, in which no message is pending, and the entries, next hops and walks in them.
 use Rattle.std.specs.Prelude.{◌≡◌, ◌≢◌, ◌⊎◌, ℕ, ◌≤◌, ◌&&◌, Bool, true, false, if◌then◌else◌, List, [], ◌∷◌, length, Option, Some, None, option_map}
 use Rattle.std.specs.List.{list_all}
 use Rattle.tora_height.specs.Height.{Quintuple}
@@ -12,11 +12,11 @@ use Rattle.tora_world.specs.Walks.{height_at, hop_at, entry_at, IsBelow}
 
 -- ---- at rest
 
--- the life in which a link is up at the core of n; None where it is not up, or where there is no such link
+-- the life in which a link is up at the core of n; None if it is not up or there is no such link
 abbrev pub life_at : World → ℕ → ℕ → Option Life
 life_at w n k = if is_link w.topology n k then (w.seats n).current k else None
 
--- of one end of a link: nothing waits in the lane to it or in it, and all that was submitted to it was acknowledged
+-- nothing waits in the lane to a link end or in the end, and all packets submitted to it are acknowledged
 pub record IsIdleEnd (w : World) (n k : ℕ) : Type 0 where
   pub cargoes : w.cargoes n k ≡ []
   pub events : (w.ends n k).events ≡ []
@@ -27,8 +27,8 @@ pub record IsInOneLife (w : World) (n k : ℕ) : Type 0 where
   pub same : life_at w n k ≡ option_map reversed (life_at w k n)
   pub bound : (life : Life) → life_at w n k ≡ Some life → bound_life (w.ends n k) ≡ Some life
 
--- no item, cargo or event waits, nothing that was submitted is unacknowledged, and each link is up at both ends or at neither.
--- Frames may go on that say HELLO or repeat an ACK, and datagrams may lie about.
+-- no item, cargo or event waits, nothing that was submitted is unacknowledged, and each link is up at both ends or at
+-- neither. HELLOs and repeated ACKs may still be due, and old datagrams may still be delivered.
 pub record IsAtRest (w : World) : Type 0 where
   pub items : (n : ℕ) → is_node w.topology n ≡ true → w.items n ≡ []
   pub idle : (n k : ℕ) → is_link w.topology n k ≡ true → IsIdleEnd w n k
@@ -52,11 +52,11 @@ is_link_at_rest w n k = is_idle_end w n k && is_one_life (life_at w n k) (life_a
 abbrev pub is_node_at_rest : World → ℕ → Bool
 is_node_at_rest w n = is_empty (w.items n) && list_all (is_link_at_rest w n) (neighbours_of w.topology n)
 
--- every node and each of its links is looked at
+-- every node and each of its links passes the test
 abbrev pub rests : World → Bool
 rests w = list_all (is_node_at_rest w) (nodes_in w.topology.links)
 
--- ---- what entries are then
+-- ---- entries at rest
 
 -- a node has no height
 abbrev pub LacksHeight : World → ℕ → ℕ → Type 0
@@ -64,7 +64,8 @@ LacksHeight w k d = height_at w k d ≡ Some None
 
 -- an entry for a neighbour whose link is up is NULL, or the neighbour's height, or the neighbour has no height
 abbrev pub EntriesAreHeights : World → Type 0
-EntriesAreHeights w = (n k d : ℕ) (entry : Quintuple) → entry_at w n k d ≡ Some (Some entry) → (height_at w k d ≡ Some (Some entry)) ⊎ LacksHeight w k d
+EntriesAreHeights w = (n k d : ℕ) (entry : Quintuple) → entry_at w n k d ≡ Some (Some entry)
+    → (height_at w k d ≡ Some (Some entry)) ⊎ LacksHeight w k d
 
 -- ---- next hops
 
@@ -73,10 +74,12 @@ abbrev pub FollowsHops : World → ℕ → ℕ → List ℕ → Type 0
 FollowsHops w d n [] = Unit {0}
 FollowsHops w d n (k ∷ nodes) = (n ≢ d) × (hop_at w n d ≡ Some k) × FollowsHops w d k nodes
 
--- the same, and each is lower than the one before it, up to the destination or to a node that has no height
+-- these nodes come after node n by next hops, each lower than the one before it, up to the destination or to a node
+-- that has no height
 abbrev pub GoesDown : World → ℕ → ℕ → List ℕ → Type 0
 GoesDown w d n [] = n ≡ d
-GoesDown w d n (k ∷ nodes) = (n ≢ d) × (hop_at w n d ≡ Some k) × ((IsBelow w d k n × GoesDown w d k nodes) ⊎ (LacksHeight w k d × (nodes ≡ [])))
+GoesDown w d n (k ∷ nodes) = (n ≢ d) × (hop_at w n d ≡ Some k) × ((IsBelow w d k n × GoesDown w d k nodes)
+    ⊎ (LacksHeight w k d × (nodes ≡ [])))
 
 -- the next hop of a node: a node with a lower height, or one that has none
 pub record HopsDown (w : World) (d n : ℕ) : Type 0 where
@@ -84,7 +87,7 @@ pub record HopsDown (w : World) (d n : ℕ) : Type 0 where
   pub next : hop_at w n d ≡ Some hop
   pub lower : IsBelow w d hop n ⊎ LacksHeight w hop d
 
--- the hops from n come to the destination or to a node without a height, within as many hops as there are nodes
+-- the hops from n reach the destination or a node without a height in at most as many hops as there are nodes
 pub record ComesDown (w : World) (n d : ℕ) : Type 0 where
   pub after : List ℕ
   pub goes : GoesDown w d n after
@@ -101,7 +104,7 @@ last_of n (k ∷ nodes) = last_of k nodes
 
 -- ---- components
 
--- the nodes that links lead to from n, each up at the node that it leads from
+-- the nodes that are reachable from n over links, each up at the node that it leaves
 pub data IsReached (w : World) (d n : ℕ) : ℕ → Type 0 where
   itself : IsReached w d n n
   further : {j k : ℕ} {entry : Option Quintuple} → IsReached w d n j → entry_at w j k d ≡ Some entry → IsReached w d n k

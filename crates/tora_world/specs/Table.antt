@@ -1,4 +1,5 @@
--- The table of docs/simulation.md as a relation: a case for each event and each outcome, with what changes, and all else as it was.
+-- The table of docs/simulation.md as a relation: a case for each event and each outcome, with the changes, and
+-- everything else unchanged.
 use Rattle.std.specs.Prelude.{◌≡◌, ◌≢◌, ◌↔◌, ◌⊎◌, ℕ, suc, ◌+◌, ◌<◌, ◌≤◌, Bool, true, false, List, [], ◌∷◌, ◌++◌, length, Option, Some, None}
 use Rattle.tora_packet.specs.declared.Packet.{Packet}
 use Rattle.tora_frame.specs.FrameParts.{FrameParts}
@@ -51,7 +52,7 @@ HasRoom w n = length (w.items n) < MOST_ITEMS
 abbrev pub IsFull : World → ℕ → Type 0
 IsFull w n = MOST_ITEMS ≤ length (w.items n)
 
--- of all datagrams ever sent, numbered from 1, this is that of a number
+-- this is the datagram with a number among all ever sent, counted from 1
 pub record IsDatagram (w : World) (i : ℕ) (f : FrameParts) : Type 0 where
   pub before : List FrameParts
   pub behind : List FrameParts
@@ -66,7 +67,7 @@ pub record IsSeatOf (k : ℕ) (neighbours : List ℕ) (seat : ℕ) : Type 0 wher
   pub first : has_number k before ≡ false
   pub place : seat ≡ length before
 
--- what the event of a link end tells the core: a life that came up, a packet, a life that went down
+-- the item for an event of a link end: a life that came up, a packet, a life that went down
 pub data IsTold : LinkEvent → What → Type 0 where
   up_told : {life : Life} → IsTold (Link.Up life) (Tells.Up life)
   packet_told : {life : Life} {packet : Packet} → IsTold (Link.Deliver life packet) (Tells.Packet life packet)
@@ -90,34 +91,39 @@ IsImpossible c w (Restart n torn) = ⊥
 pub data IsRefusedBy (c : Choice) (w : World) : Event → SimError → Type 0 where
   no_node : {event : Event} → is_there w event ≡ false → IsRefusedBy c w event Refused.NoNode
   no_datagram : {i : ℕ} → (i ≡ 0) ⊎ (length w.datagrams < i) → IsRefusedBy c w (Deliver i) Refused.NoDatagram
-  not_possible : {event : Event} → is_there w event ≡ true → IsImpossible c w event → IsRefusedBy c w event Refused.NotPossible
+  not_possible : {event : Event} → is_there w event ≡ true → IsImpossible c w event
+      → IsRefusedBy c w event Refused.NotPossible
 
 -- ---- the table
 
--- the event leaves this world, with these ticks and these answers
+-- the event leads to this world, with these ticks and these results
 pub data IsStepBy (c : Choice) (w : World) : Event → World → Type 0 where
-  -- an event that is refused changes nothing
-  refused : {event : Event} {error : SimError} {after : World} → IsRefusedBy c w event error → AllElse [] w after → IsStepBy c w event after
-  -- need: it stands in the lane, in the seat of the commands
+  -- a refused event changes nothing
+  refused : {event : Event} {error : SimError} {after : World} → IsRefusedBy c w event error → AllElse [] w after
+      → IsStepBy c w event after
+  -- need: its item is in the lane, from the seat of the commands
   needed : {n d : ℕ} {after : World} → is_node w.topology n ≡ true → HasRoom w n
       → PutsItem w n (command_seat w n) c.stamp (Tells.Need d) after
       → AllElse (Items ∷ Counts ∷ []) w after → IsStepBy c w (Need n d) after
-  -- tick: the clock, and every link end
-  ticked : {after : World} → after.clock ≡ c.clock → ((n k : ℕ) → after.ends n k ≡ after_tick (settings w n k) (w.ends n k) (c.now n k))
+  -- tick: the clock and every link end advance
+  ticked : {after : World} → after.clock ≡ c.clock → ((n k : ℕ) →
+      after.ends n k ≡ after_tick (settings w n k) (w.ends n k) (c.now n k))
       → AllElse (Clock ∷ Ends ∷ []) w after → IsStepBy c w Tick after
-  -- open: a closed end with the number that its life file draws
-  opened : {n k number : ℕ} {none : List ℕ} {after : World} → is_link w.topology n k ≡ true → (w.ends n k).phase ≡ Closed
+  -- open: a closed end is opened with the number that its life file draws
+  opened : {n k number : ℕ} {none : List ℕ} {after : World} → is_link w.topology n k ≡ true
+      → (w.ends n k).phase ≡ Closed
       → drawn_by DrawsNumber (w.files n k) ≡ number ∷ none
       → ChangesAtEnd n k (after_open (w.ends n k) number (c.now n k)) w.ends after.ends
       → ChangesAtEnd n k (after_event DrawsNumber (w.files n k)) w.files after.files
       → AllElse (Ends ∷ Files ∷ []) w after → IsStepBy c w (Open n k) after
-  -- where it draws none, since it is not open or a call of its disk fails, the end stays closed
+  -- if it draws none, because it is not open or a call of its disk fails, the end stays closed
   stays_closed : {n k : ℕ} {after : World} → is_link w.topology n k ≡ true → (w.ends n k).phase ≡ Closed
       → drawn_by DrawsNumber (w.files n k) ≡ []
       → ChangesAtEnd n k (after_event DrawsNumber (w.files n k)) w.files after.files
       → AllElse (Files ∷ []) w after → IsStepBy c w (Open n k) after
   -- pull: the first cargo of the lane leaves it, a packet is submitted, a cut cuts its life
-  packet_pulled : {n k : ℕ} {life : Life} {packet : Packet} {cargoes : List Cargo} {after : World} → is_link w.topology n k ≡ true
+  packet_pulled : {n k : ℕ} {life : Life} {packet : Packet} {cargoes : List Cargo} {after : World}
+      → is_link w.topology n k ≡ true
       → w.cargoes n k ≡ Gives.Packet life packet ∷ cargoes
       → ChangesAtEnd n k (after_submit (w.ends n k) life packet) w.ends after.ends
       → ChangesAtEnd n k cargoes w.cargoes after.cargoes
@@ -127,13 +133,14 @@ pub data IsStepBy (c : Choice) (w : World) : Event → World → Type 0 where
       → ChangesAtEnd n k (after_cut (w.ends n k) life) w.ends after.ends
       → ChangesAtEnd n k cargoes w.cargoes after.cargoes
       → AllElse (Ends ∷ Cargoes ∷ []) w after → IsStepBy c w (Pull n k) after
-  -- transmit: the first frame due goes out
+  -- transmit: the first frame due is sent
   sent : {n k : ℕ} {f : FrameParts} {after : World} → is_link w.topology n k ≡ true
       → frame_due (settings w n k) (w.ends n k) (c.now n k) ≡ Some f → (w.arms n).sending ≡ Goes
       → ChangesAtEnd n k (after_transmit (settings w n k) (w.ends n k) (c.now n k)) w.ends after.ends
       → after.datagrams ≡ w.datagrams ++ f ∷ []
       → AllElse (Ends ∷ Datagrams ∷ []) w after → IsStepBy c w (Transmit n k) after
-  -- the send is armed to fail, so that the frame does not go out, or goes out all the same; the try counts in both cases, and the arm is used up
+  -- an armed send fails, so that the frame is lost, or is sent nevertheless; the try counts in both cases, and the
+  -- armed failure is used up
   send_lost : {n k : ℕ} {f : FrameParts} {after : World} → is_link w.topology n k ≡ true
       → frame_due (settings w n k) (w.ends n k) (c.now n k) ≡ Some f → (w.arms n).sending ≡ IsLost
       → ChangesAtEnd n k (after_transmit (settings w n k) (w.ends n k) (c.now n k)) w.ends after.ends
@@ -145,22 +152,27 @@ pub data IsStepBy (c : Choice) (w : World) : Event → World → Type 0 where
       → after.datagrams ≡ w.datagrams ++ f ∷ []
       → ChangesAt n (record { sending = Goes; receive = (w.arms n).receive }) w.arms after.arms
       → AllElse (Ends ∷ Armed ∷ Datagrams ∷ []) w after → IsStepBy c w (Transmit n k) after
-  -- deliver: the datagram is handed to the end that it is meant for
+  -- deliver: the datagram is passed to the end that it is for
   received : {i : ℕ} {f : FrameParts} {after : World} → IsDatagram w i f → (w.arms f.header.receiver).receive ≡ false
-      → ChangesAtEnd f.header.receiver f.header.sender (after_frame (settings w f.header.receiver f.header.sender) (w.ends f.header.receiver f.header.sender) f (c.now f.header.receiver f.header.sender)) w.ends after.ends
+      → ChangesAtEnd f.header.receiver f.header.sender (after_frame (settings w f.header.receiver f.header.sender)
+      (w.ends f.header.receiver f.header.sender) f (c.now f.header.receiver f.header.sender)) w.ends after.ends
       → AllElse (Ends ∷ []) w after → IsStepBy c w (Deliver i) after
-  -- a receive that is armed to fail hands nothing over, and the arm is used up
-  receive_failed : {i : ℕ} {f : FrameParts} {after : World} → IsDatagram w i f → (w.arms f.header.receiver).receive ≡ true
-      → ChangesAt f.header.receiver (record { sending = (w.arms f.header.receiver).sending; receive = false }) w.arms after.arms
+  -- an armed receive returns nothing, and the armed failure is used up
+  receive_failed : {i : ℕ} {f : FrameParts} {after : World} → IsDatagram w i f
+      → (w.arms f.header.receiver).receive ≡ true
+      → ChangesAt f.header.receiver (record { sending = (w.arms f.header.receiver).sending; receive = false }) w.arms
+      after.arms
       → AllElse (Armed ∷ []) w after → IsStepBy c w (Deliver i) after
-  -- pump: the first event of the end leaves it, and stands in the lane in the seat of its neighbour
+  -- pump: the first event of the end leaves it, and its item is in the lane, from the seat of the neighbour
   pumped : {n k seat : ℕ} {event : LinkEvent} {what : What} {after : World} → is_link w.topology n k ≡ true
       → first_event (w.ends n k) ≡ Some event → HasRoom w n → IsTold event what → IsSeatOf k (neighbours w n) seat
       → ChangesAtEnd n k (after_poll_event (w.ends n k)) w.ends after.ends
       → PutsItem w n seat c.stamp what after
       → AllElse (Ends ∷ Items ∷ Counts ∷ []) w after → IsStepBy c w (Pump n k) after
-  -- turn: the core takes the first item of its lane and serves it, and what it sends goes into the lanes to its neighbours
-  turned : {n : ℕ} {item : Item} {items : List Item} {after : World} → is_node w.topology n ≡ true → w.items n ≡ item ∷ items
+  -- turn: the core takes the first item of its lane and serves it, and what it sends goes into the lanes to its
+  -- neighbours
+  turned : {n : ℕ} {item : Item} {items : List Item} {after : World} → is_node w.topology n ≡ true
+      → w.items n ≡ item ∷ items
       → LeavesServed w n items (serving_of c.answers (neighbours w n) (w.seats n) item) after
       → AllElse (Seats ∷ Items ∷ Cargoes ∷ Put ∷ Inputs ∷ Steps ∷ []) w after → IsStepBy c w (CoreTurn n) after
   -- arm: the next send, the next delivery, or the next call of each life file of the node
@@ -173,13 +185,17 @@ pub data IsStepBy (c : Choice) (w : World) : Event → World → Type 0 where
   receive_armed : {n : ℕ} {after : World} → is_node w.topology n ≡ true
       → ChangesAt n (record { sending = (w.arms n).sending; receive = true }) w.arms after.arms
       → AllElse (Armed ∷ []) w after → IsStepBy c w (Arm n Fails.Receive) after
-  read_armed : {n : ℕ} {after : World} → is_node w.topology n ≡ true → ChangesFiles n (after_event (ArmsDisk Disk.Read)) w after
+  read_armed : {n : ℕ} {after : World} → is_node w.topology n ≡ true
+      → ChangesFiles n (after_event (ArmsDisk Disk.Read)) w after
       → AllElse (Files ∷ []) w after → IsStepBy c w (Arm n Fails.Read) after
-  write_armed : {n : ℕ} {after : World} → is_node w.topology n ≡ true → ChangesFiles n (after_event (ArmsDisk Disk.Write)) w after
+  write_armed : {n : ℕ} {after : World} → is_node w.topology n ≡ true
+      → ChangesFiles n (after_event (ArmsDisk Disk.Write)) w after
       → AllElse (Files ∷ []) w after → IsStepBy c w (Arm n Fails.Write) after
-  sync_armed : {n : ℕ} {after : World} → is_node w.topology n ≡ true → ChangesFiles n (after_event (ArmsDisk Disk.Sync)) w after
+  sync_armed : {n : ℕ} {after : World} → is_node w.topology n ≡ true
+      → ChangesFiles n (after_event (ArmsDisk Disk.Sync)) w after
       → AllElse (Files ∷ []) w after → IsStepBy c w (Arm n Fails.Sync) after
-  -- restart: core, ends and lanes are new, and the life files are opened after a crash; calls that are armed stay so
+  -- restart: the core, the ends and the lanes are new, and the life files are opened after a crash; armed calls stay
+  -- armed
   restarted : {n : ℕ} {torn : Option (List ℕ)} {after : World} → is_node w.topology n ≡ true
       → ChangesAt n (first_seat w.topology n) w.seats after.seats
       → ChangesAt n (λ k. first_end) w.ends after.ends
@@ -188,7 +204,8 @@ pub data IsStepBy (c : Choice) (w : World) : Event → World → Type 0 where
       → ChangesAt n (λ k. []) w.cargoes after.cargoes
       → ChangesAt n [] w.inputs after.inputs
       → ChangesFiles n (λ disk. after_event (OpensAnew (after_crash torn (state_in disk))) disk) w after
-      → AllElse (Seats ∷ Ends ∷ Files ∷ Items ∷ Counts ∷ Cargoes ∷ Inputs ∷ []) w after → IsStepBy c w (Restart n torn) after
+      → AllElse (Seats ∷ Ends ∷ Files ∷ Items ∷ Counts ∷ Cargoes ∷ Inputs ∷ []) w after
+      → IsStepBy c w (Restart n torn) after
 
 -- ---- the simulator's own choice
 
@@ -200,10 +217,11 @@ pub record IsOwnChoice (w : World) (event : Event) (c : Choice) : Type 0 where
   pub clock : IsTickOf w event c.clock
   pub now : (n k : ℕ) → IsTickOf w event (c.now n k)
   pub stamp : IsTickOf w event c.stamp
-  -- a lane takes a cargo where it has room for one, with those that the same turn has put there before
-  pub answers : (n : ℕ) → event ≡ CoreTurn n → (offers : List Offer) (k : ℕ) → (c.answers offers k ≡ true) ↔ (length (w.cargoes n k) + length (put_to k offers) < MOST_CARGOES)
+  -- a lane takes a cargo if it has room, counting those that the same turn has put there before
+  pub answers : (n : ℕ) → event ≡ CoreTurn n → (offers : List Offer) (k : ℕ) → (c.answers offers k ≡ true)
+      ↔ (length (w.cargoes n k) + length (put_to k offers) < MOST_CARGOES)
 
--- the event leaves this world in the simulator
+-- the event leads to this world in the simulator
 abbrev pub IsStep : World → Event → World → Type 0
 IsStep w event after = (c : Choice) × IsOwnChoice w event c × IsStepBy c w event after
 

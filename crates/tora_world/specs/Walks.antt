@@ -1,4 +1,4 @@
--- Where the entries of all nodes for a destination are their neighbours' heights, and the walk that follows next hops.
+-- Exact entries for a destination, and the walk along next hops.
 use Rattle.std.specs.Prelude.{◌≡◌, ◌≢◌, ℕ, zero, suc, ◌≤◌, ◌==◌, Bool, true, false, if◌then◌else◌, List, [], ◌∷◌, length, Option, Some, None, option_map}
 use Rattle.std.specs.List.{list_all, AllByRecursion}
 use Rattle.std.specs.Ordering.{is_eq}
@@ -11,24 +11,25 @@ use Rattle.tora_world.specs.Topology.{Topology, Link, IsWithinLimits, nodes_in, 
 use Rattle.tora_world.specs.World.{World, first_world}
 use Rattle.tora_world.specs.FreeWorld.{Schedule, after_schedule}
 
--- ---- what is read of a node
+-- ---- values of a node
 
--- its height for a destination, and its next hop; None where there is no such node or destination
+-- the height of a node for a destination, and its next hop; None if there is no such node or destination
 abbrev pub height_at : World → ℕ → ℕ → Option (Option Quintuple)
 height_at w n d = if is_node w.topology n then height_of (w.seats n).core d else None
 
 abbrev pub hop_at : World → ℕ → ℕ → Option ℕ
 hop_at w n d = if is_node w.topology n then hop_of (w.seats n).core d else None
 
--- the entry of one of its neighbours for a destination; None where the link is not up as well
+-- the entry of a neighbour for a destination; None also if the link is not up
 abbrev pub entry_at : World → ℕ → ℕ → ℕ → Option (Option Quintuple)
 entry_at w n k d = if is_node w.topology n then entry_of (w.seats n).core d k else None
 
 -- ---- exact entries
 
--- every entry for the destination that is not NULL is the height of the neighbour whose entry it is
+-- every entry for the destination that is not NULL is the neighbour's current height
 abbrev pub IsExact : World → ℕ → Type 0
-IsExact w d = (n k : ℕ) (height : Quintuple) → entry_at w n k d ≡ Some (Some height) → height_at w k d ≡ Some (Some height)
+IsExact w d =
+    (n k : ℕ) (height : Quintuple) → entry_at w n k d ≡ Some (Some height) → height_at w k d ≡ Some (Some height)
 
 -- a node has this height
 abbrev pub is_height : Quintuple → Option (Option Quintuple) → Bool
@@ -45,7 +46,7 @@ is_exact_entry (Some (Some entry)) height = is_height entry height
 abbrev pub is_exact_node : World → ℕ → ℕ → Bool
 is_exact_node w d n = list_all (λ k. is_exact_entry (entry_at w n k d) (height_at w k d)) (neighbours_of w.topology n)
 
--- the entries of all nodes are compared with their neighbours' heights
+-- compares the entries of all nodes with their neighbours' heights
 abbrev pub exact_in : World → ℕ → Bool
 exact_in w d = list_all (is_exact_node w d) (nodes_in w.topology.links)
 
@@ -56,15 +57,16 @@ abbrev pub LeadsOn : World → ℕ → ℕ → List ℕ → Type 0
 LeadsOn w d n [] = n ≡ d
 LeadsOn w d n (k ∷ nodes) = (n ≢ d) × (hop_at w n d ≡ Some k) × LeadsOn w d k nodes
 
--- the nodes that are met from n to the destination, both of them included
+-- the nodes on the way from n to the destination, both included
 abbrev pub IsWalk : World → ℕ → ℕ → List ℕ → Type 0
 IsWalk w n d [] = ⊥
 IsWalk w n d (m ∷ nodes) = (m ≡ n) × LeadsOn w d n nodes
 
--- the walk of at most so many hops, if there is one
+-- the walk of at most this many hops, if there is one
 abbrev pub walk_within : ℕ → World → ℕ → ℕ → Option (List ℕ)
 walk_within zero w n d = if n == d then Some (n ∷ []) else None
-walk_within (suc hops) w n d = if n == d then Some (n ∷ []) else elim (hop_at w n d) [ None ↦ None | Some k ↦ option_map (λ nodes. n ∷ nodes) (walk_within hops w k d) ]
+walk_within (suc hops) w n d = if n == d then Some (n ∷ []) else elim (hop_at w n d)
+    [ None ↦ None | Some k ↦ option_map (λ nodes. n ∷ nodes) (walk_within hops w k d) ]
 
 -- the walk of at most as many hops as there are nodes
 abbrev pub walk_of : World → ℕ → ℕ → Option (List ℕ)
@@ -85,7 +87,8 @@ abbrev pub FallsFrom : World → ℕ → ℕ → List ℕ → Type 0
 FallsFrom w d n [] = Unit {0}
 FallsFrom w d n (k ∷ nodes) = IsBelow w d k n × FallsFrom w d k nodes
 
--- the hops from n reach the destination within as many hops as there are nodes, each to a lower height, and are the walk
+-- the hops from n reach the destination, each to a lower height, in at most as many hops as there are nodes, and are
+-- the walk
 pub record Arrives (w : World) (n d : ℕ) : Type 0 where
   pub after : List ℕ
   pub leads : LeadsOn w d n after
@@ -93,12 +96,13 @@ pub record Arrives (w : World) (n d : ℕ) : Type 0 where
   pub falls : FallsFrom w d n after
   pub walk : walk_of w n d ≡ Some (n ∷ after)
 
--- the numbers of the topology are those that nodes have
+-- the numbers of the topology are numbers of nodes
 pub record AreIds (t : Topology) : Type 0 where
   pub links : AllByRecursion (λ (link : Link). IsId link.a × IsId link.b) t.links
   pub destinations : AllByRecursion IsId t.destinations
 
--- this holds of every world that events reach over a topology that is not refused within some limits
+-- this holds for every world that events reach over a topology that is not refused within some limits
 abbrev pub EveryWorld : (World → Type 0) → Type 0
 EveryWorld Holds =
-    (t : Topology) (times : Times) (es : Schedule) → IsWithinLimits t → AreIds t → Holds (after_schedule es (first_world t times))
+    (t : Topology) (times : Times) (es : Schedule) → IsWithinLimits t → AreIds t
+    → Holds (after_schedule es (first_world t times))

@@ -1,4 +1,4 @@
--- Two nodes whose link comes up, computed event by event: what the laws say of a run is not empty.
+-- An example run of two nodes whose link comes up, computed event by event, so that the laws are not vacuous.
 use Rattle.std.specs.Prelude.{◌++◌, false, List, [], ◌∷◌, pos, None}
 use Rattle.tora_packet.specs.declared.Packet.{Packet}
 use Rattle.tora_packet.specs.declared.Packet.TheVariants.{Upd}
@@ -33,34 +33,39 @@ update = Upd (record { destination = 2; height = record { tau = 0; oid = 0; r = 
 
 -- node 1 needs node 2; both ends are opened; three HELLOs bind them; the life that comes up waits in node 1's lane
 abbrev pub binding : List Event
-binding = Need 1 2 ∷ CoreTurn 1 ∷ Open 1 2 ∷ Open 2 1 ∷ Transmit 1 2 ∷ Deliver 1 ∷ Transmit 2 1 ∷ Deliver 2 ∷ Transmit 1 2 ∷ Deliver 3 ∷ Pump 1 2 ∷ Pump 2 1 ∷ CoreTurn 2 ∷ []
+binding = Need 1 2 ∷ CoreTurn 1 ∷ Open 1 2 ∷ Open 2 1 ∷ Transmit 1 2 ∷ Deliver 1 ∷ Transmit 2 1 ∷ Deliver 2
+    ∷ Transmit 1 2 ∷ Deliver 3 ∷ Pump 1 2 ∷ Pump 2 1 ∷ CoreTurn 2 ∷ []
 
--- the core of node 1 steps it and sends its update, which is submitted, transmitted, delivered twice, and stepped by the core of node 2
+-- the core of node 1 takes it and sends its update, which is submitted, transmitted, delivered twice, and taken by the
+-- core of node 2
 abbrev pub meeting : List Event
 meeting = binding ++ CoreTurn 1 ∷ Pull 1 2 ∷ Transmit 1 2 ∷ Deliver 4 ∷ Deliver 4 ∷ Pump 2 1 ∷ CoreTurn 2 ∷ []
 
 abbrev pub met : World
 met = after_schedule (own_schedule meeting start) start
 
--- the steps of the link machine until both ends are bound, the last standing first
+-- the steps of the link machine until both ends are bound, last one first
 abbrev pub bound_steps : List MachineStep
 bound_steps = Bind 2 1 1 1 ∷ Bind 1 2 1 1 ∷ Draw 2 1 1 ∷ Draw 1 2 1 ∷ []
 
--- then node 1 begins anew
+-- then node 1 restarts
 abbrev pub restart : Schedule
 restart = own_schedule (meeting ++ Restart 1 None ∷ []) start
 
 -- and needs node 2 once more, opens its end, and its HELLO ends the life at node 2
 abbrev pub ending : List Event
-ending = meeting ++ Restart 1 None ∷ Need 1 2 ∷ CoreTurn 1 ∷ Open 1 2 ∷ Transmit 1 2 ∷ Deliver 5 ∷ Pump 2 1 ∷ CoreTurn 2 ∷ []
+ending = meeting ++ Restart 1 None ∷ Need 1 2 ∷ CoreTurn 1 ∷ Open 1 2 ∷ Transmit 1 2 ∷ Deliver 5 ∷ Pump 2 1 ∷ CoreTurn 2
+    ∷ []
 
--- the second life of the link, as node 1 writes it: its life file had set the numbers up to 16 aside, and node 2 draws its next one
+-- the second life of the link, as node 1 writes it: its life file had reserved the numbers up to 16, and node 2 draws
+-- its next one
 abbrev pub second_life : Life
 second_life = record { own = 17; peer = 2 }
 
 -- node 2 opens its end too, the second life is bound and comes up, and node 1 sends its update in it
 abbrev pub meeting_again : List Event
-meeting_again = ending ++ Open 2 1 ∷ Deliver 5 ∷ Transmit 2 1 ∷ Deliver 6 ∷ Transmit 1 2 ∷ Deliver 7 ∷ Pump 1 2 ∷ Pump 2 1 ∷ CoreTurn 2 ∷ CoreTurn 1 ∷ Pull 1 2 ∷ Transmit 1 2 ∷ Deliver 8 ∷ Pump 2 1 ∷ CoreTurn 2 ∷ []
+meeting_again = ending ++ Open 2 1 ∷ Deliver 5 ∷ Transmit 2 1 ∷ Deliver 6 ∷ Transmit 1 2 ∷ Deliver 7 ∷ Pump 1 2
+    ∷ Pump 2 1 ∷ CoreTurn 2 ∷ CoreTurn 1 ∷ Pull 1 2 ∷ Transmit 1 2 ∷ Deliver 8 ∷ Pump 2 1 ∷ CoreTurn 2 ∷ []
 
 abbrev pub met_again : World
 met_again = after_schedule (own_schedule meeting_again start) start
@@ -69,7 +74,7 @@ met_again = after_schedule (own_schedule meeting_again start) start
 abbrev pub ended_steps : List MachineStep
 ended_steps = Close 2 1 life ∷ Draw 1 2 17 ∷ Close 1 2 life ∷ Take 2 1 life update ∷ Send 1 2 life update ∷ bound_steps
 
--- in place of the rest, the lane to node 2 hands the update back
+-- instead of that, the lane to node 2 returns the update
 abbrev pub refusing : Choice
 refusing = record { clock = 0; now = λ n k. 0; stamp = 0; answers = λ offers k. false }
 
@@ -83,11 +88,20 @@ handed_back = after_schedule refusal start
 
 -- the same two nodes, where a node that is neither of them is the destination
 abbrev pub pair_elsewhere : Topology
-pair_elsewhere = record { links = record { a = 1; b = 2 } ∷ []; destinations = 3 ∷ []; olds = []; erasure = Plain; choices = [] }
+pair_elsewhere = record {
+  links = record { a = 1; b = 2 } ∷ [];
+  destinations = 3 ∷ [];
+  olds = [];
+  erasure = Plain;
+  choices = [];
+}
 
 abbrev pub start_elsewhere : World
 start_elsewhere = first_world pair_elsewhere times
 
--- both ends are bound and up, node 1 needs node 3 and asks node 2 for it, and the core of node 2, which knows no route, asks in its turn
+-- both ends are bound and up, node 1 needs node 3 and sends a query to node 2, and the core of node 2, which has no
+-- route, sends a query itself
 abbrev pub asking : List Event
-asking = Open 1 2 ∷ Open 2 1 ∷ Transmit 1 2 ∷ Deliver 1 ∷ Transmit 2 1 ∷ Deliver 2 ∷ Transmit 1 2 ∷ Deliver 3 ∷ Pump 1 2 ∷ Pump 2 1 ∷ CoreTurn 1 ∷ CoreTurn 2 ∷ Need 1 3 ∷ CoreTurn 1 ∷ Pull 1 2 ∷ Transmit 1 2 ∷ Deliver 4 ∷ Pump 2 1 ∷ CoreTurn 2 ∷ []
+asking = Open 1 2 ∷ Open 2 1 ∷ Transmit 1 2 ∷ Deliver 1 ∷ Transmit 2 1 ∷ Deliver 2 ∷ Transmit 1 2 ∷ Deliver 3 ∷ Pump 1 2
+    ∷ Pump 2 1 ∷ CoreTurn 1 ∷ CoreTurn 2 ∷ Need 1 3 ∷ CoreTurn 1 ∷ Pull 1 2 ∷ Transmit 1 2 ∷ Deliver 4 ∷ Pump 2 1
+    ∷ CoreTurn 2 ∷ []

@@ -1,4 +1,4 @@
--- What single events do, computed: armed calls, full lanes, refused events, the clock, and a restart.
+-- Examples of single events, computed: armed calls, full lanes, refused events, the clock, and a restart.
 use Rattle.std.specs.Prelude.{◌≡◌, ℕ, zero, suc, ◌++◌, true, false, List, [], ◌∷◌, length, Some, None}
 use Rattle.tora_arq.specs.declared.phase.Phase.TheVariants.{Closed}
 use Rattle.tora_arq.specs.LinkEnd.{first_end}
@@ -22,7 +22,7 @@ after events = world_after_all start events
 
 -- ---- calls that are armed to fail
 
--- the datagram of a send that is armed to lose it does not go out, and the arm is used up
+-- the datagram of an armed send is lost, and the armed failure is used up
 pub record SendIsLost (w : World) : Type 0 where
   pub none : w.datagrams ≡ []
   pub used : w.arms 1 ≡ record { sending = Goes; receive = false }
@@ -30,10 +30,12 @@ pub record SendIsLost (w : World) : Type 0 where
 pub record ArmedCalls : Type 0 where
   pub lost : SendIsLost (after (Open 1 2 ∷ Arm 1 Fails.SendLost ∷ Transmit 1 2 ∷ []))
   pub gone : length (after (Open 1 2 ∷ Arm 1 Fails.SendGone ∷ Transmit 1 2 ∷ [])).datagrams ≡ 1
-  -- an armed receive hands nothing over, and the next one does: node 2 has heard of node 1's number
-  pub not_received : ((after (Open 1 2 ∷ Open 2 1 ∷ Transmit 1 2 ∷ Arm 2 Fails.Receive ∷ Deliver 1 ∷ [])).ends 2 1).heard ≡ 0
-  pub received : ((after (Open 1 2 ∷ Open 2 1 ∷ Transmit 1 2 ∷ Arm 2 Fails.Receive ∷ Deliver 1 ∷ Deliver 1 ∷ [])).ends 2 1).heard ≡ 1
-  -- no number is drawn where a write or a sync of the life file fails, so the end stays closed
+  -- an armed receive returns nothing, and the next one returns a datagram: node 2 has noted node 1's number
+  pub not_received : ((after (Open 1 2 ∷ Open 2 1 ∷ Transmit 1 2 ∷ Arm 2 Fails.Receive ∷ Deliver 1 ∷ [])).ends 2
+      1).heard ≡ 0
+  pub received : ((after (Open 1 2 ∷ Open 2 1 ∷ Transmit 1 2 ∷ Arm 2 Fails.Receive ∷ Deliver 1 ∷ Deliver 1 ∷ [])).ends 2
+      1).heard ≡ 1
+  -- if a write or a sync of the life file fails, no number is drawn and the end stays closed
   pub not_written : ((after (Arm 1 Fails.Write ∷ Open 1 2 ∷ [])).ends 1 2).phase ≡ Closed
   pub not_synced : ((after (Arm 1 Fails.Sync ∷ Open 1 2 ∷ [])).ends 1 2).phase ≡ Closed
 
@@ -42,7 +44,7 @@ pub record ArmedCalls : Type 0 where
 abbrev pub item_of : ℕ → Item
 item_of number = record { seat = 1; number = number; now = 1; what = Tells.Need 2 }
 
--- so many cargoes wait in each lane out, so many items in each lane in
+-- this many cargoes wait in each lane from a core, and this many items in each lane into a core
 abbrev pub with_cargoes : ℕ → World
 with_cargoes n = record start { cargoes = λ a b. copies n (Gives.Cut life) }
 
@@ -50,13 +52,14 @@ abbrev pub with_items : ℕ → World
 with_items n = record start { items = λ a. copies n (item_of 1) }
 
 pub record Lanes : Type 0 where
-  -- a cargo is put where fewer than 256 wait
+  -- a cargo is put if fewer than 256 wait
   pub put : own_answers (with_cargoes 255) 1 [] 2 ≡ true
   pub handed_back : own_answers (with_cargoes 256) 1 [] 2 ≡ false
-  -- an item is put where fewer than 1,024 wait
+  -- an item is put if fewer than 1,024 wait
   pub room : refusal_of (with_items 1023) (Need 1 2) ≡ None
   pub no_room : refusal_of (with_items 1024) (Need 1 2) ≡ Some Refused.NotPossible
-  -- the commands have the seat behind those of the links; an item has its number there, and the tick at which it was put
+  -- the seat of the commands comes after those of the links; an item has its number there, and the tick at which it was
+  -- put
   pub needs : (after (Tick ∷ Need 1 2 ∷ Need 1 2 ∷ [])).items 1 ≡ item_of 1 ∷ item_of 2 ∷ []
   pub clock : (after (Tick ∷ Tick ∷ [])).clock ≡ 2
 
@@ -82,7 +85,7 @@ waiting = after (binding ++ CoreTurn 1 ∷ Need 1 2 ∷ [])
 abbrev pub restarted : World
 restarted = after (binding ++ CoreTurn 1 ∷ Need 1 2 ∷ Restart 1 None ∷ [])
 
--- core, end and lanes are new; what was sent and taken stays as it was
+-- the core, the end and the lanes are new; the record of what was sent and taken is unchanged
 pub record StartsAnew : Type 0 where
   pub current_before : (waiting.seats 1).current 2 ≡ Some life
   pub cargo_before : waiting.cargoes 1 2 ≡ Gives.Packet life update ∷ []
@@ -93,5 +96,5 @@ pub record StartsAnew : Type 0 where
   pub items : restarted.items 1 ≡ []
   pub counts : restarted.counts 1 1 ≡ 0
   pub sent : sent_packets restarted 1 2 life ≡ update ∷ []
-  -- and so does what was taken, where the node that took it begins anew
+  -- the record of what was taken is unchanged, too, if the node that took it restarts
   pub taken : taken_packets (after (meeting ++ Restart 2 None ∷ [])) 2 1 life ≡ update ∷ []

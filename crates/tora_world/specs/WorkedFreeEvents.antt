@@ -1,4 +1,4 @@
--- What only threads do, computed on two nodes: each event of the free world that the simulator has not does something.
+-- Examples of the events that only threads make, computed on two nodes: each changes something.
 use Rattle.std.specs.Prelude.{◌≡◌, ℕ, ◌≤◌, ◌++◌, max, refl, true, false, if◌then◌else◌, List, [], ◌∷◌, length, Some, None}
 use Rattle.std.proofs.Common.{arith, ap, ap₂, sym, ◌∙◌, subst}
 use Rattle.std.proofs.lemmas.Bool.{cond_both}
@@ -28,7 +28,7 @@ use Rattle.tora_world.specs.WorkedEvents.{copies}
 
 -- ---- schedules
 
--- every call is handed this tick, and every cargo is put
+-- every call gets this tick, and every cargo is put
 abbrev pub at_tick : ℕ → Choice
 at_tick tick = record { clock = tick; now = λ n k. tick; stamp = tick; answers = λ offers k. true }
 
@@ -36,7 +36,7 @@ abbrev pub handed : ℕ → List FreeEvent → Schedule
 handed tick [] = []
 handed tick (event ∷ events) = (event, at_tick tick) ∷ handed tick events
 
--- events as the simulator runs them, and behind them these of the free world
+-- events as the simulator runs them, followed by these of the free world
 abbrev pub behind : List Event → ℕ → List FreeEvent → Schedule
 behind events tick more = own_schedule events start ++ handed tick more
 
@@ -45,7 +45,7 @@ left events tick more = after_schedule (behind events tick more) start
 
 -- ---- a tick of one end
 
--- at tick 50 the end of node 1 has heard nothing for 50 ticks, and goes down; the end of node 2 is handed no tick
+-- at tick 50 the end of node 1 has received nothing for 50 ticks, and goes down; the end of node 2 gets no tick
 pub record TicksOne (w : World) : Type 0 where
   pub ticked : (w.ends 1 2).phase ≡ Closed
   pub other : (w.ends 2 1).phase ≡ Bound life
@@ -53,7 +53,7 @@ pub record TicksOne (w : World) : Type 0 where
 
 -- ---- a full lane
 
--- the end of node 1 is bound, and its lane into the core has as many items as the simulator lets it have
+-- the end of node 1 is bound, and its lane into the core is full
 abbrev pub filling : List FreeEvent
 filling = copies 1024 (Puts 1 1 (Tells.Need 2) tt)
 
@@ -65,12 +65,17 @@ pub record PumpsOverOne : Type 0 where
   pub put : length ((left first_binding 0 (filling ++ PumpsOver 1 2 ∷ [])).items 1) ≡ 1025
   pub polled : ((left first_binding 0 (filling ++ PumpsOver 1 2 ∷ [])).ends 1 2).events ≡ []
 
--- ---- items of a link that tell no life
+-- ---- items of a link that report no life
 
 pub record PutsBeats : Type 0 where
-  -- a beat of node 1's link, in its seat, with the tick that it was handed
-  pub beat : (left [] 7 (Puts 1 0 Tells.Beat tt ∷ [])).items 1 ≡ record { seat = 0; number = 1; now = 7; what = Tells.Beat } ∷ []
-  -- the core takes it, and it is no step of the link machine
+  -- a beat of node 1's link, in its seat, with its tick
+  pub beat : (left [] 7 (Puts 1 0 Tells.Beat tt ∷ [])).items 1 ≡ record {
+    seat = 0;
+    number = 1;
+    now = 7;
+    what = Tells.Beat;
+  } ∷ []
+  -- the core takes it, and this is not a step of the link machine
   pub taken : (left [] 7 (Puts 1 0 Tells.Beat tt ∷ Happens (CoreTurn 1) ∷ [])).items 1 ≡ []
   pub steps : machine_steps (behind [] 7 (Puts 1 0 Tells.Beat tt ∷ Happens (CoreTurn 1) ∷ [])) start [] ≡ []
 
@@ -88,42 +93,45 @@ pub record CutsOne : Type 0 where
   -- the end of node 1 goes down, and its Down waits there
   pub closed : ((left upping 0 (CutsBound 1 2 ∷ [])).ends 1 2).phase ≡ Closed
   pub waits : ((left upping 0 (CutsBound 1 2 ∷ [])).ends 1 2).events ≡ Down life Cut ∷ []
-  -- it comes to the core, whose link goes down: the machine closes the life
+  -- the core takes it, and its link goes down: the machine closes the life
   pub over : ((left upping 0 telling_down).seats 1).current 2 ≡ None
   pub down : ((left upping 0 telling_down).seats 1).core.up ≡ []
-  pub steps : machine_steps (behind upping 0 telling_down) start [] ≡ Close 1 2 life ∷ Send 1 2 life update ∷ bound_steps
-  -- an end that is not bound has nothing to cut
+  pub steps : machine_steps (behind upping 0 telling_down) start []
+      ≡ Close 1 2 life ∷ Send 1 2 life update ∷ bound_steps
+  -- an end that is not bound has no life to cut
   pub none : ((left (Open 1 2 ∷ []) 0 (CutsBound 1 2 ∷ [])).ends 1 2).phase ≡ Unbound 1
 
--- ---- a cut that is asked for
+-- ---- a requested cut
 
--- node 1 is asked to cut the life to node 2, and its core takes that
+-- an item asks node 1 to cut the life to node 2, and its core takes the item
 abbrev pub asking_cut : List FreeEvent
 asking_cut = Puts 1 1 (Tells.Cut 2) tt ∷ Happens (CoreTurn 1) ∷ []
 
 pub record AsksForCut : Type 0 where
-  -- the life is over at the core, whose link is down: the machine closes the life
+  -- the life is over at the core, and its link is down: the machine closes the life
   pub over : ((left upping 0 asking_cut).seats 1).current 2 ≡ None
   pub down : ((left upping 0 asking_cut).seats 1).core.up ≡ []
   pub steps : machine_steps (behind upping 0 asking_cut) start [] ≡ Close 1 2 life ∷ Send 1 2 life update ∷ bound_steps
-  -- its cut is put behind what was sent in it, and the end goes down as it takes the cut
+  -- its cut is put after the packets sent in it, and the end goes down when it takes the cut
   pub cargoes : (left upping 0 asking_cut).cargoes 1 2 ≡ Gives.Packet life update ∷ Gives.Cut life ∷ []
   pub closed : ((left upping 0 (asking_cut ++ Happens (Pull 1 2) ∷ Happens (Pull 1 2) ∷ [])).ends 1 2).phase ≡ Closed
-  -- where no life is current, nothing is put
+  -- if no life is current, nothing is put
   pub none : (left [] 0 asking_cut).cargoes 1 2 ≡ []
 
 -- ---- a life file that is another one than before
 
--- the numbers that are set aside are passed over, as where the file is closed and opened again
+-- the reserved numbers are skipped, as when the file is closed and opened again
 abbrev pub passed_over : Owner → Numbers → State → LifeDisk
-passed_over owner numbers s = if numbers.failed then Opened owner numbers s else Opened owner (record numbers { drawn = value_of numbers }) s
+passed_over owner numbers s =
+    if numbers.failed then Opened owner numbers s else Opened owner (record numbers { drawn = value_of numbers }) s
 
 abbrev pub passes_over : LifeDisk → LifeDisk
 passes_over (Opened owner numbers s) = passed_over owner numbers s
 passes_over (Unopened owner s) = Unopened owner s
 
--- whatever a crash leaves has those numbers set aside
-pub passed_floor : (n : ℕ) (owner : Owner) (numbers : Numbers) (s : State) → numbers.failed ≡ false → IsFloorOfOpen n owner numbers s → IsFloorOfOpen n owner (record numbers { drawn = value_of numbers }) s
+-- whatever a crash leaves has those numbers reserved
+pub passed_floor : (n : ℕ) (owner : Owner) (numbers : Numbers) (s : State) → numbers.failed ≡ false
+    → IsFloorOfOpen n owner numbers s → IsFloorOfOpen n owner (record numbers { drawn = value_of numbers }) s
 passed_floor n owner numbers s sound h = record {
   whole = h.whole;
   kept = record {
@@ -138,17 +146,21 @@ passed_floor n owner numbers s sound h = record {
 }
   where
     above : (c : List ℕ) → MayLeave s c → value_of numbers ≤ file_value c
-    above c left = subst (λ x. value_of numbers ≤ x) (ap₂ max (h.kept.first refl sound) (h.kept.second refl sound) ∙ sym (ap file_value (h.kept.only refl sound c left))) (omega arith)
+    above c left = subst (λ x. value_of numbers ≤ x) (ap₂ max (h.kept.first refl sound) (h.kept.second refl sound) ∙ sym
+        (ap file_value (h.kept.only refl sound c left))) (omega arith)
 
 abbrev pub passes_no_floor : ForgetsNothing passes_over
-passes_no_floor n (Opened owner numbers s) h = cond_both numbers.failed _ _ (IsFloor n) (λ _. h) (λ sound. passed_floor n owner numbers s sound h)
+passes_no_floor n (Opened owner numbers s) h = cond_both numbers.failed _ _ (IsFloor n) (λ _. h) (λ sound.
+    passed_floor n owner numbers s sound h)
 passes_no_floor n (Unopened owner s) h = h
 
 -- node 1's end has gone down, and is opened again
 pub record ChangesOne : Type 0 where
   pub as_it_was : ((left binding 0 (CutsBound 1 2 ∷ Happens (Open 1 2) ∷ [])).ends 1 2).phase ≡ Unbound 2
-  pub changed : ((left binding 0 (CutsBound 1 2 ∷ ChangesFile 1 2 passes_over passes_no_floor ∷ Happens (Open 1 2) ∷ [])).ends 1 2).phase ≡ Unbound 17
-  pub steps : machine_steps (behind binding 0 (CutsBound 1 2 ∷ ChangesFile 1 2 passes_over passes_no_floor ∷ Happens (Open 1 2) ∷ [])) start [] ≡ Draw 1 2 17 ∷ bound_steps
+  pub changed : ((left binding 0 (CutsBound 1 2 ∷ ChangesFile 1 2 passes_over passes_no_floor ∷ Happens (Open 1 2)
+      ∷ [])).ends 1 2).phase ≡ Unbound 17
+  pub steps : machine_steps (behind binding 0 (CutsBound 1 2 ∷ ChangesFile 1 2 passes_over passes_no_floor
+      ∷ Happens (Open 1 2) ∷ [])) start [] ≡ Draw 1 2 17 ∷ bound_steps
 
 -- ---- a node that starts anew
 
@@ -157,8 +169,9 @@ pub record StartsOne : Type 0 where
   pub closed : ((left upping 0 (StartsAnew 1 ∷ [])).ends 1 2).phase ≡ Closed
   pub over : ((left upping 0 (StartsAnew 1 ∷ [])).seats 1).current 2 ≡ None
   pub other : ((left upping 0 (StartsAnew 1 ∷ [])).ends 2 1).phase ≡ Bound life
-  -- the machine closes the life, and what was sent in it stays
-  pub steps : machine_steps (behind upping 0 (StartsAnew 1 ∷ [])) start [] ≡ Close 1 2 life ∷ Send 1 2 life update ∷ bound_steps
-  -- the life file is as it was: the number after the last one is drawn, where a Restart passes over those that are set aside
+  -- the machine closes the life, and keeps what was sent in it
+  pub steps : machine_steps (behind upping 0 (StartsAnew 1 ∷ [])) start []
+      ≡ Close 1 2 life ∷ Send 1 2 life update ∷ bound_steps
+  -- the life file is unchanged: the next number is drawn, while a Restart would skip the reserved ones
   pub drawn : ((left upping 0 (StartsAnew 1 ∷ Happens (Open 1 2) ∷ [])).ends 1 2).phase ≡ Unbound 2
   pub restarted : ((left upping 0 (Happens (Restart 1 None) ∷ Happens (Open 1 2) ∷ [])).ends 1 2).phase ≡ Unbound 17

@@ -28,7 +28,7 @@ uneven = record { own = 3; peer = 7 }
 abbrev pub uneven_end : EndState
 uneven_end = after_bind (after_open first_end 3 0) uneven
 
--- every end is bound so, and this cargo waits in each lane
+-- every end is in this state, and this cargo waits in each lane
 abbrev pub with_cargo : Cargo → World
 with_cargo cargo = record start { ends = λ n k. uneven_end; cargoes = λ n k. cargo ∷ [] }
 
@@ -43,28 +43,28 @@ pub record Pulls : Type 0 where
 
 -- ---- restart: torn slots, and calls that are armed
 
--- the slot that spells the bound 900
+-- the slot with the bound 900
 abbrev pub slot_of_900 : List ℕ
 slot_of_900 = 0 ∷ 0 ∷ 0 ∷ 0 ∷ 0 ∷ 0 ∷ 3 ∷ 132 ∷ 255 ∷ 255 ∷ 255 ∷ 255 ∷ 255 ∷ 255 ∷ 252 ∷ 123 ∷ []
 
--- a slot is written and not synced; a restart leaves this of it, and the end is opened
+-- a slot is written and not synced; a restart leaves these bytes of it, and the end is opened
 abbrev pub number_after : Option (List ℕ) → ℕ
 number_after torn = ((after (Arm 1 Fails.Sync ∷ Open 1 2 ∷ Restart 1 torn ∷ Open 1 2 ∷ [])).ends 1 2).last_life
 
 pub record Crashes : Type 0 where
   pub torn : number_after (Some slot_of_900) ≡ 901
   pub as_before : number_after None ≡ 1
-  -- a call that is armed stays so: a send, a receive, and a write of the life file, so that no number is drawn
+  -- armed calls stay armed: a send, a receive, and a write of the life file, so that no number is drawn
   pub send_armed : ((after (Arm 1 Fails.SendLost ∷ Restart 1 None ∷ [])).arms 1).sending ≡ IsLost
   pub receive_armed : ((after (Arm 1 Fails.Receive ∷ Restart 1 None ∷ [])).arms 1).receive ≡ true
   pub write_armed : ((after (Arm 1 Fails.Write ∷ Restart 1 None ∷ Open 1 2 ∷ [])).ends 1 2).phase ≡ Closed
-  -- a read fails when the file is opened again: it is not open, and the end stays closed until the next restart
+  -- a read fails when the file is opened again: the file is not open, and the end stays closed until the next restart
   pub not_read : ((after (Arm 1 Fails.Read ∷ Restart 1 None ∷ Open 1 2 ∷ [])).ends 1 2).phase ≡ Closed
   pub read_again : ((after (Arm 1 Fails.Read ∷ Restart 1 None ∷ Restart 1 None ∷ Open 1 2 ∷ [])).ends 1 2).last_life ≡ 1
 
 -- ---- pump: the limit of the lane, and the tick of the item
 
--- each end has an event, and so many items wait in each lane
+-- each end has an event, and this many items wait in each lane
 abbrev pub with_events : ℕ → World
 with_events n = record (with_items n) { ends = λ a b. uneven_end }
 
@@ -95,21 +95,30 @@ pub record Tries : Type 0 where
 
 -- nodes 1 and 2, and the destinations 2 and 3
 abbrev pub pair_of_two : Topology
-pair_of_two = record { links = record { a = 1; b = 2 } ∷ []; destinations = 2 ∷ 3 ∷ []; olds = []; erasure = Plain; choices = [] }
+pair_of_two = record {
+  links = record { a = 1; b = 2 } ∷ [];
+  destinations = 2 ∷ 3 ∷ [];
+  olds = [];
+  erasure = Plain;
+  choices = [];
+}
 
 -- node 1 needs both, and a life comes up: so its core sends an update and a query in one turn
 abbrev pub two_needs : List Event
 two_needs = Need 1 3 ∷ CoreTurn 1 ∷ binding
 
--- before that turn so many cargoes wait in each lane
+-- before that turn this many cargoes wait in each lane
 abbrev pub with_waiting : ℕ → World
-with_waiting n = record (world_after_all (first_world pair_of_two times) two_needs) { cargoes = λ a b. copies n (Gives.Cut life) }
+with_waiting n = record (world_after_all (first_world pair_of_two times) two_needs) {
+  cargoes = λ a b.
+      copies n (Gives.Cut life);
+}
 
 abbrev pub turned_with : ℕ → World
 turned_with n = world_after (with_waiting n) (CoreTurn 1)
 
 pub record Rooms : Type 0 where
-  -- there is room for both, and for one: the second is handed back, and ends its life
+  -- there is room for both packets, or for one: then the second is returned, and its life ends
   pub both : length ((turned_with 254).cargoes 1 2) ≡ 256
   pub stays : ((turned_with 254).seats 1).current 2 ≡ Some life
   pub one : length ((turned_with 255).cargoes 1 2) ≡ 256
@@ -117,7 +126,7 @@ pub record Rooms : Type 0 where
 
 -- ---- tick: every end, with the clock after it
 
--- at clock 49 every end is bound, and was last heard at tick 0
+-- at clock 49 every end is bound, and got its last frame at tick 0
 abbrev pub silent_ends : World
 silent_ends = record start { clock = 49; ends = λ n k. uneven_end }
 
@@ -126,7 +135,7 @@ pub record Ticks : Type 0 where
   pub second : ((world_after silent_ends Tick).ends 2 1).phase ≡ Closed
   pub not_before : ((world_after (record silent_ends { clock = 48 }) Tick).ends 2 1).phase ≡ Bound uneven
 
--- ---- what the laws of runs say is not empty
+-- ---- the laws of runs are not vacuous
 
 -- the ACK of the update is delivered
 abbrev pub acknowledging : List Event

@@ -32,13 +32,13 @@ use Rattle.tora_world.specs.Lists.{packets_of, parcels_in}
 use Rattle.tora_world.specs.LinkMachine.{put_at}
 use Rattle.tora_seat.specs.Offers.{place_of}
 
--- what becomes of a datagram that is sent
+-- the outcome of sending a datagram
 pub data Sending : Type 0 where
   Goes : Sending
   IsLost : Sending
   IsGone : Sending
 
--- the calls of a node that are armed to fail
+-- the armed calls of a node
 pub record Arms : Type 0 where
   pub sending : Sending
   pub receive : Bool
@@ -49,22 +49,22 @@ pub record World : Type 0 where
   pub clock : ℕ
   pub seats : ℕ → SeatState  -- of each node, its core with the lives of its neighbours
   pub ends : ℕ → ℕ → EndState  -- of each node and each neighbour, the link end
-  pub files : ℕ → ℕ → LifeDisk  -- and its life file, or the disk of one that did not open
+  pub files : ℕ → ℕ → LifeDisk  -- the life file of each link end, or the disk of one that did not open
   pub items : ℕ → List Item  -- the lane into each core
   pub counts : ℕ → ℕ → ℕ  -- how many items each seat of a node has put since its last restart
   pub cargoes : ℕ → ℕ → List Cargo  -- the lane from each core to each neighbour
   pub arms : ℕ → Arms
   pub datagrams : List FrameParts  -- all that were ever sent
-  pub put : ℕ → ℕ → List Cargo  -- all cargoes that were ever put into that lane
+  pub put : ℕ → ℕ → List Cargo  -- all cargoes that were ever put into each such lane
   pub inputs : ℕ → List (Input × ℕ)  -- the inputs that each core accepted since its node's last restart
-  pub steps : ℕ → ℕ → List Parcel  -- the packets of each neighbour that were ever stepped
+  pub steps : ℕ → ℕ → List Parcel  -- the packets that were ever taken from each neighbour
 
 -- ---- the first world
 
 abbrev pub first_seat : Topology → ℕ → SeatState
 first_seat t n = record { core = new_core t n; current = λ k. None; pending = λ k. None }
 
--- whose the life file of a link end is
+-- the owner of the life file of a link end
 abbrev pub owner_of : ℕ → ℕ → Owner
 owner_of n k = record { node = n; peer = k }
 
@@ -86,7 +86,7 @@ first_world t times = record {
   steps = λ n k. [];
 }
 
--- ---- what is asked of a world
+-- ---- questions about a world
 
 abbrev pub settings : World → ℕ → ℕ → Settings
 settings w n k = settings_of (version_at w.topology n) n k w.times
@@ -94,7 +94,7 @@ settings w n k = settings_of (version_at w.topology n) n k w.times
 abbrev pub neighbours : World → ℕ → List ℕ
 neighbours w n = neighbours_of w.topology n
 
--- the commands have the seat behind those of the links
+-- the seat of the commands comes after those of the links
 abbrev pub command_seat : World → ℕ → ℕ
 command_seat w n = length (neighbours w n)
 
@@ -102,7 +102,7 @@ command_seat w n = length (neighbours w n)
 abbrev pub sent_packets : World → ℕ → ℕ → Life → List Packet
 sent_packets w a b life = packets_of life (parcels_in (w.put a b))
 
--- the packets of a that the core of b stepped in a life, as b's end writes it
+-- the packets of a that the core of b took in a life, as b's end writes it
 abbrev pub taken_packets : World → ℕ → ℕ → Life → List Packet
 taken_packets w b a life = packets_of life (w.steps b a)
 
@@ -143,15 +143,15 @@ tick_of w (CoreTurn n) = w.clock
 tick_of w (Arm n call) = w.clock
 tick_of w (Restart n torn) = w.clock
 
--- what the simulator chooses at an event, and other runs may choose otherwise: the clock then, the tick that each link end and each item is
--- given, and the answer for each cargo
+-- what the simulator fixes for an event, and other runs may choose: the clock after it, the tick of each link end and
+-- each item, and the result for each cargo
 pub record Choice : Type 0 where
   pub clock : ℕ
   pub now : ℕ → ℕ → ℕ
   pub stamp : ℕ
   pub answers : Answers
 
--- whether the event is refused, where it is handed these ticks
+-- why the event is refused with these ticks, if it is
 abbrev pub refusal_by : Choice → World → Event → Option SimError
 refusal_by c w (Need n d) = at_node w n (has_room w n)
 refusal_by c w Tick = None
@@ -169,10 +169,15 @@ refusal_by c w (Restart n torn) = at_node w n true
 abbrev pub with_end : World → ℕ → ℕ → EndState → World
 with_end w n k e = record w { ends = put_at w.ends n k e }
 
--- an item more in the lane into the core of n
+-- one more item in the lane into the core of n
 abbrev pub with_item : World → ℕ → ℕ → ℕ → What → World
 with_item w n seat now what = record w {
-  items = put_one w.items n (w.items n ++ record { seat = seat; number = suc (w.counts n seat); now = now; what = what } ∷ []);
+  items = put_one w.items n (w.items n ++ record {
+    seat = seat;
+    number = suc (w.counts n seat);
+    now = now;
+    what = what;
+  } ∷ []);
   counts = put_at w.counts n seat (suc (w.counts n seat));
 }
 
@@ -199,7 +204,7 @@ with_datagram Goes datagrams f = datagrams ++ f ∷ []
 with_datagram IsLost datagrams f = datagrams
 with_datagram IsGone datagrams f = datagrams ++ f ∷ []
 
--- the first frame due goes out, unless the send is armed to lose it
+-- the first frame due is sent, unless the send is armed to lose it
 abbrev pub after_sending : World → ℕ → ℕ → EndState → Option FrameParts → World
 after_sending w n k e None = w
 after_sending w n k e (Some f) = record w {
@@ -208,18 +213,20 @@ after_sending w n k e (Some f) = record w {
   arms = put_one w.arms n (record (w.arms n) { sending = Goes });
 }
 
--- a datagram is handed to its receiver, unless the receive is armed to fail
+-- a datagram is passed to its receiver, unless the receive is armed to fail
 abbrev pub after_receiving : World → Choice → Option FrameParts → World
 after_receiving w c None = w
 after_receiving w c (Some f) =
     if (w.arms f.header.receiver).receive
     then record w { arms = put_one w.arms f.header.receiver (record (w.arms f.header.receiver) { receive = false }) }
-    else with_end w f.header.receiver f.header.sender (after_frame (settings w f.header.receiver f.header.sender) (w.ends f.header.receiver f.header.sender) f (c.now f.header.receiver f.header.sender))
+    else with_end w f.header.receiver f.header.sender (after_frame (settings w f.header.receiver f.header.sender)
+    (w.ends f.header.receiver f.header.sender) f (c.now f.header.receiver f.header.sender))
 
 -- the first event of a link end goes into the lane, in the seat of its neighbour
 abbrev pub after_pump : World → Choice → ℕ → ℕ → Option LinkEvent → World
 after_pump w c n k None = w
-after_pump w c n k (Some event) = with_item (with_end w n k (after_poll_event (w.ends n k))) n (place_of k (neighbours w n)) c.stamp (what_of event)
+after_pump w c n k (Some event) = with_item (with_end w n k (after_poll_event (w.ends n k))) n
+    (place_of k (neighbours w n)) c.stamp (what_of event)
 
 -- the node's seat and lanes after an item was served
 abbrev pub after_serving : World → ℕ → List Item → Serving → World
@@ -240,9 +247,12 @@ after_turn w c n (item ∷ items) = after_serving w n items (serving_of c.answer
 abbrev pub is_file_of : World → ℕ → ℕ → ℕ → Bool
 is_file_of w n a k = (a == n) && is_link w.topology a k
 
--- the next such call of each life file of a node fails
+-- the next call of this kind of each life file of a node fails
 abbrev pub with_armed_files : World → ℕ → DiskCall → World
-with_armed_files w n call = record w { files = λ a k. if is_file_of w n a k then after_event (ArmsDisk call) (w.files a k) else w.files a k }
+with_armed_files w n call = record w {
+  files = λ a k. if is_file_of w n a k then after_event (ArmsDisk call)
+      (w.files a k) else w.files a k;
+}
 
 abbrev pub after_arming : World → ℕ → Call → World
 after_arming w n Fails.SendLost = record w { arms = put_one w.arms n (record (w.arms n) { sending = IsLost }) }
@@ -256,7 +266,7 @@ after_arming w n Fails.Sync = with_armed_files w n Disk.Sync
 abbrev pub reopened : Option (List ℕ) → LifeDisk → LifeDisk
 reopened torn disk = after_event (OpensAnew (after_crash torn (state_in disk))) disk
 
--- core, ends and lanes are made anew, and the life files are opened
+-- the core, the ends and the lanes are new, and the life files are opened
 abbrev pub after_restart : World → ℕ → Option (List ℕ) → World
 after_restart w n torn = record w {
   seats = put_one w.seats n (first_seat w.topology n);
@@ -268,20 +278,21 @@ after_restart w n torn = record w {
   inputs = put_one w.inputs n [];
 }
 
--- an event that is not refused
+-- the effect of an event that is not refused
 unfoldable pub effect_by : Choice → World → Event → World
 effect_by c w (Need n d) = with_item w n (command_seat w n) c.stamp (Tells.Need d)
 effect_by c w Tick = record w { clock = c.clock; ends = λ n k. after_tick (settings w n k) (w.ends n k) (c.now n k) }
 effect_by c w (Open n k) = after_opening w c n k
 effect_by c w (Pull n k) = after_pull w n k (w.cargoes n k)
-effect_by c w (Transmit n k) = after_sending w n k (after_transmit (settings w n k) (w.ends n k) (c.now n k)) (frame_due (settings w n k) (w.ends n k) (c.now n k))
+effect_by c w (Transmit n k) = after_sending w n k (after_transmit (settings w n k) (w.ends n k) (c.now n k))
+    (frame_due (settings w n k) (w.ends n k) (c.now n k))
 effect_by c w (Deliver i) = after_receiving w c (datagram w i)
 effect_by c w (Pump n k) = after_pump w c n k (first_event (w.ends n k))
 effect_by c w (CoreTurn n) = after_turn w c n (w.items n)
 effect_by c w (Arm n call) = after_arming w n call
 effect_by c w (Restart n torn) = after_restart w n torn
 
--- any event: one that is refused has no effect
+-- the world after any event; a refused one has no effect
 unfoldable pub world_by : Choice → World → Event → World
 world_by c w event = if is_some (refusal_by c w event) then w else effect_by c w event
 
@@ -303,7 +314,12 @@ node_of (Arm n call) = n
 node_of (Restart n torn) = n
 
 abbrev pub own_choice : World → Event → Choice
-own_choice w event = record { clock = tick_of w event; now = λ n k. tick_of w event; stamp = tick_of w event; answers = own_answers w (node_of event) }
+own_choice w event = record {
+  clock = tick_of w event;
+  now = λ n k. tick_of w event;
+  stamp = tick_of w event;
+  answers = own_answers w (node_of event);
+}
 
 abbrev pub refusal_of : World → Event → Option SimError
 refusal_of w event = refusal_by (own_choice w event) w event

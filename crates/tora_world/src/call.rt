@@ -1,13 +1,13 @@
-//! A call that is made to fail.
+//! The kinds of calls that can be made to fail.
 
-/// A call that is made to fail.
+/// The kinds of calls that can be made to fail.
 #[derive(Clone, Copy, Debug, PartialEq, Eq)]
 pub enum Call {
-    /// The next send of a node fails, and the datagram does not go out.
+    /// The next send of a node fails, and the datagram is not sent.
     SendLost,
-    /// The next send of a node fails, and the datagram goes out.
+    /// The next send of a node fails, but the datagram is sent.
     SendGone,
-    /// The next receive of a node hands nothing over.
+    /// The next receive of a node returns nothing.
     Receive,
     /// The next read of each life file of a node fails.
     Read,

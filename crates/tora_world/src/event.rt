@@ -1,8 +1,8 @@
-//! What happens in the world.
+//! An event of the world.
 use crate::Call;
 use tora_height::Id;
 
-/// What happens in the world.
+/// An event of the world.
 #[derive(Clone, Copy, Debug)]
 pub enum Event {
     /// Puts the need of a destination into a node's lane.
@@ -11,18 +11,18 @@ pub enum Event {
     Tick,
     /// Draws a number for a closed link end, and opens it.
     Open(Id, Id),
-    /// Takes a cargo of the lane to a neighbour, and submits or cuts.
+    /// Takes a cargo from the lane to a neighbour, and submits its packet or cuts its life.
     Pull(Id, Id),
     /// Sends the first frame due to a neighbour.
     Transmit(Id, Id),
-    /// Hands a datagram, from 1 on of all that were ever sent, to its receiver.
+    /// Delivers a datagram to its receiver. The number counts all datagrams ever sent, from 1 on.
     Deliver(u64),
     /// Puts an event of the link end into the node's lane.
     Pump(Id, Id),
-    /// Takes an item of the node's lane, and serves it.
+    /// Takes an item from the node's lane, and serves it.
     CoreTurn(Id),
-    /// Makes a call fail.
+    /// Makes the next call of this kind fail.
     Arm(Id, Call),
-    /// Makes a node anew; what its disks have not synced is torn to these bytes, or lost.
+    /// Restarts a node. The bytes that its disks have not synced become these torn bytes, or are lost.
     Restart(Id, Option<[u8; 16]>),
 }

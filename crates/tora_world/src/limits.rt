@@ -12,7 +12,7 @@ pub const GREATEST_NODES: usize = 1024;
 
 /// The most neighbours of a node, destinations of a table and nodes of a world.
 ///
-/// A limit above the greatest, which is 255 neighbours, 64 destinations or 1,024 nodes, stands for the greatest.
+/// A limit above the greatest (255 neighbours, 64 destinations, 1,024 nodes) counts as the greatest.
 #[derive(Clone, Copy, Debug, PartialEq, Eq)]
 pub struct Limits {
     pub neighbours: usize,
@@ -60,7 +60,7 @@ impl Limits {
     }
 }
 
-/// A limit, or the greatest where it is above that.
+/// The smaller one of a limit and the greatest.
 fn at_most(greatest: usize, limit: usize) -> usize
     ensures value { result ≡ at_most greatest limit }
     ensures bound { result ≤ greatest }

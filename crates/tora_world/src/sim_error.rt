@@ -1,11 +1,10 @@
-//! Why an event is refused.
+//! The causes for which events are refused.
 ghost use Rattle.std.specs.Prelude.{◌≡◌};
 ghost use Rattle.tora_world.specs.Errors.{sim_error_number};
 
 use thiserror::Error;
 
-/// Why an event is refused, in the order in which the causes are tested; memory comes last. A refused event changes
-/// nothing.
+/// Why an event is refused, in the order of the checks; memory comes last. A refused event changes nothing.
 #[derive(Clone, Copy, Debug, PartialEq, Eq, Error)]
 pub enum SimError {
     /// There is not enough memory.

@@ -1,4 +1,4 @@
-//! The table of events as a relation: the definition that computes does what the table says, and the table says nothing else.
+//! The table of events as a relation, and the proof that the computed definition and the table agree.
 ghost use Rattle.std.specs.Prelude.{◌≡◌, ◌↔◌, ◌+◌, ◌≤◌, ℕ, List, length, Some};
 ghost use Rattle.tora_arq.specs.Settings.{IsTimes};
 ghost use Rattle.tora_arq.specs.declared.times.Times.{Times};
@@ -8,54 +8,62 @@ ghost use Rattle.tora_world.specs.Repeats.{HappensAtMost};
 ghost use Rattle.tora_world.specs.Table.{IsRefused, IsRefusedBy, IsStep, IsStepBy};
 ghost use Rattle.tora_world.specs.Topology.{Topology};
 ghost use Rattle.tora_world.specs.WorkedTable.{Crashes, Meetings, Pulls, Pumps, Rooms, Ticks, Tries};
-ghost use Rattle.tora_world.specs.World.{Choice, World, first_world, refusal_by, refusal_of, world_after, world_after_all, world_by};
+ghost use Rattle.tora_world.specs.World.{Choice, World, first_world, refusal_by, refusal_of, world_after};
+ghost use Rattle.tora_world.specs.World.{world_after_all, world_by};
 ghost use Rattle.tora_world.specs.declared.event.Event.TheVariants.{CoreTurn, Pull, Pump, Transmit};
 ghost use Rattle.tora_world.specs.declared.event.Event.{Event};
 ghost use Rattle.tora_world.specs.declared.sim_error.SimError.{SimError};
 
 use tora_arq::{WINDOW, polls_of_a_tick_end};
 
-/// The table of events is the world's definition: in the table each event has a case for each of its outcomes, which says what changes
-/// and that all else is as it was, and the world after an event is the one that the table allows.
+/// The table of events is equivalent to the world's definition. For each event and each of its outcomes the table says
+/// what changes, and that nothing else does. The world after an event is the one that the table allows.
 pub fn steps_are_the_table()
     // In the simulator.
     ensures steps { (w : World) (event : Event) (after : World) → IsStep w event after ↔ (after ≡ world_after w event) }
-    // There an event is refused for the cause that the table gives, and for no other.
-    ensures refusals { (w : World) (event : Event) (error : SimError) → IsRefused w event error ↔ (refusal_of w event ≡ Some error) }
-    // With any ticks and any answers of the lanes.
-    ensures free { (c : Choice) (w : World) (event : Event) (after : World) → IsStepBy c w event after ↔ (after ≡ world_by c w event) }
-    ensures free_refusals { (c : Choice) (w : World) (event : Event) (error : SimError) → IsRefusedBy c w event error ↔ (refusal_by c w event ≡ Some error) }
+    // In the simulator an event is refused for the cause that the table gives, and for no other.
+    ensures refusals { (w : World) (event : Event) (error : SimError) → IsRefused w event error
+        ↔ (refusal_of w event ≡ Some error) }
+    // With any ticks and any results of the lanes.
+    ensures free { (c : Choice) (w : World) (event : Event) (after : World) → IsStepBy c w event after
+        ↔ (after ≡ world_by c w event) }
+    ensures free_refusals { (c : Choice) (w : World) (event : Event) (error : SimError) → IsRefusedBy c w event error
+        ↔ (refusal_by c w event ≡ Some error) }
 {}
 
 /// Rows of the table, computed.
 pub fn worked_rows_of_the_table_hold()
-    // A cut that is pulled ends its own life and no other, and a packet is submitted in its own.
+    // A pulled cut ends its own life and no other. A pulled packet is submitted in its own life.
     ensures pulls { Pulls }
-    // A restart leaves the torn bytes of a slot that was written and not synced, or those from before; armed calls stay armed.
+    // A restart leaves the torn bytes of a slot that was written and not synced, or the old bytes; armed calls stay
+    // armed.
     ensures crashes { Crashes }
-    // An event is put where the lane has room, with the clock's tick.
+    // An event of a link end is put into a lane that has room, with the tick of the clock.
     ensures pumps { Pumps }
-    // A send that is lost counts as a try.
+    // A lost send counts as a try.
     ensures tries { Tries }
-    // What a turn offers before counts in the lane to a neighbour.
+    // Earlier offers of the same turn count as cargoes in the lane to a neighbour.
     ensures rooms { Rooms }
-    // A tick reaches every end, and is the clock after it.
+    // A tick reaches every link end, and advances the clock.
     ensures ticks { Ticks }
-    // A packet that was accepted is acknowledged, entries are exact, and there is a walk.
+    // An accepted packet is acknowledged, entries are exact, and there is a walk.
     ensures meetings { Meetings }
 {}
 
-/// No event happens again and again without end: a turn takes an item of a lane, a pull a cargo of a lane, a pump fills a lane, and an end
-/// gives so many frames at one tick. So a round, which repeats an event up to 1,024 times, leaves none of them possible where it repeats it.
+/// No event can be repeated without end: a turn takes an item from a lane, a pull takes a cargo from a lane, a pump
+/// fills a lane, and an end has a bounded number of frames at one tick. So after a round, which repeats an event up to
+/// 1,024 times, that event is not possible any more.
 pub fn events_run_out()
-    // A lane into a core has at most 1,024 items after any events of the simulator, with any ticks and answers.
+    // A lane into a core has at most 1,024 items after any events of the simulator, with any ticks and results of
+    // lanes.
     ensures lanes_in { (t : Topology) (times : Times) (es : List (Event × Choice)) (n : ℕ)
         → length ((after_schedule (happening es) (first_world t times)).items n) ≤ MOST_ITEMS }
     // A lane out of a core has at most 256 cargoes in the simulator.
     ensures lanes_out { (t : Topology) (times : Times) (events : List Event) (n k : ℕ)
         → length ((world_after_all (first_world t times) events).cargoes n k) ≤ MOST_CARGOES }
     ensures turns { (w : World) (n : ℕ) → length (w.items n) ≤ MOST_ITEMS → HappensAtMost MOST_ITEMS (CoreTurn n) w }
-    ensures pulls { (w : World) (n k : ℕ) → length (w.cargoes n k) ≤ MOST_CARGOES → HappensAtMost MOST_CARGOES (Pull n k) w }
+    ensures pulls { (w : World) (n k : ℕ) → length (w.cargoes n k) ≤ MOST_CARGOES
+        → HappensAtMost MOST_CARGOES (Pull n k) w }
     ensures transmits { (w : World) (n k : ℕ) → IsTimes w.times → HappensAtMost (WINDOW + 4) (Transmit n k) w }
     ensures pumps { (w : World) (n k : ℕ) → HappensAtMost MOST_ITEMS (Pump n k) w }
 {

@@ -16,16 +16,18 @@ from tora.errors import StudyError, UsageError
 
 if TYPE_CHECKING:
     from tora.core import Core
+    from tora.driven import World
     from tora.router import Router
     from tora.run import Run
     from tora.scenario import Scenario
     from tora.trace import Trace
 
-__all__ = ["Core", "Router", "Run", "Scenario", "StudyError", "Trace", "UsageError"]
+__all__ = ["Core", "Router", "Run", "Scenario", "StudyError", "Trace", "UsageError", "World"]
 __version__ = "1.0.0.dev0"
 
 MODULES = {
     "Core": "tora.core", "Router": "tora.router", "Run": "tora.run", "Scenario": "tora.scenario", "Trace": "tora.trace",
+    "World": "tora.driven",
 }
 
 

@@ -1,4 +1,4 @@
-"""Bounds of what a scenario and a simulation are told; each is named where it is passed."""
+"""Bounds of the values of a scenario and a simulation; an error names the bound."""
 from __future__ import annotations
 
 import numbers

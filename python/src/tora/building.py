@@ -42,11 +42,11 @@ class Settings:
     need : int
         Rounds between the needs of every flow, from 1.
     limit : int, optional
-        Most links of a node, 1 to 32, or to 255 for a large scenario; the most where it is not told.
+        Most links of a node, 1 to 32, or to 255 for a large scenario; the most if it is not given.
     destinations : int
         How many there are, 1 to 64.
     flows : int
-        How many there are, 0 to 65,536; 0 stands for as many as nodes.
+        How many there are, 0 to 65,536; 0 means as many as nodes.
     times : tuple of int
         Times of a link end in ticks: HELLO, silence, retry; and tries. Each is at least 1.
     heights : int
@@ -77,7 +77,7 @@ class Settings:
         return cls(**settings).checked()
 
     def checked(self) -> Settings:
-        """The same, its limit told, once all is within its bounds."""
+        """The same settings with their limit, after all values were checked against their bounds."""
         neighbours = bounds.GREATEST_NEIGHBOURS if self.large else bounds.MOST_NEIGHBOURS
         limits: dict[str, tuple[int, int]] = {
             "seed": (0, bounds.MOST_TICKS), "rounds": (1, bounds.MOST_TICKS), "sample": (1, bounds.MOST_SAMPLE),
@@ -268,7 +268,7 @@ def _lost_links(fields: dict[str, Any]) -> list[str]:
 
 
 def _clamped(what: str, asked: int, most: int, notes: list[str]) -> int:
-    """A number that is asked for, or the most that there are, which is noted."""
+    """A requested number, or the greatest possible one, which is noted."""
     if asked > most:
         notes.append(f"{asked} {what} are asked for, and {most} are made: the nodes with links have no more")
     return min(asked, most)

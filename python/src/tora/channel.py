@@ -29,7 +29,7 @@ def rounded_loss(share: float, step: int) -> int:
 
 
 def share_text(millionths: int) -> str:
-    """A share of so many millionths as `tora sim --channel` reads it."""
+    """A share of this many millionths, as `tora sim --channel` reads it."""
     if millionths == MILLION:
         return "1"
     return "0" if millionths == 0 else f"0.{millionths:06}".rstrip("0")
@@ -46,9 +46,9 @@ def channel_lines(
     positions : array of float, shape (samples, nodes, 2)
         Metres. Beyond the reach the share is that of the reach: a link is parted there.
     links : pairs of nodes
-        Nodes are told from 1.
+        Nodes are numbered from 1.
     sample : int
-        Rounds that a sample stands for.
+        Rounds that a sample covers.
     reach : float
         Metres.
     edge : float

@@ -30,7 +30,7 @@ def main(words: Sequence[str] | None = None) -> int:
 
 
 def ended(words: Sequence[str]) -> int:
-    """Does what the words ask for; what is refused is told in one line on standard error."""
+    """Runs the command of the words; a refusal is reported in one line on standard error."""
     found = parser().parse_args(words)
     found.words = list(words)
     body: Body = found.body

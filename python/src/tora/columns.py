@@ -1,6 +1,6 @@
 """The columns of tables of runs: which make up the design of a study, and what the measures are.
 
-A table has a row for each run. The columns of its *design* tell what was set, `seed` tells one repetition from another, and all
+A table has a row for each run. The columns of its *design* say what was set, `seed` distinguishes repetitions, and all
 others are *measures*. Two kinds of tables are known: a study's, and the ns-3 comparison's. Of any other table the design has to be
 named.
 """

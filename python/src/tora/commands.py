@@ -40,15 +40,15 @@ def make(
     large: bool | None = None, channel_file: Path | None = None, edge_loss: float | None = None,
     overwrite: bool = False,
 ) -> list[str]:
-    """Makes ``PREFIX.sim`` and ``PREFIX.json``, and a channel file where it is asked for.
+    """Makes ``PREFIX.sim`` and ``PREFIX.json``, and a channel file if it is requested.
 
     Parameters are those of the constructors of `tora.Scenario` and of `tora.Scenario.write`; a movement file (`ns2`,
-    `bonnmotion` or `fcd`) stands in the place of a model of motion.
+    `bonnmotion` or `fcd`) replaces a model of motion.
 
     Returns
     -------
     list of str
-        What is to be told: what the scenario lacks of what was asked for.
+        Messages about what the scenario lacks of the request.
 
     Raises
     ------
@@ -92,7 +92,7 @@ def run(
     channel_seed: int | None = None, notice: bool = False, until: int | None = None, channel_file: Path | None = None, erasure: str | None = None,
     program: Path | None = None, time_limit: float | None = None, overwrite: bool = False,
 ) -> str:
-    """Simulates ``PREFIX.sim``, beside which ``PREFIX.json`` stands, to ``PREFIX.trace``.
+    """Simulates ``PREFIX.sim``, which has ``PREFIX.json`` beside it, and writes ``PREFIX.trace``.
 
     Also writes ``PREFIX.manifest.json``.
 
@@ -124,7 +124,7 @@ def measure(
     version : str, optional
         What the program calls itself, for the row; that of ``PREFIX.manifest.json`` beside the trace, if that is there.
     header : bool
-        Whether the names of the columns stand above the row.
+        Whether a row with the names of the columns comes first.
     overwrite : bool
         Whether a file that exists is replaced.
 
@@ -167,7 +167,7 @@ def word_of(version: str) -> str:
 
 
 def _version(trace: Path) -> str:
-    """The version that the manifest beside a trace tells, where the trace is the one of the manifest."""
+    """The version in the manifest beside a trace, if the trace is the one of the manifest."""
     path = f"{os.fspath(trace).removesuffix('.trace')}.manifest.json"
     if not os.path.isfile(path):
         return ""
@@ -178,7 +178,7 @@ def _version(trace: Path) -> str:
 
 
 def _why_not(name: str, kind: str) -> str:
-    """Why an option does not stand with a kind of motion."""
+    """Why an option does not fit a kind of motion."""
     owners = [other for other, taken in TAKEN.items() if name in taken]
     if not owners:
         return "there is no such option"

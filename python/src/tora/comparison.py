@@ -40,7 +40,7 @@ def report(table: Table, kind: str, tora: str = TORA) -> list[str]:
         Of the ns-3 comparison, with one number of nodes and one of flows.
     kind : str
     tora : str
-        For `aims`, the protocol that stands beside AODV and OLSR, as the row names it, but with commas.
+        For `aims`, the protocol to compare with AODV and OLSR, as the row names it, but with commas.
     """
     if table.design != ["protocol", "nodes", "speed", "flows"]:
         raise UsageError(f"--report {kind}: this is no table of the ns-3 comparison", file=table.path)

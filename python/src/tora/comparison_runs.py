@@ -24,12 +24,12 @@ NUMBER = re.compile(r"[0-9]{1,6}(\.[0-9]{1,6})?")
 
 
 def parts_of(config: dict[str, Any]) -> dict[str, list[str]]:
-    """By what varies its values; refuses values that stand twice or are none.
+    """The values by the name of what varies; refuses repeated and invalid values.
 
     Parameters
     ----------
     config : dict
-        Keys of `DEFAULTS`; values stand between blanks.
+        Keys of `DEFAULTS`; values are separated by blanks.
     """
     told = DEFAULTS | {name: value for name, value in config.items() if name in DEFAULTS}
     found = {name: str(told[name]).split() for name in ("protocols", "nodes", "speeds", "flows")}
@@ -100,6 +100,20 @@ def write_table(config: dict[str, Any], compare: str) -> None:
         "table": hashlib.sha256(table.encode()).hexdigest(), "runs": {name: {"words": words, "sha256": {"row": digests[name]}} for name, words in runs.items()},
     }
     write_files({"compare.csv": table, "manifest.json": json.dumps(told, indent=1) + "\n"}, overwrite=True)
+
+
+def write_times(config: dict[str, Any]) -> None:
+    """Writes ``times.csv`` in this folder: the processor time and the greatest memory of each run, as snakemake's benchmarks tell them."""
+    runs, columns = runs_of(config), ("nodes", "speed", "flows", "seed")
+    lines = [",".join(("protocol", *columns, "seconds", "megabytes"))]
+    for name, told in runs.items():
+        words = dict(word.removeprefix("--").split("=", 1) for word in told if "=" in word)
+        with reading(f"times/{name}.tsv", "utf-8") as source:
+            row = next(csv.DictReader(source, delimiter="\t"), {})
+        if not {"cpu_time", "max_rss"} <= row.keys():
+            raise StudyError("a benchmark of snakemake is needed, with cpu_time and max_rss", file=f"times/{name}.tsv")
+        lines.append(",".join((words["label"], *(words[it] for it in columns), row["cpu_time"], row["max_rss"])))
+    write_files({"times.csv": "\n".join([*lines, ""])}, overwrite=True)
 
 
 def _check_seeds(head: str, lines: Sequence[str], runs: dict[str, list[str]]) -> None:

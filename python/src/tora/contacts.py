@@ -18,7 +18,7 @@ class Contacts:
     Attributes
     ----------
     changes : list
-        For each sample the pairs that come and those that go, each ascending; of a pair the lower node stands first.
+        For each sample the pairs that come and those that go, each ascending; in a pair the lower node is first.
     total : dict
         By pair in how many samples it is within reach.
     most : int
@@ -31,7 +31,7 @@ class Contacts:
 
 
 def contacts_of(positions: npt.NDArray[np.float64], reach: float) -> Contacts:
-    """The contacts of nodes, which are told from 1.
+    """The contacts of nodes, which are numbered from 1.
 
     Parameters
     ----------

@@ -43,7 +43,7 @@ class Core(Handle):
         self, me: int, neighbours: Iterable[int], destinations: Iterable[int], erasure: Erasure = Erasure.PLAIN
     ) -> None:
         """A core with no link up."""
-        self._make(me, neighbours, destinations, int(erasure))
+        self._make_node(me, neighbours, destinations, int(erasure))
 
     def clone(self) -> Core:
         """A copy of the core."""

@@ -1,4 +1,4 @@
-"""Figures of values that are counted, not listed: a mapping has by the value how often it stands."""
+"""Statistics of values that are counted, not listed: a mapping from each value to its count."""
 from __future__ import annotations
 
 import itertools

@@ -72,7 +72,7 @@ class Load:
 
     @classmethod
     def asked(cls, rate: str | float | None, hop: int | None, ttl: int | None) -> Load | None:
-        """The load that is asked for, None without a rate; `hop` and `ttl` stand with a rate alone."""
+        """The requested load, None without a rate; `hop` and `ttl` are allowed only with a rate."""
         if rate is None:
             for name, value in (("hop", hop), ("ttl", ttl)):
                 if value is not None:
@@ -108,7 +108,7 @@ class Traffic:
         self.hops: collections.Counter[float] = collections.Counter()
 
     def run(self, first: int, last: int, world: World) -> None:
-        """The ticks from `first` to `last`, at whose ends the world stands as it does now."""
+        """The ticks from `first` to `last`, at whose ends the world is as it is now."""
         for tick in range(first, last + 1):
             due = self.due.pop(tick, [])
             count = math.ceil(tick * self.load.rate / TICKS_A_SECOND) - self.made

@@ -114,7 +114,7 @@ def _read_json(path: str) -> Any:
         return found
 
     def constant(text: str) -> Any:
-        """A word that stands for a number in JavaScript alone."""
+        """A word that is a number only in JavaScript."""
         raise StudyError(f"no scenario: {text} is no number of JSON", file=path)
 
     try:
@@ -131,7 +131,7 @@ def _read_json(path: str) -> Any:
 
 
 def _fault_of(error: Any) -> Fault:
-    """A fault that the validator tells."""
+    """A fault that the validator reports."""
     path = list(error.absolute_path)
     if error.validator == "uniqueItems":
         texts = [json.dumps(item) for item in error.instance]

@@ -58,10 +58,10 @@ class Line:
 
 
 def lines_of(table: Table, by: str, pool: Sequence[str] = ()) -> tuple[list[str], dict[Key, Line]]:
-    """The columns, beside `by`, that tell lines apart, and by their values the lines.
+    """The columns, beside `by`, that distinguish lines, and the lines by their values.
 
     Values of the first column have a colour each, those of the others a dash. Refuses a column that is no number or that does not vary, and
-    more lines than can be told apart.
+    more lines than a reader can distinguish.
     """
     table.need([by])
     if by not in table.design:
@@ -98,7 +98,7 @@ def _short(name: str, value: object) -> str:
 
 
 def with_keys(table: Table, summary: Summary, wanted: Sequence[str], pool: Sequence[str]) -> pd.DataFrame:
-    """The rows of a summary with these columns, which its own keys tell."""
+    """The rows of a summary with these columns, which follow from its keys."""
     rows = summary.rows.copy()
     first = {key: runs.iloc[0] for key, runs in table.groups(summary.keys).items()}
     keys = list(zip(*(rows[name] for name in summary.keys))) if summary.keys else [()] * len(rows)
@@ -109,7 +109,7 @@ def with_keys(table: Table, summary: Summary, wanted: Sequence[str], pool: Seque
 
 
 def panels_of(count: int, title: str, columns: int = 2, legend: bool = False) -> tuple[Figure, list[Axes]]:
-    """A figure with so many panels, and one below them for a legend."""
+    """A figure with this many panels, and one below them for a legend."""
     columns = min(columns, count)
     high = -(-count // columns)
     figure = Figure(figsize=(5.2 * columns, 3.4 * high + 0.8), dpi=110, layout="constrained")
@@ -130,7 +130,7 @@ def title_of(summary: Summary) -> str:
 
 
 def draw_lines(panel: Axes, rows: pd.DataFrame, by: str, keys: Sequence[str], lines: dict[Key, Line]) -> None:
-    """The lines of a measure; each stands a little aside, so that intervals at one place can be told apart."""
+    """The lines of a measure; each is a little aside, so that intervals at one place do not overlap."""
     places = sorted(set(rows[by]))
     room = min((b - a for a, b in zip(places, places[1:])), default=1.0)
     for at, (key, line) in enumerate(lines.items()):

@@ -42,7 +42,7 @@ class Driven:
     delivered: int
 
     def lines(self) -> list[str]:
-        """What is to be told, line by line."""
+        """The messages, line by line."""
         return [
             f"{self.steps} steps, {self.sent} datagrams, {self.delivered} delivered, status 0",
             "heights of `tora sim`: the same, and of the record: the same; next hops as told: the same",
@@ -50,7 +50,7 @@ class Driven:
 
 
 class Drive:
-    """A running `tora drive`, the lines said to it, and the next hops that it told.
+    """A running `tora drive`, the lines sent to it, and the next hops that it reported.
 
     Attributes
     ----------
@@ -99,7 +99,7 @@ class Drive:
         end_group(self.process)
 
     def say(self, line: str) -> list[list[str]]:
-        """The words of the lines of the answer to a line, but for the last one.
+        """The words of the lines of the answer to a line, except the last one.
 
         Raises
         ------
@@ -211,7 +211,7 @@ def _compare(
 ) -> Driven:
     """Says all lines, and compares what comes with the simulation.
 
-    `declared` of the first lines stand in the simulation file as they are.
+    `declared` of the first lines are in the simulation file unchanged.
     """
     first = lines[:declared]
     destinations = [word for word in first[0].split(" ")[1].split(",") if word != "-"]

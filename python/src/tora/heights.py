@@ -2,7 +2,7 @@
 
 A break of a route is a round after which a next hop is over a link that was parted in it. Black arrows are next hops; red and dashed ones
 are stale: over a parted link. Grey arrows lead from the higher to the lower height of two linked nodes, dotted lines to a node without a
-height. The colour of a node is its reference level; below its number stands its delta.
+height. The colour of a node is its reference level; below its number is its delta.
 """
 from __future__ import annotations
 
@@ -107,7 +107,7 @@ def break_lines(found: Sequence[Break]) -> list[str]:
 
 
 def places_of(scenario: Scenario, clock: int) -> npt.NDArray[np.float64]:
-    """Where the nodes stand at the end of a round, in inches.
+    """The places of the nodes at the end of a round, in inches.
 
     Returns
     -------
@@ -122,7 +122,7 @@ def places_of(scenario: Scenario, clock: int) -> npt.NDArray[np.float64]:
 
 
 def moved_apart(places: npt.NDArray[np.float64], least: float = APART) -> npt.NDArray[np.float64]:
-    """Moves nodes that would cover each other until they are so many inches apart, or 200 times."""
+    """Moves nodes that would cover each other until they are this many inches apart, or 200 times."""
     moved = places.copy()
     for _ in range(200):
         is_done = True

@@ -29,7 +29,7 @@ End = tuple[int, int]  # a node and its neighbour
 
 
 class Told:
-    """What a trace tells of links and broadcasts.
+    """The links and broadcasts in a trace.
 
     It has the life of each link end that is up, and what was broadcast since.
     """
@@ -71,7 +71,7 @@ class Told:
                 self.clears[record.words[0], record.words[1]].append((at, record.words[3:]))
 
     def entry(self, node: int, neighbour: int, destination: int) -> tuple[Height | None, bool]:
-        """What the neighbour has told: its height or None, and whether a clear may have erased it at the node since."""
+        """The height that the neighbour has sent, or None, and whether a clear may have erased it at the node since."""
         if neighbour == destination:
             return (0, 0, 0, 0, destination), False
         height: Height | None = None
@@ -90,7 +90,7 @@ class Told:
 
 
 class RestingWorld:
-    """A network at rest: what is printed of it, and what its trace tells."""
+    """A network at rest: its printed state, and its trace."""
 
     def __init__(self, network: Network, printed: Iterable[str], told: Told) -> None:
         """Takes the last lines that were printed apart."""
@@ -209,7 +209,7 @@ def _holds(what: str, is_so: bool) -> None:
 
 
 def _of_words(line: str, first: str, count: int) -> list[str]:
-    """The words of a printed line, which has so many, the first one this."""
+    """The words of a printed line, which has this many words and this first word."""
     words = line.split()
     if len(words) != count or words[0] != first:
         raise StudyError(f"`{shown(line)}` is no line `{first}`", file="printed")

@@ -1,9 +1,9 @@
 """The shared library `libtora` in the own process: no program is started. `tora.core` has the rules of one node, and
-`tora.router` a whole one with its neighbour links.
+`tora.router` a whole one with its neighbour links, and `tora.driven` a simulated world.
 
 The library is that which TORA_LIBRARY names, else the first of these that is there: `libtora.so.0` beside this file, in
-`out` of the repository, or where the system looks for libraries, as that of the Debian package libtora0. A `Core` or
-`Router` is used by one thread at a time.
+`out` of the repository, or where the system looks for libraries, as that of the Debian package libtora0. A `Core`,
+`Router` or `World` is used by one thread at a time.
 """
 from __future__ import annotations
 
@@ -75,11 +75,11 @@ class RefusedError(LibraryError):
 
 
 class PacketError(LibraryError):
-    """The bytes spell no packet; the core is as it was."""
+    """The bytes are not a packet; the core is unchanged."""
 
 
 class ClosedError(LibraryError):
-    """The core or router was closed."""
+    """The core, router or world was closed."""
 
 
 class Erasure(enum.IntEnum):
@@ -169,6 +169,10 @@ _SIGNATURES: dict[str, list[type]] = {
     "tora_router_next_due": [_HELD, _LONG],
     "tora_router_next_life": [_HELD, _LONG],
     "tora_router_tally": [_HELD, c_uint32, POINTER(_Tally)],
+    "tora_world_new": [_HELD, c_uint32, c_uint32, _TIMES],
+    "tora_world_free": [_HELD],
+    "tora_world_line": [_HELD, _BYTES, c_size_t, _SIZE],
+    "tora_world_answer": [_HELD, _BYTES, c_size_t, _SIZE],
     **{f"tora_{kind}_{name}": types for kind in ("core", "router") for name, types in _READERS.items()},
 }
 
@@ -264,19 +268,15 @@ def spelt(datagram: bytes) -> ctypes.Array[c_uint8]:
     return (c_uint8 * len(datagram)).from_buffer_copy(datagram)
 
 
-class Handle:
-    """What a core and a router have in common: the library holds it until it is closed, and it can be read."""
+class Held:
+    """What the library holds until it is closed."""
 
     _KIND: ClassVar[str]
 
-    def _make(self, me: int, neighbours: Iterable[int], destinations: Iterable[int], *words: Any) -> None:
+    def _make(self, *words: Any) -> None:
         """Has the library make what is held."""
         self._handle, self._library = _Handle(), library()
-        words_of_lists: list[Any] = []
-        for name, numbers in ("a neighbour", neighbours), ("a destination", destinations):
-            found = [node(name, it) for it in numbers]
-            words_of_lists += [(c_uint32 * len(found))(*found), len(found)]
-        done(self._call("new", node("a node", me), *words_of_lists, *words))
+        done(self._call("new", *words))
 
     def _call(self, name: str, *words: Any) -> int:
         """What a call answers."""
@@ -301,6 +301,18 @@ class Handle:
         """Closes it where nobody holds it."""
         if getattr(self, "_library", None) is not None:
             self.close()
+
+
+class Handle(Held):
+    """What a core and a router have in common: it can be read."""
+
+    def _make_node(self, me: int, neighbours: Iterable[int], destinations: Iterable[int], *words: Any) -> None:
+        """Has the library make the node."""
+        words_of_lists: list[Any] = []
+        for name, numbers in ("a neighbour", neighbours), ("a destination", destinations):
+            found = [node(name, it) for it in numbers]
+            words_of_lists += [(c_uint32 * len(found))(*found), len(found)]
+        self._make(node("a node", me), *words_of_lists, *words)
 
     def _height(self, name: str, *words: int) -> Height | None:
         found = _Height()

@@ -53,14 +53,14 @@ def of_run(
 
 
 def verify(path: Path, program: Path | Program | None = None, time_limit: float = TIME_LIMIT) -> str:
-    """Makes the run of a manifest again, and compares it with what the manifest tells.
+    """Repeats the run of a manifest, and compares the results with the manifest.
 
     Answers a line that says what is the same.
 
     Parameters
     ----------
     path : path
-        ``PREFIX.manifest.json``; ``PREFIX.sim`` and a channel file stand beside it, and ``PREFIX.trace``, if it is
+        ``PREFIX.manifest.json``; ``PREFIX.sim`` and a channel file are beside it, and ``PREFIX.trace``, if it is
         there, is compared, too.
     program : path, optional
         As of `tora.program.Program.find`.
@@ -114,15 +114,15 @@ def digests_of_program(program: Program) -> dict[str, str]:
 
 
 def commit_of(program: Program) -> str | None:
-    """The commit of the repository that the program stands in, with ``+changed`` if files of it differ from it.
+    """The commit of the repository that has the program, with ``+changed`` if files of it differ from it.
 
-    None where it stands in no repository. While the program's files stay, it is told as when it was asked for first.
+    None if it is in no repository. While the program's files do not change, the first answer is used again.
     """
     return _commit(_identity(program))
 
 
 def version_of(program: Program) -> str:
-    """What a program calls itself; it is asked again only where its files have changed."""
+    """The version that a program prints; it is run again only if its files have changed."""
     return _version(program, _identity(program))
 
 
@@ -130,7 +130,7 @@ Identity = tuple[tuple[str, int, int, int], ...]  # of each file its path, its n
 
 
 def _identity(program: Program) -> Identity:
-    """What tells whether the files of a program, and those that the repository's launcher runs, are those of before."""
+    """A value that changes if the files of a program, or those that the repository's launcher runs, change."""
     path = pathlib.Path(program.words[0])
     files = [path]
     if (path.parent / "crates.txt").is_file():
@@ -151,7 +151,7 @@ def _digests(identity: Identity) -> tuple[tuple[str, str], ...]:
 
 @functools.lru_cache
 def _commit(identity: Identity) -> str | None:
-    """The commit of the repository that the first file stands in."""
+    """The commit of the repository that has the first file."""
     answers = []
     for words in (("rev-parse", "HEAD"), ("status", "--porcelain", "--untracked-files=no")):
         try:

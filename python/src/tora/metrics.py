@@ -123,8 +123,8 @@ def time_to_rest(scenario: Scenario, trace: Trace, at_rest: bool | None = None) 
         missing where there is none; `rest_ticks` (Int64): from the one to the other, 0 where there is none;
         `control_after_change`, `query_after_change`, `update_after_change`, `clear_after_change` (int64): broadcasts
         after the last change; `loops_at_rest`, `dead_ends_at_rest` (Int64): loops of next hops, and nodes at which
-        routes of flows end though a path stands; `is_at_rest` (bool): whether the destination is known to be at rest.
-        Where it is not, `rest_ticks` and what stands at rest are missing.
+        routes of flows end though there is a path; `is_at_rest` (bool): whether the destination is known to be at rest.
+        If it is not, `rest_ticks` and the state at rest are missing.
     """
     scenario = trace.check(scenario)
     world = None
@@ -175,7 +175,7 @@ def _passed(scenario: Scenario, trace: Trace, load: Load | None) -> tuple[Routes
 
 
 def _scenario_cells(scenario: Scenario) -> dict[str, Any]:
-    """The columns that the scenario tells."""
+    """The columns that come from the scenario."""
     row: dict[str, Any] = {
         name: getattr(scenario, name) for name in ("nodes", "seed", "rounds", "links_met", "most_met", "breaks")
     }
@@ -187,5 +187,5 @@ def _scenario_cells(scenario: Scenario) -> dict[str, Any]:
 
 
 def _header_cells(trace: Trace) -> dict[str, Any]:
-    """The columns that the header of the trace tells."""
+    """The columns that come from the header of the trace."""
     return {name: None if trace.header is None else getattr(trace.header, name) for name in CHANNEL + MORE + ERASURE}

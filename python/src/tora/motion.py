@@ -19,7 +19,7 @@ LONG = 10_000  # times that a side is longer than the other from which on a rect
 
 @dataclasses.dataclass(frozen=True)
 class Motion:
-    """What a model is told.
+    """The parameters of a model.
 
     Attributes
     ----------

@@ -95,7 +95,7 @@ def read_fcd(path: Path, absent: str = "refuse") -> list[Way]:
     path : path
     absent : str
         What becomes of a vehicle that is not in every time step: with ``refuse`` the file is refused; with ``rest`` the
-        vehicle stands at its first place before it comes, and at its last one once it is gone.
+        vehicle is at its first place before it comes, and at its last one after it has left.
 
     Raises
     ------
@@ -178,7 +178,7 @@ class _FcdSteps(xml.sax.handler.ContentHandler):
         self.here: set[str] = set()
 
     def refused(self, cause: str) -> StudyError:
-        """The refusal of the line at hand."""
+        """The refusal of the current line."""
         locator = self._locator  # type: ignore[attr-defined]
         return StudyError(cause, file=self.path, line=locator.getLineNumber())
 

@@ -18,7 +18,7 @@ class Broken(StudyError):
 
 
 class Network:
-    """A random network: the lines of its simulation file, and where its nodes begin anew."""
+    """A random network: the lines of its simulation file, and where its nodes restart."""
 
     def __init__(self, draw: random.Random) -> None:
         """A connected network, and what happens in it until it is left alone."""
@@ -77,7 +77,7 @@ class Network:
 def simulated(
     network: Network, asked: list[str], folder: pathlib.Path, least: int, program: Program, time_limit: float
 ) -> tuple[list[str], pathlib.Path]:
-    """The lines that a network prints with these lines at its end, so many at least, and the path of its trace."""
+    """The lines that a network prints with these lines at its end, at least this many, and the path of its trace."""
     path, trace = folder / "network.sim", folder / "network.trace"
     write_file(path, network.text(asked), overwrite=True)
     lines = program.run("sim", "--trace", trace, path, time_limit=time_limit).output.splitlines()

@@ -20,7 +20,7 @@ STATUSES = "Exit status: 0 if all is done; 1 if an input is bad or a run failed;
 
 
 class Formatter(argparse.RawDescriptionHelpFormatter):
-    """Fills the paragraphs of a description. A line that is indented stays a line of its own, wrapped below its last column."""
+    """Fills the paragraphs of a description. An indented line stays a separate line, wrapped below its last column."""
 
     def _fill_text(self, text: str, width: int, indent: str) -> str:
         """The lines of a text, each at most so long."""
@@ -223,7 +223,7 @@ def flag_of(name: str) -> str:
 
 
 def add_options(parser: argparse.ArgumentParser, options: dict[str, Option], title: str, leave_out: Sequence[str] = ()) -> None:
-    """Adds options, each of which may stand once; what is not given is None."""
+    """Adds options, each of which may be given once; a missing one is None."""
     group = parser.add_argument_group(title)
     for name, option in options.items():
         if name in leave_out:

@@ -1,7 +1,7 @@
 """Checks of runs against their laws: a trace against what was printed, and random networks at rest.
 
 The laws of worlds at rest are those of `docs/explanation/tora.md`, "What a route is worth": each entry is NULL, the
-neighbour's height, or of a neighbour that has no height; next hops go down; and routes arrive where nobody lacks a height.
+neighbour's height, or of a neighbour that has no height; next hops go down; and routes arrive if no node lacks a height.
 """
 from __future__ import annotations
 
@@ -61,14 +61,14 @@ class Rested:
     seen: dict[str, int]
 
     def lines(self) -> list[str]:
-        """What is to be told, line by line."""
+        """The messages, line by line."""
         told = [f"{self.networks} networks of seed {self.seed} came to rest, and the laws hold in each"]
         told += [f"entries: {self.seen.get(kind, 0):6} {said}" for kind, said in KINDS.items()]
         return told + [f"{count} {what}" for what, count in sorted(self.seen.items()) if what not in KINDS]
 
 
 def agree(simulation: Path, output: Path, trace: Path) -> Agreement:
-    """Compares heights and next hops that were printed with those that a trace tells.
+    """Compares printed heights and next hops with those of a trace.
 
     Parameters
     ----------
@@ -82,7 +82,7 @@ def agree(simulation: Path, output: Path, trace: Path) -> Agreement:
     Raises
     ------
     StudyError
-        With the first printed line that the trace tells otherwise.
+        With the first printed line that differs from the trace.
     """
     fold, lines = _Fold(Trace.read(trace)), 0
     for line, clock, node, destination, height, hop in _printed_heights(os.fspath(simulation), os.fspath(output)):

@@ -1,4 +1,4 @@
-"""The columns of a row that tell what a run was made of, in their order.
+"""The columns of a row that describe the design of a run, in order.
 
 A cell is empty where a parameter has no meaning: of a movement file no speed is known, and each model of motion has
 parameters of its own.

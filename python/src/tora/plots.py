@@ -239,9 +239,9 @@ def drawn(
     table: Table, kind: str, by: str | None = None, measures: Sequence[str] = (), *, statistic: str | None = None, method: str | None = None,
     pool: Sequence[str] = (),
 ) -> Figure:
-    """The picture of a kind: `by`, `overview`, `growth`, `notice`, `comparison`, `rest` or `storms`; `by` is a column, `nodes` where it is not told.
+    """The picture of a kind: `by`, `overview`, `growth`, `notice`, `comparison`, `rest` or `storms`; `by` is a column, `nodes` by default.
 
-    The statistic is a mean where it is not told, and a median of `notice` and `rest`; `storms` has its own.
+    The statistic is a mean by default, and a median for `notice` and `rest`; `storms` has its own.
     """
     told = statistic or ("median" if kind in ("notice", "rest") else "mean")
     fixed = {"overview": (), "rest": (), "storms": ()}

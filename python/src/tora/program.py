@@ -33,12 +33,12 @@ class Finished:
 
 @dataclasses.dataclass(frozen=True)
 class Program:
-    """The program `tora`: the words of the command that starts it, after which stand its own words.
+    """The program `tora`: the words of the command that starts it, before its own words.
 
     Attributes
     ----------
     words : tuple of str
-        The path of the program, and words that stand before its own, if any.
+        The path of the program, and words before its own, if any.
     """
 
     words: tuple[str, ...]
@@ -117,7 +117,7 @@ class Program:
 
 
 def end_group(process: subprocess.Popen[Any]) -> None:
-    """Ends a process that was started in a session of its own, with all that it has started."""
+    """Ends a process that was started in its own session, with all processes that it has started."""
     try:
         os.killpg(process.pid, signal.SIGKILL)
     except ProcessLookupError:
@@ -149,7 +149,7 @@ def _words_of_environment() -> list[str]:
 
 
 def _words_of_repository() -> list[str]:
-    """The launcher of the repository that this file stands in, if it stands in one."""
+    """The launcher of the repository that has this file, if there is one."""
     for folder in pathlib.Path(__file__).resolve().parents:
         if (folder / "crates.txt").is_file() and os.access(folder / "tora", os.X_OK):
             return [str(folder / "tora")]

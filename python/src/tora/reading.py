@@ -1,4 +1,4 @@
-"""Reads a trace, block by block, into arrays; every line is tested, and a fault is told with its line."""
+"""Reads a trace, block by block, into arrays; every line is checked, and a fault is reported with its line."""
 from __future__ import annotations
 
 import contextlib

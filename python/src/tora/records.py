@@ -64,7 +64,7 @@ class Header:
     channel_file : str or None
         SHA-256 of the channel file.
     erasure : str
-        What nodes make of erased levels, but for those of which the simulation file says it: ``plain`` or ``remembered``.
+        How nodes treat erased levels, unless the simulation file says it: ``plain`` or ``remembered``.
     """
 
     times: tuple[int, int, int, int]

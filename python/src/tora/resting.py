@@ -1,4 +1,4 @@
-"""When a network came to rest: the last control packets after the last change, and what stands then.
+"""When a network came to rest: the last control packets after the last change, and the state then.
 
 For a destination the last change is the last record that parts or mends a link, or the last need of the destination,
 whichever comes later. Control packets are QRY, UPD and CLR of the destination that were broadcast after it.
@@ -9,7 +9,7 @@ destination was broadcast, no height or next hop of it changed, and no DATA fram
 retry` ticks and the greatest delay of the channel. A packet that is not acknowledged is sent again after `retry` ticks;
 a link end notices a parted link after `silence` ticks. Where the program was asked, by a line `rest` at the end of the
 simulation file, its answer counts in the place of this. Where a destination is not known to be at rest, the control
-packets are those until the end of the run, and no time is told.
+packets are those until the end of the run, and no time is given.
 """
 from __future__ import annotations
 
@@ -34,7 +34,7 @@ Numbers = npt.NDArray[np.int64]
 
 
 def quiet_ticks(scenario: Scenario, trace: Trace) -> int:
-    """For how many ticks something that no record tells may be under way."""
+    """For how many ticks an event without a record may be pending."""
     hello, silence, retry, _ = scenario.times or (10, 50, 5, 8)
     return silence + hello + retry + (0 if trace.header is None else trace.header.delay_most)
 
@@ -51,7 +51,7 @@ def rest_table(scenario: Scenario, trace: Trace, world: World, at_rest: bool | N
 
 
 def topology_changes(scenario: Scenario, trace: Trace) -> Numbers:
-    """Where in the order of the trace the records stand that part a link that is not parted, or mend one that is."""
+    """The places in the trace of the records that part a link that is not parted, or mend one that is."""
     places, codes = trace.places("part", "mend"), trace.kinds[trace.places("part", "mend")]
     mends = dict(zip(places.tolist(), (codes == CODES["mend"]).tolist()))
     pairs = np.zeros((2, len(places)), np.int64)
@@ -69,7 +69,7 @@ def topology_changes(scenario: Scenario, trace: Trace) -> Numbers:
 def row_of(table: pd.DataFrame) -> dict[str, Any]:
     """The columns of a run: the longest time to rest of its destinations, and the sums of what was counted.
 
-    Where a destination is not known to be at rest, the time and what stands at rest are missing.
+    Where a destination is not known to be at rest, the time and the state at rest are missing.
     """
     row: dict[str, Any] = dict.fromkeys(COLUMNS)
     at_rest = bool(table["is_at_rest"].all())
@@ -84,7 +84,7 @@ def _row(
     scenario: Scenario, trace: Trace, world: World, destination: int, topology: Numbers, busy: Numbers,
     told: bool | None = None,
 ) -> dict[str, Any]:
-    """The row of a destination; what the program has told of rest counts."""
+    """The row of a destination; the program's own report of rest counts."""
     needs = trace.places("need")[trace.columns["need"][1] == destination]
     change = int(max(topology.max(initial=-1), needs.max(initial=-1)))
     changed = int(trace.clocks[change]) if change >= 0 else 0
@@ -108,9 +108,9 @@ def _row(
 
 
 def _loops_and_dead_ends(scenario: Scenario, world: World, destination: int) -> tuple[int, int]:
-    """How many loops of next hops stand, and how many dead ends.
+    """How many loops of next hops there are, and how many dead ends.
 
-    A dead end is a node at which the route of a flow ends though a path to the destination stands.
+    A dead end is a node at which the route of a flow ends though there is a path to the destination.
     """
     hops, far = world.hops[destination], distances(world.near, destination)
     ends = set()

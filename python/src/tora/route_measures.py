@@ -106,7 +106,7 @@ class Loops:
         self.all: list[Loop] = []
 
     def take(self, clock: int, destination: int, rings: set[Ring], codes: Mapping[int, int]) -> None:
-        """What stands at the end of a round for a destination, whose next hops or links are others than before."""
+        """The state at the end of a round for a destination whose next hops or links have changed."""
         for key in [key for key in self.open if key[0] == destination and key[1] not in rings]:
             self.close(clock, key)
         for ring in sorted(rings):
@@ -168,7 +168,7 @@ class Outages:
     def take(self, clock: int, flow: Flow, status: str, linked: bool) -> None:
         """One flow at the end of a round in which it fares otherwise than before.
 
-        `linked` says whether a path to its destination stands.
+        `linked` says whether there is a path to its destination.
         """
         outage = self.open.get(flow)
         if status == WORKS:
@@ -185,7 +185,7 @@ class Outages:
             self.worked.discard(flow)
 
     def close(self, clock: int, outage: Outage) -> None:
-        """Counts the rounds of an outage: since the path stands again where it was cut, else since the break."""
+        """Counts the rounds of an outage: since the path exists again if it was cut, otherwise since the break."""
         if outage.was_cut:
             self.healed[clock - (clock - 1 if outage.linked_since is None else outage.linked_since)] += 1
         elif outage.by_break:
@@ -230,7 +230,7 @@ class Routes:
         self.far: dict[int, dict[int, int]] = {}
 
     def take(self, first: int, last: int, world: World) -> None:
-        """Rounds at whose ends the world stands as it does now."""
+        """Rounds at whose ends the world is as it is now."""
         if world.relinked:
             self.far = {destination: distances(world.near, destination) for destination in self.flows}
         for destination in self.flows:
@@ -266,7 +266,7 @@ class Routes:
         return found
 
     def look_for_loops(self, clock: int, world: World, destination: int, moved: set[int]) -> None:
-        """Looks for loops to which such nodes lead; those without such a node stand as before."""
+        """Looks for loops to which such nodes lead; those without such a node are as before."""
         rings = live_loops(world.hops[destination], world.near, moved)
         rings |= {ring for of, ring in self.loops.open if of == destination and moved.isdisjoint(ring)}
         if rings or self.loops.open:
@@ -280,7 +280,7 @@ class Routes:
             since[at] = clock
 
     def end(self, rounds: int) -> None:
-        """Counts what stands at the end of the run."""
+        """Counts the state at the end of the run."""
         for destination, flows in self.flows.items():
             for at in range(len(flows)):
                 self.settle(rounds + 1, destination, at)

@@ -42,6 +42,11 @@ class Times(NamedTuple):
     tries: int = 0
 
 
+def spelt_times(times: Times) -> _Times:
+    """Times as the library reads them."""
+    return _Times(*(within(name, it, GREATEST_TICK) for name, it in times._asdict().items()))
+
+
 class Intake(enum.IntEnum):
     """The outcome of a datagram. From 11 to 20, its bytes are no frame."""
 
@@ -153,10 +158,9 @@ class Router(Handle):
         first_life: int,
     ) -> None:
         """A router whose links are closed until the first tick."""
-        parts = _Times(*(within(name, it, GREATEST_TICK) for name, it in times._asdict().items()))
         life = within("first_life", first_life, GREATEST_TICK)
         self._room = (c_uint8 * LONGEST_DATAGRAM)()
-        self._make(me, neighbours, destinations, int(erasure), byref(parts), life)
+        self._make_node(me, neighbours, destinations, int(erasure), byref(spelt_times(times)), life)
 
     def datagram(self, peer: int, datagram: bytes, now: int) -> Intake:
         """Hand in the bytes of a datagram from node `peer` at the tick `now`. Returns the outcome."""

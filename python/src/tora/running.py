@@ -1,4 +1,4 @@
-"""Runs of the program `tora` on scenarios: their files, and what a manifest tells of them."""
+"""Runs of the program `tora` on scenarios: their files and their manifests."""
 from __future__ import annotations
 
 import dataclasses
@@ -57,7 +57,7 @@ def run_scenario(
 def run_files(
     prefix: Path, asked: Simulation, program: Path | Program | None, time_limit: float, overwrite: bool
 ) -> str:
-    """Simulates ``PREFIX.sim``, beside which ``PREFIX.json`` stands; answers the path of the trace."""
+    """Simulates ``PREFIX.sim``, beside which ``PREFIX.json`` stands; returns the path of the trace."""
     asked.words()
     name = os.fspath(prefix)
     scenario = read_scenario(name)

@@ -309,7 +309,7 @@ class Scenario:
         return "\n".join(channel_lines(self.positions, self.links, self.sample, self.range, edge)) + "\n"
 
     def with_edge_loss(self, edge_loss: float | None) -> Scenario:
-        """The scenario whose parameters tell the loss at the range of its channel file."""
+        """The scenario whose parameters have the loss at the range of its channel file."""
         edge = check_number("edge_loss", EDGE_LOSS if edge_loss is None else edge_loss, 0, 1)
         return dataclasses.replace(self, parameters=self.parameters | {"edge_loss": edge})
 

@@ -1,6 +1,6 @@
-"""What the program is told of a run beside its simulation file.
+"""The options of a run beside its simulation file.
 
-That is the channel, the notice of parted links, the last round, and what nodes make of erased levels.
+They are the channel, the notice of parted links, the last round, and how nodes treat erased levels.
 """
 from __future__ import annotations
 
@@ -36,7 +36,7 @@ class Simulation:
     channel_file : path, optional
         A file of losses by link and round.
     erasure : str, optional
-        What nodes make of erased reference levels: ``plain``, as where it is not told, or ``remembered``.
+        How nodes treat erased reference levels: ``plain``, the default, or ``remembered``.
     """
 
     loss: float | None = None
@@ -77,7 +77,7 @@ class Simulation:
 
 
 def check_erasure(word: str) -> str:
-    """A choice of what nodes make of erased levels, if it is one."""
+    """A treatment of erased levels, if the word names one."""
     if word not in ERASURES:
         raise UsageError(f"`{shown(word)}` is not {ERASURES[0]} or {ERASURES[1]}", key="erasure")
     return word

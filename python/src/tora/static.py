@@ -55,7 +55,7 @@ def static_of_simulation(path: str, times: tuple[int, int, int, int]) -> dict[st
 
 
 def static_of_trace(trace: Trace) -> dict[str, Any]:
-    """The fields of the scenario that the records of a trace tell: the links, destinations and needs that they name."""
+    """The fields of the scenario that come from the records of a trace: the links, destinations and needs that they name."""
     links: set[Pair] = set()
     destinations: set[int] = set()
     for kind in ("part", "mend", "up", "down"):
@@ -71,7 +71,7 @@ def static_of_trace(trace: Trace) -> dict[str, Any]:
 
 
 def _line_of(path: str, number: int, text: str, has_links: bool) -> tuple[str, list[int]]:
-    """The word of a line, and the numbers after it; of a line that tells nothing of a scenario none."""
+    """The word of a line, and the numbers after it; None for a line without a part of the scenario."""
     kind, *words = text.split(" ")
     letters = TELLING.get(kind)
     is_other = (letters is None and not has_links) or (number == 1) != (kind == "dests")

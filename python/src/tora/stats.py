@@ -61,7 +61,7 @@ def quantile(values: Floats | Sequence[float], share: float) -> float:
 
 
 def is_constant(values: Floats) -> bool:
-    """Whether all values are equal, but for rounding."""
+    """Whether all values are equal up to rounding."""
     return bool(np.ptp(values) <= ALMOST * max(1.0, float(np.max(np.abs(values)))))
 
 
@@ -132,7 +132,7 @@ def share_of(statistic: str) -> float:
 
 
 def method_of(statistic: str, method: str | None) -> str:
-    """The method of an interval, the usual one of the statistic where none is asked for; refuses one that the statistic does not have.
+    """The method of an interval, the usual one of the statistic by default; refuses one that the statistic does not have.
 
     Of a mean ``bca`` (usual) and ``student``, of a median ``order`` (usual) and ``bca``, of another quantile ``order``.
     """

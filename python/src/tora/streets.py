@@ -11,7 +11,7 @@ TURNS = ((0, 0.5), (1, 0.25), (3, 0.25))  # straight on, left, right: steps in H
 
 
 class Driver:
-    """A node on a street: the crossing behind it, its heading, the metres since the crossing, and its speed."""
+    """A node on a street: the last crossing, its heading, the metres since the crossing, and its speed."""
 
     def __init__(self, streets: Streets, speeds: tuple[float, float], source: random.Random) -> None:
         """One at a random place, with a random heading and speed."""

@@ -42,7 +42,7 @@ class Summary:
     header : list of str
         What the rows are: groups, pools, the statistic, its intervals.
     keys : list of str
-        The columns that tell groups apart.
+        The columns that distinguish groups.
     rows : DataFrame
         The keys; `measure`; `runs` and `without` (those with a cell, and without); `value`, `low` and `high`, NaN for none; `least` and
         `greatest` of a run. Of a comparison `pairs` and `alone` in place of runs, and `p`, `p_holm` in place of the least and the greatest.
@@ -54,12 +54,12 @@ class Summary:
 
 
 def usual_measures(table: Table) -> list[str]:
-    """The measures that are told where none are named: the usual ones that some run has, or all of a table that has none of these."""
+    """The measures that are shown if none are named: the usual ones that some run has, or all of a table that has none of these."""
     return [name for name in USUAL if name in table.measures and table.frame[name].notna().any()] or table.measures
 
 
 def keys_of(table: Table, pool: Sequence[str] = ()) -> tuple[list[str], dict[str, str]]:
-    """The fewest columns that tell the groups apart, and of each other column that varies those that it varies with.
+    """The fewest columns that distinguish the groups, and for each other column that varies those that it varies with.
 
     Raises
     ------
@@ -315,7 +315,7 @@ def _line(cells: Sequence[str]) -> str:
 
 
 def csv_text(summary: Summary) -> str:
-    """The summary as CSV: a row for each group and measure, numbers in full, empty for none; the header stands in its last column, `told`."""
+    """The summary as CSV: a row for each group and measure, numbers in full, empty for none; the header is in its last column, `told`."""
     rows = summary.rows.copy()
     for name in summary.keys:
         rows[name] = [text_of(value) if value is not None else "" for value in rows[name]]

@@ -79,7 +79,7 @@ def missing(folder: str, study: Study) -> list[Planned]:
 
 
 def make_batch(folder: str, number: int, of: int, jobs: int) -> int:
-    """Makes the runs of a batch that have no row, so many at a time; answers the exit status."""
+    """Makes the runs of a batch that have no row, this many at a time; returns the exit status."""
     study = Study.read(folder)
     program, time_limit = program_of(folder)
     left = [run for run in study.runs()[number::of] if not os.path.exists(row_path(folder, run.name))]
@@ -102,7 +102,7 @@ def make_all(folder: str, jobs: int) -> int:
 
 
 def try_run(folder: str, study: Study, program: Program, time_limit: float, run: Planned) -> int:
-    """Makes a run, or leaves a log that tells why it failed; answers the exit status."""
+    """Makes a run, or leaves a log that says why it failed; returns the exit status."""
     log = os.path.join(folder, LOGS, f"{run.name}.log")
     try:
         make_run(folder, study, run, program, time_limit)

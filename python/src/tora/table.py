@@ -39,7 +39,7 @@ class Table:
         A row for each run, its index the line of the file. A column of the design holds numbers or words, None where it has no
         meaning for the run; `seed` and measures hold floats, NaN for an empty cell.
     design : list of str
-        The columns that tell what was set.
+        The columns that say what was set.
     """
 
     path: str
@@ -145,7 +145,7 @@ def table_of_rows(rows: Sequence[dict[str, object]], design: Sequence[str] | Non
 
 
 def table_of(data: bytes, path: str, design: Sequence[str] | None = None) -> Table:
-    """The table of these bytes; `path` stands in refusals."""
+    """The table of these bytes; refusals name `path`."""
     names, lines = _lines(data, path)
     chosen = _design(names, path, design)
     if SEED not in names:

@@ -307,7 +307,7 @@ class Trace:
 
 
 def rows_of(*arrays: npt.NDArray[Any]) -> Iterator[tuple[int, ...]]:
-    """Yields what stands at each place of arrays of one length, as numbers of Python: block by block, since these take much memory."""
+    """Yields the values at each place of arrays of one length, as numbers of Python: block by block, since these take much memory."""
     for start in range(0, len(arrays[0]), BLOCK):
         yield from zip(*(array[start:start + BLOCK].tolist() for array in arrays))
 
@@ -323,7 +323,7 @@ def _are_links(scenario: Scenario, a: Numbers, b: Numbers) -> npt.NDArray[np.boo
 
 
 def _order(node: Numbers, destination: Numbers) -> Numbers:
-    """The order of records by node and destination, and then as they stand."""
+    """The order of records by node and destination, and then by their place."""
     order: Numbers = np.lexsort((destination, node))
     return order
 

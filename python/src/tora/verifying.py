@@ -1,4 +1,4 @@
-"""Makes runs of a study again, and compares them with what its manifest and its table tell."""
+"""Repeats runs of a study, and compares them with its manifest and its table."""
 from __future__ import annotations
 
 import hashlib
@@ -29,14 +29,14 @@ def verify_study(
     everything : bool
         All runs.
     program : path, optional
-        That of the manifest where it is not told; one of another SHA-256 is refused.
+        The program of the manifest by default; one with another SHA-256 is refused.
     time_limit : float, optional
-        Seconds after which a run is ended; that of the manifest where it is not told.
+        Seconds after which a run is ended; that of the manifest by default.
 
     Raises
     ------
     StudyError
-        Where an input, the program, the table, a run's file or its row is not what the manifest tells.
+        Where an input, the program, the table, a run's file or its row differs from the manifest.
     """
     told = _manifest(folder)
     if "study" not in told:

@@ -54,7 +54,7 @@ def do_run(found: argparse.Namespace) -> int:
 
 
 def do_storms(found: argparse.Namespace) -> int:
-    """Runs random partitions, and tells how they come to rest."""
+    """Runs random partitions, and reports how they come to rest."""
     outputs = [name for name in (found.output, found.plot) if name is not None]
     check_outputs(outputs, overwrite=found.overwrite)
     if found.plot is not None:
@@ -84,7 +84,7 @@ def do_measure(found: argparse.Namespace) -> int:
 
 
 def _table(found: argparse.Namespace) -> Table:
-    """The table that is asked for, with the figures that are worked out from it, and only the runs that are meant."""
+    """The requested table with the values computed from it, and only the selected runs."""
     table = with_derived(read_table(found.table, found.design))
     wanted: dict[str, str] = {}
     for name, value in found.where:

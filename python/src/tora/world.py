@@ -1,4 +1,4 @@
-"""The world that a trace tells, round by round: links that are not parted, heights and next hops."""
+"""The world of a trace, round by round: links that are not parted, heights and next hops."""
 from __future__ import annotations
 
 from collections.abc import Iterator, Mapping
@@ -50,7 +50,7 @@ class World:
     hops : dict
         By destination and node the next hop, or None.
     codes : dict
-        By destination and node the place, among the `route` records of the trace, of the one that tells its height, or
+        By destination and node the place, among the `route` records of the trace, of the one that has its height, or
         `NULL` or `OWN`.
     changed : set of int
         Destinations with a height, a next hop or a link that is not as in the rounds before.
@@ -61,7 +61,7 @@ class World:
     """
 
     def __init__(self, scenario: Scenario, trace: Trace) -> None:
-        """Every link is mended, no node but a destination has a height, and nobody has a next hop."""
+        """Every link is mended, no node except a destination has a height, and no node has a next hop."""
         self._trace = trace
         self.nodes = list(scenario.linked)
         self.declared = set(scenario.links)

@@ -10,8 +10,8 @@ use super::link_turns::ends_do;
 use tora_arq::Verdict::{Accepted, Ahead, Foreign, Repeated};
 use tora_frame::Version;
 
-/// Both ends speak version 2, and each knows it of the other. They are bound at tick 0; nothing is owed and all events are
-/// polled.
+/// Both ends speak version 2, and each knows it of the other. They are bound at tick 0; nothing is owed and all events
+/// are polled.
 const NEW_LINK: &[(End, Step)] = &[
     (First, Sends(Version::Two, 5, 0, Hello)),
     (Second, Gets(0, Accepted)),
@@ -27,7 +27,8 @@ const NEW_LINK: &[(End, Step)] = &[
     (Second, Tells(Up(REVERSED))),
 ];
 
-/// The end of node 2 speaks version 1, and the frames of version 2 are foreign to it. The ends are bound as in a new link.
+/// The end of node 2 speaks version 1, and the frames of version 2 are foreign to it. The ends are bound as in a new
+/// link.
 const LINK_WITH_AN_OLD_PEER: &[(End, Step)] = &[
     (First, Sends(Version::Two, 5, 0, Hello)),
     (Old, Gets(0, Foreign)),

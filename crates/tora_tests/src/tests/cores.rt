@@ -116,7 +116,8 @@ fn made(
     core_of(rt, alloc, me, &neighbours, &destinations)
 }
 
-/// The neighbours and the destinations of node 1, the error that they are answered with, if any, and what the row is about.
+/// The neighbours and the destinations of node 1, the error that they are answered with, if any, and what the row is
+/// about.
 type Made = (Numbers, Numbers, Option<CoreError>, &'static str);
 
 /// Makes the core of each row, and sees its error, if any.
@@ -249,8 +250,8 @@ fn a_list_of_packets_holds_one_for_each_destination(rt: HostRuntime) -> Result<(
     Ok(())
 }
 
-// 32 neighbours that are up and 64 destinations, one of them the node itself: each destination has a line for itself and one
-// for each neighbour.
+// 32 neighbours that are up and 64 destinations, one of them the node itself: each destination has a line for itself
+// and one for each neighbour.
 #[test]
 fn largest_table_is_shown(rt: HostRuntime) -> Result<(), Fail> {
     let mut core = made(&rt, rt.alloc(), 1, Counted(2, 32), Counted(1, 64))?;

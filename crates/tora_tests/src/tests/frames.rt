@@ -61,8 +61,8 @@ const NEW_FROM_TWO: Header = Header {
 /// The query for 4, and the clear for 4 of the level (7,3,1).
 const QUERY_AND_CLEAR: &[Parts] = &[Parts::Query(4), Parts::Clear(7, 3)];
 
-/// The frames of the formats, and more made of the tables of the layouts: in version 1 DATA frames with an update and with
-/// a clear, in version 2 a HELLO, an ACK, and a DATA frame with an update.
+/// The frames of the formats, and more made of the tables of the layouts: in version 1 DATA frames with an update and
+/// with a clear, in version 2 a HELLO, an ACK, and a DATA frame with an update.
 const VECTORS: &[(Header, Carried, &str)] = &[
     (
         FIRST,

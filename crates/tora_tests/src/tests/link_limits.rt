@@ -1,5 +1,5 @@
-//! Link ends of version 1 over time and at their limits: packets once more, silence, a full send queue, want of memory; and what
-//! they print.
+//! Link ends of version 1 over time and at their limits: packets once more, silence, a full send queue, want of memory;
+//! and what they print.
 use super::carried::Carried::{Hello, Query};
 use super::link_ends::{BOUND, first_does};
 use super::link_steps::Step::{
@@ -97,8 +97,8 @@ fn clock_that_goes_back_counts_as_no_time(rt: HostRuntime) {
     first_does(&rt, rt.alloc(), CLOCK);
 }
 
-/// Steps, and of ticks behind them the first at which a frame is due from each of them on, or the life ends. Of the times of the program a
-/// HELLO follows after 10 ticks, a packet once more after 5.
+/// Steps, and of ticks behind them the first at which a frame is due from each of them on, or the life ends. Of the
+/// times of the program a HELLO follows after 10 ticks, a packet once more after 5.
 const DUE: &[(&[Step], &[(u64, Option<u64>)])] = &[
     (&[], &[(0, Some(0)), (7, Some(7))]),
     (BOUND, &[(0, Some(10)), (9, Some(10)), (12, Some(12))]),
@@ -136,8 +136,8 @@ fn an_end_is_printed(rt: HostRuntime) -> Result<(), Fail> {
     Ok(())
 }
 
-/// An end that was made takes no memory any more: a life is opened and bound, packets wait until the queue is full, and the
-/// life ends.
+/// An end that was made takes no memory any more: a life is opened and bound, packets wait until the queue is full, and
+/// the life ends.
 const LIVES: &[Step] = &[
     Waits(0),
     Opens(5),
@@ -161,8 +161,8 @@ fn lives(rt: &impl Abort, alloc: Global, made: Result<LinkEnd, ArqError>) {
     }
 }
 
-// With each request for memory refused in turn: a refusal is answered by Memory, and leaves nothing that stops the next end
-// from being made; an end that is made lives without memory.
+// With each request for memory refused in turn: a refusal is answered by Memory, and leaves nothing that stops the next
+// end from being made; an end that is made lives without memory.
 #[test]
 fn want_of_memory_is_answered(rt: HostRuntime) {
     for _ in 0..2 {

@@ -333,8 +333,8 @@ fn each_does(rt: &impl Abort, alloc: Global, ends: &mut Ends, steps: &[(End, Ste
     }
 }
 
-/// Does the steps of tables, one table after the other, at the ends of a link: both of a version, and beside them the old
-/// one.
+/// Does the steps of tables, one table after the other, at the ends of a link: both of a version, and beside them the
+/// old one.
 pub fn ends_do(rt: &impl Abort, alloc: Global, version: Version, tables: &[&[(End, Step)]]) {
     let mut ends = Ends {
         first: first_end(rt, alloc, version),

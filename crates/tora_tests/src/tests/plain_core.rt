@@ -1,5 +1,5 @@
-//! The rules as a plain body: nothing is kept beside the rows, and every question goes through them. The tests compare the
-//! core with it.
+//! The rules as a plain body: nothing is kept beside the rows, and every question goes through them. The tests compare
+//! the core with it.
 use std::alloc::{AllocError, Global};
 use tora_core::{Input, StepError};
 use tora_height::Id;

@@ -184,7 +184,8 @@ fn life_is_cut_where_its_lane_is_short_of_room(rt: HostRuntime) {
     }
 }
 
-/// The cut of the life to 2 is asked for, while that to 3 goes on; a second one, and one of a node that is no neighbour, do nothing.
+/// The cut of the life to 2 is asked for, while that to 3 goes on; a second one, and one of a node that is no
+/// neighbour, do nothing.
 const CUT_NOW: &[Step] = &[
     Serves(1, Told::Up(SECOND)),
     Counts(10),

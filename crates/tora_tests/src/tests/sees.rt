@@ -1,5 +1,5 @@
-//! What the tests see. Each check is one call of a function of this module, which is proved once; an assertion that stands in
-//! a test is proved there, together with the text that it would print.
+//! What the tests see. Each check is one call of a function of this module, which is proved once; an assertion that
+//! stands in a test is proved there, together with the text that it would print.
 use std::alloc::Global;
 use std::fmt::{Debug, Display};
 use std::process::Abort;

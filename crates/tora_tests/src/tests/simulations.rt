@@ -186,8 +186,8 @@ fn example_of_the_documentation(rt: HostRuntime) {
     runs(&rt, rt.alloc(), &mut sim, DOCUMENTED);
 }
 
-/// The link of nodes 1 and 2 comes up, where node 2 speaks version 1 alone: node 1 says HELLO in both versions until it has
-/// heard.
+/// The link of nodes 1 and 2 comes up, where node 2 speaks version 1 alone: node 1 says HELLO in both versions until it
+/// has heard.
 const MIXED: &[Step] = &[
     Does(Event::Open(1, 2)),
     Does(Event::Open(2, 1)),

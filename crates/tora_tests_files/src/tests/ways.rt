@@ -5,7 +5,8 @@ use std::net::SocketAddr;
 use std::process::Abort;
 use tora_config::{ConfigError, LinkWay, read_ways};
 
-/// The ends of a link, what else stands in it, and the words for what is read: its peer, its ends and its key file, or the fault.
+/// The ends of a link, what else stands in it, and the words for what is read: its peer, its ends and its key file, or
+/// the fault.
 type Row = (&'static str, &'static str, &'static str, &'static str);
 
 const NO_NUMBER: &str = "`local` of link 1 is no whole number";

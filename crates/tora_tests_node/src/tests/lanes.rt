@@ -104,8 +104,8 @@ fn use_new_lanes<R: Wait + Abort>(rt: &R, alloc: Global, rows: &[usize]) {
     }
 }
 
-// Where memory is refused `lanes` answers so, and nothing is left of what it had made: the next call finds what it needs. No
-// other call of a lane takes memory, but for one that waits.
+// Where memory is refused `lanes` answers so, and nothing is left of what it had made: the next call finds what it
+// needs. No other call of a lane takes memory, but for one that waits.
 #[test]
 fn want_of_memory_is_answered(rt: HostRuntime) {
     use_new_lanes(&rt, rt.alloc(), &[1, 2, 32]);

@@ -153,7 +153,8 @@ fn two_nodes_on_the_loopback(rt: HostRuntime) {
     same(&rt, &found, &1, "the route is found");
 }
 
-/// What two wires that look for each other tell: whether each was asked for a datagram, and how many have met the other.
+/// What two wires that look for each other tell: whether each was asked for a datagram, and how many have met the
+/// other.
 #[derive(Drop)]
 struct Asked {
     first: AtomicU64,
@@ -161,8 +162,8 @@ struct Asked {
     met: AtomicU64,
 }
 
-/// Runs node 1 with these neighbours, one or two, over wires that look for each other; the life file of the first is on this
-/// disk. Answers the fault.
+/// Runs node 1 with these neighbours, one or two, over wires that look for each other; the life file of the first is on
+/// this disk. Answers the fault.
 fn run_over_meeting<'a, R: Threads + Wait + Sync + time::Clock + log::Log + Abort>(
     rt: &'a R,
     alloc: Global,
@@ -200,7 +201,8 @@ fn run_over_meeting<'a, R: Threads + Wait + Sync + time::Clock + log::Log + Abor
     ended.err()
 }
 
-/// The same, with what the wires tell: the fault, 1 where the first was asked for a datagram, and how many have met the other.
+/// The same, with what the wires tell: the fault, 1 where the first was asked for a datagram, and how many have met the
+/// other.
 fn run_meeting<R: Threads + Wait + Sync + time::Clock + log::Log + Abort>(
     rt: &R,
     alloc: Global,

@@ -1,6 +1,6 @@
-//! What the tests see. Each check is one call of a function of this module, which is proved once: an assertion that stands in a
-//! test is proved there, together with the text that it would print. The line that a failure names is one of this module, so
-//! each call says what was looked at.
+//! What the tests see. Each check is one call of a function of this module, which is proved once: an assertion that
+//! stands in a test is proved there, together with the text that it would print. The line that a failure names is one
+//! of this module, so each call says what was looked at.
 ghost use Rattle.std.specs.Prelude.{◌≡◌, Some};
 
 use std::fmt::Debug;

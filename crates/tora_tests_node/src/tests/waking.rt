@@ -10,8 +10,8 @@ use tora_neighbour::{NodeClock, SocketWaker, Wake, WakingWire, Wire, WireError};
 /// A wire, and what ends its waits.
 pub(super) type Woken<'a, R> = (WakingWire<'a, &'a R>, SocketWaker<'a, &'a R>);
 
-/// Two wires to each other, by these clocks, on two free ports of this address: one of the 500 from this one on, and the one 500 above
-/// it.
+/// Two wires to each other, by these clocks, on two free ports of this address: one of the 500 from this one on, and
+/// the one 500 above it.
 pub(super) fn woken_pair<'a, R: Net + Clock>(
     rt: &'a R,
     alloc: Global,

@@ -163,8 +163,8 @@ fn expect_all<T: Files<File = File> + AllocGlobal + Eprint + Clock + Abort>(
     Ok(())
 }
 
-/// A channel file is read before the simulation's, and neither is written; the trace tells of it and of the last round. A bar
-/// changes nothing of that.
+/// A channel file is read before the simulation's, and neither is written; the trace tells of it and of the last round.
+/// A bar changes nothing of that.
 #[test]
 fn channel_files_are_read(rt: HostRuntime) -> Result<(), Fail> {
     expect_all(&rt, false)?;

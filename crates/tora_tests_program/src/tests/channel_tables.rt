@@ -22,7 +22,8 @@ const BASE: Channel = Channel {
     most: 2,
 };
 
-/// A round and two nodes, and what a million of datagrams lose, after how many rounds they come at least, and how many come twice.
+/// A round and two nodes, and what a million of datagrams lose, after how many rounds they come at least, and how many
+/// come twice.
 const LOOKS: &[((u64, u32, u32), (u32, u32, u32))] = &[
     ((0, 1, 2), (100_000, 0, 0)),
     ((4, 2, 1), (100_000, 0, 0)),

@@ -87,8 +87,8 @@ fn left<T: AllocGlobal + Eprint>(
     (status, writer, out.failure().is_some())
 }
 
-/// A run prints its text and ends with its status, and its trace is lost where it fails. Where memory was refused it runs
-/// again, since one refusal is no reason for a second.
+/// A run prints its text and ends with its status, and its trace is lost where it fails. Where memory was refused it
+/// runs again, since one refusal is no reason for a second.
 fn expect_status<T: AllocGlobal + Eprint + Abort>(rt: &T, row: Row, is_verbose: bool) {
     let (_, lines, text, (output, trace), wanted) = row;
     let (mut status, mut writer, mut is_lost) = left(rt, row, is_verbose);

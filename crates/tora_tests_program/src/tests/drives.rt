@@ -110,8 +110,8 @@ const OWN_LINES: &[Row] = &[
          sent 2 1 1 28\nsent 2 1 2 28\nok\nok\nsent 1 2 3 28\nsent 1 2 4 28\nok\n",
         Ended::Whole,
     ),
-    // A notice cuts the life that an end is bound in; the node's next hop is gone in the step behind it. It is refused where the end is
-    // not bound, and a fault where there is no such end.
+    // A notice cuts the life that an end is bound in; the node's next hop is gone in the step behind it. It is refused
+    // where the end is not bound, and a fault where there is no such end.
     (
         &[
             "dests 2\nlink 1 2\nneed 1 2\nstep\nnotice 1 2\ndeliver 1\ndeliver 2\ndeliver 3\ndeliver 4\nstep\ndeliver 5\ndeliver 6\nstep\n",

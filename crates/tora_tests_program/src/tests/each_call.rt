@@ -3,10 +3,10 @@ use super::sees::{sees, sees_at};
 use std::alloc::{AllocError, Global};
 use std::process::Abort;
 use tora_arq::{Life, Times};
-use tora_channel::Channel;
+use tora_channel::{Channel, ChannelTable};
 use tora_core::CoreError;
 use tora_height::{Entry, Height, Id};
-use tora_script::{Air, Mark, Simulator, WorldOptions, make_rounds};
+use tora_script::{Air, Mark, Network, Parted, Simulator, WorldOptions, make_rounds};
 use tora_sim::{Sim, Topology};
 use tora_world::{Call, Event, Limits, SimError};
 
@@ -63,10 +63,6 @@ impl Simulator for Recorder {
 
     fn next_due(&self, place: usize) -> usize {
         self.sim.next_due(place)
-    }
-
-    fn next_busy(&self, place: usize) -> usize {
-        self.sim.next_busy(place)
     }
 
     fn settle(&mut self) {
@@ -154,10 +150,28 @@ const NODES: [Id; 4] = [1, 2, 3, 4];
 
 const ENDS: [(Id, Id); 6] = [(1, 2), (2, 1), (2, 3), (3, 2), (3, 4), (4, 3)];
 
+/// Rounds over a channel, where no nodes are parted.
+fn rounds_over<S: Simulator>(
+    sim: &mut S,
+    count: u64,
+    channel: Channel,
+    air: &mut Air,
+) -> Result<(), AllocError> {
+    let parted = Parted::new(*air.later.allocator());
+    let network = Network {
+        nodes: &NODES,
+        ends: &ENDS,
+        parted: &parted,
+        channel,
+        table: &ChannelTable::none(),
+    };
+    make_rounds(sim, count, &network, air)
+}
+
 /// Rounds over a channel on which every datagram comes at once.
 fn clear_rounds<S: Simulator>(sim: &mut S, alloc: Global, count: u64) -> Result<(), AllocError> {
     let mut air = Air::new(alloc);
-    make_rounds(sim, count, &NODES, &ENDS, &[], Channel::CLEAR, &mut air)
+    rounds_over(sim, count, Channel::CLEAR, &mut air)
 }
 
 /// The events of a need of node 1 and three rounds, after which the route is found.
@@ -234,7 +248,7 @@ fn over_channel(rt: &impl Abort, alloc: Global, channel: Channel) -> (Sim, Air) 
     let mut sim = Sim::new(alloc, &topology).expect(rt, "a simulator");
     sees(rt, sim.step(&Event::Need(1, 4)).is_ok(), "the need happens");
     let mut air = Air::new(alloc);
-    let made = make_rounds(&mut sim, 60, &NODES, &ENDS, &[], channel, &mut air);
+    let made = rounds_over(&mut sim, 60, channel, &mut air);
     sees(rt, made.is_ok(), "sixty rounds over a channel");
     (sim, air)
 }

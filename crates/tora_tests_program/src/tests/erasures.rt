@@ -105,7 +105,8 @@ fn holds<R: Files<File = File>>(rt: &R, path: &str, text: Option<&str>) -> bool 
     }
 }
 
-/// `plain` and `remembered` are taken, another word is a fault of usage, and the trace's first line tells what is not plain.
+/// `plain` and `remembered` are taken, another word is a fault of usage, and the trace's first line tells what is not
+/// plain.
 #[test]
 fn words_behind_the_option(rt: HostRuntime) -> Result<(), Fail> {
     for (asked, wanted, text, trace) in ASKED {
@@ -162,8 +163,9 @@ fn lines_of_single_nodes(rt: HostRuntime) {
     expect_rows(&rt, Way::Simulation, LATE);
 }
 
-/// A clear of a level that the node does not have takes its sender's entry where the node remembers, and so the last downstream link; an
-/// update of that level is not taken then. Where it does not, the clear takes nothing, and the update starts a new level.
+/// A clear of a level that the node does not have takes its sender's entry where the node remembers, and so the last
+/// downstream link; an update of that level is not taken then. Where it does not, the clear takes nothing, and the
+/// update starts a new level.
 const CLEARED: &str = "node 2 links 1,3 dests 4\n1 up 1\n1 up 3\n\
     2 from 3 0102000000000004000000000000000000000000000000000000000100000003\n\
     3 from 1 0101000000000004\n4 from 3 0103000000000004000000000000000700000003\n4 show\n\

@@ -8,7 +8,7 @@ use std::cell::Cell;
 use std::process::Abort;
 use std::str;
 use tora_commands::LogLines;
-use tora_keyed::{Key, LinkWire, NoticedWire};
+use tora_keyed::{Key, LinkWire};
 use tora_neighbour::{Clock, Wire, WireError};
 
 const MESSAGE: &[u8] = b"a datagram";
@@ -66,7 +66,8 @@ impl Wire for GivingWire<'_> {
 /// The tick at which a datagram comes, and whether it is forged.
 type Turn = (u64, bool);
 
-/// In the minute from 10 on one line, and so in each from then on, where there is a new count; and where the clock goes back.
+/// In the minute from 10 on one line, and so in each from then on, where there is a new count; and where the clock goes
+/// back.
 const TURNS: &[Turn] = &[
     (9, false),
     (10, true),
@@ -90,7 +91,7 @@ const LINES: &str = "[WARN  tora_keyed::noticed_wire] link 2 unauthenticated dat
 /// A datagram comes at each turn; one that is forged is not given.
 fn turn_each<L: Log>(
     rt: &impl Abort,
-    wire: &mut NoticedWire<'_, GivingWire<'_>, SetClock<'_>, L>,
+    wire: &mut LinkWire<'_, GivingWire<'_>, SetClock<'_>, L>,
     tick: &Cell<u64>,
     is_forged: &Cell<bool>,
 ) {
@@ -111,8 +112,8 @@ fn minutes_pass(rt: &impl Abort, desk: &Desk) {
         key: Key::new(&[7; 32]),
         is_forged: &is_forged,
     };
-    let wire = LinkWire::over(giving, Some(Key::new(&[7; 32])));
-    let mut wire = NoticedWire::new(wire, 2, SetClock { tick: &tick }, &log);
+    let key = Key::new(&[7; 32]);
+    let mut wire = LinkWire::new(giving, Some(key), 2, SetClock { tick: &tick }, &log);
     turn_each(rt, &mut wire, &tick, &is_forged);
     same_at(rt, &wire.unauthenticated(), &6, &"the count");
     wire.close();
@@ -129,8 +130,7 @@ fn plain_link_ends(rt: &impl Abort, desk: &Desk) {
         key: Key::new(&[7; 32]),
         is_forged: &is_forged,
     };
-    let wire = LinkWire::over(giving, None);
-    let mut wire = NoticedWire::new(wire, 2, SetClock { tick: &tick }, &log);
+    let mut wire = LinkWire::new(giving, None, 2, SetClock { tick: &tick }, &log);
     let given = wire.receive(&mut [0; 30]);
     same_at(rt, &given, &Ok(Some(26)), &"no key");
     wire.close();

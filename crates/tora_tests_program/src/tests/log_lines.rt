@@ -66,7 +66,8 @@ fn log_three<L: Log>(log: &L) {
     debug!(log; target: "a", "three");
 }
 
-/// What the clock reads, in milliseconds since 1970, whether the time is asked for, up to which level is logged, and what is written.
+/// What the clock reads, in milliseconds since 1970, whether the time is asked for, up to which level is logged, and
+/// what is written.
 type Row = (Option<u64>, bool, LevelFilter, &'static str);
 
 const ROWS: &[Row] = &[

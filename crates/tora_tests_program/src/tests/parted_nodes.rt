@@ -2,9 +2,9 @@
 use super::sees::sees;
 use std::alloc::Global;
 use std::process::Abort;
-use tora_channel::Channel;
+use tora_channel::{Channel, ChannelTable};
 use tora_height::Id;
-use tora_script::{Air, Parted, make_rounds};
+use tora_script::{Air, Network, Parted, make_rounds};
 use tora_sim::{Sim, Topology};
 use tora_world::Event;
 
@@ -60,7 +60,15 @@ fn needing(rt: &impl Abort, alloc: Global) -> Sim {
 /// Makes sixty rounds, and tells the next hop of node 1.
 fn hop_behind(rt: &impl Abort, alloc: Global, sim: &mut Sim, parted: &[(Id, Id)]) -> Option<Id> {
     let mut air = Air::new(alloc);
-    let made = make_rounds(sim, 60, &NODES, &ENDS, parted, Channel::CLEAR, &mut air);
+    let parted = Parted::of(alloc, parted).expect(rt, "the parted pairs");
+    let network = Network {
+        nodes: &NODES,
+        ends: &ENDS,
+        parted: &parted,
+        channel: Channel::CLEAR,
+        table: &ChannelTable::none(),
+    };
+    let made = make_rounds(sim, 60, &network, &mut air);
     sees(rt, made.is_ok(), "sixty rounds are made");
     sim.next_hop(1, 3)
 }

@@ -29,8 +29,8 @@ const STEPPED: Row = (
     "node 1 - hop -\nnode 2 (0,0,0,0,2) hop -\n",
 );
 
-/// A line of each kind: lines that are refused or faults have no line in a record, nor have those that change no world; a datagram that
-/// is taken is delivered.
+/// A line of each kind: lines that are refused or faults have no line in a record, nor have those that change no world;
+/// a datagram that is taken is delivered.
 const EACH_KIND: Row = (
     "dests 2\nlink 1 2\nold 2\nneed 1 2\nfar 1 2\nstep\nneeds\nbytes 1\nturn 1\nforget 0\ndeliver 2\n\
      take 1 2 01010000000000020000000100000000000000010000000000000000\n\
@@ -48,7 +48,8 @@ const EACH_KIND: Row = (
     "exact 1\nwalk -\nrest yes\ncount 0\ncount 0\nnode 1 - hop -\nnode 2 (0,0,0,0,2) hop -\n",
 );
 
-/// A route that is found: the need waits until the link is up, and node 1 takes its height from its neighbour, the destination.
+/// A route that is found: the need waits until the link is up, and node 1 takes its height from its neighbour, the
+/// destination.
 const FOUND: Row = (
     "dests 2\nlink 1 2\nneed 1 2\nstep\ndeliver 1\ndeliver 2\ndeliver 3\ndeliver 4\nstep\ndeliver 5\ndeliver 6\nstep\nheights 2\n",
     "ok\nok\nok\nsent 1 2 1 28\nsent 1 2 2 28\nsent 2 1 3 28\nsent 2 1 4 28\nok\nok\nok\nok\nok\n\
@@ -89,7 +90,8 @@ fn recorded_once<T: AllocGlobal>(rt: &T, lines: &str, fails: Fails) -> Left {
     (found, writer, out)
 }
 
-/// Drives, with a record that fails so. Where memory was refused it drives again, since one refusal is no reason for a second.
+/// Drives, with a record that fails so. Where memory was refused it drives again, since one refusal is no reason for a
+/// second.
 fn recorded<T: AllocGlobal>(rt: &T, lines: &str, fails: Fails) -> Left {
     let left = recorded_once(rt, lines, fails);
     if is_memory(left.0) {
@@ -176,7 +178,8 @@ fn command_once<T: Files + AllocGlobal + Eprint>(
     (status, writer)
 }
 
-/// Records to a path, and expects its status and the answers behind the greeting. Where memory was refused it drives again.
+/// Records to a path, and expects its status and the answers behind the greeting. Where memory was refused it drives
+/// again.
 fn expect_command<T: Files + AllocGlobal + Eprint + Abort>(
     rt: &T,
     (times, path): (Option<&'static str>, &'static str),

@@ -67,8 +67,8 @@ fn longest_line(rt: HostRuntime) {
     expect_files(&rt, Way::Replay, LONGEST_LINES);
 }
 
-/// The line of this number is a fault for this cause, as `-v` says it. Where another is found it is asked for again, since
-/// memory may have been refused.
+/// The line of this number is a fault for this cause, as `-v` says it. Where another is found it is asked for again,
+/// since memory may have been refused.
 fn expect_cause(rt: &impl Abort, alloc: Global, number: u64, line: Option<&str>, cause: Cause) {
     let bytes = match line {
         Some(line) => Some(line.as_bytes()),

@@ -199,8 +199,8 @@ pub const TOLD: &[Row] = &[
     ),
 ];
 
-/// A world is at rest before its links are up, and once a route is found; it is not while a need waits, nor where a link
-/// is up at one end alone.
+/// A world is at rest before its links are up, and once a route is found; it is not while a need waits, nor where a
+/// link is up at one end alone.
 pub const RESTS: &[Row] = &[(
     &[FOUR],
     &["rest\nneed 1 4\nrest\nrounds 3\nrest\nrestart 2 -\nrest\nrounds 60\nrest\n"],

@@ -59,8 +59,8 @@ fn driven(
 }
 
 impl Way {
-    /// Runs what a reader gives. Calls whose contracts tell much stand in functions without one, here and in the tests: the proofs of
-    /// what calls those then leave it out.
+    /// Runs what a reader gives. Calls whose contracts tell much stand in functions without one, here and in the tests:
+    /// the proofs of what calls those then leave it out.
     pub fn run<T: AllocGlobal + Eprint>(
         self,
         rt: &T,
@@ -121,8 +121,8 @@ impl Way {
     }
 }
 
-/// With a writer that fails so the lines print the text, and end so. Where memory was refused they are run again, since one
-/// refusal is no reason for a second.
+/// With a writer that fails so the lines print the text, and end so. Where memory was refused they are run again, since
+/// one refusal is no reason for a second.
 pub fn expect_run<T: AllocGlobal + Eprint + Abort>(
     rt: &T,
     way: Way,
@@ -139,7 +139,8 @@ pub fn expect_run<T: AllocGlobal + Eprint + Abort>(
     expect_written(rt, lines, writer.text(), text);
 }
 
-/// Files that print the same and end alike: each of the fronts with each of the ends behind it, what they print, and how they end.
+/// Files that print the same and end alike: each of the fronts with each of the ends behind it, what they print, and
+/// how they end.
 pub type Row = (
     &'static [&'static str],
     &'static [&'static str],
@@ -162,7 +163,8 @@ pub fn expect_rows<T: AllocGlobal + Eprint + Abort>(rt: &T, way: Way, rows: &[Ro
     }
 }
 
-/// Files of three parts that print the same and end alike: each of the middles stands so many times between front and end.
+/// Files of three parts that print the same and end alike: each of the middles stands so many times between front and
+/// end.
 pub struct Files {
     pub front: &'static str,
     pub middles: &'static [&'static str],

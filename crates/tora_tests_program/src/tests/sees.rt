@@ -1,5 +1,5 @@
-//! What every test sees: an assertion that compares and formats is proved once, here. The line that a failure names is one of these,
-//! so each text tells what was seen, or where.
+//! What every test sees: an assertion that compares and formats is proved once, here. The line that a failure names is
+//! one of these, so each text tells what was seen, or where.
 use std::fmt::Debug;
 use std::process::Abort;
 use std::test::*;

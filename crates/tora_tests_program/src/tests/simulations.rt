@@ -125,8 +125,8 @@ fn told_simulation_prints_the_same(rt: HostRuntime) {
     expect_rows(&rt, Way::ToldSimulation, TOLD);
 }
 
-/// A world is at rest before its links are up, and once a route is found; it is not while a need waits, nor where a link
-/// is up at one end alone.
+/// A world is at rest before its links are up, and once a route is found; it is not while a need waits, nor where a
+/// link is up at one end alone.
 #[test]
 fn rest_is_told(rt: HostRuntime) {
     expect_rows(&rt, Way::Simulation, RESTS);

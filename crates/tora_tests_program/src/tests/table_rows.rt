@@ -1,5 +1,5 @@
-//! Rows of the table of events that no law needs, each by a simulation file. What they print is worked out by hand from the
-//! document of the simulated world.
+//! Rows of the table of events that no law needs, each by a simulation file. What they print is worked out by hand from
+//! the document of the simulated world.
 use super::runs::{Files, Way, expect_files};
 use tora_lines::Ended;
 
@@ -16,8 +16,8 @@ const TORN: &[Files] = &[Files {
     ended: Ended::Whole,
 }];
 
-/// A slot that was written and not synced holds the torn bytes after a crash, and counts where they are a slot: the next number
-/// is that behind its bound 900.
+/// A slot that was written and not synced holds the torn bytes after a crash, and counts where they are a slot: the
+/// next number is that behind its bound 900.
 #[test]
 fn torn_slot_counts(rt: HostRuntime) {
     expect_files(&rt, Way::Simulation, TORN);
@@ -42,7 +42,8 @@ const ARMED: &[Files] = &[
     },
 ];
 
-/// A call that is armed stays so over a restart, and fails as the life file is opened: the end stays closed until the next one.
+/// A call that is armed stays so over a restart, and fails as the life file is opened: the end stays closed until the
+/// next one.
 #[test]
 fn arms_outlive_a_restart(rt: HostRuntime) {
     expect_files(&rt, Way::Simulation, ARMED);
@@ -58,8 +59,8 @@ const FULL_LANE: &[Files] = &[Files {
     ended: Ended::Whole,
 }];
 
-/// The lane into a core has room for 1,024 items: behind 1,023 needs a pump goes in, and then neither a pump nor a need; behind
-/// a turn one of them does.
+/// The lane into a core has room for 1,024 items: behind 1,023 needs a pump goes in, and then neither a pump nor a
+/// need; behind a turn one of them does.
 #[test]
 fn lane_into_a_core_fills(rt: HostRuntime) {
     expect_files(&rt, Way::Simulation, FULL_LANE);
@@ -82,16 +83,16 @@ const LOST_SEND: &[Files] = &[Files {
     ended: Ended::Whole,
 }];
 
-/// A lost send counts as a try of its packet. Seven more tries follow, one every five ticks, and the life ends at tick 40, not before.
-/// At ticks 10, 20 and 30 a HELLO is due, too.
+/// A lost send counts as a try of its packet. Seven more tries follow, one every five ticks, and the life ends at tick
+/// 40, not before. At ticks 10, 20 and 30 a HELLO is due, too.
 #[test]
 fn lost_send_is_a_try(rt: HostRuntime) {
     expect_files(&rt, Way::Simulation, LOST_SEND);
 }
 
-/// Node 2 begins anew, so that the life of its link is {1, 17}. Then node 1 asks for 51 destinations, so that each life of node
-/// 3 that comes up puts 51 queries into the lane to node 2, which nobody pulls: behind four such lives 255 wait there. Of the
-/// fifth life's queries one goes in, and the life of node 2 is cut.
+/// Node 2 begins anew, so that the life of its link is {1, 17}. Then node 1 asks for 51 destinations, so that each life
+/// of node 3 that comes up puts 51 queries into the lane to node 2, which nobody pulls: behind four such lives 255 wait
+/// there. Of the fifth life's queries one goes in, and the life of node 2 is cut.
 const FILLED: &str = "dests 10,11,12,13,14,15,16,17,18,19,20,21,22,23,24,25,26,\
     27,28,29,30,31,32,33,34,35,36,37,38,39,40,41,42,43,\
     44,45,46,47,48,49,50,51,52,53,54,55,56,57,58,59,60\n\
@@ -162,8 +163,8 @@ const LATE_ITEM: &[Files] = &[Files {
     ended: Ended::Whole,
 }];
 
-/// An item has the tick of its pump: the life ended at tick 60 at the latest, was pumped at 62 and is served at 64, and the new
-/// level is of 62. Node 3, which node 1 leads, is the next hop under it.
+/// An item has the tick of its pump: the life ended at tick 60 at the latest, was pumped at 62 and is served at 64, and
+/// the new level is of 62. Node 3, which node 1 leads, is the next hop under it.
 #[test]
 fn item_has_the_tick_of_its_pump(rt: HostRuntime) {
     expect_files(&rt, Way::Simulation, LATE_ITEM);
@@ -182,7 +183,8 @@ const TICKS: &[Files] = &[Files {
     ended: Ended::Whole,
 }];
 
-/// A tick reaches every end, and is the clock after it: ten ticks after its last HELLO each of two ends has a HELLO of each version.
+/// A tick reaches every end, and is the clock after it: ten ticks after its last HELLO each of two ends has a HELLO of
+/// each version.
 #[test]
 fn every_end_ticks(rt: HostRuntime) {
     expect_files(&rt, Way::Simulation, TICKS);

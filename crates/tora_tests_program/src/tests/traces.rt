@@ -61,7 +61,8 @@ fn text_of(writer: &ArrayWriter) -> &str {
     str::from_utf8(writer.text()).unwrap_or("")
 }
 
-/// The front of a simulation and its end, what they print, their trace, and how they end where the output does not fail.
+/// The front of a simulation and its end, what they print, their trace, and how they end where the output does not
+/// fail.
 type Row = (
     &'static str,
     &'static str,
@@ -143,7 +144,8 @@ fn tells(trace: &str, line: &str, d: &str) -> bool {
 /// The front of a simulation, a destination, the line that prints the heights for it, and of how many nodes.
 type Run = (&'static str, &'static str, &'static str, usize);
 
-/// The trace of these lines tells each height and next hop for a destination that is printed behind them, of so many nodes.
+/// The trace of these lines tells each height and next hop for a destination that is printed behind them, of so many
+/// nodes.
 fn expect_told<T: AllocGlobal + Eprint + Abort>(rt: &T, (front, d, end, count): Run) {
     let (found, writer, out) = traced(rt, (front, end), FINE);
     expect_ended(rt, (front, "", 0, end), found, Ok(Ended::Whole));
@@ -208,8 +210,8 @@ const SINGLE_EVENTS: &[Row] = &[(
     Ended::Whole,
 )];
 
-/// Datagrams of single events, and of none; the record of them comes as the clock goes on, and what is lost on sending is
-/// none.
+/// Datagrams of single events, and of none; the record of them comes as the clock goes on, and what is lost on sending
+/// is none.
 #[test]
 fn trace_of_single_events(rt: HostRuntime) {
     expect_traces(&rt, SINGLE_EVENTS);

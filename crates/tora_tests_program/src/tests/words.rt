@@ -6,7 +6,8 @@ use std::alloc::Global;
 use std::process::Abort;
 use tora_commands::command;
 
-/// What the words of a command line ask for, or what is wrong with them; nothing where memory was refused for the command.
+/// What the words of a command line ask for, or what is wrong with them; nothing where memory was refused for the
+/// command.
 pub fn parsed<'a>(
     alloc: Global,
     words: &'a [&'a str],

@@ -3,7 +3,7 @@ use Rattle.std.specs.List.{AllByRecursion}
 use Rattle.std.proofs.lemmas.List.Elements.{All-from_recursion}
 use Rattle.tora_bench.proofs.inputs.fresh_core.Goals as goal
 
--- so many numbers, from one on
+-- this many numbers, from a first one on
 abbrev from : ℕ → ℕ → List ℕ
 from first zero = []
 from first (suc count) = first ∷ from (first + 1) count

@@ -1,6 +1,7 @@
 use Rattle.std.proofs.Common.{◌+◌, ◌-◌, ◌<◌, ◌||◌, false, List, length, arith, subst}
 use Rattle.tora_world.specs.declared.event.Event.{Event}
 use Rattle.tora_script.specs.Rounds.{each}
+use Rattle.tora_script.specs.declared.turns.EndTurn.TheVariants.{Transmit}
 use Rattle.tora_script.proofs.RoundLaws.{Onward, begins, each_part, each_ends}
 use Rattle.tora_script.proofs.KnownEnds.{known_then}
 use Rattle.tora_drive.specs.Steps.{sends_of}
@@ -15,7 +16,7 @@ loop-place-init g c =
     let w = g.S.Simulator.world c.args.sim.now in
     let ends = c.args.ends.now in
     let sends = sends_of c.args.far.now in
-    let over = sends_over c.args.far.now ends 0 c.next_place-place.result w c.next_place-place.ensures.onward c.next_place-place.ensures.passed in (
+    let over = sends_over c.args.far.now ends 0 c.next_place-place.result w c.next_place-place.ensures.onward (c.next_place-place.ensures.passed Transmit) in (
       subst (λ (events : List Event). Onward w (each sends ends w) w false events) over (begins w (each sends ends w)),
       c.requires,
     )
@@ -31,7 +32,7 @@ loop-place-preserved g c =
     let sends = sends_of c.args.far.now in
     let i = c.loop-place.place in
     let next = c.next_place-place-in-loop-place.result in
-    let over = sends_over c.args.far.now ends (i + 1) next w c.next_place-place-in-loop-place.ensures.onward c.next_place-place-in-loop-place.ensures.passed in
+    let over = sends_over c.args.far.now ends (i + 1) next w c.next_place-place-in-loop-place.ensures.onward (c.next_place-place-in-loop-place.ensures.passed Transmit) in
     let sent = each_part sends ends i (0, 0) w0 (each sends ends w0) (g.S.Simulator.world c.loop-place.sim) w c.loop-place.some c.in_ok-any.any c.loop-place-test.true c.loop-place.invariant.0 c.in_ok-any.ensures in (
       rw c.either-some.ensures (subst (λ (events : List Event). Onward w0 (each sends ends w0) w (c.loop-place.some || c.in_ok-any.any) events) over sent),
       known_then c.args.known ends c.loop-place.invariant.1 c.in_ok-any.ensures,

@@ -1,4 +1,4 @@
--- `into_box`: the two words of the parts are what `Box::from_raw` asks for, and the box it answers has their value.
+-- `into_box`: the two words of the parts are the arguments of `Box::from_raw`, and the returned box has their value.
 use Rattle.std.proofs.Common.{◌≡◌, List, [], ◌∷◌, ◌++◌, refl, sym, ap, subst}
 use mir.Syntax.{a_type, dcons, dnil}
 use mir.Val.{Val, vptr}
@@ -67,7 +67,7 @@ into_box_spec 𝓤 𝓛 𝓜 𝓡 wired T A L LA g d dx dd allocator glue glued 
     let w : Val = words (vptr block offset) h in
     let fits = typed Value Heap laws g block offset h good in
     let ghost : call.Ghost = ((κs, qs, tt, (a, (block_ptr block offset, tt)), (h ∷ [], (vptr block offset ∷ [], tt))), parts.value) in
-    -- what the call asks for: that both types outlive, the pointer, the block with its value, and the allocator
+    -- the arguments of the call: both types outlive, the pointer, the block with its value, and the allocator
     move ! (4 ∷ []) $ use1 𝓛 outlive (id⊢ 𝓤 _) $ split3 ! $ move ! (2 ∷ []) $ drop ! $ move ! (1 ∷ 2 ∷ []) $ join ! $ move ! (1 ∷ 0 ∷ []) $ join ! $
     move ! (2 ∷ []) $ feq_i ! (List Val) (vptr block offset ∷ []) (vptr block offset ∷ []) refl $ fjoin ! $ move ! (2 ∷ 0 ∷ []) $ fjoin ! $
     move ! (2 ∷ 0 ∷ []) $ join ! $ join ! $ use1 𝓛 (raw (call.pre ghost)) (id⊢ 𝓤 _) $
@@ -83,7 +83,7 @@ into_box_spec 𝓤 𝓛 𝓜 𝓡 wired T A L LA g d dx dd allocator glue glued 
     use1 𝓛 (later (some (λ (r : Boxed.Denot). (alive ⊛ ‵ (Boxed.own_val r (u ∷ []))) ⊛ some (λ (ls : Lasts (from_raw.ended T A g d dd) κs ghost.0.3).
     ‵ (lasts (from_raw.ended T A g d dd) κs ghost.0.3 ls) ⊛ (raw (fact 𝓤 (r.value ≡ parts.value)) ⊛ raw (fact 𝓤 (r.alloc ≡ a))))))) (id⊢ 𝓤 (call.post ghost u)) $
     await ! tt $ pick ! (λ r. split ! $ move ! (1 ∷ []) $ pick ! (λ _. split3 ! $ drop ! $ move ! (2 ∷ []) $ split ! $ move ! (1 ∷ []) $
-    -- the answered box goes out as it came
+    -- the returned box is passed on unchanged
     box_out E ! r (u ∷ []) (λ b' o' h' at' is' good'. box_in E ! r b' o' r.value at' refl $
     rewrite ! 0 (λ (xs : List Val). ‵ (Boxed.own_val r xs)) (sym is') refl $
     let fits' : Good (layout Boxed) u = subst (Good (layout Boxed)) (sym (ap only is')) (typed Value Heap laws g b' o' h' good') in

@@ -1,4 +1,4 @@
--- `of`: what `Box::into_raw_with_allocator` answers are the two words of the parts, with the box's value.
+-- `of`: the results of `Box::into_raw_with_allocator` are the two words of the parts, with the box's value.
 use Rattle.std.proofs.Common.{◌≡◌, List, [], ◌∷◌, ◌++◌, refl, sym, ap, ◌∙◌, subst}
 use mir.Syntax.{a_type, dcons, dnil}
 use mir.Raw.{raw as bare}
@@ -67,7 +67,7 @@ of_spec 𝓤 𝓛 𝓜 𝓡 wired T A L LA g d dx dd allocator glue glued =
     let w : Val = box.word E h block offset in
     let fits = typed Value Heap laws g block offset h good in
     let ghost : call.Ghost = ((κs, qs, tt, (boxed, tt), (w ∷ [], tt)), tt) in
-    -- what the call asks for: the box
+    -- the argument of the call: the box
     fjoin ! $ move ! (1 ∷ 0 ∷ []) $ join ! $ join ! $ use1 𝓛 (raw (call.pre ghost)) (id⊢ 𝓤 _) $
     suffices ! (Run (w ∷ [])) (subst (λ (us : List Val). ent 𝓤 (Run (w ∷ [])) (Run us)) (sym (λ i. is_word i ++ [])) (id⊢ 𝓤 (Run (w ∷ [])))) $
     enter ! 𝓣.C 𝓣.Λ body (w ∷ []) Post $ alloc_all ! (λ l. pass_all ! refl (fits, tt) $ sets ! (of_opd ! (get ! refl)) refl fits $

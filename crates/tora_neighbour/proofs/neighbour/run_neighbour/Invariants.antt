@@ -1,3 +1,4 @@
+use Rattle.tora_neighbour.specs.declared.turn_parts.TheConstants.{MOST_FAILURES}
 use Rattle.std.proofs.Common.{◌≡◌, ◌<◌, List, None}
 use Rattle.tora_neighbour.specs.Datagrams.{RoseBy}
 use Rattle.tora_neighbour.specs.Tally.{first_tally}
@@ -11,7 +12,7 @@ abbrev pub invariant-loop : goal.invariant-loop
 invariant-loop g l = record {
   settings : l.link.end.settings ≡ l.fn.link.end.settings;
   ready : IsReady l.link.end.state l.link.file.numbers;
-  row : l.course.row < 100;
+  row : l.course.row < MOST_FAILURES;
   failed : l.link.file.numbers.failed ≡ l.fn.link.file.numbers.failed;
   disk : g.D.Disk.failures l.link.file.disk ≡ g.D.Disk.failures l.fn.link.file.disk;
   failures : RoseBy l.course.row (g.W.Wire.failures l.fn.link.wire) (g.W.Wire.failures l.link.wire);

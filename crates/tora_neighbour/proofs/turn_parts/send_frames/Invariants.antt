@@ -1,3 +1,4 @@
+use Rattle.tora_neighbour.specs.declared.turn_parts.TheConstants.{MOST_FAILURES}
 use Rattle.std.proofs.Common.{◌≡◌, ◌++◌, ℕ, ◌<◌, List, IsTrue}
 use Rattle.std.specs.Prelude.{map, Result, is_err}
 use Rattle.tora_frame.specs.FrameParts.{FrameParts}
@@ -12,7 +13,7 @@ abbrev pub invariant-loop : goal.invariant-loop
 invariant-loop g l = record {
   tells : IsTrue (g.W.Wire.tells l.wire) → IsTrue (g.W.Wire.tells l.fn.wire);
   coming : IsTrue (g.W.Wire.tells l.wire) → g.W.Wire.coming l.wire ≡ g.W.Wire.coming l.fn.wire;
-  row : l.row < 100;
+  row : l.row < MOST_FAILURES;
   failures : (base : ℕ) → RoseBy l.fn.row base (g.W.Wire.failures l.fn.wire) → RoseBy l.row base (g.W.Wire.failures l.wire);
   sent :
       (frames : List FrameParts)

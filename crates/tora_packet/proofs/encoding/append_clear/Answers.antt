@@ -2,7 +2,7 @@ use Rattle.std.proofs.Common.{◌≡◌, ℕ, List, ◌∷◌, ◌++◌, append_
 use Rattle.std.specs.Int.{w32, w64, to_be_bytes}
 use Rattle.tora_packet.proofs.encoding.append_clear.Goals as goal
 
--- three pieces behind a list, one after another
+-- three pieces appended to a list, one after another
 in_turn : (out a b rest : List ℕ) → ((out ++ a) ++ b) ++ rest ≡ out ++ (a ++ (b ++ rest))
 in_turn out a b rest = simp append_assoc
 

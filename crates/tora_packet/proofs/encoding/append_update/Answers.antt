@@ -2,7 +2,7 @@ use Rattle.std.proofs.Common.{◌≡◌, ℕ, List, [], ◌∷◌, ◌++◌, app
 use Rattle.std.specs.Int.{w32, w64, to_be_bytes, cast_unsigned}
 use Rattle.tora_packet.proofs.encoding.append_update.Goals as goal
 
--- six pieces behind a list, one after another
+-- six pieces appended to a list, one after another
 in_turn : (out a b d e f rest : List ℕ) → (((((out ++ a) ++ b) ++ d) ++ e) ++ f) ++ rest ≡ out ++ (a ++ (b ++ (d ++ (e ++ (f ++ rest)))))
 in_turn out a b d e f rest = simp append_assoc
 

@@ -6,8 +6,8 @@ use Rattle.tora_script.proofs.air.counted_copies.Goals as goal
 pub returns-clause-copies : goal.returns-clause-copies
 returns-clause-copies g c =
     c.copies_behind.ensures
-    ∙ ap (λ (n : ℕ). copies_on (over c.args.table.now c.args.moment.channel) (record { round = c.args.moment.round; sender = c.args.way.0; receiver = c.args.way.1; before = n })) (c.times-before.ensures ∙ c.requires.counted c.args.way)
+    ∙ ap (λ (n : ℕ). copies_on (over c.args.moment.now.network.table.now c.args.moment.now.network.channel) (record { round = c.args.moment.now.round; sender = c.args.way.0; receiver = c.args.way.1; before = n })) (c.times-before.ensures ∙ c.requires.counted c.args.way)
 
 pub returns-clause-counted : goal.returns-clause-counted
 returns-clause-counted g c =
-    some_more (g.S.Simulator.world c.args._sim.now) c.args.ways.now c.count.new.self c.args.moment.start c.args.i c.args.way c.requires.behind c.requires.counted c.requires.going c.in_ok-count.ensures
+    some_more (g.S.Simulator.world c.args._sim.now) c.args.ways.now c.count.new.self c.args.moment.now.start c.args.i c.args.way c.requires.behind c.requires.counted c.requires.going c.in_ok-count.ensures

@@ -13,7 +13,7 @@ pub loop-place-init : goal.loop-place-init
 loop-place-init g c =
     let w = g.S.Simulator.world c.args.sim.now in
     let ends = c.args.ends.now in
-    let over = pass_over c.args.kind c.args.most ends 0 c.next_place-place.result w c.next_place-place.ensures.onward c.next_place-place.ensures.passed in (
+    let over = pass_over c.args.kind c.args.most ends 0 c.next_place-place.result w c.next_place-place.ensures.onward (c.next_place-place.ensures.passed c.args.kind) in (
       subst (λ (events : List Event). Onward w (each (λ e. repeats c.args.most (end_event c.args.kind e)) ends w) w false events) over (begins w (each (λ e. repeats c.args.most (end_event c.args.kind e)) ends w)),
       c.requires,
     )
@@ -28,7 +28,7 @@ loop-place-preserved g c =
     let ends = c.args.ends.now in
     let i = c.loop-place.place in
     let next = c.next_place-place-in-loop-place.result in
-    let over = pass_over c.args.kind c.args.most ends (i + 1) next w c.next_place-place-in-loop-place.ensures.onward c.next_place-place-in-loop-place.ensures.passed in
+    let over = pass_over c.args.kind c.args.most ends (i + 1) next w c.next_place-place-in-loop-place.ensures.onward (c.next_place-place-in-loop-place.ensures.passed c.args.kind) in
     let turned = each_part (λ e. repeats c.args.most (end_event c.args.kind e)) ends i (0, 0) w0 (each (λ e. repeats c.args.most (end_event c.args.kind e)) ends w0) (g.S.Simulator.world c.loop-place.sim) w c.loop-place.some c.in_ok-any.any c.loop-place-test.true c.loop-place.invariant.0 c.in_ok-any.ensures in (
       rw c.either-some.ensures (subst (λ (events : List Event). Onward w0 (each (λ e. repeats c.args.most (end_event c.args.kind e)) ends w0) w (c.loop-place.some || c.in_ok-any.any) events) over turned),
       known_then c.args.known ends c.loop-place.invariant.1 c.in_ok-any.ensures,

@@ -1,11 +1,10 @@
 use Rattle.std.proofs.Common.{◌≡◌, ◌∙◌, ℕ, subst, arith}
 use Rattle.tora_sim.specs.Lanes.{HaveRoom}
 use Rattle.tora_sim.proofs.Rooms.{no_room, same_length, more_room}
-use Rattle.tora_sim.proofs.UnreadyEnds.{all_kept, kept_on}
 use Rattle.tora_sim.proofs.lanes.make_room.Goals as goal
 
 pub loop-place-init : goal.loop-place-init
-loop-place-init c = record { made = no_room c.args.links.now.items c.args.first; marks = c.requires.marks; kept = all_kept c.args.ready.now.items }
+loop-place-init c = record { made = no_room c.args.links.now.items c.args.first; marks = c.requires.marks }
 
 pub make_room_at-requires-clause-within : goal.make_room_at-requires-clause-within
 make_room_at-requires-clause-within c =
@@ -22,16 +21,12 @@ returns-in_err-make_room_at-clause-same c = c.in_err-make_room_at.ensures.same �
 pub returns-in_err-make_room_at-clause-marks : goal.returns-in_err-make_room_at-clause-marks
 returns-in_err-make_room_at-clause-marks c = c.in_err-make_room_at.ensures.marks
 
-pub returns-in_err-make_room_at-clause-kept : goal.returns-in_err-make_room_at-clause-kept
-returns-in_err-make_room_at-clause-kept c = kept_on c.args.ready.now.items c.loop-place.ready.items c.make_room_at.new.ready.items c.loop-place.invariant.kept c.in_err-make_room_at.ensures.kept
-
 pub loop-place-preserved : goal.loop-place-preserved
 loop-place-preserved c =
     let l = c.loop-place in
     record {
       made = more_room c.args.links.now.items l.links.items c.make_room_at.new.links.items c.args.first l.place l.invariant.made c.in_ok-make_room_at.ensures.same c.in_ok-make_room_at.ensures.room c.in_ok-make_room_at.ensures.others;
       marks = c.in_ok-make_room_at.ensures.marks;
-      kept = kept_on c.args.ready.now.items l.ready.items c.make_room_at.new.ready.items l.invariant.kept c.in_ok-make_room_at.ensures.kept;
     }
 
 pub returns-clause-same : goal.returns-clause-same
@@ -45,9 +40,3 @@ returns-clause-room c =
 
 pub returns-clause-marks : goal.returns-clause-marks
 returns-clause-marks c = c.loop-place.invariant.marks
-
-pub returns-clause-kept : goal.returns-clause-kept
-returns-clause-kept c = c.loop-place.invariant.kept
-
-pub returns-then-is_err-clause-kept : goal.returns-then-is_err-clause-kept
-returns-then-is_err-clause-kept c = all_kept c.args.ready.now.items

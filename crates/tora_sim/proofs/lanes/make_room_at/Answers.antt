@@ -3,7 +3,6 @@ use Rattle.std.proofs.lemmas.Option.{slice_get_read}
 use Rattle.tora_datagrams.proofs.EachItem.{set_other}
 use Rattle.tora_sim.proofs.ReadyEnds.{ready_room, unknown_ready, known_ready, room_set}
 use Rattle.tora_sim.proofs.Rooms.{alike_set}
-use Rattle.tora_sim.proofs.UnreadyEnds.{all_kept, set_kept}
 use Rattle.tora_sim.proofs.lanes.make_room_at.Goals as goal
 
 pub is_ready-requires : goal.is_ready-requires
@@ -51,15 +50,3 @@ returns-clause-others c = λ i away. set_other c.args.links.now.items c.args.at 
 pub returns-clause-marks : goal.returns-clause-marks
 returns-clause-marks c =
     known_ready c.args.ready.now.items c.set_ready.new.ready.items c.args.links.now.items c.args.at c.make_ready.new.self c.in_ok-known.known c.requires.within c.set_ready.ensures c.in_ok-known.ensures.ready c.requires.marks
-
-pub returns-then-is_ready-clause-kept : goal.returns-then-is_ready-clause-kept
-returns-then-is_ready-clause-kept c = all_kept c.args.ready.now.items
-
-pub returns-in_err-known-clause-kept : goal.returns-in_err-known-clause-kept
-returns-in_err-known-clause-kept c = all_kept c.args.ready.now.items
-
-pub returns-clause-kept : goal.returns-clause-kept
-returns-clause-kept c =
-    let many = c.requires.marks.as_many in
-    let within : c.args.at < length c.args.ready.now.items = omega (arith, c.requires.within, many) in
-    set_kept c.args.ready.now.items c.set_ready.new.ready.items c.args.at c.is_ready.result c.in_ok-known.known within c.is_ready.ensures c.if-is_ready.false c.set_ready.ensures

@@ -1,9 +1,10 @@
 use Rattle.std.proofs.Common.{◌≡◌, length}
+use Rattle.tora_sim.specs.Quiet.{AreStillEach}
 use Rattle.tora_sim.proofs.looks.look_at_sixteen.Given as goal
 
 abbrev pub invariant-loop-dues : goal.invariant-loop-dues
-invariant-loop-dues g l = (length l.stills ≡ length l.initial.stills) × g.L.Look.holds l.now l.stills l.links.items
+invariant-loop-dues l = (length l.stills ≡ length l.initial.stills) × AreStillEach l.now l.stills l.links.items
 
 -- the lowest bit goes each time
 abbrev pub decreases-loop-dues : goal.decreases-loop-dues
-decreases-loop-dues g l = l.dues
+decreases-loop-dues l = l.dues

@@ -5,39 +5,31 @@ use Rattle.tora_sim.proofs.TickEnds.{still_behind, more_ticked, all_ticked}
 use Rattle.tora_sim.proofs.ticking.tick.Goals as goal
 
 pub loop-block-init : goal.loop-block-init
-loop-block-init c = record { links = none_changed (ticked c.args.now) c.args.links.now.items 0; plains = c.requires.plain }
+loop-block-init c = none_changed (ticked c.args.now) c.args.links.now.items 0
 
 pub tick_block-requires-clause-within : goal.tick_block-requires-clause-within
 tick_block-requires-clause-within c = omega (arith, c.loop-block-test.true, c.block_count-block-end.ensures.each)
 
 pub tick_block-requires-clause-many : goal.tick_block-requires-clause-many
 tick_block-requires-clause-many c =
-    let as_many = c.requires.still.as_many in
-    let same = c.loop-block.invariant.links.as_many in
+    let as_many = c.requires.as_many in
+    let same = c.loop-block.invariant.as_many in
     omega (arith, as_many, same)
 
 pub tick_block-requires-clause-still : goal.tick_block-requires-clause-still
 tick_block-requires-clause-still c =
     let block = c.loop-block.block in
-    still_behind c.args.now (16 * block) c.args.stills.now c.args.links.now.items c.loop-block.links.items c.requires.still c.loop-block.invariant.links
-
-pub tick_block-requires-clause-plain : goal.tick_block-requires-clause-plain
-tick_block-requires-clause-plain c = c.loop-block.invariant.plains
+    still_behind c.args.now (16 * block) c.args.stills.now c.args.links.now.items c.loop-block.links.items c.requires c.loop-block.invariant
 
 pub loop-block-preserved : goal.loop-block-preserved
 loop-block-preserved c =
     let block = c.loop-block.block in
-    let next : 16 * block + 16 ≡ 16 * (block + 1) = omega arith in record {
-      links = more_ticked c.args.now (16 * block) 16 (16 * (block + 1)) c.args.links.now.items c.loop-block.links.items c.tick_block.new.links.items next c.loop-block.invariant.links c.tick_block.ensures.links;
-      plains = c.tick_block.ensures.plains;
-    }
+    let next : 16 * block + 16 ≡ 16 * (block + 1) = omega arith in
+    more_ticked c.args.now (16 * block) 16 (16 * (block + 1)) c.args.links.now.items c.loop-block.links.items c.tick_block.new.links.items next c.loop-block.invariant c.tick_block.ensures
 
-pub returns-clause-links : goal.returns-clause-links
-returns-clause-links c =
+pub returns : goal.returns
+returns c =
     let block = c.loop-block.block in
-    let as_many = c.requires.still.as_many in
+    let as_many = c.requires.as_many in
     let all : length c.args.links.now.items ≤ 16 * block = omega (arith, as_many, c.block_count-block-end.ensures.all, c.loop-block-test.false) in
-    all_ticked c.args.now (16 * block) c.args.links.now.items c.loop-block.links.items all c.loop-block.invariant.links
-
-pub returns-clause-plains : goal.returns-clause-plains
-returns-clause-plains c = c.loop-block.invariant.plains
+    all_ticked c.args.now (16 * block) c.args.links.now.items c.loop-block.links.items all c.loop-block.invariant

@@ -5,25 +5,20 @@ use Rattle.tora_sim.proofs.FreshEnds.{none_changed}
 use Rattle.tora_sim.proofs.TickEnds.{known_still, one_ticked, block_same, whole_block}
 use Rattle.tora_sim.proofs.ticking.tick_block.Goals as goal
 
-pub returns-then-is_still_block-clause-links : goal.returns-then-is_still_block-clause-links
-returns-then-is_still_block-clause-links c =
+pub returns-then-is_still_block : goal.returns-then-is_still_block
+returns-then-is_still_block c =
     block_same c.args.now (16 * c.args.block) 16 c.args.stills.now c.args.links.now.items c.requires.many c.requires.still (c.is_still_block.ensures c.if-is_still_block.true)
 
-pub returns-then-is_still_block-clause-plains : goal.returns-then-is_still_block-clause-plains
-returns-then-is_still_block-clause-plains c = c.requires.plain
-
 pub loop-place-init : goal.loop-place-init
-loop-place-init c = record { links = none_changed (ticked c.args.now) c.args.links.now.items c.ends_of-first.result.0; plains = c.requires.plain }
+loop-place-init c = none_changed (ticked c.args.now) c.args.links.now.items c.ends_of-first.result.0
 
 pub loop-place-preserved : goal.loop-place-preserved
 loop-place-preserved c =
     let l = c.loop-place in
     let first = c.ends_of-first.result.0 in
     let count = c.ends_of-first.result.1 in
-    let within : first + count ≤ length c.args.links.now.items = omega (arith, c.requires.within, c.requires.many, c.ends_of-first.ensures.first, c.ends_of-first.ensures.count) in record {
-      links = one_ticked c.args.now first l.place count c.args.links.now.items l.links.items l.invariant.links c.loop-place-test.true within c.tick_end.new.links.items c.tick_end.ensures.links;
-      plains = c.tick_end.ensures.plains;
-    }
+    let within : first + count ≤ length c.args.links.now.items = omega (arith, c.requires.within, c.requires.many, c.ends_of-first.ensures.first, c.ends_of-first.ensures.count) in
+    one_ticked c.args.now first l.place count c.args.links.now.items l.links.items l.invariant c.loop-place-test.true within c.tick_end.new.links.items c.tick_end.ensures
 
 pub tick_end-requires-clause-still : goal.tick_end-requires-clause-still
 tick_end-requires-clause-still c =
@@ -31,7 +26,7 @@ tick_end-requires-clause-still c =
     let first = c.ends_of-first.result.0 in
     let count = c.ends_of-first.result.1 in
     let within : first + count ≤ length c.args.links.now.items = omega (arith, c.requires.within, c.requires.many, c.ends_of-first.ensures.first, c.ends_of-first.ensures.count) in
-    known_still c.args.now first l.place count c.args.links.now.items l.links.items l.invariant.links c.loop-place-test.true within c.args.stills.now
+    known_still c.args.now first l.place count c.args.links.now.items l.links.items l.invariant c.loop-place-test.true within c.args.stills.now
     (subst (λ (n : ℕ). AreStillFrom n c.args.now c.args.stills.now c.args.links.now.items) (sym c.ends_of-first.ensures.first) c.requires.still)
 
 pub tick_end-requires-clause-known : goal.tick_end-requires-clause-known
@@ -39,21 +34,15 @@ tick_end-requires-clause-known c = omega (arith, c.loop-place-test.true, c.requi
 
 pub tick_end-requires-clause-within : goal.tick_end-requires-clause-within
 tick_end-requires-clause-within c =
-    let same = c.loop-place.invariant.links.as_many in
+    let same = c.loop-place.invariant.as_many in
     omega (arith, c.loop-place-test.true, c.requires.within, c.requires.many, same, c.ends_of-first.ensures.first, c.ends_of-first.ensures.count)
 
-pub tick_end-requires-clause-plain : goal.tick_end-requires-clause-plain
-tick_end-requires-clause-plain c = c.loop-place.invariant.plains
-
-pub returns-clause-links : goal.returns-clause-links
-returns-clause-links c =
+pub returns : goal.returns
+returns c =
     let l = c.loop-place in
     let first = c.ends_of-first.result.0 in
     let count = c.ends_of-first.result.1 in
     let all : l.place ≡ count = omega (arith, l.auto.place-end, c.loop-place-test.false) in
     let few : count ≡ min 16 (length c.args.links.now.items - first) = omega (arith, c.ends_of-first.ensures.first, c.ends_of-first.ensures.count, c.requires.many) in
     subst (λ (n : ℕ). AreChanged (ticked c.args.now) c.args.links.now.items l.links.items n 16) c.ends_of-first.ensures.first
-    (whole_block c.args.now first count c.args.links.now.items l.links.items few (subst (λ (m : ℕ). AreChanged (ticked c.args.now) c.args.links.now.items l.links.items first m) all l.invariant.links))
-
-pub returns-clause-plains : goal.returns-clause-plains
-returns-clause-plains c = c.loop-place.invariant.plains
+    (whole_block c.args.now first count c.args.links.now.items l.links.items few (subst (λ (m : ℕ). AreChanged (ticked c.args.now) c.args.links.now.items l.links.items first m) all l.invariant))

@@ -5,11 +5,5 @@ use Rattle.tora_sim.proofs.turns.forget_if_waiting.Goals as goal
 pub returns-then-not-has_cargo-clause-stills : goal.returns-then-not-has_cargo-clause-stills
 returns-then-not-has_cargo-clause-stills c = inr (refl, none_waits c.args.links.now.items c.args.at c.index.result.now c.has_cargo.result c.requires.within c.index.ensures c.has_cargo.ensures c.if-not-has_cargo.true)
 
-pub returns-then-not-has_cargo-clause-plains : goal.returns-then-not-has_cargo-clause-plains
-returns-then-not-has_cargo-clause-plains c = inr (refl, none_waits c.args.links.now.items c.args.at c.index.result.now c.has_cargo.result c.requires.within c.index.ensures c.has_cargo.ensures c.if-not-has_cargo.true)
-
 pub returns-clause-stills : goal.returns-clause-stills
 returns-clause-stills c = inl c.keep_still.ensures
-
-pub returns-clause-plains : goal.returns-clause-plains
-returns-clause-plains c = inl c.keep_still-2.ensures

@@ -9,7 +9,6 @@ pub loop-place-init : goal.loop-place-init
 loop-place-init c = record {
   ready = none_remarked c.args.links.now.items c.args.but c.args.ready.now.items c.args.first;
   stills = none_forgotten_where c.args.links.now.items c.args.stills.now c.args.first;
-  plains = none_forgotten_where c.args.links.now.items c.args.plains.now c.args.first;
 }
 
 pub forget_if_waiting-requires-clause-within : goal.forget_if_waiting-requires-clause-within
@@ -21,19 +20,14 @@ forget_if_waiting-requires-clause-ready c = let many = c.loop-place.invariant.re
 pub forget_if_waiting-requires-clause-stills : goal.forget_if_waiting-requires-clause-stills
 forget_if_waiting-requires-clause-stills c = let many = c.loop-place.invariant.stills.as_many in omega (arith, c.loop-place-test.true, c.requires.within, c.requires.stills, many)
 
-pub forget_if_waiting-requires-clause-plains : goal.forget_if_waiting-requires-clause-plains
-forget_if_waiting-requires-clause-plains c = let many = c.loop-place.invariant.plains.as_many in omega (arith, c.loop-place-test.true, c.requires.within, c.requires.plains, many)
-
 pub loop-place-preserved : goal.loop-place-preserved
 loop-place-preserved c =
     let l = c.loop-place in
     let ready = l.invariant.ready.as_many in
     let stills = l.invariant.stills.as_many in
-    let plains = l.invariant.plains.as_many in
     record {
       ready = one_more_remarked c.args.links.now.items c.args.but c.args.ready.now.items l.ready.items c.forget_if_waiting.new.ready.items c.args.first l.place (omega (arith, c.loop-place-test.true, c.requires.within, c.requires.ready, ready)) c.forget_if_waiting.ensures.ready l.invariant.ready;
       stills = one_more_where c.args.links.now.items c.args.stills.now l.stills c.forget_if_waiting.new.stills c.args.first l.place (omega (arith, c.loop-place-test.true, c.requires.within, c.requires.stills, stills)) c.forget_if_waiting.ensures.stills l.invariant.stills;
-      plains = one_more_where c.args.links.now.items c.args.plains.now l.plains c.forget_if_waiting.new.plains c.args.first l.place (omega (arith, c.loop-place-test.true, c.requires.within, c.requires.plains, plains)) c.forget_if_waiting.ensures.plains l.invariant.plains;
     }
 
 pub returns-clause-ready : goal.returns-clause-ready
@@ -47,9 +41,3 @@ returns-clause-stills c =
     let l = c.loop-place in
     let all : l.place ≡ c.args.count = omega (arith, c.loop-place-test.false, l.auto.place-end) in
     subst (λ (n : ℕ). AreForgottenWhere c.args.links.now.items c.args.stills.now l.stills c.args.first n) all l.invariant.stills
-
-pub returns-clause-plains : goal.returns-clause-plains
-returns-clause-plains c =
-    let l = c.loop-place in
-    let all : l.place ≡ c.args.count = omega (arith, c.loop-place-test.false, l.auto.place-end) in
-    subst (λ (n : ℕ). AreForgottenWhere c.args.links.now.items c.args.plains.now l.plains c.args.first n) all l.invariant.plains

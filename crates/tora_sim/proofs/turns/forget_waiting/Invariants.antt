@@ -6,5 +6,4 @@ abbrev pub invariant-loop-place : goal.invariant-loop-place
 invariant-loop-place l = record {
   ready : AreRemarked l.links.items l.but l.initial.ready.items l.ready.items l.first l.place;
   stills : AreForgottenWhere l.links.items l.initial.stills l.stills l.first l.place;
-  plains : AreForgottenWhere l.links.items l.initial.plains l.plains l.first l.place;
 }

@@ -3,15 +3,15 @@ use Rattle.tora_sim.proofs.UnreadyEnds.{one_more_left}
 use Rattle.tora_sim.proofs.unready.still_unready.Goals as goal
 
 pub loop-place-init : goal.loop-place-init
-loop-place-init c = λ place from lt out. absurd (omega (arith, from, lt))
+loop-place-init c = λ place lt out. absurd (omega (arith, lt))
 
 pub with_unready-unready-requires-clause-within : goal.with_unready-unready-requires-clause-within
-with_unready-unready-requires-clause-within c = omega (arith, c.loop-place-test.true, c.requires.within)
+with_unready-unready-requires-clause-within c = omega (arith, c.loop-place-test.true, c.requires)
 
 pub loop-place-preserved : goal.loop-place-preserved
 loop-place-preserved c =
     let l = c.loop-place in
-    one_more_left c.args.ready.now.items c.args.first c.args.range.from l.place l.unready c.with_unready-unready.result l.invariant c.with_unready-unready.ensures.before c.with_unready-unready.ensures.ready
+    one_more_left c.args.ready.now.items c.args.first l.place l.unready c.with_unready-unready.result l.invariant c.with_unready-unready.ensures.before c.with_unready-unready.ensures.ready
 
 pub returns : goal.returns
-returns c = λ place from lt out. c.loop-place.invariant place from (omega (arith, lt, c.loop-place-test.false)) out
+returns c = λ place lt out. c.loop-place.invariant place (omega (arith, lt, c.loop-place-test.false)) out

@@ -44,7 +44,8 @@ const ABOVE: CoreLimits = CoreLimits {
 /// Limits, the neighbours and the destinations of node 1, and the error that they are answered with, if any.
 type Row = (CoreLimits, Numbers, Numbers, Option<CoreError>);
 
-/// As many neighbours and destinations as limits allow, one less and one more. What is above the greatest stands for the greatest.
+/// As many neighbours and destinations as limits allow, one less and one more. What is above the greatest stands for
+/// the greatest.
 const LIMITS: &[Row] = &[
     (SMALL, Counted(2, 1), These(&[]), None),
     (SMALL, Counted(2, 2), These(&[4]), None),
@@ -97,7 +98,8 @@ fn cores_are_taken_up_to_the_limits_that_are_asked(rt: HostRuntime) {
     }
 }
 
-// 255 neighbours come up, one of them the destination; another asks for the route to it, and has the answer; the others go down.
+// 255 neighbours come up, one of them the destination; another asks for the route to it, and has the answer; the others
+// go down.
 #[test]
 fn core_of_255_neighbours_finds_a_route(rt: HostRuntime) -> Result<(), Fail> {
     let (limits, alloc) = (CoreLimits::GREATEST, rt.alloc());

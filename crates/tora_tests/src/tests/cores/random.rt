@@ -34,8 +34,8 @@ impl Random {
     }
 }
 
-/// A packet of neighbour `k` for a destination, sometimes with the height of another node, and often at a level of time 7, so that
-/// levels come again.
+/// A packet of neighbour `k` for a destination, sometimes with the height of another node, and often at a level of time
+/// 7, so that levels come again.
 fn any_packet(random: &mut Random, now: u64, k: Id, d: Id) -> Option<Packet> {
     let tau = if random.up_to(1) == 0 {
         7

@@ -1,4 +1,5 @@
-//! The line of four nodes, 1 - 2 - 3 - 4, by items that are made by hand: what one seat offers is handed to the next one.
+//! The line of four nodes, 1 - 2 - 3 - 4, by items that are made by hand: what one seat offers is handed to the next
+//! one.
 use super::super::made::{Parts, core_of, entry_of};
 use super::super::sees::{same, same_at, sees};
 use super::TestLanes;

@@ -1,5 +1,5 @@
-//! What stands where memory is refused: for a topology, for a first world, and at an event. Each test takes that answer or the
-//! other, so that it passes whichever call for memory is refused.
+//! What stands where memory is refused: for a topology, for a first world, and at an event. Each test takes that answer
+//! or the other, so that it passes whichever call for memory is refused.
 use super::super::sees::{same, sees};
 use super::steps::Step::{Clock, Datagrams, Route};
 use super::steps::{Step, runs};
@@ -164,8 +164,9 @@ fn takes_memory(event: &Event) -> bool {
     }
 }
 
-/// Sees that a run of events, each of which is possible behind those before them, leaves the world after all of them; or,
-/// where memory was refused at one, the world after those before that one, in which the events from it on then happen.
+/// Sees that a run of events, each of which is possible behind those before them, leaves the world after all of them;
+/// or, where memory was refused at one, the world after those before that one, in which the events from it on then
+/// happen.
 fn sees_run(rt: &impl Abort, alloc: Global, before: &[Event], events: &[Event]) {
     let Some(mut sim) = world_after(rt, alloc, before) else {
         return;
@@ -289,8 +290,8 @@ fn sees_last_meet(rt: &impl Abort, alloc: Global, found: Result<Sim, SimError>) 
     }
 }
 
-/// Where memory is refused for a world of 200 nodes, or at an event in it, that is answered; the event may happen then, and
-/// leaves what it leaves where memory is not refused.
+/// Where memory is refused for a world of 200 nodes, or at an event in it, that is answered; the event may happen then,
+/// and leaves what it leaves where memory is not refused.
 #[test]
 fn want_of_memory_in_a_world_of_200_nodes(rt: HostRuntime) {
     let alloc = rt.alloc();
@@ -299,8 +300,8 @@ fn want_of_memory_in_a_world_of_200_nodes(rt: HostRuntime) {
     }
 }
 
-/// The events by which five queries go over one link at once: more than stand in a lane and in a link end that have no lists, so that both take
-/// theirs, and so does the link end that takes the frame in.
+/// The events by which five queries go over one link at once: more than stand in a lane and in a link end that have no
+/// lists, so that both take theirs, and so does the link end that takes the frame in.
 const ASKING: &[Event] = &[
     Event::Open(1, 2),
     Event::Open(2, 1),
@@ -358,7 +359,8 @@ fn sees_asked(rt: &impl Abort, found: Result<Sim, SimError>) {
     }
 }
 
-/// Where memory is refused for the lists of a lane or a link end, that is answered, and nothing is lost: the event may happen then.
+/// Where memory is refused for the lists of a lane or a link end, that is answered, and nothing is lost: the event may
+/// happen then.
 #[test]
 fn want_of_memory_for_lists(rt: HostRuntime) {
     let alloc = rt.alloc();

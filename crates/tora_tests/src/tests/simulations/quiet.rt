@@ -1,7 +1,5 @@
 //! Until which tick nothing is to be done.
-use super::steps::Step::{
-    Cannot, Does, HandsOver, HasEnds, NextBusy, NextDue, Quiet, Settles, Tells,
-};
+use super::steps::Step::{Cannot, Does, HandsOver, HasEnds, NextDue, Quiet, Settles, Tells};
 use super::steps::{Step, first_world, runs};
 use super::topologies::topology_of;
 use super::{TIMES, pass};
@@ -20,9 +18,6 @@ const CLOSED: &[Step] = &[
     NextDue(0, 0),
     NextDue(1, 1),
     NextDue(3, 3),
-    NextBusy(0, 0),
-    NextBusy(1, 1),
-    NextBusy(3, 3),
 ];
 
 /// Two bound ends that have said HELLO, two ticks before the next one.
@@ -31,7 +26,6 @@ const BOUND: &[Step] = &[
     Settles,
     Quiet(true),
     NextDue(0, 2),
-    NextBusy(0, 2),
     Cannot(Event::CoreTurn(1)),
     Cannot(Event::Open(1, 2)),
     Cannot(Event::Pull(1, 2)),
@@ -45,7 +39,6 @@ const BOUND: &[Step] = &[
     Settles,
     Quiet(false),
     NextDue(0, 0),
-    NextBusy(0, 2),
     Does(Event::Transmit(1, 2)),
     Settles,
     Quiet(false),
@@ -60,11 +53,10 @@ const BOUND: &[Step] = &[
     Settles,
     Quiet(false),
     Does(Event::CoreTurn(1)),
-    Quiet(false),
-    NextBusy(0, 2),
+    Quiet(true),
     Settles,
     Quiet(true),
-    NextBusy(0, 2),
+    NextDue(0, 2),
 ];
 
 /// A need makes node 1 send an update once the link is up: it waits in the lane, and then for an acknowledgement.
@@ -80,7 +72,7 @@ const WAITING: &[Step] = &[
     Tells(2, 1),
     Settles,
     Quiet(false),
-    NextBusy(0, 0),
+    NextDue(0, 0),
     Does(Event::Pull(1, 2)),
     Settles,
     Quiet(false),
@@ -96,31 +88,12 @@ const SILENT: &[Step] = &[
     Does(Event::Transmit(2, 1)),
     Settles,
     Quiet(true),
-    NextBusy(0, 2),
+    NextDue(0, 2),
     Does(Event::Tick),
     Quiet(false),
-    NextBusy(0, 0),
+    NextDue(0, 0),
     Does(Event::Pump(1, 2)),
     Does(Event::Open(1, 2)),
-];
-
-/// Two ends that are opened, of which a HELLO binds the first: until its event is pumped it has more to do than to send frames, and so it has
-/// before it is looked at again. A HELLO that binds no end makes none so.
-const HEARING: &[Step] = &[
-    Does(Event::Open(1, 2)),
-    Does(Event::Open(2, 1)),
-    NextBusy(0, 0),
-    Settles,
-    NextBusy(0, 2),
-    HandsOver(1, 2),
-    NextBusy(0, 2),
-    HandsOver(2, 1),
-    NextBusy(0, 0),
-    NextBusy(1, 2),
-    Does(Event::Pump(1, 2)),
-    NextBusy(0, 0),
-    Settles,
-    NextBusy(0, 2),
 ];
 
 /// A world of one link does what the steps say first, and what they say then, once its ends are bound.
@@ -148,10 +121,4 @@ fn silent_ends_are_not_quiet(rt: HostRuntime) {
 fn world_with_a_packet_is_not_quiet(rt: HostRuntime) {
     let mut sim = first_world(&rt, rt.alloc(), &[(1, 2)], &[2]);
     runs(&rt, rt.alloc(), &mut sim, WAITING);
-}
-
-#[test]
-fn end_that_is_bound_has_more_than_a_frame(rt: HostRuntime) {
-    let mut sim = first_world(&rt, rt.alloc(), &[(1, 2)], &[2]);
-    runs(&rt, rt.alloc(), &mut sim, HEARING);
 }

@@ -50,8 +50,6 @@ pub enum Step {
     HasEnds(&'static [(Id, Id)], bool),
     /// The first place from one on at which a link end may have something to do.
     NextDue(usize, usize),
-    /// The first place from one on at which a link end may have more to do than to send a frame.
-    NextBusy(usize, usize),
 }
 
 /// The simulator of a topology at its start.
@@ -134,7 +132,6 @@ fn reads(rt: &impl Abort, alloc: Global, sim: &Sim, row: &Step) {
         Step::Quiet(quiet) => same_at(rt, &sim.is_quiet(), &quiet, "quiet", row),
         Step::HasEnds(ends, has) => same_at(rt, &sim.has_ends(ends), &has, "the ends", row),
         Step::NextDue(place, next) => same_at(rt, &sim.next_due(place), &next, "next", row),
-        Step::NextBusy(place, next) => same_at(rt, &sim.next_busy(place), &next, "busy", row),
         _ => {}
     }
 }

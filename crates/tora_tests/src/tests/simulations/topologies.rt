@@ -53,8 +53,8 @@ pub fn made_within(
     Topology::with_limits(alloc, limits, links, destinations)
 }
 
-/// Links: these, those from each of so many nodes to the next, those from node 1 to so many others with these behind them,
-/// or the same so often.
+/// Links: these, those from each of so many nodes to the next, those from node 1 to so many others with these behind
+/// them, or the same so often.
 #[derive(Clone, Copy)]
 pub enum Links {
     Listed(&'static [(Id, Id)]),
@@ -152,8 +152,8 @@ const ABOVE: Limits = Limits {
 /// Limits, and a topology that they let in or refuse.
 type RowWithin = (Limits, Row);
 
-/// As many nodes, links of a node and destinations as limits allow, one less and one more of each. What is above the greatest
-/// stands for the greatest.
+/// As many nodes, links of a node and destinations as limits allow, one less and one more of each. What is above the
+/// greatest stands for the greatest.
 const LIMITS_ASKED: &[RowWithin] = &[
     (SMALL, (Links::Chain(2), These(&[]), None)),
     (SMALL, (Links::Chain(3), These(&[1]), None)),

@@ -1,4 +1,5 @@
-//! What the texts of a table are read as: the rows of the tests of the configuration, and the one function that goes over them.
+//! What the texts of a table are read as: the rows of the tests of the configuration, and the one function that goes
+//! over them.
 use super::super::sees::{same, same_at, same_text, sees_at};
 use std::alloc::Global;
 use std::process::Abort;

@@ -4,7 +4,8 @@ use super::steps::{draws, fails, opened, refused};
 use std::process::Abort;
 use tora_life::{DiskCall, FuseDisk, FuseMode, LifeError, MemDisk};
 
-/// How many calls of a new disk pass before all fail, and how many numbers are then drawn. `None` where the file isn't opened.
+/// How many calls of a new disk pass before all fail, and how many numbers are then drawn. `None` where the file isn't
+/// opened.
 const FUSED: &[(u64, Option<u64>)] = &[
     (0, None),
     (1, None),

@@ -17,8 +17,10 @@ fn open_in_memory(
     requires peer { 0 < peer }
     requires distinct { me ≢ peer }
     ensures owner { IfOk result (λ file. file.owner ≡ record { node = me; peer = peer }) }
-    ensures ok { IfOk result (λ file. (open_answer (record { node = me; peer = peer }) disk.state ≡ Ok file.numbers) × (file.disk.state ≡ open_state (record { node = me; peer = peer }) disk.state)) }
-    ensures err { IfErr result (λ fault. (open_answer (record { node = me; peer = peer }) disk.state ≡ Err fault.error) × (fault.disk.state ≡ open_state (record { node = me; peer = peer }) disk.state)) }
+    ensures ok { IfOk result (λ file. (open_answer (record { node = me; peer = peer }) disk.state ≡ Ok file.numbers)
+        × (file.disk.state ≡ open_state (record { node = me; peer = peer }) disk.state)) }
+    ensures err { IfErr result (λ fault. (open_answer (record { node = me; peer = peer }) disk.state ≡ Err fault.error)
+        × (fault.disk.state ≡ open_state (record { node = me; peer = peer }) disk.state)) }
 {
     LifeFile::open(disk, me, peer)
 }
@@ -27,7 +29,8 @@ fn draw_in_memory(file: &mut LifeFile<MemDisk>) -> Result<u64, LifeError>
     ensures answer { result ≡ draw_answer file.old.numbers file.old.disk.state }
     ensures owner { file.new.owner ≡ file.old.owner }
     ensures disk { file.new.disk.state ≡ draw_state file.old.numbers file.old.disk.state }
-    ensures numbers { file.new.numbers ≡ numbers_after (draw_answer file.old.numbers file.old.disk.state) file.old.numbers }
+    ensures numbers { file.new.numbers ≡ numbers_after (draw_answer file.old.numbers file.old.disk.state)
+        file.old.numbers }
 {
     file.draw()
 }

@@ -66,8 +66,8 @@ fn reads_as(rt: &impl Abort, bytes: &[u8], wanted: Tag, what: &str, place: usize
     same_at(rt, &Tag::read(bytes), &wanted, what, &place);
 }
 
-/// The file of these bytes after a crash while it was opened: all calls of the disk failed from this one on, and what was not
-/// synced is zeros.
+/// The file of these bytes after a crash while it was opened: all calls of the disk failed from this one on, and what
+/// was not synced is zeros.
 fn torn_while_opened(rt: &impl Abort, bytes: &[u8], k: u64) -> LifeFile<MemDisk> {
     let fused = FuseDisk::new(disk_of(rt, bytes), k, FuseMode::Always);
     let mut disk = refused(rt, fused).disk.into_inner();
@@ -132,8 +132,8 @@ fn changed_twice(place: usize) -> [u8; 32]
     tag
 }
 
-/// Sees why a file with the tag that is complementary in each byte, with another byte at this place, is refused: for its
-/// beginning, or for its numbers.
+/// Sees why a file with the tag that is complementary in each byte, with another byte at this place, is refused: for
+/// its beginning, or for its numbers.
 fn tag_is_refused(rt: &impl Abort, place: usize)
     requires { place < 16 }
 {
@@ -204,8 +204,8 @@ fn goes_on(rt: &impl Abort, bytes: &[u8], wanted: u64) {
     same_at(rt, &file.draw(), &Ok(wanted), "once reopened", &length);
 }
 
-// A slot that is not wholly there counts as 0, as before, and one that is whole stays. Any bytes behind the slots that are no
-// whole tag are written over.
+// A slot that is not wholly there counts as 0, as before, and one that is whole stays. Any bytes behind the slots that
+// are no whole tag are written over.
 #[test]
 fn short_files_are_filled_up(rt: HostRuntime) {
     for length in 0..16 {
@@ -285,8 +285,8 @@ const HALF_MIGRATED: [u8; 40] = [
     0x20, 0xff, 0xff, 0xff, 0xff, 0xff, 0xff, 0xff, 0xdf, 0, 0, 0, 0, 0, 0, 0, 0,
 ];
 
-/// Each file that a crash may come over (new, of version 1, half migrated, or with its tag), and the greatest number that was
-/// drawn from it.
+/// Each file that a crash may come over (new, of version 1, half migrated, or with its tag), and the greatest number
+/// that was drawn from it.
 const OLD: &[(&[u8], u64)] = &[
     (&[], 0),
     (&SLOT_OF_16, 16),
@@ -298,9 +298,9 @@ const OLD: &[(&[u8], u64)] = &[
 /// What a crash leaves of what was not synced.
 const PATTERNS: &[Option<[u8; 16]>] = &[None, Some([0; 16]), Some(SLOT_OF_32), Some(SLOT_OF_900)];
 
-/// Sees that the next number is above those that were drawn, where the disk fails and then crashes: a call fails before the file
-/// is opened (0) or before the draw with this number, or with no call named all fail from the one with this number on. With
-/// `twice` this call of the disk fails while the file is opened again, and then there is another crash.
+/// Sees that the next number is above those that were drawn, where the disk fails and then crashes: a call fails before
+/// the file is opened (0) or before the draw with this number, or with no call named all fail from the one with this
+/// number on. With `twice` this call of the disk fails while the file is opened again, and then there is another crash.
 fn goes_on_after(
     rt: &impl Abort,
     (bytes, drawn): &(&[u8], u64),

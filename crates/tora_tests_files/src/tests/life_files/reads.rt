@@ -47,8 +47,8 @@ fn five_bytes(fails_from: u64) -> Dripping {
     }
 }
 
-/// A read of five bytes: from which call on the reader fails, from which place on and into how many bytes it reads, and how many
-/// come, with what then stands in seven bytes that were 9. `None` where the read fails.
+/// A read of five bytes: from which call on the reader fails, from which place on and into how many bytes it reads, and
+/// how many come, with what then stands in seven bytes that were 9. `None` where the read fails.
 const READS: &[(u64, usize, usize, Option<(usize, &[u8])>)] = &[
     (100, 1, 7, Some((4, &[2, 3, 4, 5, 9, 9, 9]))),
     (100, 0, 3, Some((3, &[1, 2, 3, 9, 9, 9, 9]))),

@@ -15,7 +15,8 @@ const EACH: u64 = 1000;
 /// How many items all seats put.
 const ALL: u64 = 33_000;
 
-/// The port of a link, its end of the lane from the core, and how many items were put and cargoes taken as they should be.
+/// The port of a link, its end of the lane from the core, and how many items were put and cargoes taken as they should
+/// be.
 #[derive(Drop)]
 struct LinkSide {
     port: InPort,
@@ -106,7 +107,8 @@ fn most_links<R: Wait + Abort>(rt: &R, alloc: Global) -> (CoreSide, Vec<LinkSide
     (core, sides, command)
 }
 
-// 32 link seats and the command seat put 1,000 items each, and 1,000 cargoes go to each link, all from threads of their own.
+// 32 link seats and the command seat put 1,000 items each, and 1,000 cargoes go to each link, all from threads of their
+// own.
 #[test]
 fn lane_order_of_the_most_links(rt: HostRuntime) {
     let (core, sides, command) = most_links(&rt, rt.alloc());

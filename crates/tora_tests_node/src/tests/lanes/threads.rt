@@ -1,5 +1,5 @@
-//! What the threads of a node do: a link's and the command seat's put items, the core's takes them and sends cargoes, and a
-//! link's takes those.
+//! What the threads of a node do: a link's and the command seat's put items, the core's takes them and sends cargoes,
+//! and a link's takes those.
 ghost use Rattle.std.specs.Prelude.{◌≡◌};
 
 use super::cargo;

@@ -28,7 +28,8 @@ struct Run {
     cargoes: u64,
 }
 
-/// The port of a link, its end of the lane from the core, and how many items were put and cargoes taken as they should be.
+/// The port of a link, its end of the lane from the core, and how many items were put and cargoes taken as they should
+/// be.
 #[derive(Drop)]
 struct LinkSide {
     port: InPort,
@@ -68,7 +69,8 @@ fn run_link<R: Wait>(rt: &R, side: LinkSide, seat: usize, run: Run) -> LinkSide
 
 /// The thread of the core: all items are taken before the first cargo is sent.
 fn run_core<R: Wait>(rt: &R, side: CoreSide, run: Run) -> CoreSide
-    ensures { (result.core.lane ≡ side.core.lane) × (result.first.ring ≡ side.first.ring) × (result.second.ring ≡ side.second.ring) }
+    ensures { (result.core.lane ≡ side.core.lane) × (result.first.ring ≡ side.first.ring)
+        × (result.second.ring ≡ side.second.ring) }
 {
     let CoreSide {
         mut core,
@@ -126,7 +128,8 @@ fn run_others<R: Threads + Wait + Sync>(
             ensures { result.0.lane ≡ command.lane }
         { put_from(rt, command, 2, run.commands) },
         move || -> CoreSide
-            ensures { (result.core.lane ≡ core.core.lane) × (result.first.ring ≡ core.first.ring) × (result.second.ring ≡ core.second.ring) }
+            ensures { (result.core.lane ≡ core.core.lane) × (result.first.ring ≡ core.first.ring)
+                × (result.second.ring ≡ core.second.ring) }
         { run_core(rt, core, run) },
     )
 }
@@ -153,7 +156,8 @@ fn last_link<R: Abort>(
 
 /// The lanes of a node with two links.
 fn two_links<R: Wait + Abort>(rt: &R, alloc: Global) -> (CoreSide, LinkSide, LinkSide, InPort)
-    ensures ports { IsPortOf result.0.core result.1.port × IsPortOf result.0.core result.2.port × IsPortOf result.0.core result.3 }
+    ensures ports { IsPortOf result.0.core result.1.port × IsPortOf result.0.core result.2.port
+        × IsPortOf result.0.core result.3 }
     ensures rings { AreEndsOf result.0.first result.1.take × AreEndsOf result.0.second result.2.take }
 {
     let Ok(

@@ -8,8 +8,8 @@ use tora_frame::decode;
 
 const LIFE: Life = Life { own: 5, peer: 9 };
 
-/// The frames of the formats: two HELLOs, a DATA frame with a query, and an ACK; DATA frames with an update and a clear; and
-/// one of version 2 with a query and a clear.
+/// The frames of the formats: two HELLOs, a DATA frame with a query, and an ACK; DATA frames with an update and a
+/// clear; and one of version 2 with a query and a clear.
 const VECTORS: [&str; 7] = [
     "01010000000000010000000200000000000000050000000000000000",
     "01010000000000020000000100000000000000090000000000000005",

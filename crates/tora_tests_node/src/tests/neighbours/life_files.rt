@@ -15,8 +15,8 @@ fn fault_of<R: Wait + Abort>(
     Ok(finished.fault)
 }
 
-/// Sees the fault of a run over the file of each row: the bytes of its disk, the call of the disk that is to fail, whether a draw
-/// before the run has failed by it, and the reason.
+/// Sees the fault of a run over the file of each row: the bytes of its disk, the call of the disk that is to fail,
+/// whether a draw before the run has failed by it, and the reason.
 fn each_ends<R: Wait + Abort>(
     rt: &R,
     alloc: Global,

@@ -161,8 +161,8 @@ fn a_link_comes_up_and_the_hub_ends_it(rt: HostRuntime) {
     runs(&rt, rt.alloc(), &BOUND);
 }
 
-/// Each turn reads the clock, so that the link goes silent 50 ticks after its one datagram, and a beat comes every ten. With a tick
-/// that serves several turns the fuse ends the run.
+/// Each turn reads the clock, so that the link goes silent 50 ticks after its one datagram, and a beat comes every ten.
+/// With a tick that serves several turns the fuse ends the run.
 const SILENT: Run = Run {
     step: 1,
     fuse: Some((200, FuseMode::Always)),
@@ -205,8 +205,8 @@ fn a_life_that_is_cut_goes_down(rt: HostRuntime) {
     runs(&rt, rt.alloc(), &CUT);
 }
 
-/// Each turn sends a HELLO of each version and receives once, and all three fail: the 34th turn has the hundredth failure, and
-/// puts no beat.
+/// Each turn sends a HELLO of each version and receives once, and all three fail: the 34th turn has the hundredth
+/// failure, and puts no beat.
 const FAILING: Run = Run {
     step: 10,
     fuse: Some((0, FuseMode::Always)),
@@ -223,7 +223,8 @@ fn a_wire_that_always_fails_ends_the_link(rt: HostRuntime) {
     runs(&rt, rt.alloc(), &FAILING);
 }
 
-/// Three calls of the first turn pass, which binds a life. Of each later turn one call fails at least, until the life is cut.
+/// Three calls of the first turn pass, which binds a life. Of each later turn one call fails at least, until the life
+/// is cut.
 const BREAKING: Run = Run {
     step: 0,
     fuse: Some((3, FuseMode::Always)),
@@ -309,8 +310,8 @@ fn faults_say_what_they_are(rt: HostRuntime) {
     each_says(&rt, rt.alloc(), FAULTS);
 }
 
-// What is made for a run wants memory, and each such call answers where it is refused. Once all of it stands, the run takes
-// none: it ends as it does where memory is ample.
+// What is made for a run wants memory, and each such call answers where it is refused. Once all of it stands, the run
+// takes none: it ends as it does where memory is ample.
 #[test]
 fn want_of_memory_is_answered(rt: HostRuntime) {
     let alloc = rt.alloc();

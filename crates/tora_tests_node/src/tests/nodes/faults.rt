@@ -1,7 +1,7 @@
 //! What a node answers where its output, its wires or both fail, what its tallies are, and the tags of its life files.
 //!
-//! Each node is node 1 between nodes 2 and 3, with the destination 4. It is told to end once each of its wires has settled: it
-//! is broken, or all its datagrams have come. The wire to 3 settles first.
+//! Each node is node 1 between nodes 2 and 3, with the destination 4. It is told to end once each of its wires has
+//! settled: it is broken, or all its datagrams have come. The wire to 3 settles first.
 use super::super::sees::same_text;
 use super::*;
 use devices::{Output, Paper, Settled, Settling, Shown, Tag};
@@ -203,7 +203,8 @@ fn an_output_that_fails_ends_a_node(rt: HostRuntime) {
     each_ends_so(&rt, rt.alloc(), OUTPUTS);
 }
 
-/// Wires that break. The node goes on until it is told to end, and then answers the fault of the least neighbour that has one.
+/// Wires that break. The node goes on until it is told to end, and then answers the fault of the least neighbour that
+/// has one.
 const WIRES: &[Run] = &[
     Run {
         fuses: (BROKEN, WHOLE),
@@ -284,7 +285,8 @@ fn run_shown<'a, R: Threads + Wait + Sync + time::Clock + log::Log + Abort>(
     run_settled(rt, alloc, wires, disks, b"quit\n", settled, &mut paper).err()
 }
 
-/// The tags of node 1 and its peers 2 and 3: the text `TORALIF2`, the node and the peer, and the complement of these bytes.
+/// The tags of node 1 and its peers 2 and 3: the text `TORALIF2`, the node and the peer, and the complement of these
+/// bytes.
 const TAGS: [[u64; 4]; 2] = [
     [
         0x544f_5241_4c49_4632,

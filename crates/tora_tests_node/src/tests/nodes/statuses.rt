@@ -17,7 +17,8 @@ const LIFE_TO_2: Life = Life { own: 18, peer: 34 };
 /// The life of the link of node 3 to node 4.
 const LIFE_TO_4: Life = Life { own: 17, peer: 33 };
 
-/// What is put, from tick 5 on, each at the next one, by the seat of this number: 0 and 1 are the links to 2 and 4, 2 the commands.
+/// What is put, from tick 5 on, each at the next one, by the seat of this number: 0 and 1 are the links to 2 and 4, 2
+/// the commands.
 const FIRST_ITEMS: [(usize, What); 3] = [
     (2, What::Status(Status::Watch)),
     (1, What::Up(LIFE_TO_4)),

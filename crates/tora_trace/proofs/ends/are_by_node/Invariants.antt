@@ -1,7 +1,7 @@
 use Rattle.std.proofs.Common.{◌<◌, ◌≤◌, ℕ, get_or}
 use Rattle.tora_trace.proofs.ends.are_by_node.Given as goal
 
--- of the ends so far none is of a lesser node than one before it
+-- the ends so far are in ascending order of nodes
 abbrev pub invariant-loop-i : goal.invariant-loop-i
 invariant-loop-i l = record {
   some : 0 < l.i;

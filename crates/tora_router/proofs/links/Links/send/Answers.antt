@@ -14,25 +14,25 @@ returns-in-Some-clause-first c =
     let xs = c.loop-place.self-inside.list.items in
     let many : length xs ≡ length c.self.inside.list.items = ap length (c.loop-place.invariant.same ∙ sym c.self.view_is) in
     let lt : c.loop-place.place < length xs = omega (arith, c.loop-place-test.true, c.len-place-end.ensures, many) in
-    first_sent c.args.now xs c.args.self.now c.loop-place.place c.index_mut.result.now c.loop-place.invariant.same lt c.index_mut.ensures.value c.loop-place.invariant.none c.in-Some.count c.in-Some.ensures.length
+    first_sent c.args.now xs c.args.self.now c.loop-place.place c.index_mut-link.result.now c.loop-place.invariant.same lt c.index_mut-link.ensures.value c.loop-place.invariant.none c.in-Some.count c.in-Some.ensures.length
 
 pub returns-in-Some-clause-bytes : goal.returns-in-Some-clause-bytes
 returns-in-Some-clause-bytes c =
     let xs = c.loop-place.self-inside.list.items in
     let many : length xs ≡ length c.self.inside.list.items = ap length (c.loop-place.invariant.same ∙ sym c.self.view_is) in
     let lt : c.loop-place.place < length xs = omega (arith, c.loop-place-test.true, c.len-place-end.ensures, many) in
-    bytes_sent c.args.now xs c.args.self.now c.loop-place.place c.index_mut.result.now c.loop-place.invariant.same lt c.index_mut.ensures.value c.loop-place.invariant.none c.in-Some.count c.args.out.now c.loop-place.out c.send.new.out c.loop-place.invariant.out c.in-Some.ensures.length c.in-Some.ensures.bytes
+    bytes_sent c.args.now xs c.args.self.now c.loop-place.place c.index_mut-link.result.now c.loop-place.invariant.same lt c.index_mut-link.ensures.value c.loop-place.invariant.none c.in-Some.count c.args.out.now c.loop-place.out c.send.new.out c.loop-place.invariant.out c.in-Some.ensures.length c.in-Some.ensures.bytes
 
 pub returns-in-Some-clause-sent : goal.returns-in-Some-clause-sent
 returns-in-Some-clause-sent c =
-    set_as (sent c.args.now) c.loop-place.place c.loop-place.self-inside.list.items c.args.self.now c.index_mut.result.now c.send.new.self c.loop-place.invariant.same c.index_mut.ensures.value c.in-Some.ensures.sent
+    set_as (sent c.args.now) c.loop-place.place c.loop-place.self-inside.list.items c.args.self.now c.index_mut-link.result.now c.send.new.self c.loop-place.invariant.same c.index_mut-link.ensures.value c.in-Some.ensures.sent
 
 pub loop-place-preserved : goal.loop-place-preserved
 loop-place-preserved c = record {
   out = c.in_default.ensures.none.1 ∙ c.loop-place.invariant.out;
-  same = set_same_as c.loop-place.place c.loop-place.self-inside.list.items c.args.self.now c.index_mut.result.now c.send.new.self c.loop-place.invariant.same c.index_mut.ensures.value c.in_default.ensures.none.0;
-  none = none_more_set (frame_of_link c.args.now) c.loop-place.self-inside.list.items c.loop-place.place c.index_mut.result.now c.send.new.self c.index_mut.ensures.value c.in_default.ensures.none.0
-      (no_frame _ (frame_of_link c.args.now c.index_mut.result.now) refl c.in_default.ensures.length) c.loop-place.invariant.none;
+  same = set_same_as c.loop-place.place c.loop-place.self-inside.list.items c.args.self.now c.index_mut-link.result.now c.send.new.self c.loop-place.invariant.same c.index_mut-link.ensures.value c.in_default.ensures.none.0;
+  none = none_more_set (frame_of_link c.args.now) c.loop-place.self-inside.list.items c.loop-place.place c.index_mut-link.result.now c.send.new.self c.index_mut-link.ensures.value c.in_default.ensures.none.0
+      (no_frame _ (frame_of_link c.args.now c.index_mut-link.result.now) refl c.in_default.ensures.length) c.loop-place.invariant.none;
 }
 
 pub returns-clause-first : goal.returns-clause-first

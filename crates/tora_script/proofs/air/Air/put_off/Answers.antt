@@ -1,5 +1,5 @@
 use Rattle.std.proofs.Common.{◌≡◌, ◌∙◌, ◌+◌, ◌-◌, ◌++◌, ap, sym, subst, arith, refl, ℕ, List, length, append-nil}
-use Rattle.tora_script.specs.Air.{put_off, moment_on}
+use Rattle.tora_script.specs.Air.{put_off, moment_view}
 use Rattle.tora_script.specs.Ways.{AreCounted}
 use Rattle.tora_script.proofs.AirLaws.{put_off_on, none_put_off}
 use Rattle.tora_script.proofs.WayCounts.{none_yet}
@@ -9,18 +9,18 @@ pub returns-then-is_clear-clause-later : goal.returns-then-is_clear-clause-later
 returns-then-is_clear-clause-later g c =
     let w = g.S.Simulator.world c.args.sim.now in
     sym
-    (ap (λ (xs : List (ℕ × ℕ)). c.args.self.now.later.items ++ xs) (none_put_off c.args.parted.now (moment_on c.args.table.now c.args.moment) w (c.is_clear.ensures c.if-is_clear.true) (length w.datagrams - c.args.moment.start))
+    (ap (λ (xs : List (ℕ × ℕ)). c.args.self.now.later.items ++ xs) (none_put_off c.args.moment.now.network.parted.now (moment_view c.args.moment.now) w (c.is_clear.ensures c.if-is_clear.true) (length w.datagrams - c.args.moment.now.start))
     ∙ append-nil c.args.self.now.later.items)
 
 pub loop-i-init : goal.loop-i-init
 unfolding put_off
 loop-i-init g c =
     let w = g.S.Simulator.world c.args.sim.now in
-    let none : c.args.moment.start - c.args.moment.start ≡ 0 = omega arith in
+    let none : c.args.moment.now.start - c.args.moment.now.start ≡ 0 = omega arith in
     record {
-      later = sym (ap (λ (n : ℕ). c.args.self.now.later.items ++ put_off c.args.parted.now (moment_on c.args.table.now c.args.moment) n w) none ∙ append-nil c.args.self.now.later.items);
+      later = sym (ap (λ (n : ℕ). c.args.self.now.later.items ++ put_off c.args.moment.now.network.parted.now (moment_view c.args.moment.now) n w) none ∙ append-nil c.args.self.now.later.items);
       round = refl;
-      counted = none_yet w c.new-ways.result c.args.moment.start (c.args.moment.start - c.args.moment.start) none c.new-ways.ensures;
+      counted = none_yet w c.new-ways.result c.args.moment.now.start (c.args.moment.now.start - c.args.moment.now.start) none c.new-ways.ensures;
       within = omega arith;
     }
 
@@ -29,14 +29,14 @@ put_off_one-requires-clause-behind g c = omega (arith, c.loop-i.auto.i)
 
 pub put_off_one-requires-clause-counted : goal.put_off_one-requires-clause-counted
 put_off_one-requires-clause-counted g c =
-    let same : c.loop-i.i - c.args.moment.start ≡ c.loop-i.i + 1 - 1 - c.args.moment.start = omega arith in
-    subst (λ (n : ℕ). AreCounted (g.S.Simulator.world c.args.sim.now) c.loop-i.ways c.args.moment.start n) same c.loop-i.invariant.counted
+    let same : c.loop-i.i - c.args.moment.now.start ≡ c.loop-i.i + 1 - 1 - c.args.moment.now.start = omega arith in
+    subst (λ (n : ℕ). AreCounted (g.S.Simulator.world c.args.sim.now) c.loop-i.ways c.args.moment.now.start n) same c.loop-i.invariant.counted
 
 pub loop-i-preserved : goal.loop-i-preserved
 loop-i-preserved g c =
     let w = g.S.Simulator.world c.args.sim.now in
     record {
-      later = put_off_on c.args.self.now.later.items c.loop-i.self.later.items c.put_off_one.new.self.later.items c.args.parted.now (moment_on c.args.table.now c.args.moment) c.loop-i.i w (omega (arith, c.loop-i.auto.i))
+      later = put_off_on c.args.self.now.later.items c.loop-i.self.later.items c.put_off_one.new.self.later.items c.args.moment.now.network.parted.now (moment_view c.args.moment.now) c.loop-i.i w (omega (arith, c.loop-i.auto.i))
           c.loop-i.invariant.later c.in_ok-put_off_one.ensures.later;
       round = c.in_ok-put_off_one.ensures.round ∙ c.loop-i.invariant.round;
       counted = c.in_ok-put_off_one.ensures.counted;
@@ -46,5 +46,5 @@ loop-i-preserved g c =
 pub returns-clause-later : goal.returns-clause-later
 returns-clause-later g c =
     let w = g.S.Simulator.world c.args.sim.now in
-    let k : c.loop-i.i - c.args.moment.start ≡ length w.datagrams - c.args.moment.start = omega (arith, c.loop-i.invariant.within, c.loop-i-test.false, c.datagrams-i-end.ensures) in
-    c.loop-i.invariant.later ∙ ap (λ (n : ℕ). c.args.self.now.later.items ++ put_off c.args.parted.now (moment_on c.args.table.now c.args.moment) n w) k
+    let k : c.loop-i.i - c.args.moment.now.start ≡ length w.datagrams - c.args.moment.now.start = omega (arith, c.loop-i.invariant.within, c.loop-i-test.false, c.datagrams-i-end.ensures) in
+    c.loop-i.invariant.later ∙ ap (λ (n : ℕ). c.args.self.now.later.items ++ put_off c.args.moment.now.network.parted.now (moment_view c.args.moment.now) n w) k

@@ -1,6 +1,6 @@
 use Rattle.std.proofs.Common.{◌∙◌, sym}
 use Rattle.tora_world.specs.World.{datagram}
-use Rattle.tora_script.specs.Air.{moment_on}
+use Rattle.tora_script.specs.Air.{moment_view}
 use Rattle.tora_script.proofs.AirLaws.{notes_none, notes_parted, notes_both}
 use Rattle.tora_script.proofs.WayCounts.{none_more}
 use Rattle.tora_script.proofs.air.Air.put_off_one.Goals as goal
@@ -8,11 +8,11 @@ use Rattle.tora_script.proofs.air.Air.put_off_one.Goals as goal
 pub returns-in_default-clause-later : goal.returns-in_default-clause-later
 returns-in_default-clause-later g c =
     let w = g.S.Simulator.world c.args.sim.now in
-    notes_none c.args.parted.now (moment_on c.args.table.now c.args.moment) c.args.i w (datagram w c.args.i) c.args.self.now.later.items (sym c.datagram.ensures ∙ c.in_default.is)
+    notes_none c.args.moment.now.network.parted.now (moment_view c.args.moment.now) c.args.i w (datagram w c.args.i) c.args.self.now.later.items (sym c.datagram.ensures ∙ c.in_default.is)
 
 pub returns-in_default-clause-counted : goal.returns-in_default-clause-counted
 returns-in_default-clause-counted g c =
-    none_more (g.S.Simulator.world c.args.sim.now) c.args.ways.now c.args.moment.start c.args.i c.requires.behind c.requires.counted (sym c.datagram.ensures ∙ c.in_default.is)
+    none_more (g.S.Simulator.world c.args.sim.now) c.args.ways.now c.args.moment.now.start c.args.i c.requires.behind c.requires.counted (sym c.datagram.ensures ∙ c.in_default.is)
 
 pub counted_copies-requires-clause-behind : goal.counted_copies-requires-clause-behind
 counted_copies-requires-clause-behind g c = c.requires.behind
@@ -26,7 +26,7 @@ counted_copies-requires-clause-going g c = sym c.datagram.ensures ∙ c.in-Some.
 pub returns-then-is_parted-clause-later : goal.returns-then-is_parted-clause-later
 returns-then-is_parted-clause-later g c =
     let w = g.S.Simulator.world c.args.sim.now in
-    notes_parted c.args.parted.now (moment_on c.args.table.now c.args.moment) c.args.i w (datagram w c.args.i) c.in-Some.way c.args.self.now.later.items (sym c.datagram.ensures ∙ c.in-Some.is) (sym c.is_parted.ensures ∙ c.if-is_parted.true)
+    notes_parted c.args.moment.now.network.parted.now (moment_view c.args.moment.now) c.args.i w (datagram w c.args.i) c.in-Some.way c.args.self.now.later.items (sym c.datagram.ensures ∙ c.in-Some.is) (sym c.is_parted.ensures ∙ c.if-is_parted.true)
 
 pub returns-then-is_parted-clause-counted : goal.returns-then-is_parted-clause-counted
 returns-then-is_parted-clause-counted g c = c.in_ok-copies.ensures.counted
@@ -37,5 +37,5 @@ returns-clause-counted g c = c.in_ok-copies.ensures.counted
 pub returns-clause-later : goal.returns-clause-later
 returns-clause-later g c =
     let w = g.S.Simulator.world c.args.sim.now in
-    notes_both c.args.parted.now (moment_on c.args.table.now c.args.moment) c.args.i w (datagram w c.args.i) c.in-Some.way c.in_ok-copies.copies c.args.self.now.later.items c.note_both.new.self.later.items (sym c.datagram.ensures ∙ c.in-Some.is)
+    notes_both c.args.moment.now.network.parted.now (moment_view c.args.moment.now) c.args.i w (datagram w c.args.i) c.in-Some.way c.in_ok-copies.copies c.args.self.now.later.items c.note_both.new.self.later.items (sym c.datagram.ensures ∙ c.in-Some.is)
     (sym c.is_parted.ensures ∙ c.if-is_parted.false) c.in_ok-copies.ensures.copies c.in_ok-note_both.ensures.later

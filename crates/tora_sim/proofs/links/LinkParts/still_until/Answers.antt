@@ -1,7 +1,11 @@
 use Rattle.tora_sim.proofs.links.LinkParts.still_until.Goals as goal
 
-pub still_unless-requires : goal.still_unless-requires
-still_unless-requires c = c.is_busy.ensures
-
 pub returns : goal.returns
-returns c = c.still_unless.ensures
+returns c some =
+    let plain = c.is_busy.ensures c.if-is_busy.false in record {
+      opened = plain.opened;
+      lane = plain.lane;
+      events = plain.events;
+      frames = c.quiet_end_until.ensures.frames;
+      ticks = c.quiet_end_until.ensures.ticks;
+    }

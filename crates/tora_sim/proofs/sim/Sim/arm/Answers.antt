@@ -1,4 +1,4 @@
-use Rattle.std.proofs.Common.{ap, refl, subst, arith}
+use Rattle.std.proofs.Common.{subst, arith}
 use Rattle.std.specs.Prelude.{slice_set}
 use Rattle.tora_world.specs.declared.event.Event.TheVariants.{Arm}
 use Rattle.tora_sim.specs.Keyed.{IsFirst}
@@ -7,48 +7,33 @@ use Rattle.tora_sim.specs.declared.nodes.Sending.TheVariants as Sends
 use Rattle.tora_sim.specs.Store.{SimState, state_of, world_of}
 use Rattle.tora_sim.specs.Steps.{IsDone}
 use Rattle.tora_sim.proofs.Arms.{lost_done, gone_done, sends_store, receive_done, receive_store}
-use Rattle.tora_sim.proofs.UnreadyEnds.{node_kept, same_place}
-use Rattle.tora_sim.specs.Quiet.{is_idle}
-use Rattle.tora_sim.proofs.Quiets.{idle_kept}
 use Rattle.tora_sim.proofs.sim.Sim.arm.Goals as goal
 
 pub invariant_of-self : goal.invariant_of-self
 invariant_of-self c =
     let s = c.self.inside in (
       sends_store s.topology s.times s.clock s.nodes.items s.links.items s.datagrams.items c.self.invariant.0 c.args.n c.in-Some.home c.index_mut.result.now c.in-Some.ensures.first c.index_mut.ensures.value Sends.IsLost c.arm_sending.new.self c.arm_sending.ensures,
-      λ none. absurd (omega (arith, none)),
+      c.self.invariant.1,
       c.self.invariant.2,
       c.self.invariant.3,
-      c.self.invariant.4,
-      c.self.invariant.5,
-      node_kept s.unready.items s.nodes.items s.ready.items c.in-Some.home c.index_mut.result.now c.arm_sending.new.self c.in-Some.ensures.first.within c.index_mut.ensures.value (same_place c.index_mut.result.now c.arm_sending.new.self _ c.arm_sending.ensures (refl, refl)) c.self.invariant.6,
-      idle_kept s.idle s.nodes.items c.in-Some.home c.index_mut.result.now c.arm_sending.new.self c.in-Some.ensures.first.within c.index_mut.ensures.value (ap is_idle c.arm_sending.ensures) c.self.invariant.7,
     )
 
 pub invariant_of-self-in-SendGone : goal.invariant_of-self-in-SendGone
 invariant_of-self-in-SendGone c =
     let s = c.self.inside in (
       sends_store s.topology s.times s.clock s.nodes.items s.links.items s.datagrams.items c.self.invariant.0 c.args.n c.in-Some.home c.index_mut-in-SendGone.result.now c.in-Some.ensures.first c.index_mut-in-SendGone.ensures.value Sends.IsGone c.arm_sending-in-SendGone.new.self c.arm_sending-in-SendGone.ensures,
-      λ none. absurd (omega (arith, none)),
+      c.self.invariant.1,
       c.self.invariant.2,
       c.self.invariant.3,
-      c.self.invariant.4,
-      c.self.invariant.5,
-      node_kept s.unready.items s.nodes.items s.ready.items c.in-Some.home c.index_mut-in-SendGone.result.now c.arm_sending-in-SendGone.new.self c.in-Some.ensures.first.within c.index_mut-in-SendGone.ensures.value (same_place c.index_mut-in-SendGone.result.now c.arm_sending-in-SendGone.new.self _ c.arm_sending-in-SendGone.ensures (refl, refl)) c.self.invariant.6,
-      idle_kept s.idle s.nodes.items c.in-Some.home c.index_mut-in-SendGone.result.now c.arm_sending-in-SendGone.new.self c.in-Some.ensures.first.within c.index_mut-in-SendGone.ensures.value (ap is_idle c.arm_sending-in-SendGone.ensures) c.self.invariant.7,
     )
 
 pub invariant_of-self-in-Receive : goal.invariant_of-self-in-Receive
 invariant_of-self-in-Receive c =
     let s = c.self.inside in (
       receive_store s.topology s.times s.clock s.nodes.items s.links.items s.datagrams.items c.self.invariant.0 c.args.n c.in-Some.home c.index_mut-in-Receive.result.now c.in-Some.ensures.first c.index_mut-in-Receive.ensures.value c.arm_receive.new.self c.arm_receive.ensures,
-      λ none. absurd (omega (arith, none)),
+      c.self.invariant.1,
       c.self.invariant.2,
       c.self.invariant.3,
-      c.self.invariant.4,
-      c.self.invariant.5,
-      node_kept s.unready.items s.nodes.items s.ready.items c.in-Some.home c.index_mut-in-Receive.result.now c.arm_receive.new.self c.in-Some.ensures.first.within c.index_mut-in-Receive.ensures.value (same_place c.index_mut-in-Receive.result.now c.arm_receive.new.self _ c.arm_receive.ensures (refl, refl)) c.self.invariant.6,
-      idle_kept s.idle s.nodes.items c.in-Some.home c.index_mut-in-Receive.result.now c.arm_receive.new.self c.in-Some.ensures.first.within c.index_mut-in-Receive.ensures.value (ap is_idle c.arm_receive.ensures) c.self.invariant.7,
     )
 
 pub returns-in-SendLost : goal.returns-in-SendLost

@@ -5,7 +5,7 @@ use Rattle.tora_sim.proofs.Resting.{bound_found}
 use Rattle.tora_sim.proofs.sim.Sim.bound_life.Goals as goal
 
 pub place-requires-clause-keys : goal.place-requires-clause-keys
-place-requires-clause-keys c = c.self.invariant.3 ∙ sym c.self.invariant.0.keys
+place-requires-clause-keys c = c.self.invariant.2 ∙ sym c.self.invariant.0.keys
 
 pub returns-in-Some : goal.returns-in-Some
 returns-in-Some c =

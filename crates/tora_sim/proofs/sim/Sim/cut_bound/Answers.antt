@@ -4,33 +4,24 @@ use Rattle.tora_sim.specs.Cuts.{after_cut_at}
 use Rattle.tora_sim.specs.Store.{SimState, state_of, world_of}
 use Rattle.tora_sim.proofs.Opens.{cut_done, cut_store}
 use Rattle.tora_sim.proofs.StillEnds.{unknown_still, one_forgotten, forgotten_still}
-use Rattle.tora_sim.proofs.PlainEnds.{unknown_plain, forgotten_plain}
 use Rattle.tora_sim.proofs.ReadyEnds.{kept_as}
 use Rattle.tora_sim.proofs.sim.Sim.cut_bound.Goals as goal
 
 pub place-requires-clause-keys : goal.place-requires-clause-keys
-place-requires-clause-keys c = c.self.invariant.3 ∙ sym c.self.invariant.0.keys
+place-requires-clause-keys c = c.self.invariant.2 ∙ sym c.self.invariant.0.keys
 
 pub forget-requires : goal.forget-requires
-forget-requires c = omega (arith, c.in-Some.ensures.first.within, c.self.invariant.2.as_many)
-
-pub forget-requires-in-Some : goal.forget-requires-in-Some
-forget-requires-in-Some c = omega (arith, c.in-Some.ensures.first.within, c.self.invariant.4.as_many)
+forget-requires c = omega (arith, c.in-Some.ensures.first.within, c.self.invariant.1.as_many)
 
 pub invariant_of-self : goal.invariant_of-self
 invariant_of-self c =
     let s = c.self.inside in (
       cut_store s.topology s.times s.clock s.nodes.items s.links.items s.datagrams.items c.self.invariant.0 c.args.n c.args.k c.in-Some.at c.index_mut.result.now c.in-Some.ensures.first c.index_mut.ensures.value
           c.cut_bound.new.self c.cut_bound.ensures,
-      λ none. absurd (omega (arith, none)),
       unknown_still s.clock c.forget.new.stills s.links.items c.in-Some.at c.cut_bound.new.self (one_forgotten s.stills c.forget.new.stills c.in-Some.at c.forget.ensures)
-          (forgotten_still s.clock s.stills c.forget.new.stills s.links.items c.in-Some.at 1 c.forget.ensures c.self.invariant.2),
-      c.self.invariant.3,
-      unknown_plain s.clock c.forget-in-Some.new.stills s.links.items c.in-Some.at c.cut_bound.new.self (one_forgotten s.plains c.forget-in-Some.new.stills c.in-Some.at c.forget-in-Some.ensures)
-          (forgotten_plain s.clock s.plains c.forget-in-Some.new.stills s.links.items c.in-Some.at 1 c.forget-in-Some.ensures c.self.invariant.4),
-      kept_as s.ready.items s.links.items c.in-Some.at c.index_mut.result.now c.cut_bound.new.self _ c.in-Some.ensures.first.within c.index_mut.ensures.value c.cut_bound.ensures (λ h. h) c.self.invariant.5,
-      c.self.invariant.6,
-      c.self.invariant.7,
+          (forgotten_still s.clock s.stills c.forget.new.stills s.links.items c.in-Some.at 1 c.forget.ensures c.self.invariant.1),
+      c.self.invariant.2,
+      kept_as s.ready.items s.links.items c.in-Some.at c.index_mut.result.now c.cut_bound.new.self _ c.in-Some.ensures.first.within c.index_mut.ensures.value c.cut_bound.ensures (λ h. h) c.self.invariant.3,
     )
 
 pub returns-in-Some : goal.returns-in-Some

@@ -1,28 +1,25 @@
-use Rattle.std.proofs.Common.{◌≡◌, List, true, None, inl, refl, ap, sym, ◌∙◌, subst, find, arith}
+use Rattle.std.proofs.Common.{◌≡◌, ℕ, List, true, None, inl, refl, ap, sym, ◌∙◌, subst, find, arith}
 use Rattle.std.specs.Prelude.{slice_set}
 use Rattle.tora_frame.specs.declared.parts.Header.{Header}
 use Rattle.tora_world.specs.declared.event.Event.TheVariants.{Deliver}
 use Rattle.tora_world.specs.declared.sim_error.SimError.TheVariants as Refused
 use Rattle.tora_sim.specs.Keyed.{IsFirst}
 use Rattle.tora_arq.specs.LinkEnd.{after_frame}
-use Rattle.tora_sim.specs.Quiet.{is_idle}
 use Rattle.tora_sim.specs.Links.{LinkView, is_at, with_state}
 use Rattle.tora_sim.specs.Nodes.{NodeView, is_of}
 use Rattle.tora_sim.specs.Store.{SimState, state_of, world_of}
 use Rattle.tora_sim.specs.Steps.{IsDone, IsRefused}
 use Rattle.tora_sim.proofs.Opens.{same_read}
 use Rattle.tora_sim.proofs.Receives.{home_is_there, failed_done, failed_store, received_done, received_store}
-use Rattle.tora_sim.specs.Stills.{short}
+use Rattle.tora_sim.specs.Quiet.{IsStillIf}
 use Rattle.tora_sim.proofs.StillEnds.{found_still, short_still}
-use Rattle.tora_sim.proofs.PlainEnds.{looked_plain}
 use Rattle.tora_sim.proofs.ReadyEnds.{kept_as}
-use Rattle.tora_sim.proofs.UnreadyEnds.{node_kept, same_place}
-use Rattle.tora_sim.proofs.Quiets.{idle_kept, set_same}
-use Rattle.tora_sim.proofs.Unchanged.{links_stay, nothing_known}
+use Rattle.tora_sim.proofs.Quiets.{set_same}
+use Rattle.tora_sim.proofs.Unchanged.{links_stay}
 use Rattle.tora_sim.proofs.sim.Sim.deliver_frame.Goals as goal
 
 pub place_near-requires-clause-keys : goal.place_near-requires-clause-keys
-place_near-requires-clause-keys c = c.self.invariant.3 ∙ sym c.self.invariant.0.keys
+place_near-requires-clause-keys c = c.self.invariant.2 ∙ sym c.self.invariant.0.keys
 
 pub returns-in_default-node_near : goal.returns-in_default-node_near
 returns-in_default-node_near c =
@@ -30,7 +27,7 @@ returns-in_default-node_near c =
     absurd (home_is_there s.topology s.times s.clock s.nodes.items s.links.items s.datagrams.items c.self.invariant.0 c.args.i c.in-Some.frame (sym c.in-Some.ensures)
     (subst (λ (hd : Header). find (is_of hd.receiver) s.nodes.items ≡ None) c.header-header.ensures.value c.in_default-node_near.ensures.none))
 
-module _ (c : goal.After-self-then-receive-1) where
+module _ (c : goal.After-self-1) where
   first : IsFirst (is_of c.in-Some.frame.header.receiver) c.self.inside.nodes.items c.in-Some-node_near.home
   first = subst (λ (hd : Header). IsFirst (is_of hd.receiver) c.self.inside.nodes.items c.in-Some-node_near.home) c.header-header.ensures.value c.in-Some-node_near.ensures.first
 
@@ -44,13 +41,9 @@ invariant_of-self c =
     let s = c.self.inside in (
       failed_store s.topology s.times s.clock s.nodes.items s.links.items s.datagrams.items c.self.invariant.0 c.args.i c.in-Some.frame (sym c.in-Some.ensures)
           c.in-Some-node_near.home c.index_mut.result.now (first c) c.index_mut.ensures.value c.arm_receive.new.self c.arm_receive.ensures,
-      λ none. absurd (omega (arith, none)),
+      c.self.invariant.1,
       c.self.invariant.2,
       c.self.invariant.3,
-      c.self.invariant.4,
-      c.self.invariant.5,
-      node_kept s.unready.items s.nodes.items s.ready.items c.in-Some-node_near.home c.index_mut.result.now c.arm_receive.new.self (first c).within c.index_mut.ensures.value (same_place c.index_mut.result.now c.arm_receive.new.self _ c.arm_receive.ensures (refl, refl)) c.self.invariant.6,
-      idle_kept s.idle s.nodes.items c.in-Some-node_near.home c.index_mut.result.now c.arm_receive.new.self (first c).within c.index_mut.ensures.value (ap is_idle c.arm_receive.ensures) c.self.invariant.7,
     )
 
 pub returns-then-receive : goal.returns-then-receive
@@ -60,11 +53,8 @@ returns-then-receive c =
     (failed_done s.topology s.times s.clock s.nodes.items s.links.items s.datagrams.items c.self.invariant.0 c.args.i c.in-Some.frame (sym c.in-Some.ensures)
     c.in-Some-node_near.home c.index_mut.result.now (first c) c.index_mut.ensures.value c.arm_receive.new.self (armed c) c.arm_receive.ensures)
 
-pub keep_looked-requires-clause-stills : goal.keep_looked-requires-clause-stills
-keep_looked-requires-clause-stills c = omega (arith, c.in-Some-place_near.ensures.first.within, c.self.invariant.2.as_many)
-
-pub keep_looked-requires-clause-plains : goal.keep_looked-requires-clause-plains
-keep_looked-requires-clause-plains c = omega (arith, c.in-Some-place_near.ensures.first.within, c.self.invariant.4.as_many)
+pub keep_still-requires : goal.keep_still-requires
+keep_still-requires c = omega (arith, c.in-Some-place_near.ensures.first.within, c.self.invariant.1.as_many)
 
 -- ---- there is no memory
 
@@ -81,8 +71,7 @@ module _ (c : goal.In_default-receive_and_look) where
 pub invariant_of-self-in_default-receive_and_look : goal.invariant_of-self-in_default-receive_and_look
 invariant_of-self-in_default-receive_and_look c =
     let s = c.self.inside in
-    links_stay s.topology s.times s.clock s.nodes.items s.links.items s.datagrams.items 0 s.keys.items s.stills s.plains s.ready.items s.unready.items s.idle
-    (nothing_known s.topology s.times s.clock s.nodes.items s.links.items s.datagrams.items s.quiet s.keys.items s.stills s.plains s.ready.items s.unready.items s.idle c.self.invariant) (slice_set s.links.items c.in-Some-place_near.at c.receive_and_look.new.self) (stays c)
+    links_stay s.topology s.times s.clock s.nodes.items s.links.items s.datagrams.items s.keys.items s.stills s.ready.items c.self.invariant (slice_set s.links.items c.in-Some-place_near.at c.receive_and_look.new.self) (stays c)
 
 pub returns-in_default-receive_and_look : goal.returns-in_default-receive_and_look
 returns-in_default-receive_and_look c =
@@ -107,15 +96,10 @@ invariant_of-self-2 c =
     let end_first : IsFirst (is_at c.in-Some.frame.header.receiver c.in-Some.frame.header.sender) s.links.items c.in-Some-place_near.at = subst (λ (hd : Header). IsFirst (is_at hd.receiver hd.sender) s.links.items c.in-Some-place_near.at) c.header-header.ensures.value c.in-Some-place_near.ensures.first in (
       received_store s.topology s.times s.clock s.nodes.items s.links.items s.datagrams.items c.self.invariant.0 c.args.i c.in-Some.frame (sym c.in-Some.ensures)
           c.in-Some-node_near.home c.index.result.now home_first c.index.ensures c.in-Some-place_near.at c.index_mut-2.result.now end_first c.index_mut-2.ensures.value c.receive_and_look.new.self c.in-Some-receive_and_look.ensures.state,
-      λ none. absurd (omega (arith, none)),
-      found_still s.clock s.stills c.keep_looked.new.stills s.links.items c.in-Some-place_near.at (short c.in-Some-receive_and_look.until) c.receive_and_look.new.self c.in-Some-place_near.ensures.first.within c.keep_looked.ensures.stills
-          (short_still c.in-Some-receive_and_look.until c.receive_and_look.new.self c.in-Some-receive_and_look.ensures.still) c.self.invariant.2,
-      c.self.invariant.3,
-      looked_plain s.clock s.plains c.keep_looked.new.plains s.links.items c.in-Some-place_near.at c.index_mut-2.result.now c.receive_and_look.new.self c.in-Some-receive_and_look.busy c.in-Some-place_near.ensures.first.within c.index_mut-2.ensures.value
-          (λ e _. c.in-Some-receive_and_look.ensures.plain e) c.keep_looked.ensures.same c.keep_looked.ensures.forgotten c.self.invariant.4,
-      kept_as s.ready.items s.links.items c.in-Some-place_near.at c.index_mut-2.result.now c.receive_and_look.new.self _ c.in-Some-place_near.ensures.first.within c.index_mut-2.ensures.value c.in-Some-receive_and_look.ensures.state (λ h. h) c.self.invariant.5,
-      c.self.invariant.6,
-      c.self.invariant.7,
+      found_still s.clock s.stills c.keep_still.new.stills s.links.items c.in-Some-place_near.at c.short.result c.receive_and_look.new.self c.in-Some-place_near.ensures.first.within c.keep_still.ensures
+          (subst (λ (n : ℕ). IsStillIf n c.receive_and_look.new.self) (sym c.short.ensures) (short_still c.in-Some-receive_and_look.until c.receive_and_look.new.self c.in-Some-receive_and_look.ensures.still)) c.self.invariant.1,
+      c.self.invariant.2,
+      kept_as s.ready.items s.links.items c.in-Some-place_near.at c.index_mut-2.result.now c.receive_and_look.new.self _ c.in-Some-place_near.ensures.first.within c.index_mut-2.ensures.value c.in-Some-receive_and_look.ensures.state (λ h. h) c.self.invariant.3,
     )
 
 pub returns : goal.returns

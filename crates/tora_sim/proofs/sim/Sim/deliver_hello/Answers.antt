@@ -1,4 +1,4 @@
-use Rattle.std.proofs.Common.{◌≡◌, List, ap, sym, ◌∙◌, subst, arith}
+use Rattle.std.proofs.Common.{◌≡◌, ℕ, List, ap, sym, ◌∙◌, subst, arith}
 use Rattle.std.specs.Prelude.{slice_set}
 use Rattle.tora_frame.specs.FrameParts.{frame_of}
 use Rattle.tora_frame.specs.declared.parts.Body.TheVariants.{Hello}
@@ -10,21 +10,17 @@ use Rattle.tora_sim.specs.Store.{SimState, state_of, world_of}
 use Rattle.tora_sim.specs.Steps.{IsDone}
 use Rattle.tora_sim.proofs.Quiets.{set_same}
 use Rattle.tora_sim.proofs.Receives.{received_done, received_store}
-use Rattle.tora_sim.specs.Stills.{short}
+use Rattle.tora_sim.specs.Quiet.{IsStillIf}
 use Rattle.tora_sim.proofs.StillEnds.{found_still, short_still}
-use Rattle.tora_sim.proofs.PlainEnds.{looked_plain}
 use Rattle.tora_sim.proofs.ReadyEnds.{kept_as}
-use Rattle.tora_sim.proofs.Unchanged.{links_stay, nothing_known}
+use Rattle.tora_sim.proofs.Unchanged.{links_stay}
 use Rattle.tora_sim.proofs.sim.Sim.deliver_hello.Goals as goal
 
 pub place_near-requires-clause-keys : goal.place_near-requires-clause-keys
-place_near-requires-clause-keys c = c.self.invariant.3 ∙ sym c.self.invariant.0.keys
+place_near-requires-clause-keys c = c.self.invariant.2 ∙ sym c.self.invariant.0.keys
 
-pub keep_looked-requires-clause-stills : goal.keep_looked-requires-clause-stills
-keep_looked-requires-clause-stills c = omega (arith, c.in-Some-place_near.ensures.first.within, c.self.invariant.2.as_many)
-
-pub keep_looked-requires-clause-plains : goal.keep_looked-requires-clause-plains
-keep_looked-requires-clause-plains c = omega (arith, c.in-Some-place_near.ensures.first.within, c.self.invariant.4.as_many)
+pub keep_still-requires : goal.keep_still-requires
+keep_still-requires c = omega (arith, c.in-Some-place_near.ensures.first.within, c.self.invariant.1.as_many)
 
 -- ---- there is no memory
 
@@ -35,8 +31,7 @@ module _ (c : goal.In_default-receive_hello_and_look) where
 pub invariant_of-self : goal.invariant_of-self
 invariant_of-self c =
     let s = c.self.inside in
-    links_stay s.topology s.times s.clock s.nodes.items s.links.items s.datagrams.items 0 s.keys.items s.stills s.plains s.ready.items s.unready.items s.idle
-    (nothing_known s.topology s.times s.clock s.nodes.items s.links.items s.datagrams.items s.quiet s.keys.items s.stills s.plains s.ready.items s.unready.items s.idle c.self.invariant) (slice_set s.links.items c.in-Some-place_near.at c.receive_hello_and_look.new.self) (stays c)
+    links_stay s.topology s.times s.clock s.nodes.items s.links.items s.datagrams.items s.keys.items s.stills s.ready.items c.self.invariant (slice_set s.links.items c.in-Some-place_near.at c.receive_hello_and_look.new.self) (stays c)
 
 pub returns-in_default-receive_hello_and_look-clause-same : goal.returns-in_default-receive_hello_and_look-clause-same
 returns-in_default-receive_hello_and_look-clause-same c _ =
@@ -52,15 +47,10 @@ invariant_of-self-2 c =
     let end_first : IsFirst (is_at c.in-Some.header.receiver c.in-Some.header.sender) s.links.items c.in-Some-place_near.at = c.in-Some-place_near.ensures.first in (
       received_store s.topology s.times s.clock s.nodes.items s.links.items s.datagrams.items c.self.invariant.0 c.args.i (frame_of c.in-Some.header Hello) c.in-Some.ensures.hello
           c.in-Some-node_near.home c.index.result.now home_first c.index.ensures c.in-Some-place_near.at c.index_mut.result.now end_first c.index_mut.ensures.value c.receive_hello_and_look.new.self c.in-Some-receive_hello_and_look.ensures.state,
-      λ none. absurd (omega (arith, none)),
-      found_still s.clock s.stills c.keep_looked.new.stills s.links.items c.in-Some-place_near.at (short c.in-Some-receive_hello_and_look.until) c.receive_hello_and_look.new.self c.in-Some-place_near.ensures.first.within c.keep_looked.ensures.stills
-          (short_still c.in-Some-receive_hello_and_look.until c.receive_hello_and_look.new.self c.in-Some-receive_hello_and_look.ensures.still) c.self.invariant.2,
-      c.self.invariant.3,
-      looked_plain s.clock s.plains c.keep_looked.new.plains s.links.items c.in-Some-place_near.at c.index_mut.result.now c.receive_hello_and_look.new.self c.in-Some-receive_hello_and_look.busy c.in-Some-place_near.ensures.first.within c.index_mut.ensures.value
-          (λ e _. c.in-Some-receive_hello_and_look.ensures.plain e) c.keep_looked.ensures.same c.keep_looked.ensures.forgotten c.self.invariant.4,
-      kept_as s.ready.items s.links.items c.in-Some-place_near.at c.index_mut.result.now c.receive_hello_and_look.new.self _ c.in-Some-place_near.ensures.first.within c.index_mut.ensures.value c.in-Some-receive_hello_and_look.ensures.state (λ h. h) c.self.invariant.5,
-      c.self.invariant.6,
-      c.self.invariant.7,
+      found_still s.clock s.stills c.keep_still.new.stills s.links.items c.in-Some-place_near.at c.short.result c.receive_hello_and_look.new.self c.in-Some-place_near.ensures.first.within c.keep_still.ensures
+          (subst (λ (n : ℕ). IsStillIf n c.receive_hello_and_look.new.self) (sym c.short.ensures) (short_still c.in-Some-receive_hello_and_look.until c.receive_hello_and_look.new.self c.in-Some-receive_hello_and_look.ensures.still)) c.self.invariant.1,
+      c.self.invariant.2,
+      kept_as s.ready.items s.links.items c.in-Some-place_near.at c.index_mut.result.now c.receive_hello_and_look.new.self _ c.in-Some-place_near.ensures.first.within c.index_mut.ensures.value c.in-Some-receive_hello_and_look.ensures.state (λ h. h) c.self.invariant.3,
     )
 
 pub returns-clause-done : goal.returns-clause-done

@@ -11,22 +11,18 @@ use Rattle.tora_sim.proofs.StillEnds.{known_here, short_still}
 use Rattle.tora_sim.proofs.sim.Sim.is_over.Goals as goal
 
 pub keep_still-requires : goal.keep_still-requires
-keep_still-requires c = omega (arith, c.self.invariant.2.as_many, subst (λ (s : SimState). c.args.at < length s.links) (sym c.self.view_is) c.requires)
+keep_still-requires c = omega (arith, c.self.invariant.1.as_many, subst (λ (s : SimState). c.args.at < length s.links) (sym c.self.view_is) c.requires)
 
 pub invariant_of-self : goal.invariant_of-self
 invariant_of-self c =
     let s = c.self.inside in
     let within : c.args.at < length s.links.items = subst (λ (v : SimState). c.args.at < length v.links) (sym c.self.view_is) c.requires in (
       c.self.invariant.0,
-      c.self.invariant.1,
-      known_here s.clock s.stills c.keep_still.new.stills s.links.items c.args.at c.short.result c.index.result.now c.keep_still.ensures (omega (arith, within, c.self.invariant.2.as_many))
+      known_here s.clock s.stills c.keep_still.new.stills s.links.items c.args.at c.short.result c.index.result.now c.keep_still.ensures (omega (arith, within, c.self.invariant.1.as_many))
           (slice_get_read s.links.items (length s.links.items) c.args.at c.index.result.now refl within c.index.ensures)
-          (subst (λ (n : ℕ). IsStillIf n c.index.result.now) (sym c.short.ensures) (short_still c.still_until-until.result c.index.result.now c.still_until-until.ensures)) c.self.invariant.2,
+          (subst (λ (n : ℕ). IsStillIf n c.index.result.now) (sym c.short.ensures) (short_still c.still_until-until.result c.index.result.now c.still_until-until.ensures)) c.self.invariant.1,
+      c.self.invariant.2,
       c.self.invariant.3,
-      c.self.invariant.4,
-      c.self.invariant.5,
-      c.self.invariant.6,
-      c.self.invariant.7,
     )
 
 pub returns-clause-over : goal.returns-clause-over

@@ -2,8 +2,6 @@ use Rattle.std.proofs.Common.{ap, ◌∙◌, arith}
 use Rattle.tora_sim.specs.Store.{SimState, world_of}
 use Rattle.tora_sim.proofs.SameLinks.{same_alike, store_same, world_alike}
 use Rattle.tora_sim.proofs.StillEnds.{alike_still}
-use Rattle.tora_sim.proofs.PlainEnds.{alike_plain}
-use Rattle.tora_sim.proofs.UnreadyEnds.{marks_kept}
 use Rattle.tora_sim.proofs.sim.Sim.make_ready_again.Goals as goal
 
 pub invariant_of-self : goal.invariant_of-self
@@ -12,13 +10,9 @@ invariant_of-self c =
     let links = c.make_room_at-made.new.links.items in
     let alike = c.make_room_at-made.ensures.same in (
       store_same s.topology s.times s.clock s.nodes.items s.links.items links s.datagrams.items (same_alike s.links.items links alike) c.self.invariant.0,
-      λ none. absurd (omega (arith, none)),
-      alike_still s.clock s.stills s.links.items links alike c.self.invariant.2,
-      c.self.invariant.3,
-      alike_plain s.clock s.plains s.links.items links alike c.self.invariant.4,
+      alike_still s.clock s.stills s.links.items links alike c.self.invariant.1,
+      c.self.invariant.2,
       c.make_room_at-made.ensures.marks,
-      marks_kept s.unready.items s.nodes.items s.ready.items c.make_room_at-made.new.ready.items c.make_room_at-made.ensures.kept c.self.invariant.6,
-      c.self.invariant.7,
     )
 
 pub returns : goal.returns

@@ -1,4 +1,4 @@
-use Rattle.std.proofs.Common.{◌≡◌, Bool, true, false, not, is_some, refl, sym, subst}
+use Rattle.std.proofs.Common.{◌≡◌, Bool, true, false, not, is_some, refl, sym, subst, ◌∙◌}
 use Rattle.tora_world.specs.declared.event.Event.TheVariants.{CoreTurn}
 use Rattle.tora_world.specs.World.{refusal_of}
 use Rattle.tora_sim.specs.Store.{SimState, world_of}
@@ -13,4 +13,4 @@ pub returns : goal.returns
 returns c e n =
     let s = c.self.inside in
     subst (λ (w : SimState). is_some (refusal_of (world_of w) (CoreTurn n)) ≡ true) c.self.view_is
-    (at_nodes s.topology s.times s.clock s.nodes.items s.links.items s.datagrams.items c.self.invariant.0 n (c.self.invariant.7 (known s.idle e)))
+    (at_nodes s.topology s.times s.clock s.nodes.items s.links.items s.datagrams.items c.self.invariant.0 n (sym c.are_idle.ensures ∙ known c.are_idle.result e))

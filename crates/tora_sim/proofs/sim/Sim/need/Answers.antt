@@ -9,7 +9,6 @@ use Rattle.tora_sim.specs.Store.{SimState, state_of, world_of}
 use Rattle.tora_sim.specs.Steps.{IsRefused, Does}
 use Rattle.tora_sim.proofs.Opens.{same_read}
 use Rattle.tora_sim.proofs.Needs.{need_refused, put_store, need_does, last_seat, IsPut}
-use Rattle.tora_sim.proofs.UnreadyEnds.{node_kept, put_place}
 use Rattle.tora_sim.proofs.sim.Sim.need.Goals as goal
 
 pub returns-then-waiting-ge-MOST_ITEMS : goal.returns-then-waiting-ge-MOST_ITEMS
@@ -28,7 +27,7 @@ put_item-requires c =
     subst (λ m. m < length y.counts) (sym (c.count-seat.ensures ∙ ap (λ (z : NodeView). z.count) same))
     (last_seat s.topology s.times s.clock s.nodes.items s.links.items s.datagrams.items c.self.invariant.0 c.args.n c.in-Some.home y c.in-Some.ensures.first c.index_mut.ensures.value)
 
-module _ (c : goal.After-self-3-1) where
+module _ (c : goal.After-self-1) where
   abbrev x : NodeView
   x = c.index_mut.result.now
 
@@ -56,13 +55,9 @@ invariant_of-self c =
       put_store s.topology s.times s.clock s.nodes.items s.links.items s.datagrams.items c.self.invariant.0 c.args.n c.in-Some.home (x c) c.in-Some.ensures.first c.index_mut.ensures.value
           (x c).count (Tells.Need c.args.d) c.put_item.new.self c.put_item.result
           (last_seat s.topology s.times s.clock s.nodes.items s.links.items s.datagrams.items c.self.invariant.0 c.args.n c.in-Some.home (x c) c.in-Some.ensures.first c.index_mut.ensures.value) (is_put c),
-      λ none. absurd (omega (arith, none)),
+      c.self.invariant.1,
       c.self.invariant.2,
       c.self.invariant.3,
-      c.self.invariant.4,
-      c.self.invariant.5,
-      node_kept s.unready.items s.nodes.items s.ready.items c.in-Some.home (x c) c.put_item.new.self c.in-Some.ensures.first.within c.index_mut.ensures.value (put_place (x c) c.put_item.new.self (x c).count s.clock (Tells.Need c.args.d) c.put_item.result (is_put c)) c.self.invariant.6,
-      λ known. absurd cc,
     )
 
 pub returns : goal.returns

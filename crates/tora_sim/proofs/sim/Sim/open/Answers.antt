@@ -9,12 +9,11 @@ use Rattle.tora_sim.specs.Steps.{IsDone, IsRefused}
 use Rattle.std.specs.Prelude.{slice_set}
 use Rattle.tora_sim.proofs.Opens.{open_refused, open_done, open_store, same_read}
 use Rattle.tora_sim.proofs.StillEnds.{possible_still}
-use Rattle.tora_sim.proofs.PlainEnds.{possible_plain}
 use Rattle.tora_sim.proofs.ReadyEnds.{kept_as}
 use Rattle.tora_sim.proofs.sim.Sim.open.Goals as goal
 
 pub place-requires-clause-keys : goal.place-requires-clause-keys
-place-requires-clause-keys c = c.self.invariant.3 ∙ sym c.self.invariant.0.keys
+place-requires-clause-keys c = c.self.invariant.2 ∙ sym c.self.invariant.0.keys
 
 pub returns-then-not-is_closed : goal.returns-then-not-is_closed
 returns-then-not-is_closed c =
@@ -28,17 +27,11 @@ invariant_of-self c =
     let s = c.self.inside in (
       open_store s.topology s.times s.clock s.nodes.items s.links.items s.datagrams.items c.self.invariant.0 c.args.n c.args.k c.in-Some.at c.index_mut.result.now c.in-Some.ensures.first c.index_mut.ensures.value
           c.open.new.self c.open.ensures,
-      λ none. absurd (omega (arith, none)),
       possible_still s.clock s.stills s.links.items c.in-Some.at c.index_mut.result.now c.open.new.self c.in-Some.ensures.first.within c.index_mut.ensures.value
           (λ until lt h. both_ways (is_closed c.index_mut.result.now.state) h.opened (ap (λ (x : LinkView). is_closed x.state) (same_read s.links.items c.in-Some.at c.index_mut.result.now c.index.result.now c.in-Some.ensures.first.within c.index_mut.ensures.value c.index.ensures)
-          ∙ sym c.is_closed.ensures ∙ c.if-not-is_closed.false)) c.self.invariant.2,
-      c.self.invariant.3,
-      possible_plain s.clock s.plains s.links.items c.in-Some.at c.index_mut.result.now c.open.new.self c.in-Some.ensures.first.within c.index_mut.ensures.value
-          (λ h. both_ways (is_closed c.index_mut.result.now.state) h.opened (ap (λ (x : LinkView). is_closed x.state) (same_read s.links.items c.in-Some.at c.index_mut.result.now c.index.result.now c.in-Some.ensures.first.within c.index_mut.ensures.value c.index.ensures)
-          ∙ sym c.is_closed.ensures ∙ c.if-not-is_closed.false)) c.self.invariant.4,
-      kept_as s.ready.items s.links.items c.in-Some.at c.index_mut.result.now c.open.new.self _ c.in-Some.ensures.first.within c.index_mut.ensures.value c.open.ensures (λ h. h) c.self.invariant.5,
-      c.self.invariant.6,
-      c.self.invariant.7,
+          ∙ sym c.is_closed.ensures ∙ c.if-not-is_closed.false)) c.self.invariant.1,
+      c.self.invariant.2,
+      kept_as s.ready.items s.links.items c.in-Some.at c.index_mut.result.now c.open.new.self _ c.in-Some.ensures.first.within c.index_mut.ensures.value c.open.ensures (λ h. h) c.self.invariant.3,
     )
 
 pub returns : goal.returns

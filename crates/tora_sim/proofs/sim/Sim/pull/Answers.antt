@@ -11,13 +11,12 @@ use Rattle.tora_sim.specs.Steps.{IsDone, IsRefused}
 use Rattle.tora_sim.proofs.Opens.{pull_refused, pull_done, pull_store, same_read}
 use Rattle.tora_sim.proofs.Quiets.{set_same}
 use Rattle.tora_sim.proofs.StillEnds.{possible_still}
-use Rattle.tora_sim.proofs.PlainEnds.{possible_plain}
 use Rattle.tora_sim.proofs.ReadyEnds.{kept_ready}
-use Rattle.tora_sim.proofs.Unchanged.{links_stay, nothing_known}
+use Rattle.tora_sim.proofs.Unchanged.{links_stay}
 use Rattle.tora_sim.proofs.sim.Sim.pull.Goals as goal
 
 pub place_near-requires-clause-keys : goal.place_near-requires-clause-keys
-place_near-requires-clause-keys c = c.self.invariant.3 ∙ sym c.self.invariant.0.keys
+place_near-requires-clause-keys c = c.self.invariant.2 ∙ sym c.self.invariant.0.keys
 
 pub returns-then-not-has_cargo : goal.returns-then-not-has_cargo
 returns-then-not-has_cargo c =
@@ -38,8 +37,7 @@ module _ (c : goal.Then-not-pull) where
 pub invariant_of-self : goal.invariant_of-self
 invariant_of-self c =
     let s = c.self.inside in
-    links_stay s.topology s.times s.clock s.nodes.items s.links.items s.datagrams.items 0 s.keys.items s.stills s.plains s.ready.items s.unready.items s.idle
-    (nothing_known s.topology s.times s.clock s.nodes.items s.links.items s.datagrams.items s.quiet s.keys.items s.stills s.plains s.ready.items s.unready.items s.idle c.self.invariant) (slice_set s.links.items c.in-Some.at c.pull.new.self) (stays c)
+    links_stay s.topology s.times s.clock s.nodes.items s.links.items s.datagrams.items s.keys.items s.stills s.ready.items c.self.invariant (slice_set s.links.items c.in-Some.at c.pull.new.self) (stays c)
 
 pub returns-then-not-pull : goal.returns-then-not-pull
 returns-then-not-pull c =
@@ -61,16 +59,11 @@ invariant_of-self-2 c =
     let s = c.self.inside in (
       pull_store s.topology s.times s.clock s.nodes.items s.links.items s.datagrams.items c.self.invariant.0 c.args.n c.args.k c.in-Some.at c.index_mut.result.now c.in-Some.ensures.first c.index_mut.ensures.value
           c.pull.new.self (waits c.index.result.now c.index_mut.result.now (same_read c.self.inside.links.items c.in-Some.at c.index.result.now c.index_mut.result.now c.in-Some.ensures.first.within c.index.ensures c.index_mut.ensures.value) (sym c.has_cargo.ensures ∙ c.if-not-has_cargo.false)) (c.pull.ensures.pulled c.if-not-pull.false),
-      λ none. absurd (omega (arith, none)),
       possible_still s.clock s.stills s.links.items c.in-Some.at c.index_mut.result.now c.pull.new.self c.in-Some.ensures.first.within c.index_mut.ensures.value
-          (λ until lt h. both_ways (nat_lt c.index_mut.result.now.pulled (length c.index_mut.result.now.put)) h.lane (lt-ltb c.index_mut.result.now.pulled (length c.index_mut.result.now.put) (waits c.index.result.now c.index_mut.result.now (same_read c.self.inside.links.items c.in-Some.at c.index.result.now c.index_mut.result.now c.in-Some.ensures.first.within c.index.ensures c.index_mut.ensures.value) (sym c.has_cargo.ensures ∙ c.if-not-has_cargo.false)))) c.self.invariant.2,
-      c.self.invariant.3,
-      possible_plain s.clock s.plains s.links.items c.in-Some.at c.index_mut.result.now c.pull.new.self c.in-Some.ensures.first.within c.index_mut.ensures.value
-          (λ h. both_ways (nat_lt c.index_mut.result.now.pulled (length c.index_mut.result.now.put)) h.lane (lt-ltb c.index_mut.result.now.pulled (length c.index_mut.result.now.put) (waits c.index.result.now c.index_mut.result.now (same_read c.self.inside.links.items c.in-Some.at c.index.result.now c.index_mut.result.now c.in-Some.ensures.first.within c.index.ensures c.index_mut.ensures.value) (sym c.has_cargo.ensures ∙ c.if-not-has_cargo.false)))) c.self.invariant.4,
+          (λ until lt h. both_ways (nat_lt c.index_mut.result.now.pulled (length c.index_mut.result.now.put)) h.lane (lt-ltb c.index_mut.result.now.pulled (length c.index_mut.result.now.put) (waits c.index.result.now c.index_mut.result.now (same_read c.self.inside.links.items c.in-Some.at c.index.result.now c.index_mut.result.now c.in-Some.ensures.first.within c.index.ensures c.index_mut.ensures.value) (sym c.has_cargo.ensures ∙ c.if-not-has_cargo.false)))) c.self.invariant.1,
+      c.self.invariant.2,
       kept_ready s.ready.items s.links.items c.in-Some.at c.index_mut.result.now c.pull.new.self c.in-Some.ensures.first.within c.index_mut.ensures.value
-          (λ h. absurd (both_ways (nat_lt c.index_mut.result.now.pulled (length c.index_mut.result.now.put)) h.lane (lt-ltb c.index_mut.result.now.pulled (length c.index_mut.result.now.put) (waits c.index.result.now c.index_mut.result.now (same_read c.self.inside.links.items c.in-Some.at c.index.result.now c.index_mut.result.now c.in-Some.ensures.first.within c.index.ensures c.index_mut.ensures.value) (sym c.has_cargo.ensures ∙ c.if-not-has_cargo.false))))) c.self.invariant.5,
-      c.self.invariant.6,
-      c.self.invariant.7,
+          (λ h. absurd (both_ways (nat_lt c.index_mut.result.now.pulled (length c.index_mut.result.now.put)) h.lane (lt-ltb c.index_mut.result.now.pulled (length c.index_mut.result.now.put) (waits c.index.result.now c.index_mut.result.now (same_read c.self.inside.links.items c.in-Some.at c.index.result.now c.index_mut.result.now c.in-Some.ensures.first.within c.index.ensures c.index_mut.ensures.value) (sym c.has_cargo.ensures ∙ c.if-not-has_cargo.false))))) c.self.invariant.3,
     )
 
 pub returns : goal.returns

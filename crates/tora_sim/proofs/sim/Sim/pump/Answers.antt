@@ -1,4 +1,4 @@
-use Rattle.std.proofs.Common.{◌≡◌, ◌<◌, ◌≤◌, length, nat_lt, true, is_some, refl, ap, ap₂, sym, ◌∙◌, subst, arith, List, ℕ}
+use Rattle.std.proofs.Common.{◌≡◌, ◌<◌, ◌≤◌, length, nat_lt, true, is_some, ap, ap₂, sym, ◌∙◌, subst, arith, List, ℕ}
 use Rattle.std.specs.Prelude.{slice_set, slice_index_or}
 use Rattle.std.proofs.lemmas.Bool.{both_ways, lt-ltb, le-ltb}
 use Rattle.tora_arq.specs.LinkEnd.{first_event, after_poll_event}
@@ -14,13 +14,11 @@ use Rattle.tora_sim.proofs.Opens.{same_read}
 use Rattle.tora_sim.proofs.Sends.{at_home}
 use Rattle.tora_sim.proofs.Pumps.{pump_without, pump_full, pump_starved, pump_done, pump_store, seat_room}
 use Rattle.tora_sim.proofs.StillEnds.{possible_still}
-use Rattle.tora_sim.proofs.PlainEnds.{possible_plain}
 use Rattle.tora_sim.proofs.ReadyEnds.{kept_as}
-use Rattle.tora_sim.proofs.UnreadyEnds.{node_kept, same_place}
 use Rattle.tora_sim.proofs.sim.Sim.pump.Goals as goal
 
 pub place_near-requires-clause-keys : goal.place_near-requires-clause-keys
-place_near-requires-clause-keys c = c.self.invariant.3 ∙ sym c.self.invariant.0.keys
+place_near-requires-clause-keys c = c.self.invariant.2 ∙ sym c.self.invariant.0.keys
 
 waits : (nodes : List NodeView) (home : ℕ) (y z : NodeView) (count : ℕ) → home < length nodes → y ≡ slice_index_or nodes home y → z ≡ slice_index_or nodes home z → count ≡ length y.items → count < 1024 → nat_lt (length z.items) 1024 ≡ true
 waits nodes home y z count lt a b e less = subst (λ (v : NodeView). nat_lt (length v.items) 1024 ≡ true) (same_read nodes home y z lt a b) (lt-ltb (length y.items) 1024 (omega (arith, e, less)))
@@ -81,15 +79,10 @@ invariant_of-self c =
     let s = c.self.inside in (
       pump_store s.topology s.times s.clock s.nodes.items s.links.items s.datagrams.items c.self.invariant.0 c.args.n c.args.k c.in-Some.at c.index.result.now c.in-Some.ensures.first c.index.ensures c.in-Some-next_event.event (sym c.next_event.ensures ∙ c.in-Some-next_event.is)
           c.in-Some-node_near.home c.index_mut.result.now c.in-Some-node_near.ensures.first c.index_mut.ensures.value c.take_event.new.self c.put_item.new.self (link_is c) (node_is c),
-      λ none. absurd (omega (arith, none)),
       possible_still s.clock s.stills s.links.items c.in-Some.at c.index.result.now c.take_event.new.self c.in-Some.ensures.first.within c.index.ensures
-          (λ until lt h. both_ways (is_some (first_event c.index.result.now.state)) h.events (ap is_some (sym c.next_event.ensures ∙ c.in-Some-next_event.is))) c.self.invariant.2,
-      c.self.invariant.3,
-      possible_plain s.clock s.plains s.links.items c.in-Some.at c.index.result.now c.take_event.new.self c.in-Some.ensures.first.within c.index.ensures
-          (λ h. both_ways (is_some (first_event c.index.result.now.state)) h.events (ap is_some (sym c.next_event.ensures ∙ c.in-Some-next_event.is))) c.self.invariant.4,
-      kept_as s.ready.items s.links.items c.in-Some.at c.index.result.now c.take_event.new.self _ c.in-Some.ensures.first.within c.index.ensures (link_is c) (λ h. h) c.self.invariant.5,
-      node_kept s.unready.items s.nodes.items s.ready.items c.in-Some-node_near.home c.index_mut.result.now c.put_item.new.self c.in-Some-node_near.ensures.first.within c.index_mut.ensures.value (same_place c.index_mut.result.now c.put_item.new.self _ (node_is c) (refl, refl)) c.self.invariant.6,
-      λ known. absurd cc,
+          (λ until lt h. both_ways (is_some (first_event c.index.result.now.state)) h.events (ap is_some (sym c.next_event.ensures ∙ c.in-Some-next_event.is))) c.self.invariant.1,
+      c.self.invariant.2,
+      kept_as s.ready.items s.links.items c.in-Some.at c.index.result.now c.take_event.new.self _ c.in-Some.ensures.first.within c.index.ensures (link_is c) (λ h. h) c.self.invariant.3,
     )
 
 pub returns-in-Ok : goal.returns-in-Ok

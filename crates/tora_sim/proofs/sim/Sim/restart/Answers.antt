@@ -1,4 +1,4 @@
-use Rattle.std.proofs.Common.{◌≡◌, ℕ, length, refl, ap, ◌∙◌, subst, arith}
+use Rattle.std.proofs.Common.{◌≡◌, ℕ, length, ap, ◌∙◌, subst, arith}
 use Rattle.std.specs.Prelude.{slice_set}
 use Rattle.tora_core.specs.Kept.{IsCore}
 use Rattle.tora_seat.specs.Rows.{first_seat}
@@ -13,9 +13,7 @@ use Rattle.tora_sim.proofs.Opens.{same_read}
 use Rattle.tora_sim.proofs.Turning.{ends_within}
 use Rattle.tora_sim.proofs.Restarting.{restart_starved, restart_done, restart_store}
 use Rattle.tora_sim.proofs.StillEnds.{forgotten_still, changed_still}
-use Rattle.tora_sim.proofs.PlainEnds.{forgotten_plain, changed_plain}
 use Rattle.tora_sim.proofs.ReadyEnds.{changed_ready, restarted_ready}
-use Rattle.tora_sim.proofs.UnreadyEnds.{node_kept, same_place}
 use Rattle.tora_sim.proofs.sim.Sim.restart.Goals as goal
 
 pub returns-in_default-new_seat : goal.returns-in_default-new_seat
@@ -44,15 +42,7 @@ forget-requires c =
     let within = ends_within s.topology s.times s.clock s.nodes.items s.links.items s.datagrams.items c.self.invariant.0 c.args.n c.in-Some.home c.index.result.now c.in-Some.ensures.first c.index.ensures in
     let count : c.count-count.result ≡ c.index.result.now.count =
     c.count-count.ensures ∙ ap (λ (x : NodeView). x.count) (same_read s.nodes.items c.in-Some.home c.index-2.result.now c.index.result.now c.in-Some.ensures.first.within c.index-2.ensures c.index.ensures) in
-    omega (arith, within, c.first-first.ensures, count, c.self.invariant.2.as_many)
-
-pub forget-requires-2 : goal.forget-requires-2
-forget-requires-2 c =
-    let s = c.self.inside in
-    let within = ends_within s.topology s.times s.clock s.nodes.items s.links.items s.datagrams.items c.self.invariant.0 c.args.n c.in-Some.home c.index.result.now c.in-Some.ensures.first c.index.ensures in
-    let count : c.count-count.result ≡ c.index.result.now.count =
-    c.count-count.ensures ∙ ap (λ (x : NodeView). x.count) (same_read s.nodes.items c.in-Some.home c.index-2.result.now c.index.result.now c.in-Some.ensures.first.within c.index-2.ensures c.index.ensures) in
-    omega (arith, within, c.first-first.ensures, count, c.self.invariant.4.as_many)
+    omega (arith, within, c.first-first.ensures, count, c.self.invariant.1.as_many)
 
 pub restart_ends-requires-clause-within : goal.restart_ends-requires-clause-within
 restart_ends-requires-clause-within c =
@@ -86,17 +76,11 @@ invariant_of-self c =
     let s = c.self.inside in (
       restart_store s.topology s.times s.clock s.nodes.items s.links.items s.datagrams.items c.self.invariant.0 c.args.n c.in-Some.home (x c) c.in-Some.ensures.first c.index_mut.ensures.value c.args.torn (core_kept c)
           c.in-Ok.seat c.restart.new.self c.restart_ends.new.links.items (made c) c.restart.ensures (ends c),
-      λ none. absurd (omega (arith, none)),
       changed_still s.clock c.forget.new.stills s.links.items c.restart_ends.new.links.items (restarted c.args.torn) c.first-first.result (length c.in-Ok-new_ends.ends.items)
           (λ place lt. let many = c.in-Ok-new_ends.ensures.as_many in c.forget.ensures.here place (omega (arith, lt, many))) c.restart_ends.ensures
-          (forgotten_still s.clock s.stills c.forget.new.stills s.links.items c.first-first.result c.count-count.result c.forget.ensures c.self.invariant.2),
-      c.self.invariant.3,
-      changed_plain s.clock c.forget-2.new.stills s.links.items c.restart_ends.new.links.items (restarted c.args.torn) c.first-first.result (length c.in-Ok-new_ends.ends.items)
-          (λ place lt. let many = c.in-Ok-new_ends.ensures.as_many in c.forget-2.ensures.here place (omega (arith, lt, many))) c.restart_ends.ensures
-          (forgotten_plain s.clock s.plains c.forget-2.new.stills s.links.items c.first-first.result c.count-count.result c.forget-2.ensures c.self.invariant.4),
-      changed_ready s.ready.items s.links.items c.restart_ends.new.links.items (restarted c.args.torn) c.first-first.result (length c.in-Ok-new_ends.ends.items) (restarted_ready c.args.torn) c.restart_ends.ensures c.self.invariant.5,
-      node_kept s.unready.items s.nodes.items s.ready.items c.in-Some.home (x c) c.restart.new.self c.in-Some.ensures.first.within c.index_mut.ensures.value (same_place (x c) c.restart.new.self _ c.restart.ensures (refl, refl)) c.self.invariant.6,
-      λ known. absurd cc,
+          (forgotten_still s.clock s.stills c.forget.new.stills s.links.items c.first-first.result c.count-count.result c.forget.ensures c.self.invariant.1),
+      c.self.invariant.2,
+      changed_ready s.ready.items s.links.items c.restart_ends.new.links.items (restarted c.args.torn) c.first-first.result (length c.in-Ok-new_ends.ends.items) (restarted_ready c.args.torn) c.restart_ends.ensures c.self.invariant.3,
     )
 
 pub returns : goal.returns

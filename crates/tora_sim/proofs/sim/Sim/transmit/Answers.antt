@@ -4,7 +4,7 @@ use Rattle.tora_sim.proofs.Sendings.{read_there}
 use Rattle.tora_sim.proofs.sim.Sim.transmit.Goals as goal
 
 pub place-requires-clause-keys : goal.place-requires-clause-keys
-place-requires-clause-keys c = c.self.invariant.3 ∙ sym c.self.invariant.0.keys
+place-requires-clause-keys c = c.self.invariant.2 ∙ sym c.self.invariant.0.keys
 
 pub returns-in_default-node_near : goal.returns-in_default-node_near
 returns-in_default-node_near c =

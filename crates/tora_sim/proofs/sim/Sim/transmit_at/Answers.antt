@@ -1,7 +1,6 @@
-use Rattle.std.proofs.Common.{◌≡◌, ℕ, ◌<◌, List, Some, None, length, set, is_some, refl, ap, sym, ◌∙◌, subst, arith}
+use Rattle.std.proofs.Common.{◌≡◌, ℕ, ◌<◌, List, Some, None, length, set, is_some, ap, sym, ◌∙◌, subst, arith}
 use Rattle.std.specs.Prelude.{slice_set, slice_index_or}
 use Rattle.std.proofs.lemmas.Bool.{both_ways}
-use Rattle.std.proofs.lemmas.Option.{slice_get_read}
 use Rattle.tora_frame.specs.FrameParts.{FrameParts}
 use Rattle.tora_arq.specs.LinkEnd.{frame_due, after_transmit}
 use Rattle.tora_world.specs.declared.event.Event.TheVariants.{Transmit}
@@ -10,19 +9,14 @@ use Rattle.tora_world.specs.World.{with_datagram}
 use Rattle.tora_sim.specs.Lanes.{AreReadyEach}
 use Rattle.tora_sim.specs.Links.{LinkView, with_state}
 use Rattle.tora_sim.specs.Nodes.{sending_of}
-use Rattle.tora_sim.specs.Plains.{IsPlain, ArePlainEach}
-use Rattle.tora_sim.specs.Possible.{has_cargo}
-use Rattle.tora_sim.specs.Quiet.{is_idle, AreStill, AreStillEach}
+use Rattle.tora_sim.specs.Quiet.{AreStillEach}
 use Rattle.tora_sim.specs.Store.{SimState, IsStore, state_of, world_of}
 use Rattle.tora_sim.specs.Steps.{IsDone, IsRefused}
 use Rattle.tora_sim.proofs.Quiets.{set_same}
 use Rattle.tora_sim.proofs.Sendings.{end_of, node_of, still_end, still_node}
 use Rattle.tora_sim.proofs.Sends.{transmit_refused, transmit_starved, transmit_done, transmit_store}
 use Rattle.tora_sim.proofs.StillEnds.{possible_still}
-use Rattle.tora_sim.proofs.PlainEnds.{same_plain, transmit_plain}
 use Rattle.tora_sim.proofs.ReadyEnds.{kept_as}
-use Rattle.tora_sim.proofs.UnreadyEnds.{node_kept, same_place}
-use Rattle.tora_sim.proofs.Quiets.{idle_kept}
 use Rattle.tora_sim.proofs.sim.Sim.transmit_at.Goals as goal
 
 -- an end of which no frame is due stays as it is
@@ -54,14 +48,10 @@ invariant_of-self c =
       c.self.invariant.1,
       c.self.invariant.2,
       c.self.invariant.3,
-      c.self.invariant.4,
-      c.self.invariant.5,
-      c.self.invariant.6,
-      c.self.invariant.7,
     )
 
 -- no frame was due
-module _ (c : goal.After-self-in_default-1) where
+module _ (c : goal.After-packets-in_default-1) where
   none : frame_due c.index_mut.result.now.settings c.index_mut.result.now.state c.self.inside.clock ≡ None
   none = sym c.in_default.ensures.frame
 
@@ -75,13 +65,9 @@ invariant_of-self-in_default c =
     let s = c.self.inside in (
       subst (λ (ds : List FrameParts). IsStore (state_of s.topology s.times s.clock s.nodes.items (slice_set s.links.items c.args.at c.send.new.self) ds)) (sym c.reserve.ensures.items)
           (subst (λ (xs : List LinkView). IsStore (state_of s.topology s.times s.clock s.nodes.items xs s.datagrams.items)) (sym (same c)) c.self.invariant.0),
-      subst (λ (xs : List LinkView). AreStill s.quiet s.nodes.items xs) (sym (same c)) c.self.invariant.1,
-      subst (λ (xs : List LinkView). AreStillEach s.clock s.stills xs) (sym (same c)) c.self.invariant.2,
-      c.self.invariant.3,
-      subst (λ (xs : List LinkView). ArePlainEach s.clock s.plains xs) (sym (same c)) c.self.invariant.4,
-      subst (λ (xs : List LinkView). AreReadyEach s.ready.items xs) (sym (same c)) c.self.invariant.5,
-      c.self.invariant.6,
-      c.self.invariant.7,
+      subst (λ (xs : List LinkView). AreStillEach s.clock s.stills xs) (sym (same c)) c.self.invariant.1,
+      c.self.invariant.2,
+      subst (λ (xs : List LinkView). AreReadyEach s.ready.items xs) (sym (same c)) c.self.invariant.3,
     )
 
 pub returns-in_default-clause-done : goal.returns-in_default-clause-done
@@ -95,7 +81,7 @@ returns-in_default-clause-done c =
     (transmit_refused s.topology s.times s.clock s.nodes.items s.links.items s.datagrams.items c.self.invariant.0 c.args._n c.args._k c.args.at c.index_mut.result.now (end_of c.args._n c.args._k c.args.at c.self.view_is c.requires.end) c.index_mut.ensures.value
     (ap is_some (none c)))))
 
-module _ (c : goal.After-self-3-1) where
+module _ (c : goal.After-packets-2-1) where
   due : frame_due c.index_mut.result.now.settings c.index_mut.result.now.state c.self.inside.clock ≡ Some c.in-Some.frame
   due = sym c.in-Some.ensures.frame
 
@@ -108,15 +94,10 @@ invariant_of-self-2 c =
       transmit_store s.topology s.times s.clock s.nodes.items s.links.items s.datagrams.items c.self.invariant.0 c.args._n c.args._k c.args.at c.index_mut.result.now (end_of c.args._n c.args._k c.args.at c.self.view_is c.requires.end) c.index_mut.ensures.value
           c.args.home c.index_mut-2.result.now (node_of c.args._n c.args.home c.self.view_is c.requires.node) c.index_mut-2.ensures.value c.in-Some.frame (due c)
           c.data_frames_are_what_was_submitted.ensures.frame c.send.new.self c.note_sent.new.node c.note_sent.new.datagrams.items c.in-Some.ensures.state c.note_sent.ensures.node (all c),
-      λ none. absurd (omega (arith, none)),
       possible_still s.clock s.stills s.links.items c.args.at c.index_mut.result.now c.send.new.self (end_of c.args._n c.args._k c.args.at c.self.view_is c.requires.end).within c.index_mut.ensures.value
-          (λ until lt h. both_ways (is_some (frame_due c.index_mut.result.now.settings c.index_mut.result.now.state s.clock)) (h.frames s.clock lt) (ap is_some (due c))) c.self.invariant.2,
-      c.self.invariant.3,
-      same_plain s.clock s.plains s.links.items c.args.at c.index_mut.result.now c.send.new.self (slice_get_read s.links.items (length s.links.items) c.args.at c.index_mut.result.now refl (end_of c.args._n c.args._k c.args.at c.self.view_is c.requires.end).within c.index_mut.ensures.value)
-          (λ h. subst (λ (x : LinkView). IsPlain x) (sym c.in-Some.ensures.state) (transmit_plain c.index_mut.result.now.settings c.index_mut.result.now.state s.clock (has_cargo c.index_mut.result.now) h)) c.self.invariant.4,
-      kept_as s.ready.items s.links.items c.args.at c.index_mut.result.now c.send.new.self _ (end_of c.args._n c.args._k c.args.at c.self.view_is c.requires.end).within c.index_mut.ensures.value c.in-Some.ensures.state (λ h. h) c.self.invariant.5,
-      node_kept s.unready.items s.nodes.items s.ready.items c.args.home c.index_mut-2.result.now c.note_sent.new.node (node_of c.args._n c.args.home c.self.view_is c.requires.node).within c.index_mut-2.ensures.value (same_place c.index_mut-2.result.now c.note_sent.new.node _ c.note_sent.ensures.node (refl, refl)) c.self.invariant.6,
-      idle_kept s.idle s.nodes.items c.args.home c.index_mut-2.result.now c.note_sent.new.node (node_of c.args._n c.args.home c.self.view_is c.requires.node).within c.index_mut-2.ensures.value (ap is_idle c.note_sent.ensures.node) c.self.invariant.7,
+          (λ until lt h. both_ways (is_some (frame_due c.index_mut.result.now.settings c.index_mut.result.now.state s.clock)) (h.frames s.clock lt) (ap is_some (due c))) c.self.invariant.1,
+      c.self.invariant.2,
+      kept_as s.ready.items s.links.items c.args.at c.index_mut.result.now c.send.new.self _ (end_of c.args._n c.args._k c.args.at c.self.view_is c.requires.end).within c.index_mut.ensures.value c.in-Some.ensures.state (λ h. h) c.self.invariant.3,
     )
 
 pub returns-clause-done : goal.returns-clause-done

@@ -1,7 +1,6 @@
-use Rattle.std.proofs.Common.{◌≡◌, List, Some, length, is_some, refl, ap, sym, ◌∙◌, subst, arith}
+use Rattle.std.proofs.Common.{◌≡◌, List, Some, is_some, ap, sym, ◌∙◌, subst, arith}
 use Rattle.std.specs.Prelude.{slice_set}
 use Rattle.std.proofs.lemmas.Bool.{both_ways}
-use Rattle.std.proofs.lemmas.Option.{slice_get_read}
 use Rattle.tora_frame.specs.FrameParts.{FrameParts, frame_of}
 use Rattle.tora_frame.specs.declared.parts.Body.TheVariants.{Hello}
 use Rattle.tora_arq.specs.LinkEnd.{frame_due}
@@ -10,19 +9,13 @@ use Rattle.tora_world.specs.World.{with_datagram}
 use Rattle.tora_sim.specs.Keyed.{IsFirst}
 use Rattle.tora_sim.specs.Links.{LinkView, is_at}
 use Rattle.tora_sim.specs.Nodes.{sending_of}
-use Rattle.tora_sim.specs.Plains.{IsPlain}
-use Rattle.tora_sim.specs.Possible.{has_cargo}
-use Rattle.tora_sim.specs.Quiet.{is_idle}
 use Rattle.tora_sim.specs.Store.{SimState, state_of, world_of}
 use Rattle.tora_sim.specs.Steps.{IsDone}
 use Rattle.tora_sim.proofs.Quiets.{set_same}
 use Rattle.tora_sim.proofs.Sendings.{end_of, node_of, still_end, still_node}
 use Rattle.tora_sim.proofs.Sends.{transmit_done, transmit_store}
 use Rattle.tora_sim.proofs.StillEnds.{possible_still}
-use Rattle.tora_sim.proofs.PlainEnds.{same_plain, transmit_plain}
 use Rattle.tora_sim.proofs.ReadyEnds.{kept_as}
-use Rattle.tora_sim.proofs.UnreadyEnds.{node_kept, same_place}
-use Rattle.tora_sim.proofs.Quiets.{idle_kept}
 use Rattle.tora_sim.proofs.Unchanged.{datagrams_stay, links_stay}
 use Rattle.tora_sim.proofs.sim.Sim.transmit_hello.Goals as goal
 
@@ -31,7 +24,7 @@ use Rattle.tora_sim.proofs.sim.Sim.transmit_hello.Goals as goal
 pub invariant_of-self : goal.invariant_of-self
 invariant_of-self c =
     let s = c.self.inside in
-    datagrams_stay s.topology s.times s.clock s.nodes.items s.links.items s.datagrams.items s.quiet s.keys.items s.stills s.plains s.ready.items s.unready.items s.idle c.self.invariant c.reserve.new.self.items c.reserve.ensures.items
+    datagrams_stay s.topology s.times s.clock s.nodes.items s.links.items s.datagrams.items s.keys.items s.stills s.ready.items c.self.invariant c.reserve.new.self.items c.reserve.ensures.items
 
 pub returns-then-is_err-clause-same : goal.returns-then-is_err-clause-same
 returns-then-is_err-clause-same c told =
@@ -53,8 +46,8 @@ pub invariant_of-self-in_default : goal.invariant_of-self-in_default
 invariant_of-self-in_default c =
     let s = c.self.inside in
     let links = slice_set s.links.items c.args.at c.send_hello.new.self in
-    datagrams_stay s.topology s.times s.clock s.nodes.items links s.datagrams.items s.quiet s.keys.items s.stills s.plains s.ready.items s.unready.items s.idle
-    (links_stay s.topology s.times s.clock s.nodes.items s.links.items s.datagrams.items s.quiet s.keys.items s.stills s.plains s.ready.items s.unready.items s.idle c.self.invariant links (stays c)) c.reserve.new.self.items c.reserve.ensures.items
+    datagrams_stay s.topology s.times s.clock s.nodes.items links s.datagrams.items s.keys.items s.stills s.ready.items
+    (links_stay s.topology s.times s.clock s.nodes.items s.links.items s.datagrams.items s.keys.items s.stills s.ready.items c.self.invariant links (stays c)) c.reserve.new.self.items c.reserve.ensures.items
 
 pub returns-in_default-clause-same : goal.returns-in_default-clause-same
 returns-in_default-clause-same c told =
@@ -71,7 +64,7 @@ returns-in_default-clause-node c = node_of c.args._n c.args.home c.self.view_is 
 
 -- ---- a HELLO goes out
 
-module _ (c : goal.After-self-3-1) where
+module _ (c : goal.After-self-2-1) where
   due : frame_due c.index_mut.result.now.settings c.index_mut.result.now.state c.self.inside.clock ≡ Some (frame_of c.in-Some.header Hello)
   due = c.in-Some.ensures.frame
 
@@ -84,15 +77,10 @@ invariant_of-self-2 c =
       transmit_store s.topology s.times s.clock s.nodes.items s.links.items s.datagrams.items c.self.invariant.0 c.args._n c.args._k c.args.at c.index_mut.result.now (end_of c.args._n c.args._k c.args.at c.self.view_is c.requires.end) c.index_mut.ensures.value
           c.args.home c.index_mut-2.result.now (node_of c.args._n c.args.home c.self.view_is c.requires.node) c.index_mut-2.ensures.value (frame_of c.in-Some.header Hello) (due c)
           c.data_frames_are_what_was_submitted.ensures.frame c.send_hello.new.self c.note_hello.new.node c.note_hello.new.datagrams.items c.in-Some.ensures.state c.note_hello.ensures.node (all c),
-      λ none. absurd (omega (arith, none)),
       possible_still s.clock s.stills s.links.items c.args.at c.index_mut.result.now c.send_hello.new.self (end_of c.args._n c.args._k c.args.at c.self.view_is c.requires.end).within c.index_mut.ensures.value
-          (λ until lt h. both_ways (is_some (frame_due c.index_mut.result.now.settings c.index_mut.result.now.state s.clock)) (h.frames s.clock lt) (ap is_some (due c))) c.self.invariant.2,
-      c.self.invariant.3,
-      same_plain s.clock s.plains s.links.items c.args.at c.index_mut.result.now c.send_hello.new.self (slice_get_read s.links.items (length s.links.items) c.args.at c.index_mut.result.now refl (end_of c.args._n c.args._k c.args.at c.self.view_is c.requires.end).within c.index_mut.ensures.value)
-          (λ h. subst (λ (x : LinkView). IsPlain x) (sym c.in-Some.ensures.state) (transmit_plain c.index_mut.result.now.settings c.index_mut.result.now.state s.clock (has_cargo c.index_mut.result.now) h)) c.self.invariant.4,
-      kept_as s.ready.items s.links.items c.args.at c.index_mut.result.now c.send_hello.new.self _ (end_of c.args._n c.args._k c.args.at c.self.view_is c.requires.end).within c.index_mut.ensures.value c.in-Some.ensures.state (λ h. h) c.self.invariant.5,
-      node_kept s.unready.items s.nodes.items s.ready.items c.args.home c.index_mut-2.result.now c.note_hello.new.node (node_of c.args._n c.args.home c.self.view_is c.requires.node).within c.index_mut-2.ensures.value (same_place c.index_mut-2.result.now c.note_hello.new.node _ c.note_hello.ensures.node (refl, refl)) c.self.invariant.6,
-      idle_kept s.idle s.nodes.items c.args.home c.index_mut-2.result.now c.note_hello.new.node (node_of c.args._n c.args.home c.self.view_is c.requires.node).within c.index_mut-2.ensures.value (ap is_idle c.note_hello.ensures.node) c.self.invariant.7,
+          (λ until lt h. both_ways (is_some (frame_due c.index_mut.result.now.settings c.index_mut.result.now.state s.clock)) (h.frames s.clock lt) (ap is_some (due c))) c.self.invariant.1,
+      c.self.invariant.2,
+      kept_as s.ready.items s.links.items c.args.at c.index_mut.result.now c.send_hello.new.self _ (end_of c.args._n c.args._k c.args.at c.self.view_is c.requires.end).within c.index_mut.ensures.value c.in-Some.ensures.state (λ h. h) c.self.invariant.3,
     )
 
 pub returns-clause-done : goal.returns-clause-done

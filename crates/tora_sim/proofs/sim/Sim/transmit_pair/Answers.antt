@@ -1,17 +1,12 @@
-use Rattle.std.proofs.Common.{ℕ, ◌∷◌, [], length, is_some, refl, ap, sym, ◌∙◌, subst, arith}
+use Rattle.std.proofs.Common.{ℕ, ◌∷◌, [], is_some, ap, sym, ◌∙◌, subst, arith}
 use Rattle.std.specs.Prelude.{slice_set}
 use Rattle.std.proofs.lemmas.Bool.{both_ways}
-use Rattle.std.proofs.lemmas.Option.{slice_get_read}
-use Rattle.tora_arq.specs.LinkEnd.{after_transmit, frame_due}
+use Rattle.tora_arq.specs.LinkEnd.{frame_due}
 use Rattle.tora_world.specs.declared.event.Event.TheVariants.{Transmit}
 use Rattle.tora_datagrams.specs.Datagrams.{DatagramList}
-use Rattle.tora_sim.specs.Links.{LinkView}
-use Rattle.tora_sim.specs.Plains.{IsPlain}
-use Rattle.tora_sim.specs.Possible.{has_cargo}
 use Rattle.tora_sim.specs.Store.{SimState, state_of, world_of}
 use Rattle.tora_sim.specs.Steps.{AllAreDone}
 use Rattle.tora_sim.proofs.PairSends.{pair_done, pair_store}
-use Rattle.tora_sim.proofs.PlainEnds.{same_plain, transmit_plain}
 use Rattle.tora_sim.proofs.Quiets.{set_same}
 use Rattle.tora_sim.proofs.ReadyEnds.{kept_as}
 use Rattle.tora_sim.proofs.Sendings.{end_of, node_of}
@@ -30,8 +25,8 @@ invariant_of-self c =
     let s = c.self.inside in
     let links = slice_set s.links.items c.args.at c.send_pair.new.self in
     let stays = set_same s.links.items c.args.at c.index_mut.result.now c.send_pair.new.self (end_of c.args._n c.args._k c.args.at c.self.view_is c.requires.end).within c.index_mut.ensures.value c.in_default.ensures.same in
-    datagrams_stay s.topology s.times s.clock s.nodes.items links s.datagrams.items s.quiet s.keys.items s.stills s.plains s.ready.items s.unready.items s.idle
-    (links_stay s.topology s.times s.clock s.nodes.items s.links.items s.datagrams.items s.quiet s.keys.items s.stills s.plains s.ready.items s.unready.items s.idle c.self.invariant links stays) c.send_pair.new.datagrams.items
+    datagrams_stay s.topology s.times s.clock s.nodes.items links s.datagrams.items s.keys.items s.stills s.ready.items
+    (links_stay s.topology s.times s.clock s.nodes.items s.links.items s.datagrams.items s.keys.items s.stills s.ready.items c.self.invariant links stays) c.send_pair.new.datagrams.items
     (ap (λ (d : DatagramList). d.items) c.in_default.ensures.datagrams)
 
 -- ---- both frames went out, and more may be due
@@ -46,14 +41,9 @@ invariant_of-self-then-self-until c =
     let read = c.index_mut.ensures.value in (
       pair_store s.topology s.times s.clock s.nodes.items s.links.items s.datagrams.items c.self.invariant.0 c.args._n c.args._k c.args.at x end read c.args.home c.index-2.result.now (node_of c.args._n c.args.home c.self.view_is c.requires.node) c.index-2.ensures
           (sym c.sending.ensures ∙ c.in-Goes.is) c.data_frames_are_what_was_submitted.ensures.frame new c.send_pair.new.datagrams.items sent,
-      λ none. absurd (omega (arith, none)),
-      possible_still s.clock s.stills s.links.items c.args.at x new end.within read (λ until lt h. both_ways (is_some (frame_due x.settings x.state s.clock)) (h.frames s.clock lt) (ap is_some sent.due)) c.self.invariant.2,
-      c.self.invariant.3,
-      same_plain s.clock s.plains s.links.items c.args.at x new (slice_get_read s.links.items (length s.links.items) c.args.at x refl end.within read)
-          (λ h. subst (λ (y : LinkView). IsPlain y) (sym sent.state) (transmit_plain x.settings (after_transmit x.settings x.state s.clock) s.clock (has_cargo x) (transmit_plain x.settings x.state s.clock (has_cargo x) h))) c.self.invariant.4,
-      kept_as s.ready.items s.links.items c.args.at x new _ end.within read sent.state (λ h. h) c.self.invariant.5,
-      c.self.invariant.6,
-      c.self.invariant.7,
+      possible_still s.clock s.stills s.links.items c.args.at x new end.within read (λ until lt h. both_ways (is_some (frame_due x.settings x.state s.clock)) (h.frames s.clock lt) (ap is_some sent.due)) c.self.invariant.1,
+      c.self.invariant.2,
+      kept_as s.ready.items s.links.items c.args.at x new _ end.within read sent.state (λ h. h) c.self.invariant.3,
     )
 
 pub returns-then-self-until-clause-done : goal.returns-then-self-until-clause-done
@@ -77,14 +67,9 @@ invariant_of-self-2 c =
     let read = c.index_mut.ensures.value in (
       pair_store s.topology s.times s.clock s.nodes.items s.links.items s.datagrams.items c.self.invariant.0 c.args._n c.args._k c.args.at x end read c.args.home c.index-2.result.now (node_of c.args._n c.args.home c.self.view_is c.requires.node) c.index-2.ensures
           (sym c.sending.ensures ∙ c.in-Goes.is) c.data_frames_are_what_was_submitted.ensures.frame new c.send_pair.new.datagrams.items sent,
-      λ none. absurd (omega (arith, none)),
-      found_still s.clock s.stills c.keep_still.new.stills s.links.items c.args.at c.short.result new end.within c.keep_still.ensures (subst (λ (n : ℕ). IsStillIf n new) (sym c.short.ensures) (short_still c.in-Some.until new c.in-Some.ensures.still)) c.self.invariant.2,
-      c.self.invariant.3,
-      same_plain s.clock s.plains s.links.items c.args.at x new (slice_get_read s.links.items (length s.links.items) c.args.at x refl end.within read)
-          (λ h. subst (λ (y : LinkView). IsPlain y) (sym sent.state) (transmit_plain x.settings (after_transmit x.settings x.state s.clock) s.clock (has_cargo x) (transmit_plain x.settings x.state s.clock (has_cargo x) h))) c.self.invariant.4,
-      kept_as s.ready.items s.links.items c.args.at x new _ end.within read sent.state (λ h. h) c.self.invariant.5,
-      c.self.invariant.6,
-      c.self.invariant.7,
+      found_still s.clock s.stills c.keep_still.new.stills s.links.items c.args.at c.short.result new end.within c.keep_still.ensures (subst (λ (n : ℕ). IsStillIf n new) (sym c.short.ensures) (short_still c.in-Some.until new c.in-Some.ensures.still)) c.self.invariant.1,
+      c.self.invariant.2,
+      kept_as s.ready.items s.links.items c.args.at x new _ end.within read sent.state (λ h. h) c.self.invariant.3,
     )
 
 pub returns-clause-done : goal.returns-clause-done

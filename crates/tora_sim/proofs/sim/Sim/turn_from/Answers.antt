@@ -1,13 +1,11 @@
-use Rattle.std.proofs.Common.{◌≡◌, ◌<◌, ◌≤◌, ◌+◌, ◌-◌, ℕ, List, length, Ok, Err, sym, ap, ◌∙◌, subst, arith}
+use Rattle.std.proofs.Common.{◌≡◌, ◌<◌, ◌≤◌, ◌+◌, ◌-◌, ℕ, length, Ok, Err, sym, ap, ◌∙◌, subst, arith}
 use Rattle.std.specs.Prelude.{slice_set}
 use Rattle.tora_world.specs.declared.event.Event.TheVariants.{CoreTurn}
 use Rattle.tora_world.specs.declared.sim_error.SimError.TheVariants as Refused
-use Rattle.tora_sim.specs.declared.unready.Unready.{Unready}
 use Rattle.tora_sim.specs.Lanes.{AreReadyOutside}
 use Rattle.tora_sim.specs.Nodes.{NodeView}
-use Rattle.tora_sim.specs.Plains.{ArePlainBut}
 use Rattle.tora_sim.specs.Quiet.{AreForgottenWhere, AreStillBut}
-use Rattle.tora_sim.specs.Unready.{AreMarkedOutside, IsMarkedOutside, AreRemarked}
+use Rattle.tora_sim.specs.Unready.{AreRemarked}
 use Rattle.tora_sim.specs.Store.{SimState, IsStore, state_of, world_of}
 use Rattle.tora_sim.specs.Steps.{IsRefused}
 use Rattle.tora_sim.proofs.Opens.{same_read}
@@ -16,9 +14,8 @@ use Rattle.tora_sim.proofs.Sendings.{node_of, none_at_all, other_cause}
 use Rattle.tora_sim.proofs.TakenItems.{none_asked, starved_at_once, taken_between}
 use Rattle.tora_sim.proofs.Turning.{turn_refused, turn_starved, ends_within, as_many}
 use Rattle.tora_sim.proofs.StillEnds.{alike_still, where_forgotten}
-use Rattle.tora_sim.proofs.PlainEnds.{alike_plain, where_plain}
 use Rattle.tora_sim.proofs.Rooms.{same_length}
-use Rattle.tora_sim.proofs.UnreadyEnds.{ok_room, marks_kept, before_turn, forgotten_of_node, ready_after, marked_after}
+use Rattle.tora_sim.proofs.UnreadyEnds.{ok_room, before_turn, forgotten_of_node, ready_after}
 use Rattle.tora_sim.proofs.sim.Sim.turn_from.Goals as goal
 
 pub returns-then-most-eq0 : goal.returns-then-most-eq0
@@ -33,9 +30,6 @@ returns-then-waiting-eq0 c =
     (sym c.waiting.ensures ∙ c.if-waiting-eq0.true)) in
     none_at_all w c.args.most (CoreTurn c.args._n) (other_cause w (CoreTurn c.args._n) Refused.NotPossible w (λ e. let z : Refused.NotPossible ≡ Refused.Memory = e in cc) r)
 
-pub unready_at-requires : goal.unready_at-requires
-unready_at-requires c = let many = c.self.invariant.6.as_many in omega (arith, many, (node_of c.args._n c.args.home c.self.view_is c.requires).within)
-
 pub make_room-requires-clause-within : goal.make_room-requires-clause-within
 make_room-requires-clause-within c =
     let s = c.self.inside in
@@ -44,22 +38,18 @@ make_room-requires-clause-within c =
     c.first-first.ensures ∙ ap (λ (x : NodeView). x.first) (same_read s.nodes.items c.args.home c.index-2.result.now c.index.result.now (node_of c.args._n c.args.home c.self.view_is c.requires).within c.index-2.ensures c.index.ensures) in
     let count : c.count-count.result ≡ c.index.result.now.count =
     c.count-count.ensures ∙ ap (λ (x : NodeView). x.count) (same_read s.nodes.items c.args.home c.index-3.result.now c.index.result.now (node_of c.args._n c.args.home c.self.view_is c.requires).within c.index-3.ensures c.index.ensures) in
-    omega (arith, within, first, count, c.within-range.ensures.ordered, c.within-range.ensures.within)
+    omega (arith, within, first, count)
 
 pub make_room-requires-clause-marks : goal.make_room-requires-clause-marks
-make_room-requires-clause-marks c = c.self.invariant.5
+make_room-requires-clause-marks c = c.self.invariant.3
 
 pub invariant_of-self : goal.invariant_of-self
 invariant_of-self c =
     let s = c.self.inside in (
       store_same s.topology s.times s.clock s.nodes.items s.links.items c.make_room.new.links.items s.datagrams.items (same_alike s.links.items c.make_room.new.links.items c.make_room.ensures.same) c.self.invariant.0,
-      λ none. absurd (omega (arith, none)),
-      alike_still s.clock s.stills s.links.items c.make_room.new.links.items c.make_room.ensures.same c.self.invariant.2,
-      c.self.invariant.3,
-      alike_plain s.clock s.plains s.links.items c.make_room.new.links.items c.make_room.ensures.same c.self.invariant.4,
+      alike_still s.clock s.stills s.links.items c.make_room.new.links.items c.make_room.ensures.same c.self.invariant.1,
+      c.self.invariant.2,
       c.make_room.ensures.marks,
-      marks_kept s.unready.items s.nodes.items s.ready.items c.make_room.new.ready.items c.make_room.ensures.kept c.self.invariant.6,
-      λ known. absurd cc,
     )
 
 pub returns-then-is_err : goal.returns-then-is_err
@@ -79,32 +69,19 @@ overflow_add-start c =
     c.first-first.ensures ∙ ap (λ (x : NodeView). x.first) (same_read s.nodes.items c.args.home c.index-2.result.now c.index.result.now (node_of c.args._n c.args.home c.self.view_is c.requires).within c.index-2.ensures c.index.ensures) in
     let count : c.count-count.result ≡ c.index.result.now.count =
     c.count-count.ensures ∙ ap (λ (x : NodeView). x.count) (same_read s.nodes.items c.args.home c.index-3.result.now c.index.result.now (node_of c.args._n c.args.home c.self.view_is c.requires).within c.index-3.ensures c.index.ensures) in
-    omega (arith, within, first, count, c.within-range.ensures.ordered, c.within-range.ensures.within, s.links.small, s.links.ok)
-
-pub overflow_add-start-2 : goal.overflow_add-start-2
-overflow_add-start-2 c =
-    let s = c.self.inside in
-    let within = ends_within s.topology s.times s.clock s.nodes.items s.links.items s.datagrams.items c.self.invariant.0 c.args._n c.args.home c.index.result.now (node_of c.args._n c.args.home c.self.view_is c.requires) c.index.ensures in
-    let first : c.first-first.result ≡ c.index.result.now.first =
-    c.first-first.ensures ∙ ap (λ (x : NodeView). x.first) (same_read s.nodes.items c.args.home c.index-2.result.now c.index.result.now (node_of c.args._n c.args.home c.self.view_is c.requires).within c.index-2.ensures c.index.ensures) in
-    let count : c.count-count.result ≡ c.index.result.now.count =
-    c.count-count.ensures ∙ ap (λ (x : NodeView). x.count) (same_read s.nodes.items c.args.home c.index-3.result.now c.index.result.now (node_of c.args._n c.args.home c.self.view_is c.requires).within c.index-3.ensures c.index.ensures) in
     omega (arith, within, first, count, c.within-after.ensures.ordered, c.within-after.ensures.within, s.links.small, s.links.ok)
 
-pub still_unready-before-requires-clause-ordered : goal.still_unready-before-requires-clause-ordered
-still_unready-before-requires-clause-ordered c = c.within-range.ensures.ordered
-
-pub still_unready-before-requires-clause-within : goal.still_unready-before-requires-clause-within
-still_unready-before-requires-clause-within c =
+pub still_unready-before-requires : goal.still_unready-before-requires
+still_unready-before-requires c =
     let s = c.self.inside in
     let within = ends_within s.topology s.times s.clock s.nodes.items s.links.items s.datagrams.items c.self.invariant.0 c.args._n c.args.home c.index.result.now (node_of c.args._n c.args.home c.self.view_is c.requires) c.index.ensures in
     let first : c.first-first.result ≡ c.index.result.now.first =
     c.first-first.ensures ∙ ap (λ (x : NodeView). x.first) (same_read s.nodes.items c.args.home c.index-2.result.now c.index.result.now (node_of c.args._n c.args.home c.self.view_is c.requires).within c.index-2.ensures c.index.ensures) in
     let count : c.count-count.result ≡ c.index.result.now.count =
     c.count-count.ensures ∙ ap (λ (x : NodeView). x.count) (same_read s.nodes.items c.args.home c.index-3.result.now c.index.result.now (node_of c.args._n c.args.home c.self.view_is c.requires).within c.index-3.ensures c.index.ensures) in
-    let many = c.make_room.ensures.kept.as_many in
-    let each = c.self.invariant.5.as_many in
-    omega (arith, within, first, count, many, each, c.within-range.ensures.within)
+    let many = same_length s.links.items c.make_room.new.links.items c.make_room.ensures.same in
+    let marks = c.make_room.ensures.marks.as_many in
+    omega (arith, within, first, count, many, marks)
 
 pub take_items-taken-requires-clause-room : goal.take_items-taken-requires-clause-room
 take_items-taken-requires-clause-room c =
@@ -116,10 +93,8 @@ take_items-taken-requires-clause-room c =
     c.count-count.ensures ∙ ap (λ (x : NodeView). x.count) (same_read s.nodes.items c.args.home c.index-3.result.now node (node_of c.args._n c.args.home c.self.view_is c.requires).within c.index-3.ensures c.index_mut.ensures.value) in
     let within = ends_within s.topology s.times s.clock s.nodes.items s.links.items s.datagrams.items c.self.invariant.0 c.args._n c.args.home node (node_of c.args._n c.args.home c.self.view_is c.requires) c.index_mut.ensures.value in
     let many = same_length s.links.items c.make_room.new.links.items c.make_room.ensures.same in
-    let start =
-    before_turn s.unready.items s.nodes.items s.ready.items c.make_room.new.ready.items c.make_room.new.links.items c.args.home node c.unready_at.result c.within-range.result c.still_unready-before.result c.first-first.result c.count-count.result
-    (node_of c.args._n c.args.home c.self.view_is c.requires).within c.index_mut.ensures.value c.unready_at.ensures first count (omega (arith, within, many)) c.make_room.ensures.kept c.self.invariant.6 c.within-range.ensures.outside c.still_unready-before.ensures c.make_room.ensures.marks (ok_room c.make_room.result (sym c.is_err.ensures.value ∙ c.if-is_err.false) c.make_room.ensures.room) in
-    start.1
+    before_turn c.make_room.new.ready.items c.make_room.new.links.items c.still_unready-before.result c.first-first.result c.count-count.result node.first node.count first count (omega (arith, within, many)) c.still_unready-before.ensures
+    c.make_room.ensures.marks (ok_room c.make_room.result (sym c.is_err.ensures.value ∙ c.if-is_err.false) c.make_room.ensures.room)
 
 pub take_items-taken-requires-clause-neighbours : goal.take_items-taken-requires-clause-neighbours
 take_items-taken-requires-clause-neighbours c =
@@ -135,9 +110,9 @@ forget_waiting-requires-clause-within c =
     let count : c.count-count.result ≡ node.count =
     c.count-count.ensures ∙ ap (λ (x : NodeView). x.count) (same_read s.nodes.items c.args.home c.index-3.result.now node (node_of c.args._n c.args.home c.self.view_is c.requires).within c.index-3.ensures c.index_mut.ensures.value) in
     let still : AreStillBut s.clock s.stills c.take_items-taken.new.links.items node.first node.count =
-    c.take_items-taken.ensures.taken.still s.clock s.stills (alike_still s.clock s.stills s.links.items c.make_room.new.links.items c.make_room.ensures.same c.self.invariant.2) in
+    c.take_items-taken.ensures.taken.still s.clock s.stills (alike_still s.clock s.stills s.links.items c.make_room.new.links.items c.make_room.ensures.same c.self.invariant.1) in
     let within = ends_within s.topology s.times s.clock s.nodes.items s.links.items s.datagrams.items c.self.invariant.0 c.args._n c.args.home node (node_of c.args._n c.args.home c.self.view_is c.requires) c.index_mut.ensures.value in
-    let before = c.self.invariant.2.as_many in
+    let before = c.self.invariant.1.as_many in
     let many = still.as_many in
     omega (arith, within, first, count, before, many, c.within-after.ensures.ordered, c.within-after.ensures.within)
 
@@ -150,12 +125,12 @@ forget_waiting-requires-clause-ready c =
     let count : c.count-count.result ≡ node.count =
     c.count-count.ensures ∙ ap (λ (x : NodeView). x.count) (same_read s.nodes.items c.args.home c.index-3.result.now node (node_of c.args._n c.args.home c.self.view_is c.requires).within c.index-3.ensures c.index_mut.ensures.value) in
     let still : AreStillBut s.clock s.stills c.take_items-taken.new.links.items node.first node.count =
-    c.take_items-taken.ensures.taken.still s.clock s.stills (alike_still s.clock s.stills s.links.items c.make_room.new.links.items c.make_room.ensures.same c.self.invariant.2) in
-    let before = c.self.invariant.2.as_many in
+    c.take_items-taken.ensures.taken.still s.clock s.stills (alike_still s.clock s.stills s.links.items c.make_room.new.links.items c.make_room.ensures.same c.self.invariant.1) in
+    let before = c.self.invariant.1.as_many in
     let many = still.as_many in
-    let kept = c.make_room.ensures.kept.as_many in
-    let each = c.self.invariant.5.as_many in
-    omega (arith, before, many, kept, each)
+    let roomy = same_length s.links.items c.make_room.new.links.items c.make_room.ensures.same in
+    let marks = c.make_room.ensures.marks.as_many in
+    omega (arith, before, many, roomy, marks)
 
 pub forget_waiting-requires-clause-stills : goal.forget_waiting-requires-clause-stills
 forget_waiting-requires-clause-stills c =
@@ -166,23 +141,8 @@ forget_waiting-requires-clause-stills c =
     let count : c.count-count.result ≡ node.count =
     c.count-count.ensures ∙ ap (λ (x : NodeView). x.count) (same_read s.nodes.items c.args.home c.index-3.result.now node (node_of c.args._n c.args.home c.self.view_is c.requires).within c.index-3.ensures c.index_mut.ensures.value) in
     let still : AreStillBut s.clock s.stills c.take_items-taken.new.links.items node.first node.count =
-    c.take_items-taken.ensures.taken.still s.clock s.stills (alike_still s.clock s.stills s.links.items c.make_room.new.links.items c.make_room.ensures.same c.self.invariant.2) in
+    c.take_items-taken.ensures.taken.still s.clock s.stills (alike_still s.clock s.stills s.links.items c.make_room.new.links.items c.make_room.ensures.same c.self.invariant.1) in
     still.as_many
-
-pub forget_waiting-requires-clause-plains : goal.forget_waiting-requires-clause-plains
-forget_waiting-requires-clause-plains c =
-    let s = c.self.inside in
-    let node = c.index_mut.result.now in
-    let first : c.first-first.result ≡ node.first =
-    c.first-first.ensures ∙ ap (λ (x : NodeView). x.first) (same_read s.nodes.items c.args.home c.index-2.result.now node (node_of c.args._n c.args.home c.self.view_is c.requires).within c.index-2.ensures c.index_mut.ensures.value) in
-    let count : c.count-count.result ≡ node.count =
-    c.count-count.ensures ∙ ap (λ (x : NodeView). x.count) (same_read s.nodes.items c.args.home c.index-3.result.now node (node_of c.args._n c.args.home c.self.view_is c.requires).within c.index-3.ensures c.index_mut.ensures.value) in
-    let plain : ArePlainBut s.clock s.plains c.take_items-taken.new.links.items node.first node.count =
-    c.take_items-taken.ensures.taken.plain s.clock s.plains (alike_plain s.clock s.plains s.links.items c.make_room.new.links.items c.make_room.ensures.same c.self.invariant.4) in
-    plain.as_many
-
-pub set_unready-requires : goal.set_unready-requires
-set_unready-requires c = let many = c.self.invariant.6.as_many in omega (arith, many, (node_of c.args._n c.args.home c.self.view_is c.requires).within)
 
 pub shorten_lanes-requires-clause-ends : goal.shorten_lanes-requires-clause-ends
 shorten_lanes-requires-clause-ends c =
@@ -193,9 +153,9 @@ shorten_lanes-requires-clause-ends c =
     let count : c.count-count.result ≡ node.count =
     c.count-count.ensures ∙ ap (λ (x : NodeView). x.count) (same_read s.nodes.items c.args.home c.index-3.result.now node (node_of c.args._n c.args.home c.self.view_is c.requires).within c.index-3.ensures c.index_mut.ensures.value) in
     let still : AreStillBut s.clock s.stills c.take_items-taken.new.links.items node.first node.count =
-    c.take_items-taken.ensures.taken.still s.clock s.stills (alike_still s.clock s.stills s.links.items c.make_room.new.links.items c.make_room.ensures.same c.self.invariant.2) in
+    c.take_items-taken.ensures.taken.still s.clock s.stills (alike_still s.clock s.stills s.links.items c.make_room.new.links.items c.make_room.ensures.same c.self.invariant.1) in
     let within = ends_within s.topology s.times s.clock s.nodes.items s.links.items s.datagrams.items c.self.invariant.0 c.args._n c.args.home node (node_of c.args._n c.args.home c.self.view_is c.requires) c.index_mut.ensures.value in
-    let before = c.self.invariant.2.as_many in
+    let before = c.self.invariant.1.as_many in
     let many = still.as_many in
     omega (arith, within, first, count, before, many, c.within-after.ensures.ordered, c.within-after.ensures.within)
 
@@ -209,41 +169,27 @@ invariant_of-self-2 c =
     c.count-count.ensures ∙ ap (λ (x : NodeView). x.count) (same_read s.nodes.items c.args.home c.index-3.result.now node (node_of c.args._n c.args.home c.self.view_is c.requires).within c.index-3.ensures c.index_mut.ensures.value) in
     let within = ends_within s.topology s.times s.clock s.nodes.items s.links.items s.datagrams.items c.self.invariant.0 c.args._n c.args.home node (node_of c.args._n c.args.home c.self.view_is c.requires) c.index_mut.ensures.value in
     let many = same_length s.links.items c.make_room.new.links.items c.make_room.ensures.same in
-    let start =
-    before_turn s.unready.items s.nodes.items s.ready.items c.make_room.new.ready.items c.make_room.new.links.items c.args.home node c.unready_at.result c.within-range.result c.still_unready-before.result c.first-first.result c.count-count.result
-    (node_of c.args._n c.args.home c.self.view_is c.requires).within c.index_mut.ensures.value c.unready_at.ensures first count (omega (arith, within, many)) c.make_room.ensures.kept c.self.invariant.6 c.within-range.ensures.outside c.still_unready-before.ensures c.make_room.ensures.marks (ok_room c.make_room.result (sym c.is_err.ensures.value ∙ c.if-is_err.false) c.make_room.ensures.room) in
     let still : AreStillBut s.clock s.stills c.take_items-taken.new.links.items node.first node.count =
-    c.take_items-taken.ensures.taken.still s.clock s.stills (alike_still s.clock s.stills s.links.items c.make_room.new.links.items c.make_room.ensures.same c.self.invariant.2) in
-    let plain : ArePlainBut s.clock s.plains c.take_items-taken.new.links.items node.first node.count =
-    c.take_items-taken.ensures.taken.plain s.clock s.plains (alike_plain s.clock s.plains s.links.items c.make_room.new.links.items c.make_room.ensures.same c.self.invariant.4) in
+    c.take_items-taken.ensures.taken.still s.clock s.stills (alike_still s.clock s.stills s.links.items c.make_room.new.links.items c.make_room.ensures.same c.self.invariant.1) in
     let links = c.take_items-taken.new.links.items in
     let range = c.within-after.result in
     let inside : (place : ℕ) → place < node.count → place < c.count-count.result = λ place lt. omega (arith, lt, count) in
     let small : range.behind ≤ node.count = omega (arith, c.within-after.ensures.within, count) in
     let out : AreReadyOutside links node.first node.count range = λ place link lt off there. c.take_items-taken.ensures.taken.ready place link lt (c.joined.ensures.these place (c.within-after.ensures.outside place (inside place lt) off)) there in
-    let own : IsMarkedOutside range node.first node.count c.make_room.new.ready.items = λ place lt off. start.0 place lt (c.joined.ensures.others place (c.within-after.ensures.outside place (inside place lt) off)) in
     let but = c.saturating_add.result in
     let seat = c.take_items-taken.new.seat in
     let seated : (place : ℕ) → place < node.count → place ≡ seat → node.first + place ≡ but = λ place lt q. omega (arith, lt, q, within, many, first, c.saturating_add.ensures, s.links.small, s.links.ok) in
     let remarked = subst (λ (m : ℕ). AreRemarked links but c.make_room.new.ready.items c.forget_waiting.new.ready.items (m + range.from) (range.behind - range.from)) first c.forget_waiting.ensures.ready in
     let stills = subst (λ (m : ℕ). AreForgottenWhere links s.stills c.forget_waiting.new.stills (m + range.from) (range.behind - range.from)) first c.forget_waiting.ensures.stills in
-    let plains = subst (λ (m : ℕ). AreForgottenWhere links s.plains c.forget_waiting.new.plains (m + range.from) (range.behind - range.from)) first c.forget_waiting.ensures.plains in
-    let before = c.self.invariant.2.as_many in
+    let before = c.self.invariant.1.as_many in
     let after = still.as_many in
     let same : length links ≡ length c.make_room.new.links.items = omega (arith, before, after, many) in (
       (c.take_items-taken.ensures.items s.topology s.times s.clock s.nodes.items s.datagrams.items c.args._n c.args.home
           (store_same s.topology s.times s.clock s.nodes.items s.links.items c.make_room.new.links.items s.datagrams.items (same_alike s.links.items c.make_room.new.links.items c.make_room.ensures.same) c.self.invariant.0)
           (node_of c.args._n c.args.home c.self.view_is c.requires) c.index_mut.ensures.value).store,
-      λ none. absurd (omega (arith, none)),
       where_forgotten s.clock s.stills c.forget_waiting.new.stills links node.first node.count (forgotten_of_node links s.stills c.forget_waiting.new.stills node.first node.count range out stills) still,
-      c.self.invariant.3,
-      where_plain s.clock s.plains c.forget_waiting.new.plains links node.first node.count (forgotten_of_node links s.plains c.forget_waiting.new.plains node.first node.count range out plains) plain,
+      c.self.invariant.2,
       ready_after c.make_room.new.links.items links c.make_room.new.ready.items c.forget_waiting.new.ready.items node.first node.count seat but range seated c.take_items-taken.ensures.taken.room small same c.take_items-taken.ensures.taken.others out remarked c.make_room.ensures.marks,
-      subst (λ (ranges : List Unready). AreMarkedOutside ranges (slice_set s.nodes.items c.args.home c.take_items-taken.new.node) c.forget_waiting.new.ready.items) (sym c.set_unready.ensures)
-          (marked_after s.topology s.times s.clock s.nodes.items s.links.items s.datagrams.items c.self.invariant.0 links but s.unready.items c.make_room.new.ready.items c.forget_waiting.new.ready.items c.args.home node c.take_items-taken.new.node range
-          (node_of c.args._n c.args.home c.self.view_is c.requires).within c.index_mut.ensures.value (c.take_items-taken.ensures.taken.first, c.take_items-taken.ensures.taken.count) small own remarked
-          (marks_kept s.unready.items s.nodes.items s.ready.items c.make_room.new.ready.items c.make_room.ensures.kept c.self.invariant.6)),
-      λ known. absurd cc,
     )
 
 pub returns-in-Ok : goal.returns-in-Ok

@@ -9,9 +9,7 @@ use Rattle.tora_sim.specs.Links.{key_of}
 use Rattle.tora_sim.proofs.Peers.{positive-node}
 use Rattle.tora_sim.proofs.FirstStore.{is-store, is-first}
 use Rattle.tora_sim.proofs.StillEnds.{none_known}
-use Rattle.tora_sim.proofs.PlainEnds.{none_plain}
 use Rattle.tora_sim.proofs.ReadyEnds.{none_known_ready}
-use Rattle.tora_sim.proofs.UnreadyEnds.{none_marked, few_ends}
 use Rattle.tora_sim.proofs.sim.Sim.with_times.Goals as goal
 
 pub add_node-requires-clause-me : goal.add_node-requires-clause-me
@@ -27,7 +25,7 @@ loop-n-preserved c =
     subst (λ (ns : List ℕ). AreMade c.args.topology.now c.args.times ns c.add_node.new.nodes.items c.add_node.new.links.items) (sym (take_more c.as_slice-n-items.result.now c.loop-n.n-index 0 c.loop-n-test.true))
     (more (take c.loop-n.n-index c.as_slice-n-items.result.now) c.loop-n.invariant)
 
-module _ (c : goal.After-new-4) where
+module _ (c : goal.After-new-2) where
   made : AreMade c.in-Ok.own c.args.times (nodes_in c.in-Ok.own.links) c.loop-n.nodes.items c.loop-n.links.items
   made =
       let same : c.as_slice-n-items.result.now ≡ nodes_in c.in-Ok.own.links = c.as_slice-n-items.ensures.value ∙ c.nodes-named.ensures.items in
@@ -40,14 +38,9 @@ invariant_of-result c =
     let many : c.len-count.result ≡ length c.loop-n.links.items = omega (arith, c.len-count.ensures) in
     let store = is-store c.numbers_are_put_in_order.ensures.order c.numbers_come_and_go.ensures.in_order c.in-Ok.own c.args.times c.nodes-named.ensures.kept c.loop-n.nodes.items c.loop-n.links.items (made c) in (
       subst (λ (ds : List FrameParts). IsStore (state_of c.in-Ok.own c.args.times 0 c.loop-n.nodes.items c.loop-n.links.items ds)) (sym c.new.ensures) store,
-      λ none. absurd (omega (arith, none)),
       none_known 0 c.len-count.result c.in_ok-stills.stills c.loop-n.links.items c.in_ok-stills.ensures many,
       c.in_ok-keys.ensures ∙ ap (map key_of) c.deref.ensures.value ∙ store.keys,
-      none_plain 0 c.len-count.result c.in_ok-plains.plains c.loop-n.links.items c.in_ok-plains.ensures many,
       none_known_ready c.len-count.result c.in_ok-ready.ready.items c.loop-n.links.items c.in_ok-ready.ensures many,
-      none_marked c.len.result c.len-count.result c.in_ok-unready.unready.items c.loop-n.nodes.items c.in_ok-ready.ready.items c.in_ok-unready.ensures (omega (arith, c.len.ensures))
-          (λ home node at. let few = few_ends c.in-Ok.own c.args.times 0 c.loop-n.nodes.items c.loop-n.links.items [] store home node at in omega (arith, few, many)),
-      λ known. absurd cc,
     )
 
 pub returns-clause-made : goal.returns-clause-made

@@ -20,8 +20,8 @@ fn wait_for<R: time::Clock>(rt: &R, settled: &AtomicU64, count: u64) {
     }
 }
 
-/// A wire around another one, that tells once when it has settled: a hundred of its calls in a row have failed, or no datagram
-/// was there.
+/// A wire around another one, that tells once when it has settled: a hundred of its calls in a row have failed, or no
+/// datagram was there.
 #[derive(Drop)]
 pub struct Settling<'a, R, W: Wire> {
     pub rt: &'a R,
@@ -89,7 +89,8 @@ impl<R: time::Clock, W: Wire> Wire for Settling<'_, R, W> {
     }
 }
 
-/// Commands that are given once so many wires have settled, and 50 ms later: by then a node that ends by itself has ended.
+/// Commands that are given once so many wires have settled, and 50 ms later: by then a node that ends by itself has
+/// ended.
 #[derive(Drop)]
 pub struct Settled<'a, R> {
     pub rt: &'a R,

@@ -94,8 +94,8 @@ const COMING: &[Coming] = &[
     ),
 ];
 
-/// How often each verdict is wanted. Busy is not among them: a link's thread puts what a datagram has told before it receives the
-/// next one, so 34 places for events are always free.
+/// How often each verdict is wanted. Busy is not among them: a link's thread puts what a datagram has told before it
+/// receives the next one, so 34 places for events are always free.
 const VERDICTS: &[(Verdict, u64)] = &[
     (Verdict::Accepted, 3),
     (Verdict::Repeated, 5),
@@ -105,7 +105,8 @@ const VERDICTS: &[(Verdict, u64)] = &[
     (Verdict::Busy, 0),
 ];
 
-/// Runs the node over whole wires, on the one to 2 of which these datagrams come, and on the one to 3 two that are too short.
+/// Runs the node over whole wires, on the one to 2 of which these datagrams come, and on the one to 3 two that are too
+/// short.
 fn run_whole<'a, R: Threads + Wait + Sync + time::Clock + log::Log + Abort>(
     rt: &'a R,
     alloc: Global,

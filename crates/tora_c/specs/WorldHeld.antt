@@ -1,0 +1,67 @@
+-- A driven world that a handle holds, with the answer to its last line, and what each call makes of it.
+use Rattle.std.specs.Prelude.{ℕ, ◌==◌, if◌then◌else◌, List, []}
+use Rattle.std.specs.Prelude.{Option, None, Some, option_map, string_bytes}
+use Rattle.tora_arq.specs.declared.times.Times.{Times}
+use Rattle.tora_core.specs.declared.erasure.Erasure.{Erasure}
+use Rattle.tora_lines.specs.Shortened.{shortened}
+use Rattle.tora_world.specs.declared.limits.Limits.{Limits}
+use Rattle.tora_world.specs.Topology.{greatest_limits, standard_limits}
+use Rattle.tora_script.specs.declared.setup.WorldOptions.{WorldOptions}
+use Rattle.tora_sim.specs.Store.{world_of}
+use Rattle.tora_drive.specs.DriveText.{DriveView, drive_reply, drive_rules}
+use Rattle.tora_drive.specs.DriveView.{view_of}
+use Rattle.tora_c.specs.CoreNode.{erasure_of}
+use Rattle.tora_c.specs.declared.world_node.WorldNode.{WorldNode}
+
+pub record WorldView : Type 0 where
+  pub options : WorldOptions
+  pub times : Times
+  pub drive : DriveView
+  pub answer : List ℕ  -- to the last line; none before the first one
+
+-- what a handle holds is the lists that the simulator stores, and the world is a function of them
+abbrev pub world_view : WorldNode → WorldView
+world_view n = record {
+  options = n.drive.options;
+  times = n.drive.times;
+  drive = view_of world_of n.drive;
+  answer = string_bytes n.answer;
+}
+
+abbrev pub held_world : Option WorldNode → Option WorldView
+held_world held = option_map world_view held
+
+-- ---- a new one
+
+abbrev pub limits_of : ℕ → Option Limits
+limits_of choice = if choice == 0 then Some standard_limits else if choice == 1 then Some greatest_limits else None
+
+abbrev pub options_with : Option Limits → Option Erasure → Option WorldOptions
+options_with None erasure = None
+options_with (Some limits) None = None
+options_with (Some limits) (Some erasure) = Some (record { limits = limits; erasure = erasure })
+
+-- None where there is no such choice
+abbrev pub options_of : ℕ → ℕ → Option WorldOptions
+options_of limits erasure = options_with (limits_of limits) (erasure_of erasure)
+
+abbrev pub first_world : WorldOptions → Times → WorldView
+first_world options times = record {
+  options = options;
+  times = times;
+  drive = (drive_rules options times).start;
+  answer = [];
+}
+
+-- ---- a line
+
+-- the world behind a line, which keeps the answer to it
+abbrev pub after_line : List ℕ → WorldView → WorldView
+after_line line w = record w {
+  drive = (drive_reply w.options w.times w.drive (shortened line)).0;
+  answer = (drive_reply w.options w.times w.drive (shortened line)).1;
+}
+
+-- as it was made
+abbrev pub anew : WorldView → WorldView
+anew w = first_world w.options w.times

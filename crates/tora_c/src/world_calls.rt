@@ -1,0 +1,105 @@
+//! The calls that make a driven world, let it go, hand it a line, and read the answer.
+ghost use Rattle.std.specs.Prelude.{◌≡◌, ◌⊎◌, MatchOption, None, Some, length, option_map};
+ghost use Rattle.tora_c.specs.Readers.{room_code, written};
+ghost use Rattle.tora_c.specs.RouterParts.{times_of};
+ghost use Rattle.tora_c.specs.WorldHeld.{after_line, anew, first_world, held_world, options_of, world_view};
+
+use crate::boxes::boxed;
+use crate::buffers::write;
+use crate::codes::{CHOICE, MEMORY, NULL, OK};
+use crate::router_parts::{TimesParts, times_of};
+use crate::world_handle::WorldHandle;
+use crate::world_node::{WorldNode, options_of};
+use std::alloc::Global;
+
+/// Makes a world at `world`, in the place of what was there: no line came to it.
+#[unsafe(no_mangle)]
+pub extern "C" fn tora_world_new(
+    alloc: Global,
+    world: &mut WorldHandle,
+    limits: u32,
+    erasure: u32,
+    times: &TimesParts,
+) -> u32
+    ensures made { result ≡ OK →
+        MatchOption (options_of limits erasure) ⊥
+        (λ o. held_world world.new.held ≡ Some (first_world o (times_of times.now))) }
+    ensures kept { ¬ (result ≡ OK) → world.new.held ≡ world.old.held }
+    ensures code { MatchOption (options_of limits erasure) (result ≡ CHOICE)
+        (λ _. (result ≡ OK) ⊎ (result ≡ MEMORY)) }
+{
+    let Some(options) = options_of(limits, erasure) else {
+        return CHOICE;
+    };
+    let node = WorldNode::new(alloc, options, times_of(times));
+    match boxed(alloc, node) {
+        Ok(node) => {
+            world.put(alloc, node);
+            OK
+        }
+        Err(code) => code,
+    }
+}
+
+/// Lets the world go, and leaves the handle null.
+#[unsafe(no_mangle)]
+pub extern "C" fn tora_world_free(alloc: Global, world: &mut WorldHandle)
+    ensures { world.new.held ≡ None }
+{
+    if let Some(node) = world.take(alloc) {
+        drop(node);
+    }
+}
+
+/// Hands the world a line, and keeps the answer, whose length is told. Where memory is refused, the world is as it was
+/// made.
+#[unsafe(no_mangle)]
+pub extern "C" fn tora_world_line(
+    alloc: Global,
+    world: &mut WorldHandle,
+    line: &[u8],
+    len: &mut usize,
+) -> u32
+    ensures code { MatchOption world.old.held (result ≡ NULL) (λ _. (result ≡ OK) ⊎ (result ≡ MEMORY)) }
+    ensures null { world.old.held ≡ None → world.new.held ≡ None }
+    ensures done { result ≡ OK →
+        held_world world.new.held ≡ option_map (after_line line.now) (held_world world.old.held) }
+    ensures memory { result ≡ MEMORY →
+        held_world world.new.held ≡ option_map anew (held_world world.old.held) }
+    ensures len { result ≡ OK → MatchOption (held_world world.new.held) ⊥ (λ w. len.new ≡ length w.answer) }
+    ensures kept { ¬ (result ≡ OK) → len.new ≡ len.old }
+{
+    let Some(mut node) = world.take(alloc) else {
+        return NULL;
+    };
+    let code = node.take_line(alloc, line);
+    if code == OK {
+        *len = node.answer.len();
+    }
+    world.put(alloc, node);
+    code
+}
+
+/// The answer to the last line.
+#[unsafe(no_mangle)]
+pub extern "C" fn tora_world_answer(
+    alloc: Global,
+    world: &mut WorldHandle,
+    text: &mut [u8],
+    len: &mut usize,
+) -> u32
+    ensures same { world.new.held ≡ world.old.held }
+    ensures code { MatchOption (held_world world.old.held) (result ≡ NULL)
+        (λ w. result ≡ room_code w.answer text.old) }
+    ensures text { MatchOption (held_world world.old.held) (text.new ≡ text.old)
+        (λ w. text.new ≡ written w.answer text.old) }
+    ensures len { MatchOption (held_world world.old.held) (len.new ≡ len.old)
+        (λ w. len.new ≡ length w.answer) }
+{
+    let Some(node) = world.take(alloc) else {
+        return NULL;
+    };
+    let code = write(node.answer.as_bytes(), text, len);
+    world.put(alloc, node);
+    code
+}

@@ -1,0 +1,60 @@
+//! Memory for the lanes of a node, between the turns of its core.
+ghost use Rattle.std.specs.Prelude.{◌≡◌, ◌+◌, ◌<◌, ◌≤◌, length};
+ghost use Rattle.tora_sim.specs.Store.{world_of};
+
+use crate::lanes::{make_room_at, shorten};
+use crate::sim::Sim;
+
+impl Sim {
+    /// If the lane of the link end at an index is empty, allocates memory there for all that one item of the node can
+    /// put, and marks the end as ready. If memory is refused, the next turn of the node's core asks again.
+    #[inline(always)]
+    pub(crate) fn make_ready_again(&mut self, at: usize)
+        ensures { world_of self.new ≡ world_of self.old }
+    {
+        if at >= self.links.len() {
+            return;
+        }
+        if self.links[at].has_cargo() {
+            return;
+        }
+        let _made = make_room_at(&mut self.links, &mut self.ready, at);
+    }
+
+    /// The same for the end of a seat, if the seat belongs to a neighbour. The ends of the node begin at the index
+    /// `first`.
+    #[inline(always)]
+    pub(crate) fn make_seat_ready(&mut self, first: usize, count: usize, seat: usize)
+        ensures { world_of self.new ≡ world_of self.old }
+    {
+        if seat < count {
+            self.make_ready_again(first.saturating_add(seat));
+        }
+    }
+
+    /// Gives long lists of lanes back to the spare lists, if a lane took one and no item waits for the core of the node
+    /// at the index `home`. The lanes are those of the `count` link ends from the index `first` on.
+    #[inline(always)]
+    pub(crate) fn shorten_lanes(&mut self, home: usize, first: usize, count: usize)
+        requires node { home < length self.old.nodes }
+        requires ends { first + count ≤ length self.old.links }
+        ensures { world_of self.new ≡ world_of self.old }
+    {
+        if self.spares.was_taken() {
+            self.shorten_now(home, first, count);
+        }
+    }
+
+    /// `shorten_lanes` after a lane took a list.
+    #[inline(never)]
+    fn shorten_now(&mut self, home: usize, first: usize, count: usize)
+        requires node { home < length self.old.nodes }
+        requires ends { first + count ≤ length self.old.links }
+        ensures { world_of self.new ≡ world_of self.old }
+    {
+        if self.nodes[home].waiting() > 0 {
+            return;
+        }
+        shorten(&mut self.links, &self.ready, &mut self.spares, first, count);
+    }
+}
