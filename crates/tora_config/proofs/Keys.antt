@@ -1,4 +1,4 @@
--- The keys of a table, as a loop over the table meets them.
+-- The keys of a table, in the order of a loop over the table.
 use Rattle.std.proofs.Common.{◌≡◌, refl, ap, List, [], ◌∷◌, map, ℕ, String, Global, string_bytes}
 use Rattle.std.specs.Map.{keys_of}
 use Rattle.toml.specs.declared.value.Value.{Value}

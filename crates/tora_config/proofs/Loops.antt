@@ -10,7 +10,7 @@ use Rattle.tora_config.specs.declared.fault.ConfigError.{ConfigError}
 use Rattle.tora_config.specs.declared.fault.ConfigError.TheVariants as Error
 use Rattle.tora_config.specs.Reading.{◌>>=◌, each_from, Fails}
 
--- what the values from i on give after those before
+-- the result of reading the values from index i on, after the items before them
 abbrev pub rest_of : {A : Type 0} → (List A → Data → Result A Fault) → List A → ℕ → List Value → Result (List A) Fault
 rest_of read before i values = each_from read before (items_view (drop i values))
 

@@ -1,4 +1,4 @@
--- Links in another order: a peer is repeated in one order exactly if it is in the other, and a core is refused alike.
+-- Links in another order: the same peers are repeated, and a core of them is refused for the same reason.
 use Rattle.std.proofs.Common.{◌≡◌, ◌≢◌, ◌∙◌, add-one, refl, ap, sym, subst, arith, ℕ, zero, suc, ◌+◌, ◌<◌, ◌≤◌, ◌==◌, Bool, true, false, cond, ◌||◌, List, [], ◌∷◌, length, get_or, inl, inr, None}
 use Rattle.std.specs.List.{sum_by}
 use Rattle.std.specs.List.Sorted.{IsPermutation, IsNonDecreasingBy}

@@ -16,7 +16,7 @@ pub record IsLinkConfig (link : LinkConfig) : Type 0 where
   pub local : 0 < link.local
   pub remote : 0 < link.remote
 
--- each of these numbers is above the one before it
+-- each number is greater than the one before it
 abbrev pub IsAscending : List ℕ → Type 0
 IsAscending numbers = (k : ℕ) → k + 1 < length numbers → slice_index numbers k < slice_index numbers (k + 1)
 
@@ -59,7 +59,7 @@ port_at key table = option_and_then port_said (get_member key table)
 abbrev pub port_in : List ℕ → Data → Option ℕ
 port_in key value = option_and_then port_said (get key value)
 
--- the three numbers of a link in a value, and those of the link
+-- the peer and the two ports of a link, as the TOML value has them
 abbrev pub says_of_link : Data → Option ℤ × (Option ℕ × Option ℕ)
 says_of_link value = (number_in (codes "peer") value, (port_in (codes "local") value, port_in (codes "remote") value))
 

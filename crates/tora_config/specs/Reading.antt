@@ -46,7 +46,7 @@ keys_of_link = codes "peer" ∷ codes "local" ∷ codes "remote" ∷ codes "key_
 
 -- ---- lists
 
--- the earlier items, and each of these values in turn, checked against them
+-- reads the values in turn, each one checked against the items before it; the result is all items, or the first fault
 abbrev pub each_from : {A : Type 0} → (List A → Data → Result A Fault) → List A → Items → Result (List A) Fault
 each_from read before no_items = Ok before
 each_from read before (item value values) = do
@@ -102,7 +102,7 @@ links_in node table = do
   _ ← refuse_if (length links == 0) (refused At.Links Is.Missing)
   Ok links
 
--- ---- the whole
+-- ---- the whole configuration
 
 abbrev pub has_core : Option CoreError → Result (Unit {0}) Fault
 has_core None = Ok tt
@@ -129,7 +129,7 @@ configuration_in table = do
 
 -- ---- the results of the functions
 
--- An error is the fault that reading found, unless memory ran out. A table is valid TOML.
+-- An error other than `Memory` is the fault that reading found. `Syntax` does not occur, as a table is valid TOML.
 abbrev pub Fails : {Y : Type 0} → ConfigError → Result Y Fault → Type 0
 Fails Error.Memory read = Unit {0}
 Fails (Error.Syntax e) read = ⊥
@@ -138,12 +138,12 @@ Fails (Error.UnknownLinkKey n key) read = read ≡ Err (unknown_link_key n (stri
 Fails (Error.Value place reason) read = read ≡ Err (refused place reason)
 Fails (Error.Core e) read = read ≡ Err (no_core e)
 
--- The view of a function's result is the result of reading, unless memory ran out.
+-- The function returns what reading gives, or `Memory`.
 abbrev pub Gives : {X Y : Type 0} → (X → Y) → Result X ConfigError → Result Y Fault → Type 0
 Gives view (Ok x) read = read ≡ Ok (view x)
 Gives view (Err e) read = Fails e read
 
--- The configuration has these numbers and bytes, with its links possibly in another order.
+-- The configuration has the values that were read, with its links possibly in another order.
 pub record IsOf (c : NodeConfig) (read : Configuration) : Type 0 where
   pub node : c.node ≡ read.node
   pub dests : c.dests.items ≡ read.dests
@@ -151,12 +151,12 @@ pub record IsOf (c : NodeConfig) (read : Configuration) : Type 0 where
   pub erasure : c.erasure ≡ read.erasure
   pub links : IsPermutation read.links c.links.items
 
--- The result is that of reading a table, unless memory ran out.
+-- The function returns the configuration that reading gives, its fault, or `Memory`.
 abbrev pub Reads : Result NodeConfig ConfigError → Result Configuration Fault → Type 0
 Reads (Ok c) read = (x : Configuration) × (read ≡ Ok x) × IsOf c x
 Reads (Err e) read = Fails e read
 
--- The result is that the text is not TOML, unless memory ran out.
+-- The result is the error `Syntax` or `Memory`.
 abbrev pub IsNoToml : {X : Type 0} → Result X ConfigError → Type 0
 IsNoToml (Err (Error.Syntax e)) = Unit {0}
 IsNoToml (Err Error.Memory) = Unit {0}

@@ -17,7 +17,7 @@ pub data Fault : Type 0 where
   refused : Place → Reason → Fault
   no_core : CoreError → Fault
 
--- the result of a look-up of a key: it is missing, or this
+-- the value at a key, as `read` reads it, or `Missing` if the key is missing
 abbrev pub found : {A : Type 0} → (Data → Result A Reason) → Option Data → Result A Reason
 found read None = Err Is.Missing
 found read (Some value) = read value
@@ -52,7 +52,7 @@ abbrev pub erasure_said : Option (List ℕ) → Result Erasure Reason
 erasure_said None = Err Is.NoText
 erasure_said (Some word) = ok_or Is.NoErasure (erasure_of word)
 
--- it is plain if the key is missing
+-- the treatment of erased levels at its key, which is plain if the key is missing
 abbrev pub erasure_at : Option Data → Result Erasure Reason
 erasure_at None = Ok Plain
 erasure_at (Some value) = erasure_said (as_str value)

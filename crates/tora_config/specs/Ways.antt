@@ -52,7 +52,7 @@ way_in n value = do
 abbrev pub way_beside : List WaySaid → Data → Result WaySaid Fault
 way_beside before value = way_in (length before + 1) value
 
--- those of each link, in the order of the text
+-- the addresses and the key file of each link, in the order of the text
 unfoldable pub ways_in : Members → Result (List WaySaid) Fault
 ways_in table = do
   values ← at_place At.Links (list_at (get_member (codes "link") table))

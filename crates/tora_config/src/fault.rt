@@ -37,7 +37,7 @@ impl Place {
     ghost use Rattle.std.specs.Prelude.{◌≡◌, ◌++◌};
     ghost use Rattle.tora_config.specs.FaultText.{place_text, number_text};
 
-    /// The words for it, and its number if it has one.
+    /// The name of this key and, for a link or a destination, its number.
     fn words(self) -> (&'static str, Option<usize>)
         ensures { place_text self ≡ result.0.now ++ number_text result.1 }
     {

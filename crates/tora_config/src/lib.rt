@@ -57,7 +57,7 @@ pub struct NodeConfig {
     pub dests: Vec<Id>,
     /// The folder of its life files, as it is given.
     pub life_dir: String,
-    /// How it treats erased levels.
+    /// How the node treats erased levels.
     pub erasure: Erasure,
     /// Its links, at least one, by ascending peer.
     pub links: Vec<LinkConfig>,

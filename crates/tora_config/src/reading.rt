@@ -24,7 +24,7 @@ use toml::{Table, Value};
 use tora_core::{Core, CoreError};
 use tora_height::Id;
 
-// Whether a configuration has the key.
+// Whether this is a key of a configuration.
 fn is_key(key: &str) -> bool
     ensures { result ≡ list_any (bytes_eq key.now) keys_of_configuration }
 {
@@ -44,7 +44,7 @@ fn check_keys(alloc: Global, table: &Table) -> Result<(), ConfigError>
     Ok(())
 }
 
-// Whether a link has the key.
+// Whether this is a key of a link.
 fn is_link_key(key: &str) -> bool
     ensures { result ≡ list_any (bytes_eq key.now) keys_of_link }
 {
@@ -208,7 +208,7 @@ fn peers_of(alloc: Global, links: &[LinkConfig]) -> Result<Vec<Id>, AllocError>
     links.iter().map(|link| link.peer).collect(alloc)
 }
 
-// Checks that a core accepts these.
+// Checks that `Core::new` accepts this node, these links and these destinations.
 fn check_core(
     alloc: Global,
     node: Id,

@@ -33,7 +33,7 @@ impl Reason {
     ghost use Rattle.std.specs.Prelude.{◌≡◌};
     ghost use Rattle.tora_config.specs.ReasonText.{reason_text};
 
-    /// The words for it.
+    /// The text of this reason.
     fn words(self) -> &'static str
         ensures { result.now ≡ reason_text self }
     {

@@ -12,7 +12,7 @@ use Rattle.tora_config.proofs.Lists.{all_of}
 use Rattle.tora_config.proofs.Loops.{rest_of, goes_on, ends, is_done}
 use Rattle.tora_config.proofs.reading.dests_in.Goals as goal
 
--- what a table gives is what its list gives
+-- the destinations in a table are those in the list at its key
 after : (table : Members) (values : List Value) → at_place At.Dests (list_at (get_member (codes "dests") table)) ≡ Ok (items_view values) → dests_in table ≡ rest_of dest_in [] 0 values
 unfolding dests_in
 after table values read = rw read

@@ -13,7 +13,7 @@ use Rattle.tora_config.proofs.Lists.{all_of}
 use Rattle.tora_config.proofs.Loops.{rest_of, goes_on, ends, is_done}
 use Rattle.tora_config.proofs.reading.listed_links.Goals as goal
 
--- what a table gives is what its list gives
+-- the links in a table are those in the list at its key
 after : (node : ℕ) (table : Members) (values : List Value) → at_place At.Links (list_at (get_member (codes "link") table)) ≡ Ok (items_view values) → listed_links node table ≡ rest_of (link_beside node) [] 0 values
 unfolding listed_links
 after node table values read = rw read

@@ -12,7 +12,7 @@ use Rattle.tora_config.specs.Ways.{said_way, way_beside, ways_in}
 use Rattle.tora_config.proofs.Loops.{rest_of, goes_on, ends, is_done}
 use Rattle.tora_config.proofs.ways.ways_of.Goals as goal
 
--- what a table gives is what its list gives
+-- the addresses in a table are those in the list at its key
 after : (table : Members) (values : List Value) → at_place At.Links (list_at (get_member (codes "link") table)) ≡ Ok (items_view values) → ways_in table ≡ rest_of way_beside [] 0 values
 unfolding ways_in
 after table values read = rw read
