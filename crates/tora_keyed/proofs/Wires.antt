@@ -1,4 +1,4 @@
--- What a wire inside has received, and what is let in of it.
+-- What the wire inside received, and which messages of it are authentic.
 use Rattle.std.proofs.Common.{subst, ◌≡◌, ◌∙◌, refl, sym, ap, arith, ℕ, ◌≤◌, Bool, true, false, ◌&&◌, List, [], ◌∷◌, ◌++◌, length, take, filter_map, Option, Some, None, Result, Ok, nat_lt}
 use Rattle.std.proofs.lemmas.List.{length-take-le, take_all}
 use Rattle.std.proofs.lemmas.List.Elements.{filter_map-append}
@@ -15,7 +15,7 @@ let_in-sealed key message short =
     let fits : nat_lt 576 (length (sealed key message)) ≡ false = rw (length-sealed key message) (grind (arith, common_steps, short)) in
     rw (fits, opened-sealed key message) refl
 
--- what is sent with its tag is among what was tried
+-- a message that is sent with its tag is among those that were tried
 pub tried : (key message : List ℕ) (tries before : List (List ℕ)) → length message ≤ 560 → tries ≡ before ++ sealed key message ∷ []
     → filter_map (let_in key) tries ≡ filter_map (let_in key) before ++ message ∷ []
 tried key message tries before short is =
@@ -23,7 +23,7 @@ tried key message tries before short is =
     ∙ filter_map-append (let_in key) before (sealed key message ∷ [])
     ∙ rw (let_in-sealed key message short) refl
 
--- a datagram that is cut to 577 bytes is let in as it would be whole
+-- a datagram that is cut to 577 bytes has the same authentic message as the whole one
 let_in-cut_at : (key datagram : List ℕ) (b : Bool) → nat_lt 576 (length datagram) ≡ b → let_in key (take 577 datagram) ≡ let_in key datagram
 let_in-cut_at key datagram true e =
     let long : 577 ≤ length datagram = grind (arith, common_steps, e) in
@@ -41,7 +41,7 @@ came_at : (key datagram : List ℕ) (rest : List (List ℕ)) (o : Option (List �
 came_at key datagram rest (Some message) written buffer e (is, cut) = rw (is, e) (message, refl, cut)
 came_at key datagram rest None written buffer e is = rw (is, e) refl
 
--- what is received through the room is received of what is let in
+-- a received message is one of the authentic messages among the coming datagrams
 pub came : (key : List ℕ) (coming rest : List (List ℕ)) (count place size : ℕ) (room buffer : List ℕ) (written : Option ℕ) → place ≡ 577 → IsReceived coming place (Ok (Some count)) room rest
     → Writes (let_in key (take count room)) written buffer → length buffer ≡ size
     → IsReceived (filter_map (let_in key) coming) size (Ok written) buffer (filter_map (let_in key) rest)
@@ -62,7 +62,7 @@ told_with : (o : Option (List ℕ)) (key : List ℕ) (told tells : Bool) → o �
 told_with None key told tells is tells_now = absurd cc
 told_with (Some k) key told tells is tells_now = right_of told tells tells_now
 
--- what was sent with its tag is among what the wire tells
+-- a message that was sent with its tag is among those that contracts know as sent
 pub sent_with_tag : (was now : Option (List ℕ)) (told tells : Bool) (key message : List ℕ) (tries before : List (List ℕ))
     → was ≡ Some key → now ≡ Some key → length message ≤ 560 → (IsTrue tells → tries ≡ before ++ sealed key message ∷ [])
     → IsTrue (tells_with now told tells) → without_tags now tries ≡ without_tags was before ++ message ∷ []
@@ -71,7 +71,7 @@ sent_with_tag was now told tells key message tries before was_is now_is short se
     (subst (λ (o : Option (List ℕ)). without_tags o tries ≡ filter_map (let_in key) before ++ message ∷ []) (sym now_is)
     (tried key message tries before short (sent (told_with now key told tells now_is tells_now))))
 
--- a receive under a key, of which this is what the wire inside did
+-- a receive with a key, from what the wire inside did
 pub received : {W : Type 0} (receive : W → Result (Option ℕ) WireError → List ℕ → W → Type 0) (old f now after : LinkView W) (key : List ℕ)
     (inner answer : Result (Option ℕ) WireError) (room buffer : List ℕ) → f ≡ old → now ≡ after → f.key ≡ Some key
     → receive f.wire inner room after.wire → GivesOf f key inner room answer buffer after → Receives receive old answer buffer now
@@ -105,7 +105,7 @@ through_tags was now key coming rest left size written buffer was_is now_is same
     (subst (λ (o : Option (List ℕ)). IsReceived (filter_map (let_in key) coming) size (Ok written) buffer (without_tags o left)) (sym now_is)
     (subst (λ (ds : List (List ℕ)). IsReceived (filter_map (let_in key) coming) size (Ok written) buffer (filter_map (let_in key) ds)) (sym same) here))
 
--- what came under a key is among what the wire tells
+-- a message received with a key is among those that contracts know as coming
 pub came_in : {W : Type 0} (tells : W → Bool) (coming : W → List (List ℕ)) (old f now : LinkView W) (key : List ℕ) (count place size : ℕ)
     (room buffer : List ℕ) (written : Option ℕ) (wire : W) → f ≡ old → now ≡ after_letting_in (record f { wire = wire }) written wire
     → f.key ≡ Some key → place ≡ 577 → (IsTrue (tells wire) → IsReceived (coming f.wire) place (Ok (Some count)) room (coming wire))

@@ -10,7 +10,7 @@ use Rattle.tora_key.specs.Sealing.{sealed, opened}
 abbrev pub let_in : List ℕ → List ℕ → Option (List ℕ)
 let_in key datagram = if nat_lt 576 (length datagram) then None else opened key datagram
 
--- where there is a key: those that are let in, without their tags
+-- with a key: the authentic datagrams, without their tags; without a key: the datagrams as they are
 abbrev pub without_tags : Option (List ℕ) → List (List ℕ) → List (List ℕ)
 without_tags None datagrams = datagrams
 without_tags (Some key) datagrams = filter_map (let_in key) datagrams
@@ -28,7 +28,7 @@ pub record LinkView (W : Type 0) : Type 0 where
 abbrev pub over : {W : Type 0} → W → Option (List ℕ) → LinkView W
 over wire key = record { wire = wire; key = key; told = true; unauthenticated = 0; failures = 0 }
 
--- the block of a key that was overwritten, where there was one
+-- the block of the key after `close`: zeros, if there is a key
 abbrev pub cleared_key : Option (List ℕ) → Option (List ℕ)
 cleared_key None = None
 cleared_key (Some key) = Some (replicate 64 0)
@@ -36,7 +36,7 @@ cleared_key (Some key) = Some (replicate 64 0)
 abbrev pub cleared : {W : Type 0} → LinkView W → LinkView W
 cleared f = record f { key = cleared_key f.key }
 
--- what it tells of itself: without a key what the wire inside does
+-- whether contracts know the datagrams: without a key, if they know those of the wire inside
 abbrev pub tells_with : Option (List ℕ) → Bool → Bool → Bool
 tells_with None told tells = tells
 tells_with (Some key) told tells = told && tells
@@ -56,8 +56,8 @@ failures_of failures f = failures_with f.key f.failures (failures f.wire)
 
 -- ---- its calls
 
--- Without a key: a call of the wire inside. With a key: what has no room for its tag is no call of that wire; any other
--- is sent with its tag.
+-- Without a key: a call of the wire inside. With a key: a message that leaves no room for its tag fails, with no call
+-- of the wire inside; any other message is sent with its tag.
 abbrev pub SendsWith : {W : Type 0} → (W → List ℕ → Result (Unit {0}) WireError → W → Type 0) → LinkView W
     → Option (List ℕ) → List ℕ → Result (Unit {0}) WireError → LinkView W → Type 0
 SendsWith send f None bytes answer after =
@@ -74,18 +74,18 @@ abbrev pub Sends : {W : Type 0} → (W → List ℕ → Result (Unit {0}) WireEr
     → Result (Unit {0}) WireError → LinkView W → Type 0
 Sends send f bytes answer after = SendsWith send f f.key bytes answer after
 
--- a message is written to the front of a buffer; where there is none, none is
+-- a message is written to the front of a buffer; without a message nothing is promised of the buffer
 abbrev pub Writes : Option (List ℕ) → Option ℕ → List ℕ → Type 0
 Writes (Some message) answer buffer = (answer ≡ Some (min (length buffer) (length message)))
     × IsCut message (length buffer) (min (length buffer) (length message)) buffer
 Writes None answer buffer = answer ≡ None
 
--- where no message was let in, that is counted
+-- a datagram without an authentic message is counted
 abbrev pub after_letting_in : {W : Type 0} → LinkView W → Option ℕ → W → LinkView W
 after_letting_in f (Some n) wire = record f { wire = wire }
 after_letting_in f None wire = record f { wire = wire; unauthenticated = min (f.unauthenticated + 1) (2 ^ 64 - 1) }
 
--- what a receive makes of what the wire inside has received into its room, under a key
+-- with a key: the result of a receive, from the result of the wire inside and its buffer
 abbrev pub GivesOf : {W : Type 0} → LinkView W → List ℕ → Result (Option ℕ) WireError → List ℕ
     → Result (Option ℕ) WireError → List ℕ → LinkView W → Type 0
 GivesOf f key (Ok (Some n)) room answer buffer after = (written : Option ℕ) × (answer ≡ Ok written)

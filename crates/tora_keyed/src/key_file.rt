@@ -6,13 +6,13 @@ ghost use Rattle.tora_keyed.specs.KeyFile.{digits_in};
 
 use tora_key::Key;
 
-/// The bytes of a key.
+/// The length of a key in bytes.
 pub const KEY: usize = 32;
 
-/// The greatest number of bytes that a file with a key has: two digits a byte, and a line feed.
+/// The length in bytes of the longest key file: two digits for each byte of the key, and a line feed.
 pub const LONGEST_KEY_FILE: usize = 2 * KEY + 1;
 
-// All but a line feed at the end.
+// The bytes without a line feed at the end.
 fn digits_in(bytes: &[u8]) -> &[u8]
     ensures { result.now ≡ digits_in bytes.now }
 {
@@ -24,9 +24,8 @@ fn digits_in(bytes: &[u8]) -> &[u8]
     }
 }
 
-/// The key that the bytes of a file say: 64 hexadecimal digits, and perhaps a line feed. `None` where they are no such.
-/// The room in which the key's bytes stood is overwritten once the key is made; who read the file overwrites what was
-/// read.
+/// The key in the bytes of a key file: 64 hexadecimal digits, optionally followed by a line feed. `None` for any other
+/// bytes. The decoded bytes are overwritten with zeros. The caller overwrites `bytes`.
 pub fn key_in(bytes: &[u8]) -> Option<Key>
     ensures { MatchResult (decode_sized (digits_in bytes.now) 32) (λ key. result ≡ Some (padded key))
         (λ _. result ≡ None) }

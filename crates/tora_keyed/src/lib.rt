@@ -1,9 +1,9 @@
 //! Neighbour links whose datagrams have tags.
 //!
-//! A `LinkWire` is a wire over any other one. Without a key, it is that wire. With a key, it puts the tag that the key
-//! makes of it behind each datagram that it sends, and it gives those that come with a right tag, without it. Whoever
-//! doesn't know the key makes no right tag (this is assumed of HMAC-SHA-256). A datagram that was tagged once may come
-//! any number of times and in any order, as the prefix law allows.
+//! A `LinkWire` wraps another wire. Without a key, it passes each call on. With a key, it appends a tag to each
+//! datagram that it sends, and it delivers a received datagram only if its tag is right, without the tag. Only who
+//! knows the key can make a right tag (this is assumed of HMAC-SHA-256). A datagram that was tagged once may arrive any
+//! number of times and in any order, as the prefix law allows.
 #![tactic(auto)]
 
 mod key_file;

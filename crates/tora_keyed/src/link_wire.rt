@@ -11,20 +11,19 @@ use tora_height::Id;
 use tora_key::{Key, TAG};
 use tora_neighbour::{Clock, Wire, WireError};
 
-/// The bytes of the room for a datagram and its tag, and one more, so that one that was cut is seen.
+/// The size in bytes of the buffer for a datagram and its tag, with one more byte, so that a cut datagram is noticed.
 const ROOM: usize = LONGEST_FRAME + 1 + TAG;
 
-/// The wire of a link over another one: without a key that wire as it is, and with a key the same with a tag behind
-/// each datagram.
+/// The wire of a link, over another wire. Without a key, it passes each call on. With a key, it appends a tag to each
+/// datagram.
 ///
-/// With a key, a send puts the tag of the datagram behind it. A datagram of more than 560 bytes, which is no frame, is
-/// not sent: that is counted as a failed call, and from then on contracts are told no datagrams. Calls that the wire
-/// inside fails are counted, too. A receive gives an authentic datagram without its tag. Any other is counted, and the
-/// answer is `None`. What was tagged once may come any number of times. The counts begin at 0 and stay at 2^64 - 1. No
-/// call takes memory.
+/// The rest holds with a key. A datagram of more than 560 bytes, which is not a frame, is not sent: the call fails, and
+/// from then on contracts no longer say which datagrams were sent and received. A receive returns an authentic datagram
+/// without its tag; it counts any other datagram, and returns `None`. Failed calls are counted, too. The counts begin
+/// at 0 and stay at 2^64 - 1. No call allocates memory.
 ///
-/// The log has a line where datagrams come that are not authentic, at most once a minute: `link 2 unauthenticated
-/// datagrams 17`, with the count since the wire was made. Once the link has ended, `close` logs the last count and
+/// If datagrams arrive that are not authentic, the log has a line at most once a minute: `link 2 unauthenticated
+/// datagrams 17`, with the count since the wire was made. At the end of the link, `close` logs the last count and
 /// overwrites the key.
 #[derive(Drop)]
 pub struct LinkWire<'a, W: Wire, C, L> {
@@ -50,8 +49,7 @@ impl<'a, W: Wire, C, L> Model for LinkWire<'a, W, C, L> {
 }
 
 impl<'a, W: Wire, C: Clock, L: Log> LinkWire<'a, W, C, L> {
-    /// The wire of the link to `peer` over this one, with this key or without one. It logs to `log`, and `clock` tells
-    /// when.
+    /// The wire of the link to `peer` over `wire`. It logs to `log`, and `clock` limits how often.
     pub fn new(wire: W, key: Option<Key>, peer: Id, clock: C, log: &'a L) -> LinkWire<'a, W, C, L>
         ensures { result ≡ over wire key }
     {
@@ -66,7 +64,7 @@ impl<'a, W: Wire, C: Clock, L: Log> LinkWire<'a, W, C, L> {
         }
     }
 
-    /// How many datagrams that were not authentic have come, and 2^64 - 1 from there on. Without a key 0.
+    /// How many datagrams arrived that were not authentic, at most 2^64 - 1; 0 without a key.
     pub fn unauthenticated(&self) -> u64
         ensures count { result ≡ self.now.unauthenticated }
         ensures plain { self.now.key ≡ None → result ≡ 0 }
@@ -74,8 +72,8 @@ impl<'a, W: Wire, C: Clock, L: Log> LinkWire<'a, W, C, L> {
         self.unauthenticated
     }
 
-    /// Where the link has a key: logs how many datagrams were not authentic, and overwrites the key and the room in
-    /// which datagrams stood. From then on the key is the one whose block is zeros. For the end of a link.
+    /// Closes a link with a key: logs how many datagrams were not authentic, and overwrites the key and the buffer with
+    /// zeros. Without a key nothing happens.
     pub fn close(&mut self)
         ensures { self.new ≡ cleared self.old }
     {
@@ -92,7 +90,7 @@ impl<'a, W: Wire, C: Clock, L: Log> LinkWire<'a, W, C, L> {
         self.failures = self.failures.saturating_add(1);
     }
 
-    /// Counts a datagram that was not let in, and logs the count where a line is due.
+    /// Counts a datagram that was rejected (`written` is `None`), and logs the count if a line is due.
     fn note(&mut self, written: Option<usize>)
         requires { self.old.key ≢ None }
         ensures { self.new ≡ after_letting_in self.old written self.old.wire }
@@ -106,7 +104,7 @@ impl<'a, W: Wire, C: Clock, L: Log> LinkWire<'a, W, C, L> {
         }
     }
 
-    /// Logs the count where a line is due.
+    /// Logs the count if a line is due.
     fn notice(&mut self)
         ensures { self.new ≡ self.old }
     {
@@ -114,7 +112,7 @@ impl<'a, W: Wire, C: Clock, L: Log> LinkWire<'a, W, C, L> {
     }
 }
 
-// Copies as much as fits, and answers how much.
+// Copies as much as fits, and returns how many bytes it copied.
 fn copy_into(datagram: &[u8], buf: &mut [u8]) -> usize
     ensures count { result ≡ min (length buf.new) (length datagram.now) }
     ensures cut { IsCut datagram.now (length buf.new) result buf.new }
@@ -124,7 +122,8 @@ fn copy_into(datagram: &[u8], buf: &mut [u8]) -> usize
     count
 }
 
-// Writes the message of a datagram to the front of a buffer, where it is let in, and answers how many bytes it wrote.
+// Writes the message of an authentic datagram to the front of `buf`, and returns how many bytes it wrote; `None` for
+// any other datagram.
 fn let_in(key: &Key, datagram: &[u8], buf: &mut [u8]) -> Option<usize>
     ensures { Writes (let_in key.now datagram.now) result buf.new }
 {

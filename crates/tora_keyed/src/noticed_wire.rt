@@ -1,4 +1,4 @@
-//! What the log says of the datagrams of a link that were not let in. Each of its lines names this module.
+//! Log lines that report how many datagrams of a link were rejected. Each line names this module.
 ghost use Rattle.std.specs.Prelude.{◌≡◌, None};
 ghost use Rattle.tora_keyed.specs.Notices.{is_new, has_passed, is_told, after_count};
 
@@ -7,10 +7,10 @@ use std::marker::Model;
 use tora_height::Id;
 use tora_neighbour::Clock;
 
-/// The ticks of 100 ms of a minute.
+/// The ticks in a minute, of 100 ms each.
 const MINUTE: u64 = 600;
 
-/// What the log says of the link to `peer`, and when a count is told: where it is a new one, and at most once a minute.
+/// The log of the link to `peer`. It logs a count if the count is new, at most once a minute.
 #[derive(Drop)]
 pub(crate) struct Notices<'a, C, L> {
     peer: Id,
@@ -29,7 +29,7 @@ impl<'a, C, L> Model for Notices<'a, C, L> {
 }
 
 impl<'a, C: Clock, L: Log> Notices<'a, C, L> {
-    /// Nothing was told yet, which is a count of 0.
+    /// A log with no line yet; the last logged count is 0.
     pub(crate) fn new(peer: Id, clock: C, log: &'a L) -> Notices<'a, C, L>
         ensures { result ≡ record { told = 0; last = None } }
     {
@@ -42,7 +42,7 @@ impl<'a, C: Clock, L: Log> Notices<'a, C, L> {
         }
     }
 
-    /// Logs a count where a line is due.
+    /// Logs a count if a line is due.
     pub(crate) fn notice(&mut self, count: u64) {
         if !self.is_new(count) {
             return;
@@ -54,21 +54,21 @@ impl<'a, C: Clock, L: Log> Notices<'a, C, L> {
         }
     }
 
-    /// Logs the last count.
+    /// Logs the final count.
     pub(crate) fn close(&self, count: u64) {
         let peer = self.peer;
         info!(self.log; "link {peer} unauthenticated datagrams {count}");
     }
 
-    /// Whether a count is another one than the last that was told.
+    /// Whether a count differs from the last one that was logged.
     fn is_new(&self, count: u64) -> bool
         ensures { result ≡ is_new self.now count }
     {
         count != self.told
     }
 
-    /// Whether a count is told now: it is another one than the last that was told, and a minute has passed since then
-    /// or the clock has gone back.
+    /// Whether a count is due at this tick: it differs from the last one that was logged, and a minute has passed since
+    /// that one or the clock has gone back. If so, it becomes the last one.
     fn is_told(&mut self, count: u64, now: u64) -> bool
         ensures told { result ≡ is_told self.old count now }
         ensures after { self.new ≡ after_count self.old count now }
@@ -82,7 +82,7 @@ impl<'a, C: Clock, L: Log> Notices<'a, C, L> {
     }
 }
 
-/// Whether a minute has passed since then, or the clock has gone back.
+/// Whether a minute has passed since the tick `last`, or the clock has gone back; true if there is no such tick.
 fn has_passed(last: Option<u64>, now: u64) -> bool
     ensures { result ≡ has_passed last now }
 {
