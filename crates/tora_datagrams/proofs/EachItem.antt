@@ -1,4 +1,4 @@
--- What holds of each item of a list where one is put in the place of another, and what stands at a place where more come behind.
+-- Facts on all items of a list if one item is replaced, and on the item at an index if more items are appended.
 use Rattle.std.proofs.Common.{◌≡◌, ℕ, zero, suc, ◌<◌, ◌≤◌, ◌⊎◌, inl, inr, List, [], ◌∷◌, ◌++◌, length, set, slice_get, Some, refl, sym, ap, ◌∙◌, subst, arith, ltb}
 use borrow.Author.Tests.{ltb-true, ltb-false}
 use Rattle.std.specs.Prelude.{slice_set}
@@ -29,7 +29,7 @@ each_set {A} P xs at new lt is h k x there = go (cases_eq k at)
     go (inl e) = subst P (same_Some new x (sym (set_same xs at new lt) ∙ ap (slice_get (slice_set xs at new)) (sym e) ∙ there)) is
     go (inr apart) = h k x (sym (set_other xs at k new apart) ∙ there)
 
--- what stood at a place stays there
+-- the item at an index stays if items are appended
 pub stays : {A : Type 0} (xs after : List A) → IsMore xs after → (place : ℕ) (x : A) → slice_get xs place ≡ Some x → slice_get after place ≡ Some x
 stays xs after more place x e = ap (λ ys. slice_get ys place) more.1 ∙ stays_at xs more.0 place (within xs place x e) ∙ e
 
@@ -37,6 +37,6 @@ pub last_at : {A : Type 0} (xs : List A) (x : A) → slice_get (xs ++ x ∷ []) 
 last_at [] x = refl
 last_at (y ∷ xs) x = last_at xs x
 
--- what came last
+-- the item that was appended
 pub kept_last : {A : Type 0} (xs after : List A) (x : A) (place : ℕ) → after ≡ xs ++ x ∷ [] → place ≡ length xs → slice_get after place ≡ Some x
 kept_last xs after x place e q = ap (λ ys. slice_get ys place) e ∙ ap (slice_get (xs ++ x ∷ [])) q ∙ last_at xs x

@@ -1,4 +1,4 @@
--- Frames whose packets stand apart, where more packets come behind those that are kept.
+-- Stored frames with their packets in another list, to which more packets are appended.
 use Rattle.std.proofs.Common.{◌≡◌, ℕ, ◌+◌, ◌-◌, ◌≤◌, List, [], ◌∷◌, ◌++◌, map, length, drop, refl, sym, ap, ◌∙◌, subst, arith, length-append, length-drop}
 use Rattle.std.specs.Prelude.{slice_range}
 use Rattle.std.specs.List.{AllByRecursion}
@@ -12,7 +12,7 @@ use Rattle.tora_datagrams.specs.declared.kept_frames.KeptBody.TheVariants.{Hello
 use Rattle.tora_datagrams.specs.declared.kept_frames.KeptFrame.{KeptFrame}
 use Rattle.tora_datagrams.specs.Datagrams.{body_in, frame_in, IsWithin, IsKept, IsMore}
 
--- packets that are kept stay where they are
+-- stored packets keep their indexes
 range_stays : (xs ys : List Packet) (from many : ℕ) → from + many ≤ length xs → slice_range (xs ++ ys) from (from + many) ≡ slice_range xs from (from + many)
 range_stays xs ys from many h =
     let e : (from + many) - from ≡ many = omega arith in
@@ -20,13 +20,13 @@ range_stays xs ys from many h =
     let front : from ≤ length xs = omega (arith, h) in
     rw (e, drop-append-le from xs ys front, take-append-le many (drop from xs) ys behind) refl
 
--- and those that come behind them stand there
+-- appended packets are at the end
 range_behind : (xs ys : List Packet) → slice_range (xs ++ ys) (length xs) (length xs + length ys) ≡ ys
 range_behind xs ys =
     let e : (length xs + length ys) - length xs ≡ length ys = omega arith in
     rw (e, drop-append_seam xs ys) (take_all (length ys) ys (omega arith))
 
--- a body of packets that were appended, by how many they are and the place of the first
+-- the body with the appended packets, by their number and the index of the first
 module _ (xs ys carried : List Packet) (from : ℕ) (more : ys ≡ xs ++ carried) (first : from ≡ length xs) where
   range_of : slice_range ys from (from + length carried) ≡ carried
   range_of = rw (more, first) (range_behind xs carried)
@@ -47,7 +47,7 @@ within_more xs ys Hello h = tt
 within_more xs ys (Data many from number count) h = omega (arith, h, length-append xs ys)
 within_more xs ys (Ack count) h = tt
 
--- a frame that is kept stays so, where more packets come
+-- a stored frame is the same after packets are appended
 module _ (xs more : List Packet) where
   frame_stays : (kept : KeptFrame) → IsKept xs kept → frame_in (xs ++ more) kept ≡ frame_in xs kept
   frame_stays kept h = ap (frame_of kept.header) (body_stays xs more kept.body h.within)
@@ -68,7 +68,7 @@ module _ (xs more : List Packet) where
     all_kept frames one h.1 is,
   )
 
--- a frame more, whose body is kept
+-- one more frame, whose body is stored
 module _ (xs ys : List Packet) (frames after : List KeptFrame) (kept : KeptFrame) (f : FrameParts) (packets : IsMore xs ys) (is : frame_in ys kept ≡ f)
     (one : after ≡ frames ++ kept ∷ []) (h : AllByRecursion (IsKept xs) frames) where
   pub pushed : map (frame_in ys) after ≡ map (frame_in xs) frames ++ f ∷ []

@@ -1,4 +1,4 @@
--- Datagrams as places of frames that are kept, where more frames come behind those.
+-- Datagrams as indexes of stored frames, to which more frames are appended.
 use Rattle.std.proofs.Common.{◌≡◌, ℕ, zero, suc, ◌<◌, List, [], ◌∷◌, ◌++◌, length, slice_get, Some, None, Option, refl, sym, ap, ◌∙◌, subst, arith, length-append, append-nil}
 use Rattle.std.specs.List.{cons_option}
 use Rattle.std.proofs.lemmas.List.Elements.{filter_map-append}
@@ -6,13 +6,13 @@ use Rattle.tora_frame.specs.FrameParts.{FrameParts}
 use Rattle.tora_datagrams.specs.Datagrams.{IsMore}
 use Rattle.tora_datagrams.specs.SentFrames.{AreWithin, sent_frames}
 
--- within the list there is an item
+-- a list has an item at each index below its length
 pub item_at : {A : Type 0} (xs : List A) (n : ℕ) → n < length xs → (x : A) × (slice_get xs n ≡ Some x)
 item_at [] n h = absurd (omega (arith, h))
 item_at (x ∷ xs) zero h = (x, refl)
 item_at (x ∷ xs) (suc n) h = item_at xs n (omega (arith, h))
 
--- and an item is within it
+-- the index of an item is below the length
 pub within : {A : Type 0} (xs : List A) (n : ℕ) (x : A) → slice_get xs n ≡ Some x → n < length xs
 within [] n x e = absurd cc
 within (y ∷ xs) zero x e = omega arith
@@ -30,7 +30,7 @@ as_many frames (place ∷ places) h =
     let here = item_at frames place h.0 in
     ap (λ (o : Option FrameParts). length (cons_option o (sent_frames frames places))) here.1 ∙ ap suc (as_many frames places h.1)
 
--- the datagram of a place is its frame
+-- the datagram at an index is the frame with its frame index
 pub sent_at : (frames : List FrameParts) (places : List ℕ) (k place : ℕ) → AreWithin frames places → slice_get places k ≡ Some place
     → slice_get frames place ≡ slice_get (sent_frames frames places) k
 sent_at frames [] k place h e = absurd cc
@@ -60,7 +60,7 @@ within_more : (frames more : List FrameParts) (places : List ℕ) (place : ℕ) 
 within_more frames more [] place h lt = (lt, tt)
 within_more frames more (other ∷ places) place h lt = (omega (arith, h.0, length-append frames more), within_more frames more places place h.1 lt)
 
--- a datagram more, whose frame stands at this place of frames that may be more
+-- one more datagram, whose frame is at this index of the frames, after more frames may have been appended
 module _ (frames after : List FrameParts) (places : List ℕ) (place : ℕ) (frame : FrameParts) (more : IsMore frames after) (is : slice_get after place ≡ Some frame) (h : AreWithin frames places) where
   pub one_more : sent_frames after (places ++ place ∷ []) ≡ sent_frames frames places ++ frame ∷ []
   one_more =
@@ -73,11 +73,11 @@ module _ (frames after : List FrameParts) (places : List ℕ) (place : ℕ) (fra
       subst (λ (xs : List FrameParts). AreWithin xs (places ++ place ∷ [])) (sym more.1)
       (within_more frames more.0 places place h (subst (λ (xs : List FrameParts). place < length xs) more.1 (within after place frame is)))
 
--- no frame came
+-- no frame was appended
 pub no_more : (frames : List FrameParts) → IsMore frames frames
 no_more frames = ([], sym (append-nil frames))
 
--- two datagrams more, whose frames stand among those that are kept
+-- two more datagrams, whose frames are stored already
 module _ (frames : List FrameParts) (places : List ℕ) (one two : ℕ) (first second : FrameParts) (is : slice_get frames one ≡ Some first) (is' : slice_get frames two ≡ Some second) (h : AreWithin frames places) where
   within_one : AreWithin frames (places ++ one ∷ [])
   within_one = all_within frames frames places one first (no_more frames) is h

@@ -1,4 +1,4 @@
--- Datagrams as they are kept: frames in one list, and the packets of all DATA frames in another.
+-- Stored datagrams: frames in one list, and the packets of all DATA frames in another.
 use Rattle.std.specs.Prelude.{◌≡◌, ℕ, ◌+◌, ◌-◌, ◌^◌, ◌≤◌, ◌<◌, ◌++◌, List, Vec, length, map, min, slice_range, vec_capacity}
 use Rattle.tora_packet.specs.declared.Packet.{Packet}
 use Rattle.tora_frame.specs.declared.parts.Body.{Body}
@@ -14,7 +14,7 @@ pub record DatagramList : Type 0 where
   pub places : ℕ
   pub packet_places : ℕ
 
--- from which node to which a datagram goes
+-- the sender and the receiver of a datagram
 abbrev pub way_of : FrameParts → ℕ × ℕ
 way_of f = (f.header.sender, f.header.receiver)
 
@@ -22,7 +22,7 @@ way_of f = (f.header.sender, f.header.receiver)
 abbrev pub HasRoom : DatagramList → Type 0
 HasRoom d = (0 < d.places) × (16 ≤ d.packet_places)
 
--- the body that is kept so
+-- the body of a stored frame, with its packets
 abbrev pub body_in : List Packet → KeptBody → Body
 body_in packets Hello = Carries.Hello
 body_in packets (Data many from number count) = Carries.Data number count
@@ -32,7 +32,7 @@ body_in packets (Ack count) = Carries.Ack count
 abbrev pub frame_in : List Packet → KeptFrame → FrameParts
 frame_in packets kept = frame_of kept.header (body_in packets kept.body)
 
--- its packets are among those that are kept
+-- the packets of a stored frame are among the stored packets
 abbrev pub IsWithin : List Packet → KeptBody → Type 0
 IsWithin packets Hello = Unit {0}
 IsWithin packets (Data many from number count) = from + many ≤ length packets
@@ -42,11 +42,11 @@ pub record IsKept (packets : List Packet) (kept : KeptFrame) : Type 0 where
   pub within : IsWithin packets kept.body
   pub frame : IsFrame (frame_in packets kept)
 
--- for how many more items a list has memory whose places fit 32 bits
+-- how many more items a list has memory for, with indexes that fit 32 bits
 abbrev pub short_places : {A : Type 0} {B : Type 0} → Vec A B → ℕ
 short_places items = min (vec_capacity items - length items.items) (2 ^ 32 - length items.items)
 
--- the frames that are kept in these lists, and for how many more there is room
+-- the frames stored in these lists, and for how many more there is room
 abbrev pub kept_list : {A B : Type 0} → Vec KeptFrame A → Vec Packet B → DatagramList
 kept_list frames packets = record {
   items = map (frame_in packets.items) frames.items;
@@ -54,6 +54,6 @@ kept_list frames packets = record {
   packet_places = short_places packets;
 }
 
--- items may have come behind those that were there
+-- the second list is the first with items appended, possibly none
 abbrev pub IsMore : {A : Type 0} → List A → List A → Type 0
 IsMore {A} items after = (more : List A) × (after ≡ items ++ more)

@@ -1,14 +1,14 @@
--- Datagrams as places of frames that are kept.
+-- Datagrams as indexes of stored frames.
 use Rattle.std.specs.Prelude.{ℕ, ◌-◌, ◌<◌, min, List, Vec, length, slice_get, vec_capacity}
 use Rattle.std.specs.List.{AllByRecursion, filter_map}
 use Rattle.tora_frame.specs.FrameParts.{FrameParts}
 use Rattle.tora_datagrams.specs.Datagrams.{DatagramList}
 
--- each place is one of a frame
+-- each index is that of a frame
 abbrev pub AreWithin : List FrameParts → List ℕ → Type 0
 AreWithin frames places = AllByRecursion (λ place. place < length frames) places
 
--- the frames that stand at these places
+-- the frames at these indexes
 abbrev pub sent_frames : List FrameParts → List ℕ → List FrameParts
 sent_frames frames places = filter_map (slice_get frames) places
 

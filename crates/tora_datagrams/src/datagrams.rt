@@ -14,14 +14,14 @@ use tora_height::Id;
 
 /// All datagrams that were ever sent, in order.
 ///
-/// Most of them are HELLOs that say what the last one of their link end said: such a frame is kept once, and a datagram
-/// is the place of its frame, in four bytes.
+/// Most of them are HELLOs that repeat the last HELLO of their link end. Such a frame is stored once, and each datagram
+/// is the index of its frame, in four bytes.
 #[derive(Drop)]
 pub struct Datagrams {
     frames: KeptFrames,
-    /// Of each datagram the place of its frame.
+    /// For each datagram the index of its frame.
     places: Vec<u32>,
-    /// For each link end guesses at the indexes of its last HELLOs among the frames.
+    /// For each link end guesses at the frame indexes of its last HELLOs.
     hellos: Vec<LastHellos>,
 }
 
@@ -37,7 +37,7 @@ impl Model for Datagrams {
 }
 
 impl Datagrams {
-    /// No datagrams.
+    /// An empty list of datagrams.
     pub fn new(alloc: Global) -> Datagrams
         ensures { result.items ≡ [] }
     {
@@ -48,17 +48,17 @@ impl Datagrams {
         }
     }
 
-    /// How many there are.
+    /// The number of datagrams.
     pub fn len(&self) -> usize
         ensures { result ≡ length self.now.items }
     {
         self.places.len()
     }
 
-    /// Makes room for one more, which the link end at a place sends.
+    /// Makes room for one more datagram of the link end with this index.
     ///
     /// # Errors
-    /// Want of memory, or as many frames or packets as can be kept.
+    /// Memory ran out, or no more frames or packets can be stored.
     #[inline(always)]
     pub fn reserve(&mut self, end: usize) -> Result<(), AllocError>
         ensures items { self.new.items ≡ self.old.items }
@@ -72,8 +72,8 @@ impl Datagrams {
         self.places.reserve(1)
     }
 
-    /// Appends a datagram that the link end at a place sends to the one that may stand at the place `far_end`. There
-    /// must be room for it.
+    /// Appends a datagram from the link end at the index `end`. `far_end` is a guess at the index of the receiving link
+    /// end. There must be room for the datagram.
     #[inline(always)]
     pub fn push(&mut self, end: usize, far_end: u32, frame: &BorrowedFrame<'_>)
         requires { HasRoom self.old }
@@ -90,7 +90,7 @@ impl Datagrams {
         }
     }
 
-    /// Appends a datagram with a new frame, and returns the index of the frame.
+    /// Stores a new frame, appends a datagram with it, and returns the index of the frame.
     #[inline(always)]
     fn push_frame(&mut self, far_end: u32, frame: &BorrowedFrame<'_>) -> u32
         requires { HasRoom self.old }
@@ -101,8 +101,8 @@ impl Datagrams {
         place
     }
 
-    /// Appends a HELLO of this header that the link end at a place sends to the one that may stand at the place
-    /// `far_end`. There must be room for it.
+    /// Appends a HELLO with this header from the link end at the index `end`. `far_end` is a guess at the index of the
+    /// receiving link end. There must be room for the datagram.
     #[inline(always)]
     pub fn push_hello(&mut self, end: usize, far_end: u32, header: &Header)
         requires room { HasRoom self.old }
@@ -115,7 +115,7 @@ impl Datagrams {
         }
     }
 
-    /// Appends a HELLO whose frame is kept now.
+    /// Appends a HELLO as a new frame.
     #[inline(never)]
     fn push_new_hello(&mut self, end: usize, far_end: u32, header: &Header)
         requires room { HasRoom self.old }
@@ -127,8 +127,8 @@ impl Datagrams {
         note_hello(&mut self.hellos, end, header, place);
     }
 
-    /// Appends two HELLOs of these headers, one after the other, that the link end at a place sends, where both say
-    /// what its last ones said and there is room for two; and answers whether it did. Else nothing is changed.
+    /// Appends two HELLOs with these headers from the link end at the index `end`, and returns true, if both repeat its
+    /// last HELLOs and there is room for two datagrams. Otherwise it changes nothing and returns false.
     #[inline(always)]
     pub fn push_pair(&mut self, end: usize, _far_end: u32, first: &Header, second: &Header) -> bool
         requires first { IsHeader first.now }
@@ -196,7 +196,7 @@ impl Datagrams {
     }
 }
 
-/// The index of the frame of the datagram at an index.
+/// The frame index of the datagram at the index `at`.
 #[inline(always)]
 fn place_at(places: &Vec<u32>, at: usize) -> Option<u32>
     ensures { result ≡ slice_get places.now.items at }
@@ -204,7 +204,7 @@ fn place_at(places: &Vec<u32>, at: usize) -> Option<u32>
     places.get(at).copied()
 }
 
-/// The place of a HELLO of this header, if the last one of its version that the link end at a place sent says the same.
+/// The frame index of the last HELLO with the header's version that the link end sent, if its header is this one.
 #[inline(always)]
 fn found_hello(
     frames: &KeptFrames,
@@ -225,7 +225,7 @@ fn found_hello(
     if is_same { Some(place) } else { None }
 }
 
-/// Notes where the last HELLO of its version stands that the link end at a place sends.
+/// Stores the frame index of the last HELLO with the header's version that the link end sent.
 fn note_hello(hellos: &mut Vec<LastHellos>, end: usize, header: &Header, place: u32) {
     if end < hellos.len() {
         hellos[end] = hellos[end].with_place(header.version, place);

@@ -13,22 +13,22 @@ use tora_frame::{BorrowedBody, BorrowedFrame, Header, MOST_PACKETS};
 use tora_height::Id;
 use tora_packet::Packet;
 
-/// The most frames, and the most packets, that are kept: the place of each fits 32 bits.
+/// The most frames, and the most packets, that are stored: the index of each fits 32 bits.
 const MOST_KEPT: usize = 0x1_0000_0000;
 
-/// What a frame carries, but for the packets of a DATA frame.
+/// The body of a stored frame, without the packets of a DATA frame.
 #[derive(Drop)]
 pub enum KeptBody {
     /// A HELLO.
     Hello,
-    /// How many packets there are, the place of the first among all that are kept, its number, and the count of packets
-    /// accepted.
+    /// A DATA frame: the number of its packets, the index of the first among all stored packets, the number of the
+    /// first in its session, and the count of packets accepted.
     Data(u8, u32, u64, u64),
-    /// The count of packets accepted.
+    /// An ACK frame: the count of packets accepted.
     Ack(u64),
 }
 
-/// A frame as it is kept.
+/// A stored frame.
 #[derive(Drop)]
 pub struct KeptFrame {
     header: Header,
@@ -46,7 +46,7 @@ impl KeptFrame {
         self.header
     }
 
-    /// Whether it is a HELLO.
+    /// Whether the frame is a HELLO.
     #[inline(always)]
     fn is_hello(&self) -> bool
         ensures { IsTrue result → self.now.body ≡ KeptBody.Hello }
@@ -55,7 +55,7 @@ impl KeptFrame {
     }
 }
 
-/// Frames in the order in which they came.
+/// Stored frames, in order of arrival.
 #[derive(Drop)]
 pub struct KeptFrames {
     frames: Vec<KeptFrame>,
@@ -74,7 +74,7 @@ impl Model for KeptFrames {
 }
 
 impl KeptFrames {
-    /// No frames.
+    /// An empty list of frames.
     pub fn new(alloc: Global) -> KeptFrames
         ensures { result.items ≡ [] }
     {
@@ -84,10 +84,10 @@ impl KeptFrames {
         }
     }
 
-    /// Makes room for one more.
+    /// Makes room for one more frame.
     ///
     /// # Errors
-    /// Want of memory, or as many frames or packets as can be kept.
+    /// Memory ran out, or no more frames or packets can be stored.
     #[inline(always)]
     pub fn reserve(&mut self) -> Result<(), AllocError>
         ensures items { self.new.items ≡ self.old.items }
@@ -167,7 +167,7 @@ impl KeptFrames {
     }
 }
 
-/// Keeps what a frame carries.
+/// Stores the packets of a frame, and returns its body.
 fn keep_body(packets: &mut Vec<Packet>, frame: &BorrowedFrame<'_>) -> KeptBody
     requires places { vec_len packets.old + 16 ≤ vec_capacity packets.old }
     requires numbers { vec_len packets.old + 16 ≤ 2 ^ 32 }
@@ -183,7 +183,7 @@ fn keep_body(packets: &mut Vec<Packet>, frame: &BorrowedFrame<'_>) -> KeptBody
     }
 }
 
-/// Keeps what a DATA frame carries.
+/// Stores the packets of a DATA frame, and returns its body.
 fn keep_data(packets: &mut Vec<Packet>, number: u64, count: u64, carried: &[Packet]) -> KeptBody
     requires many { length carried.now ≤ 16 }
     requires places { vec_len packets.old + 16 ≤ vec_capacity packets.old }
@@ -208,7 +208,7 @@ fn append(packets: &mut Vec<Packet>, carried: &[Packet])
     }
 }
 
-/// The frame that is kept so.
+/// The frame that is stored as `kept`.
 #[inline(always)]
 fn frame_of<'a>(packets: &'a [Packet], kept: &KeptFrame) -> BorrowedFrame<'a>
     requires { IsKept packets.now kept.now }

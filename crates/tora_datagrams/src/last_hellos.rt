@@ -1,8 +1,8 @@
-//! The indexes of the HELLOs that a link end sent last.
+//! The indexes of the last HELLOs of a link end.
 use tora_frame::Version;
 
-/// The places of the HELLOs that a link end sent last, one of either version, among the frames that are kept. They are
-/// guesses: who uses one compares what stands there.
+/// The frame indexes of the last HELLO of either version that a link end sent. They are guesses: a caller compares the
+/// frame at the index.
 #[derive(Clone, Copy, Debug, PartialEq, Eq)]
 pub struct LastHellos {
     one: u32,
@@ -10,12 +10,12 @@ pub struct LastHellos {
 }
 
 impl LastHellos {
-    /// Those of an end that sent none.
+    /// The guesses for an end that sent no HELLO.
     pub fn none() -> LastHellos {
         LastHellos { one: 0, two: 0 }
     }
 
-    /// The place of the one of this version.
+    /// The frame index for this version.
     #[inline(always)]
     pub fn place(&self, version: Version) -> u32 {
         match version {
@@ -24,7 +24,7 @@ impl LastHellos {
         }
     }
 
-    /// The same, with this index for the HELLO of this version.
+    /// A copy with this frame index for this version.
     pub fn with_place(&self, version: Version, place: u32) -> LastHellos {
         let (one, two) = (self.one, self.two);
         match version {

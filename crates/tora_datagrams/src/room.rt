@@ -3,11 +3,10 @@ ghost use Rattle.std.specs.Prelude.{◌≡◌, ◌<◌, vec_len, vec_capacity, O
 
 use std::alloc::AllocError;
 
-/// Makes room for one more item; a first one gets no more than its own, as most lists have few origins, and nothing
-/// apart.
+/// Makes room for one more item. The first item gets room for itself alone, since most of these lists stay that short.
 ///
 /// # Errors
-/// Want of memory.
+/// Memory ran out.
 pub fn reserve_one<T: Drop>(items: &mut Vec<T>) -> Result<(), AllocError>
     ensures items { items.new.items ≡ items.old.items }
     ensures room { OnOk result (vec_len items.new < vec_capacity items.new) }

@@ -2,7 +2,7 @@ use Rattle.std.proofs.Common.{◌≡◌, ◌+◌, ◌++◌, take}
 use Rattle.std.specs.Prelude.{vec_len, vec_capacity}
 use Rattle.tora_datagrams.proofs.kept_frames.append.Given as goal
 
--- the packets so far are kept, and there is room for all
+-- the packets so far are stored, and there is room for the others
 abbrev pub invariant-loop-packet : goal.invariant-loop-packet
 invariant-loop-packet l = record {
   items : l.packets.items ≡ l.fn.packets.items ++ take l.packet-index l.carried;
