@@ -45,7 +45,7 @@ abbrev pub word : Val → Val
 word pointer = vstruct (vcons pointer vnil)
 
 module _ (Value : RattleType) where
-  -- the parts of the box in which a value lies
+  -- the parts of the box that holds a value
   abbrev pub Raw : RattleType
   Raw = Parts Value Heap laws ghosts
 
@@ -67,7 +67,7 @@ module _ (Value : RattleType) where
     abbrev freed : Ptr → Fml
     freed p = token (bare (lone Value.mir)) p
 
-    -- who may free a block may compare its pointer with null
+    -- the right to free a block allows a comparison of its pointer with null
     may_test : (a : Global) (p : Ptr) (x : Value.Denot) → ent 𝓤 (sem 𝓛 (block p x)) (guard 𝓤 (Testable p) (sem 𝓛 (block p x)))
     may_test a p x =
         fact_use 𝓤 (Testable p)

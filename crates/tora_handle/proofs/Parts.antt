@@ -39,7 +39,7 @@ module _ (Value Heap : RattleType) (laws : Laws Heap) (ghosts : Ghosts Heap.Deno
   abbrev heap : Al
   heap = record { row = Heap; laws = laws; g = ghosts; d = impl [] tnil dnil; drops = impl [] tnil dnil }
 
-  -- what frees a block of this heap, and the block with its value
+  -- the right to free a block of this heap, and the block with its value
   abbrev frees : Heap.Denot → Ptr → Fml
   frees h p = ghosts.dealloc_token h (bare (lone Value.mir)) p
 

@@ -1,4 +1,4 @@
--- What a struct owns that holds a value by one pointer, which may be null.
+-- What a struct owns if its only field is a pointer to a value, which may be null.
 use Rattle.std.specs.Prelude.{Option, None, Some}
 use Rattle.std.specs.Coded.{Coded, coded_option}
 use mir.Syntax.{Ty}

@@ -1,7 +1,7 @@
 //! A box as a raw pointer, for a struct that a caller in C holds.
 //!
 //! C cannot hold a `Box`, but it can hold a struct with a pointer. A `RawBox` is such a pointer, with the allocator
-//! that frees its block. It owns what the box owned, and contracts see the value of the box. Its pointer is never null.
+//! that frees its block. It owns the value of the box, and contracts see that value. Its pointer is never null.
 #![tactic(auto)]
 
 ghost use Rattle.std.specs.Prelude.{◌≡◌};
@@ -22,7 +22,7 @@ impl<T, A: Allocator> Model for RawBox<T, A> {
 }
 
 impl<T: Drop, A: Allocator> RawBox<T, A> {
-    /// The parts of a box.
+    /// Takes a box apart into its pointer and its allocator.
     pub fn of(boxed: Box<T, A>) -> RawBox<T, A>
         ensures { result.value ≡ boxed.value }
     {
@@ -30,7 +30,7 @@ impl<T: Drop, A: Allocator> RawBox<T, A> {
         RawBox { pointer, allocator }
     }
 
-    /// The box of these parts.
+    /// The box with this pointer and this allocator.
     pub fn into_box(self) -> Box<T, A>
         ensures { result.value ≡ self.value }
     {
