@@ -1,4 +1,4 @@
-//! Threads over the lanes of a node with two links.
+//! Threads over the queues (lanes) of a node with two links.
 use std::alloc::Global;
 use std::sync::Wait;
 use std::thread;
@@ -23,7 +23,7 @@ fn put_all<R: Wait>(rt: &R, port: InPort, count: u32) -> u64 {
     put
 }
 
-/// Takes items until the ports of all seats have ended, and returns how many were taken.
+/// Takes items until the ports of all threads have ended, and returns how many were taken.
 fn take_all<R: Wait>(rt: &R, core: CorePort) -> u64 {
     let mut core = core;
     let mut taken = 0u64;
@@ -69,7 +69,7 @@ pub fn run_core_lane<R: Threads + Wait + Sync>(rt: &R, alloc: Global, count: u32
     taken
 }
 
-/// Sends cargoes, and tries again if the lane returns one.
+/// Sends outbound messages, and sends one again if the queue returns it.
 fn send_all<R: Wait>(rt: &R, put: OutPut, count: u32) {
     let mut put = put;
     let mut number = 0u32;
@@ -88,7 +88,7 @@ fn send_all<R: Wait>(rt: &R, put: OutPut, count: u32) {
     }
 }
 
-/// Receives `count` cargoes.
+/// Receives `count` outbound messages.
 fn receive_all<R: Wait>(rt: &R, take: OutTake, count: u32) -> u64 {
     let mut take = take;
     let mut taken = 0u32;
@@ -104,7 +104,7 @@ fn receive_all<R: Wait>(rt: &R, take: OutTake, count: u32) -> u64 {
     u64::from(taken)
 }
 
-/// One thread sends cargoes, and another receives them. Returns how many were received.
+/// One thread sends outbound messages, and another receives them. Returns how many were received.
 pub fn run_out_lane<R: Threads + Wait + Sync>(rt: &R, alloc: Global, count: u32) -> u64 {
     let Ok(made) = lanes(rt, alloc, 1) else {
         return 0;

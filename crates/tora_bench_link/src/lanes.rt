@@ -1,4 +1,4 @@
-//! Times the lanes of a node: the one into the core, into which three threads put, and one to a neighbour.
+//! Times the queues (lanes) of a node: the one into the core, into which three threads put, and one to a neighbour.
 use crate::lane_runs::{run_core_lane, run_out_lane};
 use std::alloc::Global;
 use std::io;
@@ -42,7 +42,7 @@ impl Lane {
     }
 }
 
-/// Times a lane, and prints its line.
+/// Times a queue, and prints its line.
 fn time<R: Clock + Print + Threads + Wait + Sync>(
     rt: &R,
     alloc: Global,
@@ -60,7 +60,7 @@ fn time<R: Clock + Print + Threads + Wait + Sync>(
     line(rt, lane.name(), best, taken)
 }
 
-/// Times both lanes, with `count` items of each thread and `count` cargoes.
+/// Times both queues: `count` items from each of three threads, and `count` outbound messages.
 pub fn time_lanes<R: Clock + Print + Threads + Wait + Sync>(
     rt: &R,
     alloc: Global,

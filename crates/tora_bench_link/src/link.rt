@@ -18,7 +18,7 @@ use tora_life::{LifeFile, MemDisk};
 use tora_neighbour::{Link, ListHub, NodeClock, UnixClock, WakingWire, Wire, run_neighbour};
 use tora_packet::{Packet, Update};
 
-/// Places for the item that a life begins and for the beats of a run.
+/// Places for the items other than packets: the one that begins a session, and the beats of a run.
 const OTHER_PUTS: usize = 10_000;
 
 /// Two wires to each other, on two free ports of the loopback.
@@ -42,7 +42,7 @@ fn pair<'a, R: Clock + Net>(
     None
 }
 
-/// A list of `count` updates, in the life of two ends that drew their first numbers.
+/// A list of `count` updates, in the first session of both ends.
 fn cargoes(alloc: Global, count: u32) -> Option<Vec<Cargo>> {
     let height = Height::new(0, 0, 0, 1, 1).ok()?;
     let packet = Packet::Upd(Update::new(4, height).ok()?);
@@ -107,7 +107,7 @@ fn run_ends<R: Clock + Threads + Wait + Sync, W: Wire + Send + Drop>(
     Some(())
 }
 
-/// The wire of a link to `peer` with a new key.
+/// The wire of a link to `peer`, over `wire` and with a fixed key.
 fn keyed<R: Clock + Log, W: Wire>(rt: &R, peer: Id, wire: W) -> LinkWire<'_, W, UnixClock<&R>, R> {
     LinkWire::new(wire, Some(Key::new(&[7; 32])), peer, UnixClock::new(rt), rt)
 }

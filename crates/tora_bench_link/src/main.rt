@@ -1,14 +1,14 @@
 //! Times the lanes of a node and a link between two neighbours' threads, for `bench/lane.sh` and `bench/link_udp.sh`.
 //! With no words it prints nothing.
 //!
-//! `tora_bench_link lane N` puts N items from each of three threads into the lane into the core while the core takes
-//! them, and sends N cargoes from one thread to another through one lane. Each line is a name, nanoseconds an operation
-//! (the best of seven runs), and how many operations went through.
+//! `tora_bench_link lane N` puts N items from each of three threads into the queue into the core, while the core takes
+//! them, and sends N outbound messages from one thread to another through one queue. Each line has a name, nanoseconds
+//! per operation (the best of seven runs), and the number of operations.
 //!
 //! `tora_bench_link link N` binds two sockets of the loopback, runs `run_neighbour` at each end, and passes N updates
-//! of 32 bytes from one to the other, each in a DATA frame of 76 bytes, 32 under way at most. It prints nanoseconds a
-//! packet, from the first that was submitted to the last that was delivered, and how many were delivered. `keyed` in
-//! place of `link` does the same over wires with a key.
+//! of 32 bytes from one end to the other, each in a DATA frame of 76 bytes, with at most 32 unacknowledged. It prints
+//! nanoseconds per packet, from the first submission to the last delivery, and the number of delivered packets. With
+//! `keyed` in place of `link`, the wires have a key.
 #![tactic(auto)]
 
 mod lane_runs;
@@ -20,7 +20,7 @@ use lanes::time_lanes;
 use link::time_link;
 use std::io;
 
-/// The number of items of each thread, of cargoes and of packets, if no number is given.
+/// The number of items of each thread, of outbound messages and of packets, if no number is given.
 const COUNT: u32 = 200_000;
 
 /// What is timed.
@@ -30,7 +30,7 @@ enum Timed {
     KeyedLink,
 }
 
-/// The requested bench and its number of operations.
+/// The bench that the words name, and its number of operations.
 fn asked(words: &[String]) -> Option<(Timed, u32)> {
     let what = words.get(1)?;
     let count = words.get(2)?.as_str().parse::<u32>().unwrap_or(COUNT);

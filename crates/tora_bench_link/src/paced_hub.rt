@@ -7,7 +7,7 @@ use std::time::{Clock, Instant};
 use tora_lane::{Cargo, Gone, What};
 use tora_neighbour::{Hub, ListHub};
 
-/// How many packets the sender may be ahead of the delivered ones; its queue has 256 places.
+/// How many packets the sender may be ahead of the delivered ones; its queue holds 256.
 const MOST_AHEAD: u64 = 200;
 
 /// What the two ends share.
@@ -19,7 +19,7 @@ pub struct Course {
     pub count: u64,
     /// How many were delivered.
     pub delivered: AtomicU64,
-    /// Nanoseconds from `base` to the first packet that was given to the sender.
+    /// Nanoseconds from `base` to the first packet that was submitted.
     pub began: AtomicU64,
     /// Nanoseconds from `base` to the last packet that was delivered.
     pub ended: AtomicU64,
@@ -40,11 +40,11 @@ impl Course {
     }
 }
 
-/// A hub that gives its cargoes once its life has begun, at most `MOST_AHEAD` more than were delivered, and returns
-/// `Gone` once all were delivered.
+/// A hub that gives its end outbound messages once the session has begun, while fewer than `MOST_AHEAD` are
+/// undelivered, and that returns `Gone` once all were delivered.
 #[derive(Drop)]
 pub struct PacedHub<'a, C> {
-    /// The cargoes, and the items that were put.
+    /// The outbound messages to give, and the items that were put.
     pub list: ListHub,
     /// What both ends share.
     pub course: &'a Course,
@@ -52,7 +52,7 @@ pub struct PacedHub<'a, C> {
     pub clock: &'a C,
     /// Whether the link is up.
     pub is_up: bool,
-    /// How many cargoes were given.
+    /// How many outbound messages were given.
     pub given: u64,
     /// Whether `Gone` was returned.
     pub over: bool,
