@@ -1,4 +1,4 @@
--- Reading digits one after the other.
+-- The value of digits, one digit after another.
 use Rattle.std.proofs.Common.{◌≡◌, ℕ, ◌+◌, ◌-◌, ◌*◌, ◌^◌, ◌<◌, ◌≤◌, cond, ltb, List, [], ◌∷◌, length, get_or, drop, Option, None, Some, refl, sym, ◌∙◌, arith, add-one}
 use Rattle.std.proofs.Math.Seq.{drop-cons}
 use Rattle.std.proofs.lemmas.Bool.{le-ltb, lt-ltb}
@@ -27,7 +27,7 @@ too_large v h = rw (le-ltb v (2 ^ 64) h) refl
 pub fits : (v : ℕ) → v < 2 ^ 64 → fitting v ≡ Some v
 fits v h = rw (lt-ltb v (2 ^ 64) h) refl
 
--- one digit more is too much
+-- one more digit makes the number too large
 pub past : (n i : ℕ) (text : List ℕ) (r : Option ℕ) → i < length text → value_from n (drop i text) ≡ value_from 0 text → (n * 10 + (get_or text i 0 - 48) < 2 ^ 64 → ⊥) → r ≡ None → r ≡ fitting (value_from 0 text)
 past n i text r h so_far over none =
     let step = value_step n i text h in

@@ -1,4 +1,4 @@
--- The end of the input, and what is left of a chunk.
+-- The end of the input, and the rest of a chunk.
 use Rattle.std.proofs.Common.{◌≡◌, ℕ, ◌+◌, ◌<◌, List, [], ◌++◌, length, Option, Result, Ok, Err, refl, sym, ap, ◌∙◌}
 use Rattle.std.specs.Io.KnownBytes.{Appends}
 use Rattle.std.proofs.lemmas.List.{append-nil}
@@ -18,7 +18,7 @@ out_of_memory kind state n bytes old = ((λ more. text_of kind state n (bytes ++
 
 -- ---- the end
 
--- the whole text of the bytes is that of the end
+-- the output for the last bytes is that of the end
 pub text_is : {S : Type 0} (kind : Kind S) (state : S) (n : ℕ) (bytes : List ℕ) (text : Text) (old mid new : Option (List ℕ)) (r : Result Ended ReplayError) → text_of kind state n bytes ≡ text → Appends old mid [] → Ends text mid new r → Finishes kind state n bytes old new r
 text_is kind state n bytes text old mid new (Ok ended) e kept f = record { grown = rw e (Appends-then old mid new [] text.0 kept f.0); ends = f.1 ∙ sym (ap (λ (t : Text). t.1) e) }
 text_is kind state n bytes text old mid new (Err Memory) e kept f = record { written = []; grown = Appends-then old mid new [] [] kept f; begins = ((text_of kind state n bytes).0, refl) }

@@ -1,4 +1,4 @@
--- The fault that is printed is the first one.
+-- The printed fault is the first one.
 use Rattle.std.proofs.Common.{◌≡◌, ℕ, ◌+◌, List, [], ◌∷◌, ◌++◌, length, Option, None, Some, refl, sym, ap, ◌∙◌, arith}
 use Rattle.std.specs.Option.{option_and_then, option_map_or}
 use Rattle.tora_lines.specs.Pieces.{pieces_of}

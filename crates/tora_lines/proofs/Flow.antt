@@ -1,4 +1,4 @@
--- The text of bytes, line by line.
+-- The output for bytes, line by line.
 use Rattle.std.proofs.Common.{◌≡◌, ℕ, suc, ◌+◌, ◌<◌, true, false, ◌==◌, List, [], ◌∷◌, ◌++◌, length, take, drop, Option, None, Some, refl, sym, ap, ◌∙◌, arith, append_assoc}
 use Rattle.std.specs.List.{position}
 use Rattle.std.specs.Io.KnownBytes.{Appends, Consumes, Keeps}
@@ -38,7 +38,7 @@ lines_first i bytes more h =
     ∙ drop_last (take i bytes) r.first r.others
     ∙ ap (λ (t : List (List ℕ)). take i bytes ∷ without_last_empty t) (sym r.is)
 
--- an open front goes onto kind the first line of what follows
+-- bytes without the separator are the beginning of the first piece of the text that follows
 split_open : (c : ℕ) (a b : List ℕ) → Lacks c a → (r : HasFirst c b) → split c (a ++ b) ≡ (a ++ r.first) ∷ r.others
 split_open c [] b clear r = r.is
 split_open c (x ∷ xs) b clear r =
@@ -125,7 +125,7 @@ Consumes-then (Some a) (Some b) (Some c) xs ys p q = p ∙ ap (λ (t : List ℕ)
 
 -- ---- steps
 
--- what was printed, and then more
+-- some output was printed, and then more
 pub Prints-then : {S : Type 0} (kind : Kind S) (state : S) (n : ℕ) (bytes : List ℕ) (a b c : Option (List ℕ)) (next : S) (m : ℕ) (left : List ℕ) (onward : List ℕ → Text)
     → Prints kind state n bytes a b (λ more. text_of kind next m (left ++ more)) → Prints kind next m left b c onward → Prints kind state n bytes a c onward
 Prints-then kind state n bytes a b c next m left onward p q = record {

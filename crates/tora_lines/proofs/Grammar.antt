@@ -1,4 +1,4 @@
--- A number is read exactly where the text is what it prints as.
+-- A text is read as a number exactly if it is the printed form of that number.
 use Rattle.std.proofs.Common.{◌≡◌, ℕ, zero, suc, ◌^◌, ◌<◌, Bool, true, false, cond, not, ltb, ◌==◌, ◌&&◌, ◌||◌, List, length, get_or, None, Some, refl, sym, ap, ◌∙◌, arith, rules}
 use Rattle.std.specs.List.{list_all}
 use Rattle.std.specs.Char.{is_ascii_digit}

@@ -1,4 +1,4 @@
--- A line's reply, as the text that goes on.
+-- The reply to a line, as the output for the lines from that line on.
 use Rattle.std.proofs.Common.{◌≡◌, ℕ, ◌≤◌, false, ltb, List, length, None, Some, refl}
 use Rattle.std.proofs.lemmas.Bool.{le-ltb}
 use Rattle.tora_lines.specs.LineText.{Rules, reply, text_from}

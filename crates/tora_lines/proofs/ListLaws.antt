@@ -1,4 +1,4 @@
--- A list of ids is read exactly where it is written so.
+-- A text is read as a list of ids exactly if it is the written form of that list.
 use Rattle.std.proofs.Common.{◌≡◌, ℕ, ◌<◌, Bool, true, false, cond, ◌==◌, ◌&&◌, List, [], ◌∷◌, ◌++◌, length, get_or, map, All, None, Some, refl, sym, ap, ◌∙◌, arith}
 use Rattle.std.specs.List.{join_with_byte}
 use Rattle.std.specs.Option.{option_and_then, option_map}
@@ -25,7 +25,7 @@ digits n h = AllPass-from_list_all is_ascii_digit (decimal n) (digits_decimal ow
 no_comma : (n : ℕ) → IsId n → Lacks 44 (decimal n)
 no_comma n h = All-weaker (λ c. is_ascii_digit c ≡ true) (λ c. (c == 44) ≡ false) (λ c d. grind (arith, nat_tests)) (decimal n) (digits n h)
 
--- what was read of pieces
+-- the ids that were read from pieces
 pub record IsRead (pieces : List (List ℕ)) (ns : List ℕ) : Type 0 where
   pub pieces_are : pieces ≡ map decimal ns
   pub ids : All IsId ns
@@ -62,7 +62,7 @@ split_again n (m ∷ ns) h =
     slice_split_at (λ x. x == 44) (decimal n) 44 (join_with_byte 44 (map decimal (m ∷ ns))) (no_comma n (All-head IsId n (m ∷ ns) h)) (eq-eqb 44 44 refl)
     ∙ ap (λ (t : List (List ℕ)). decimal n ∷ t) (split_again m ns (All-tail IsId n (m ∷ ns) h))
 
--- digits begin a list
+-- a text that begins with digits is not a dash
 not_dash : (n : ℕ) (rest : List ℕ) → IsId n → is_dash (decimal n ++ rest) ≡ false
 not_dash n rest h =
     let some = decimal_nonempty n (omega (arith, h.1)) in
@@ -76,7 +76,7 @@ not_dash n rest h =
     first [] some d = absurd (omega arith)
     first (c ∷ cs) some d = let e : (c == 45) ≡ false = grind (arith, nat_tests) in rw e (and_false (length ((c ∷ cs) ++ rest) == 1))
 
--- pieces are one at least, so none is an empty list
+-- there is at least one piece, so the list is not empty
 listed : (text ns : List ℕ) → split 44 text ≡ map decimal ns → text ≡ list_text ns
 listed text [] e = let one = length-slice_split (λ x. x == 44) text in absurd (omega (arith, ap length e))
 listed text (n ∷ ns) e = sym (join_with_byte-slice_split 44 text) ∙ ap (join_with_byte 44) e
@@ -99,7 +99,7 @@ list_here (n ∷ m ∷ ns) h =
     let plain = not_dash n (44 ∷ join_with_byte 44 (map decimal (m ∷ ns))) (All-head IsId n (m ∷ ns) h) in
     rw (plain, split_again n (m ∷ ns) h, pieces_here (n ∷ m ∷ ns) h) refl
 
--- no blank stands in a list
+-- a list has no blank
 pub list_no_blank : (ns : List ℕ) → All IsId ns → Lacks 32 (list_text ns)
 list_no_blank [] h = All-cons (λ c. (c == 32) ≡ false) 45 [] refl (All-nil (λ c. (c == 32) ≡ false))
 list_no_blank (n ∷ []) h = let id = All-head IsId n [] h in no_blank n (omega (arith, id.1))

@@ -1,4 +1,4 @@
--- A line whose front is pending, and whose end comes with a chunk.
+-- A line whose beginning is pending, and whose end is in a chunk.
 use Rattle.std.proofs.Common.{◌≡◌, ℕ, ◌+◌, ◌<◌, ◌≤◌, Bool, true, false, ltb, ◌==◌, List, [], ◌∷◌, ◌++◌, length, take, drop, Option, None, Some, Result, Ok, Err, refl, sym, ap, ◌∙◌, arith, append_assoc, inl, inr}
 use Rattle.std.specs.List.{position, position_or_len}
 use Rattle.std.specs.Io.KnownBytes.{Appends}
@@ -19,7 +19,7 @@ use Rattle.tora_lines.proofs.Steps.{line_stops, Stops-then}
 
 -- ---- open bytes
 
--- bytes without the separator have no place of it
+-- a text without the separator has no index of it
 pub no_place : (c : ℕ) (text : List ℕ) → Lacks c text → position (λ x. x == c) text ≡ None
 no_place c text clear =
     let p = λ (x : ℕ). x == c in
@@ -41,7 +41,7 @@ pieces_at a rest clear =
     ∙ drop_last a r.first r.others
     ∙ ap (λ (t : List (List ℕ)). a ∷ without_last_empty t) (sym r.is)
 
--- the pending front, the end in the chunk, and what follows
+-- the pending beginning of a line, its end in the chunk, and the rest
 pub record IsJoined (pending chunk end rest : List ℕ) : Type 0 where
   pub whole : pending ++ chunk ≡ (pending ++ end) ++ 10 ∷ rest
   pub clear : Lacks 10 (pending ++ end)
@@ -85,7 +85,7 @@ joined_prints kind state n pending chunk end rest next b c j a = record {
 pub long_is_none : {S : Type 0} (kind : Kind S) (state : S) (line : List ℕ) → 4096 < length line → IsFault kind state line
 long_is_none kind state line long = kind.long state line long
 
--- what keep promises, as what a line's answer promises
+-- from the promise of `keep` to that of `answer`
 pub keeps_not : {S : Type 0} (kind : Kind S) (state next : S) (pending end kept : List ℕ) (w : Option (List ℕ)) → Keeps pending end kept (Ok false) → Answers kind state (pending ++ end) next w w (Ok false)
 keeps_not kind state next pending end kept w k = (long_is_none kind state (pending ++ end) (omega (arith, k, length-append pending end)), Appends-nil w)
 
@@ -94,7 +94,7 @@ keeps_err kind state next pending end kept w Memory k = Appends-nil w
 keeps_err kind state next pending end kept w Read k = absurd k
 keeps_err kind state next pending end kept w Write k = absurd k
 
--- what keep promises of what is left behind whole lines
+-- the promise of `keep` about the bytes after complete lines
 pub keeps_left : {S : Type 0} (kind : Kind S) (state : S) (n : ℕ) (bytes : List ℕ) (old new : Option (List ℕ)) (next : S) (m : ℕ) (pending end kept : List ℕ) (r : Result Bool ReplayError)
     → IsDrained kind state n bytes old new next m (pending ++ end) → Keeps pending end kept r → TakesChunk kind state n bytes old new next m kept r
 keeps_left kind state n bytes old new next m pending end kept (Ok true) d k = (rw k.0 d, k.1)
@@ -103,7 +103,7 @@ keeps_left kind state n bytes old new next m pending end kept (Err Memory) d k =
 keeps_left kind state n bytes old new next m pending end kept (Err Read) d k = k
 keeps_left kind state n bytes old new next m pending end kept (Err Write) d k = absurd k
 
--- no line ends in what is pending and the chunk
+-- neither the pending bytes nor the chunk have an LF
 pub still_open : {S : Type 0} (kind : Kind S) (state : S) (n : ℕ) (pending chunk : List ℕ) (w : Option (List ℕ)) → IsOpen pending → IsOpen chunk → IsDrained kind state n (pending ++ chunk) w w state n (pending ++ chunk)
 still_open kind state n pending chunk w p q = record {
   prints = record { written = []; grown = Appends-nil w; goes = λ more. refl };
@@ -111,11 +111,11 @@ still_open kind state n pending chunk w p q = record {
   count = omega arith;
 }
 
--- memory was refused, or a write failed, at the first line
+-- memory ran out, or a write failed, at the first line
 pub joined_stops : {S : Type 0} (kind : Kind S) (state : S) (n : ℕ) (bytes line : List ℕ) (next : S) (b c : Option (List ℕ)) (e : ReplayError) → Answers kind state line next b c (Err e) → Stops kind state n bytes b c e
 joined_stops kind state n bytes line next b c e h = line_stops kind state n bytes line next b c e h
 
--- ---- behind the first line
+-- ---- after the first line
 
 pub rest_taken : {S : Type 0} (kind : Kind S) (state : S) (n : ℕ) (bytes : List ℕ) (a b c : Option (List ℕ)) (next : S) (m : ℕ) (rest : List ℕ) (last : S) (k : ℕ) (left : List ℕ) (r : Result Bool ReplayError)
     → Prints kind state n bytes a b (λ more. text_of kind next m (rest ++ more)) → m + length rest ≤ n + length bytes → TakesChunk kind next m rest b c last k left r → TakesChunk kind state n bytes a c last k left r

@@ -1,4 +1,4 @@
--- The reads of a run over lines, one after another.
+-- The reads of a run over lines.
 use Rattle.std.proofs.Common.{◌≡◌, ◌≢◌, ◌⊎◌, inl, inr, ℕ, ◌+◌, ◌^◌, List, [], ◌∷◌, ◌++◌, length, take, Option, Result, Ok, Err, refl, sym, ap, ◌∙◌, subst, arith}
 use Rattle.std.specs.Prelude.{Bool, IfErr, OnErr}
 use Rattle.std.specs.IoError.{error_kind}
@@ -42,14 +42,14 @@ ends_at_failure did_read old before new count error h call failed = record {
   ends = inl (error, h.reads, refl, failed, h.none);
 }
 
--- what ends at the end of the input
+-- the result of a run that reached the end of the input
 abbrev pub IsNoFailedRead : Result Ended ReplayError → Type 0
 IsNoFailedRead (Ok ended) = Unit {0}
 IsNoFailedRead (Err Memory) = Unit {0}
 IsNoFailedRead (Err Read) = ⊥
 IsNoFailedRead (Err Write) = Unit {0}
 
--- what ends before it
+-- the result of a run that did not reach the end
 abbrev pub IsNoEnd : Result Ended ReplayError → Type 0
 IsNoEnd (Ok Whole) = ⊥
 IsNoEnd (Ok (Fault n)) = Unit {0}
@@ -77,7 +77,7 @@ ends_before did_read old before new count n buffer (Err Memory) h call fine = re
 ends_before did_read old before new count n buffer (Err Read) h call fine = absurd fine
 ends_before did_read old before new count n buffer (Err Write) h call fine = record { reads = Ok (take n buffer) ∷ h.reads; are = (before, h.are, call); ends = (tt, h.none) }
 
--- ---- what the engine's steps answer
+-- ---- the results of the engine's steps
 
 pub finished_fine : {S : Type 0} (kind : Kind S) (state : S) (n : ℕ) (bytes : List ℕ) (w w' : Option (List ℕ)) (result : Result Ended ReplayError) → Finishes kind state n bytes w w' result → IsNoFailedRead result
 finished_fine kind state n bytes w w' (Ok ended) f = tt
@@ -108,7 +108,7 @@ taken_fine kind start n front bytes w w' state m held Memory s = tt
 taken_fine kind start n front bytes w w' state m held Read s = s
 taken_fine kind start n front bytes w w' state m held Write s = tt
 
--- ---- a type that hands on what a reader gives
+-- ---- a type that passes on the reads of another reader
 
 pub reads_within : {R V : Type 0} (did_read : R → Given → R → Type 0) (inner : V → R) (old : V) (reads : List Given) (new : V) → AreReads (λ a given b. did_read (inner a) given (inner b)) old reads new → AreReads did_read (inner old) reads (inner new)
 reads_within did_read inner old [] new h = ap inner h

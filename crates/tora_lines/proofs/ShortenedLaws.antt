@@ -38,7 +38,7 @@ goes_then text mid onward xs ys a b c p q = record {
   goes = λ more. ap text (append_assoc xs ys more) ∙ p.goes (ys ++ more) ∙ ap (prepend p.written) (q.goes more) ∙ joined p.written q.written (onward more);
 }
 
--- what goes on, told otherwise
+-- the same written text with an equal continuation
 goes_as : (text mid onward : List ℕ → Text) (xs : List ℕ) (a b c : Option (List ℕ)) (out : List ℕ) → Goes text xs a b mid → Appends b c out → ((more : List ℕ) → mid more ≡ prepend out (onward more)) → Goes text xs a c onward
 goes_as text mid onward xs a b c out p grown same = record {
   written = p.written ++ out;
@@ -105,7 +105,7 @@ stops_at_line kind start n front bytes left a b c state m held byte line p at is
     goes_as (text_behind kind start n front) (λ more. text_behind kind state m p.rest (byte ∷ (left ++ more))) (λ more. faulty m) bytes a b c [] p.goes kept
     (λ more. ap (λ (x : ℕ). shortened_text_of kind state m (p.rest ++ x ∷ (left ++ more))) at ∙ line_faults kind state m p.rest (left ++ more) p.is_open (rw is at fault))
 
--- memory was refused
+-- memory ran out
 pub stops_at_memory : {S : Type 0} (kind : Kind S) (start : S) (n : ℕ) (front bytes left : List ℕ) (a b c : Option (List ℕ)) (state : S) (m : ℕ) (held : Held) (last : S) (k : ℕ) (other : Held) → Takes kind start n front bytes a b state m held left → Appends b c []
     → TakesBytes kind start n front bytes a c last k other (Err Memory)
 stops_at_memory kind start n front bytes left a b c state m held last k other p kept = (
@@ -113,7 +113,7 @@ stops_at_memory kind start n front bytes left a b c state m held last k other p 
   goes_as (text_behind kind start n front) (λ more. text_behind kind state m p.rest (left ++ more)) (λ more. text_behind kind state m p.rest (left ++ more)) bytes a b c [] p.goes kept (λ more. nothing (text_behind kind state m p.rest (left ++ more))),
 )
 
--- memory was refused, or a write failed
+-- memory ran out, or a write failed
 pub stops_at_error : {S : Type 0} (kind : Kind S) (start : S) (n : ℕ) (front bytes left : List ℕ) (a b c : Option (List ℕ)) (state : S) (m : ℕ) (held : Held) (line : List ℕ) (next last : S) (k : ℕ) (other : Held) (e : ReplayError) → Takes kind start n front bytes a b state m held left
     → Answers kind state line next b c (Err e) → TakesBytes kind start n front bytes a c last k other (Err e)
 stops_at_error kind start n front bytes left a b c state m held line next last k other Memory p h = stops_at_memory kind start n front bytes left a b c state m held last k other p h
@@ -138,7 +138,7 @@ last_faults : {S : Type 0} (kind : Kind S) (state : S) (n : ℕ) (line : List �
 unfolding shortened_text_of
 last_faults kind state n line whole some r = ap (λ (t : List (List ℕ)). kind.text state n (map shortened t)) (lines_last line whole some) ∙ r n []
 
--- some of a text was written, and then the end of it
+-- a part of an output was written, and then the rest of it
 writes_behind : (text behind : Text) (out : List ℕ) (old mid new : Option (List ℕ)) (r : Result Ended ReplayError) → text ≡ prepend out behind → Appends old mid out → Ends behind mid new r → WritesText text old new r
 writes_behind text behind out old mid new (Ok ended) e a f = (rw e (Appends-then old mid new out behind.0 a f.0), f.1 ∙ sym (ap (λ (t : Text). t.1) e))
 writes_behind text behind out old mid new (Err Memory) e a f = (out, rw (← append-nil out) (Appends-then old mid new out [] a f), (behind.0, ap (λ (t : Text). t.0) e))

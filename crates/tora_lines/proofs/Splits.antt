@@ -1,4 +1,4 @@
--- The first piece of a text, and the pieces behind it.
+-- The first piece of a text, and the pieces after it.
 use Rattle.std.proofs.Common.{◌≡◌, ℕ, ◌+◌, ◌<◌, false, ◌==◌, List, [], ◌∷◌, ◌++◌, length, get_or, take, drop, All, Option, None, Some, refl, sym, ap, ◌∙◌, arith, append_assoc, add-one, inl, inr}
 use Rattle.std.specs.Option.{option_map}
 use Rattle.std.specs.List.{position, position_or_len}
@@ -38,7 +38,7 @@ cut_none c text h =
       | inr le ↦ λ k d below. fails_before_first p text k d (omega arith)
     ]
 
--- what stands before the byte is the first piece, whatever follows
+-- the bytes before the first separator are the first piece, whatever follows
 pub split_first : (c i : ℕ) (text more : List ℕ) → position (λ x. x == c) text ≡ Some i → split c (text ++ more) ≡ take i text ∷ split c (drop (i + 1) text ++ more)
 split_first c i text more h =
     let cut = cut_at c i text h in
@@ -48,7 +48,7 @@ split_first c i text more h =
 pub split_none : (c : ℕ) (text : List ℕ) → position (λ x. x == c) text ≡ None → split c text ≡ text ∷ []
 split_none c text h = slice_split_none (λ x. x == c) text (cut_none c text h)
 
--- the same, in the words of `cut`
+-- the index and the parts that `cut` returns
 pub cut_some_place : (c : ℕ) (text a b : List ℕ) → cut c text ≡ Some (a, b) → (i : ℕ) × (position (λ x. x == c) text ≡ Some i) × (a ≡ take i text) × (b ≡ drop (i + 1) text)
 unfolding cut
 cut_some_place c text a b =
@@ -79,11 +79,11 @@ split_no_cut c text h =
       | Some i ↦ λ e n. absurd cc
     ] refl h
 
--- ids that were read, and what is still read
+-- the ids that were read, followed by the ids of the rest
 abbrev pub with_front : List ℕ → Option (List ℕ) → Option (List ℕ)
 with_front front read = option_map (λ ns. front ++ ns) read
 
--- a piece that is an id, and one that is none
+-- a piece that is an id, and one that is not
 pub ids_go_on : (text front piece after : List ℕ) (n : ℕ) (total : Option (List ℕ)) → cut 44 text ≡ Some (piece, after) → id_of piece ≡ Some n → with_front front (ids_of (split 44 text)) ≡ total → with_front (front ++ n ∷ []) (ids_of (split 44 after)) ≡ total
 unfolding ids_of
 ids_go_on text front piece after n total c i so_far =

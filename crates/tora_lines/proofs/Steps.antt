@@ -10,7 +10,7 @@ use Rattle.tora_lines.specs.declared.ended.ReplayError.TheVariants.{Memory, Read
 use Rattle.tora_lines.proofs.Splits.{cut_at}
 use Rattle.tora_lines.proofs.Flow.{text_goes_on, text_faults, Prints-then}
 
--- from a place on, one line that is taken
+-- one line that is processed, from its index on
 pub line_prints : {S : Type 0} (kind : Kind S) (state : S) (n i : ℕ) (bytes : List ℕ) (next : S) (b c : Option (List ℕ)) → position (λ x. x == 10) bytes ≡ Some i → IsAnswered kind state (take i bytes) next b c
     → Prints kind state n bytes b c (λ more. text_of kind next (n + 1) (drop (i + 1) bytes ++ more))
 line_prints kind state n i bytes next b c h a = record {
@@ -22,7 +22,7 @@ line_prints kind state n i bytes next b c h a = record {
 pub line_faults : {S : Type 0} (kind : Kind S) (state : S) (n i : ℕ) (bytes : List ℕ) (b c : Option (List ℕ)) → position (λ x. x == 10) bytes ≡ Some i → IsFault kind state (take i bytes) → Appends b c [] → Prints kind state n bytes b c (λ more. faulty n)
 line_faults kind state n i bytes b c h r kept = record { written = []; grown = kept; goes = λ more. text_faults kind state n i bytes more h r }
 
--- nothing is taken, and memory is out
+-- nothing was processed, and memory ran out
 pub nothing_prints : {S : Type 0} (kind : Kind S) (state : S) (n : ℕ) (bytes : List ℕ) (b c : Option (List ℕ)) → Appends b c [] → Prints kind state n bytes b c (λ more. text_of kind state n (bytes ++ more))
 nothing_prints kind state n bytes b c kept = record { written = []; grown = kept; goes = λ more. refl }
 
@@ -37,7 +37,7 @@ Stops-then kind state n bytes a b c next m left Memory p q = (q.0, Prints-then k
 Stops-then kind state n bytes a b c next m left Read p q = q
 Stops-then kind state n bytes a b c next m left Write p q = tt
 
--- what is left of a text, one line further on
+-- the rest of a text after one more line
 pub left_is : (text rest : List ℕ) (i : ℕ) → length rest ≤ length text → i < length rest → rest ≡ drop (length text - length rest) text → drop (i + 1) rest ≡ drop (length text - length (drop (i + 1) rest)) text
 left_is text rest i within below e =
     let k : length text - length (drop (i + 1) rest) ≡ (length text - length rest) + (i + 1) = simp length-drop (omega arith) in
@@ -52,7 +52,7 @@ pub record IsRunning {S : Type 0} (kind : Kind S) (state : S) (n : ℕ) (text : 
 pub tail_is : (k : ℕ) (rest : List ℕ) → take (length rest - k) (drop k rest) ≡ drop k rest
 tail_is k rest = take_all (length rest - k) (drop k rest) (omega (arith, length-drop k rest))
 
--- a line is taken, and the loop goes on behind it
+-- a line is processed, and the loop goes on after it
 pub runs_on : {S : Type 0} (kind : Kind S) (state : S) (n : ℕ) (text : List ℕ) (a b c : Option (List ℕ)) (next : S) (m : ℕ) (rest : List ℕ) (i : ℕ) (new : S)
     → IsRunning kind state n text a b next m rest → position (λ x. x == 10) rest ≡ Some i → IsAnswered kind next (take i rest) new b c
     → IsRunning kind state n text a c new (m + 1) (take (length rest - (i + 1)) (drop (i + 1) rest))

@@ -22,7 +22,7 @@ starts kind start r w = record {
   few = omega arith;
 }
 
--- a failed read gave nothing
+-- a failed read returned no bytes
 pub keeps_on : {S : Type 0} (kind : Kind S) (start : S) (state : S) (n : ℕ) (left : List ℕ) (r0 r r' w0 w : Option (List ℕ)) (most more : ℕ) → IsUnderway kind start state n left r0 r w0 w most → Keeps r r' → most ≤ more → IsUnderway kind start state n left r0 r' w0 w more
 keeps_on kind start state n left r0 r r' w0 w most more u k h = record {
   given = u.given;
@@ -32,7 +32,7 @@ keeps_on kind start state n left r0 r r' w0 w most more u k h = record {
   few = omega (arith, u.few);
 }
 
--- the text goes on behind what is left
+-- the output continues after the pending bytes
 onto : {S : Type 0} (kind : Kind S) (start : S) (state : S) (n : ℕ) (left chunk : List ℕ) (w0 w : Option (List ℕ)) (given : List ℕ) → Prints kind start 1 given w0 w (λ more. text_of kind state n (left ++ more)) → Prints kind start 1 (given ++ chunk) w0 w (λ more. text_of kind state n ((left ++ chunk) ++ more))
 onto kind start state n left chunk w0 w given p = record {
   written = p.written;
@@ -58,7 +58,7 @@ takes_chunk kind start state n left chunk r0 r r' w0 w w' most more next m rest 
   few = omega (arith, u.few, length-append u.given chunk);
 }
 
--- ---- an end before the end
+-- ---- a run that ends before the end of the input
 
 pub begun : {S : Type 0} (kind : Kind S) (start : S) (bytes : List ℕ) (r0 r w0 w : Option (List ℕ)) (onward : List ℕ → Text) → Consumes r0 r bytes → Prints kind start 1 bytes w0 w onward → IsFrontOfText (text_of kind start 1) r0 r w0 w
 begun kind start bytes r0 r w0 w onward c p =
@@ -76,7 +76,7 @@ stops_begun kind start state n left chunk r0 r r' w0 w w' most Write u c s h = a
 
 -- ---- a fault
 
--- Prints kind up to a fault, and the fault is written
+-- the output up to a fault was printed, and the fault is written
 fault_whole : {S : Type 0} (kind : Kind S) (start : S) (bytes : List ℕ) (r0 r w0 w w' : Option (List ℕ)) (m : ℕ) (ended : Ended) → Consumes r0 r bytes → Prints kind start 1 bytes w0 w (λ more. faulty m) → Appends w w' (faulty m).0 → ended ≡ Fault m → IfSome r0 (λ input. IsWholeText (text_of kind start 1) input w0 w' ended)
 fault_whole kind start bytes None r w0 w w' m ended c p a e = tt
 fault_whole kind start bytes (Some input) None w0 w w' m ended c p a e = absurd c

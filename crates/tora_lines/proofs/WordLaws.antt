@@ -1,4 +1,4 @@
--- A word is read exactly where it is written so.
+-- A text is read as a word exactly if it is the written form of that word.
 use Rattle.std.proofs.Common.{◌≡◌, ℕ, ◌+◌, ◌<◌, ◌^◌, ◌⊎◌, inl, inr, true, false, cond, nat_eq, ltb, ◌==◌, codes, List, [], ◌∷◌, ◌++◌, length, get_or, take, drop, Option, None, Some, refl, sym, ap, ◌∙◌, arith}
 use Rattle.std.specs.List.{starts_with, position, position_or_len}
 use Rattle.std.specs.Option.{option_and_then}
@@ -24,7 +24,7 @@ use Rattle.tora_lines.proofs.Grammar.{own, number_prints, number_again}
 pub some_is : {A : Type 0} (x y : A) → ◌≡◌ {A = Option A} (Some x) (Some y) → x ≡ y
 some_is x y h = cc
 
--- the first step gave a value, and the second this one
+-- both steps gave a value
 pub bind_some : {A B : Type 0} (o : Option A) (f : A → Option B) (y : B) → (o >>= f) ≡ Some y → (x : A) × (o ≡ Some x) × (f x ≡ Some y)
 bind_some (Some x) f y h = (x, refl, h)
 bind_some None f y h = absurd cc
@@ -103,7 +103,7 @@ dash_found [] h = absurd cc
 dash_found (x ∷ []) h = let p = and_parts (length (x ∷ []) == 1) (x == 45) h in ap (λ (t : ℕ). t ∷ []) (eqb-true x 45 p.1)
 dash_found (x ∷ y ∷ zs) h = let p = and_parts (length (x ∷ y ∷ zs) == 1) (x == 45) h in let e = eqb-true _ _ p.0 in absurd (omega arith)
 
--- ---- a choice of fronts
+-- ---- a choice between prefixes
 
 pub or_else_some : {A : Type 0} (front text : List ℕ) (read : List ℕ → Option A) (other : Option A) (o : A) → or_else (after front text) read other ≡ Some o
     → ((rest : List ℕ) × (text ≡ front ++ rest) × (read rest ≡ Some o)) ⊎ (other ≡ Some o)

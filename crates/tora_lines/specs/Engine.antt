@@ -1,4 +1,4 @@
--- What the engine promises of what it reads and writes.
+-- What the engine promises of its input and its output.
 use Rattle.std.specs.Prelude.{◌≡◌, ℕ, ◌+◌, ◌-◌, ◌≤◌, ◌<◌, ◌==◌, Bool, true, false, List, [], ◌∷◌, ◌++◌, length, drop, Option, Some, None, Result, Ok, Err}
 use Rattle.std.specs.List.{position}
 use Rattle.std.specs.Io.KnownBytes.{Appends, Consumes}
@@ -10,16 +10,16 @@ use Rattle.tora_lines.specs.declared.ended.ReplayError.TheVariants.{Memory, Read
 
 -- ---- a kind of file
 
--- a line is a fault, whatever comes behind it
+-- a line is a fault, whatever lines follow
 abbrev pub IsFaultIn : {S : Type 0} → (S → ℕ → List (List ℕ) → Text) → S → List ℕ → Type 0
 IsFaultIn text state line = (n : ℕ) (lines : List (List ℕ)) → text state n (line ∷ lines) ≡ faulty n
 
--- a line leaves a state and prints a text, whatever comes behind it
+-- a line leads to a state and prints a text, whatever lines follow
 abbrev pub GoesOnIn : {S : Type 0} → (S → ℕ → List (List ℕ) → Text) → S → List ℕ → S → List ℕ → Type 0
 GoesOnIn text state line next out =
     (n : ℕ) (lines : List (List ℕ)) → text state n (line ∷ lines) ≡ prepend out (text next (n + 1) lines)
 
--- what is printed for the lines from line n on in each state, and how that ends; a line of more than 4,096 bytes is a
+-- the output for the lines from line n on, in each state, and how the input ends; a line of more than 4,096 bytes is a
 -- fault
 pub record Kind (S : Type 0) : Type 0 where
   pub text : S → ℕ → List (List ℕ) → Text
@@ -31,23 +31,23 @@ IsFault kind state line = IsFaultIn kind.text state line
 abbrev pub GoesOn : {S : Type 0} → Kind S → S → List ℕ → S → List ℕ → Type 0
 GoesOn kind state line next out = GoesOnIn kind.text state line next out
 
--- the text of bytes that begin with line n
+-- the output for bytes that begin with line n
 unfoldable pub text_of : {S : Type 0} → Kind S → S → ℕ → List ℕ → Text
 text_of kind state n bytes = kind.text state n (pieces_of bytes)
 
--- ---- what is promised of an input
+-- ---- promises about an input
 
--- Known bytes grew by the text of the input, and the input ends so.
+-- The known bytes of the writer grew by the output for the input, and the input ends as the result says.
 pub record IsWholeText (text : List ℕ → Text) (input : List ℕ) (old new : Option (List ℕ)) (ended : Ended) : Type 0
   where
     pub written : Appends old new (text input).0
     pub ends : ended ≡ (text input).1
 
--- s is the front of t
+-- s is a prefix of t
 abbrev pub Begins : List ℕ → List ℕ → Type 0
 Begins s t = (rest : List ℕ) × (t ≡ s ++ rest)
 
--- The reader gave some bytes, and the writer got a front of their text.
+-- The reader returned some bytes, and the writer got a prefix of the output for them.
 pub record IsFrontOfText (text : List ℕ → Text) (old_reader new_reader old_writer new_writer : Option (List ℕ)) : Type 0
   where
     pub given : List ℕ
@@ -58,18 +58,18 @@ pub record IsFrontOfText (text : List ℕ → Text) (old_reader new_reader old_w
 
 -- ---- steps of the engine
 
--- The text of these bytes, whatever follows them, is what was written and then a text that goes on.
+-- The written text, followed by `onward`, is the output for these bytes and any that follow them.
 pub record Prints {S : Type 0} (kind : Kind S) (state : S) (n : ℕ) (bytes : List ℕ) (old new : Option (List ℕ))
     (onward : List ℕ → Text) : Type 0 where
   pub written : List ℕ
   pub grown : Appends old new written
   pub goes : (more : List ℕ) → text_of kind state n (bytes ++ more) ≡ prepend written (onward more)
 
--- no line ends in the bytes
+-- the bytes have no LF
 abbrev pub IsOpen : List ℕ → Type 0
 IsOpen bytes = position (λ x. x == 10) bytes ≡ None
 
--- One line was taken (true), or it is a fault (false).
+-- One line was processed (true), or it is a fault (false).
 pub record IsAnswered {S : Type 0} (kind : Kind S) (state : S) (line : List ℕ) (next : S) (old new : Option (List ℕ)) :
     Type 0 where
   pub text : List ℕ
@@ -84,7 +84,7 @@ Answers kind state line next old new (Err Memory) = Appends old new []
 Answers kind state line next old new (Err Read) = ⊥
 Answers kind state line next old new (Err Write) = Unit {0}
 
--- The bytes went behind what is pending of a line (true), or the line is too long (false).
+-- The bytes were appended to the pending ones (true), or the line is too long (false).
 abbrev pub Keeps : List ℕ → List ℕ → List ℕ → Result Bool ReplayError → Type 0
 Keeps old bytes new (Ok true) = (new ≡ old ++ bytes) × (length new ≤ 4096)
 Keeps old bytes new (Ok false) = 4096 < length old + length bytes
@@ -92,13 +92,13 @@ Keeps old bytes new (Err Memory) = Unit {0}
 Keeps old bytes new (Err Read) = ⊥
 Keeps old bytes new (Err Write) = ⊥
 
--- where memory was refused, with some text still to come
+-- memory ran out, and the written text is a prefix of the output, or a write failed
 abbrev pub Stops : {S : Type 0} → Kind S → S → ℕ → List ℕ → Option (List ℕ) → Option (List ℕ) → ReplayError → Type 0
 Stops kind state n bytes old new Memory = (onward : List ℕ → Text) × Prints kind state n bytes old new onward
 Stops kind state n bytes old new Read = ⊥
 Stops kind state n bytes old new Write = Unit {0}
 
--- Whole lines were taken from the front of the bytes, and these are left.
+-- Complete lines were taken from the front of the bytes, and these bytes are left.
 pub record IsDrained {S : Type 0} (kind : Kind S) (state : S) (n : ℕ) (bytes : List ℕ) (old new : Option (List ℕ))
     (next : S) (m : ℕ) (left : List ℕ) : Type 0 where
   pub prints : Prints kind state n bytes old new (λ more. text_of kind next m (left ++ more))
@@ -112,7 +112,7 @@ Drains kind state n bytes old new next m (Ok (Some left)) = (left ≤ length byt
 Drains kind state n bytes old new next m (Ok None) = Prints kind state n bytes old new (λ more. faulty m)
 Drains kind state n bytes old new next m (Err e) = Stops kind state n bytes old new e
 
--- A chunk went behind what was left, and its whole lines were taken (true), or one is a fault (false).
+-- The complete lines of the bytes were processed (true), or one is a fault (false).
 abbrev pub TakesChunk : {S : Type 0} → Kind S → S → ℕ → List ℕ → Option (List ℕ) → Option (List ℕ) → S → ℕ → List ℕ
     → Result Bool ReplayError → Type 0
 TakesChunk kind state n bytes old new next m left (Ok true) = IsDrained kind state n bytes old new next m left
@@ -120,13 +120,13 @@ TakesChunk kind state n bytes old new next m left (Ok true) = IsDrained kind sta
 TakesChunk kind state n bytes old new next m left (Ok false) = Prints kind state n bytes old new (λ more. faulty m)
 TakesChunk kind state n bytes old new next m left (Err e) = Stops kind state n bytes old new e
 
--- The end of the input: the text of the bytes, and how it ends.
+-- The output for the bytes was written, and the input ends as the result says.
 pub record IsFinished {S : Type 0} (kind : Kind S) (state : S) (n : ℕ) (bytes : List ℕ) (old new : Option (List ℕ))
     (ended : Ended) : Type 0 where
   pub grown : Appends old new (text_of kind state n bytes).0
   pub ends : ended ≡ (text_of kind state n bytes).1
 
--- where memory was refused at the end, after a front of the text
+-- memory ran out at the end of the input, after a prefix of the output
 pub record IsCutOff {S : Type 0} (kind : Kind S) (state : S) (n : ℕ) (bytes : List ℕ) (old new : Option (List ℕ)) :
     Type 0 where
   pub written : List ℕ
@@ -140,14 +140,14 @@ Finishes kind state n bytes old new (Err Memory) = IsCutOff kind state n bytes o
 Finishes kind state n bytes old new (Err Read) = ⊥
 Finishes kind state n bytes old new (Err Write) = Unit {0}
 
--- The end of a text is written: nothing, or a fault.
+-- The output at the end of the input was written: nothing, or a fault.
 abbrev pub Ends : Text → Option (List ℕ) → Option (List ℕ) → Result Ended ReplayError → Type 0
 Ends text old new (Ok ended) = Appends old new text.0 × (ended ≡ text.1)
 Ends text old new (Err Memory) = Appends old new []
 Ends text old new (Err Read) = ⊥
 Ends text old new (Err Write) = Unit {0}
 
--- Between two reads: what was given, and what is left of it.
+-- Between two reads: the bytes that were read, and those of them that are still pending.
 pub record IsUnderway {S : Type 0} (kind : Kind S) (start state : S) (n : ℕ) (left : List ℕ)
     (old_reader reader old_writer writer : Option (List ℕ)) (most : ℕ) : Type 0 where
   pub given : List ℕ

@@ -1,4 +1,4 @@
--- What a function that may want memory gives, against a definition.
+-- A result that may be `Memory`, compared with a definition.
 use Rattle.std.specs.Prelude.{◌≡◌, Option, Some, None, Result, Ok, Err}
 use Rattle.tora_lines.specs.declared.words.LineError.{LineError}
 use Rattle.tora_lines.specs.declared.words.LineError.TheVariants.{Memory, Fault}
@@ -7,7 +7,7 @@ abbrev pub Fails : {Y : Type 0} → LineError → Option Y → Type 0
 Fails Memory read = Unit {0}
 Fails Fault read = read ≡ None
 
--- What was returned, seen by view, is what reading gives, unless memory was refused.
+-- The function returns the view of what reading gives, a fault if it gives nothing, or `Memory`.
 abbrev pub Gives : {X Y : Type 0} → (X → Y) → Result X LineError → Option Y → Type 0
 Gives view (Ok x) read = read ≡ Some (view x)
 Gives view (Err e) read = Fails e read

@@ -1,4 +1,4 @@
--- The kind of file that rules make.
+-- The kind of file that a set of rules defines.
 use Rattle.std.specs.Prelude.{◌≡◌, ℕ, ◌<◌, true, nat_lt, List, length, refl}
 use Rattle.std.proofs.lemmas.Bool.{lt-ltb}
 use Rattle.tora_lines.specs.LineText.{Rules, reply, text_from}

@@ -1,4 +1,4 @@
--- What a file of lines prints, and how it ends, by the rules of its kind.
+-- The output for a file of lines, and how the file ends, by the rules of its kind.
 use Rattle.std.specs.Prelude.{◌≡◌, ℕ, ◌+◌, nat_lt, if◌then◌else◌, codes, List, [], ◌∷◌, ◌++◌, length, Option, Some, None}
 use Rattle.std.specs.Option.{option_map_or, option_and_then}
 use Rattle.std.specs.Fmt.{decimal}
@@ -6,7 +6,7 @@ use Rattle.tora_lines.specs.Pieces.{pieces_of}
 use Rattle.tora_lines.specs.declared.ended.Ended.{Ended}
 use Rattle.tora_lines.specs.declared.ended.Ended.TheVariants.{Whole, Fault}
 
--- a word, a number and the end of the line
+-- a word, a number and a line feed
 abbrev pub numbered : List ℕ → ℕ → List ℕ
 numbered word n = word ++ decimal n ++ 10 ∷ []
 
@@ -28,7 +28,7 @@ reply rules state line = if nat_lt 4096 (length line) then None else rules.reply
 
 -- ---- all lines
 
--- what is printed, and how it ends
+-- an output, and how the input ends
 abbrev pub Text : Type 0
 Text = List ℕ × Ended
 
@@ -39,18 +39,18 @@ faulty n = (numbered (codes "fault ") n, Fault n)
 abbrev pub prepend : List ℕ → Text → Text
 prepend front text = (front ++ text.0, text.1)
 
--- the end of the input
+-- the output at the end of the input, by the number of the line that is a fault, if one is
 abbrev pub ending : Option ℕ → Text
 ending None = ([], Whole)
 ending (Some n) = faulty n
 
--- the text of lines from line n on, up to the first that is a fault
+-- the output for the lines from line n on, up to the first fault
 unfoldable pub text_from : {S : Type 0} → Rules S → S → ℕ → List (List ℕ) → Text
 text_from rules state n [] = ending (rules.at_end state n)
 text_from rules state n (line ∷ lines) = option_map_or (λ r. prepend r.1 (text_from rules r.0 (n + 1) lines))
     (reply rules state line) (faulty n)
 
--- the text of an input
+-- the output for an input
 abbrev pub whole_text : {S : Type 0} → Rules S → List ℕ → Text
 whole_text rules bytes = text_from rules rules.start 1 (pieces_of bytes)
 
@@ -60,17 +60,18 @@ fault_of (Fault n) = Some n
 
 -- ---- which line is the first fault
 
--- the state behind lines that are all taken, or None where one is a fault
+-- the state after these lines, or None if one of them is a fault
 unfoldable pub state_behind : {S : Type 0} → Rules S → S → List (List ℕ) → Option S
 state_behind rules state [] = Some state
 state_behind rules state (line ∷ lines) = option_and_then (λ r. state_behind rules r.0 lines) (reply rules state line)
 
--- of the lines from line n on, line m is a fault: the first of them, or by the end of the input
+-- line m is a fault: it is line n and the first of these lines, or there are no lines and the end of the input is a
+-- fault
 abbrev pub IsFaultNext : {S : Type 0} → Rules S → S → ℕ → List (List ℕ) → ℕ → Type 0
 IsFaultNext rules state n (line ∷ lines) m = (reply rules state line ≡ None) × (m ≡ n)
 IsFaultNext rules state n [] m = rules.at_end state n ≡ Some m
 
--- of lines from line n on, line m is a fault, and all before it are taken
+-- line m is the first fault of the lines from line n on
 pub record IsFirstFaultBy {S : Type 0} (rules : Rules S) (state : S) (n : ℕ) (lines : List (List ℕ)) (m : ℕ) : Type 0
   where
     pub before : List (List ℕ)

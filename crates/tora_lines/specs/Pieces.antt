@@ -8,6 +8,6 @@ without_last_empty ([] ∷ []) = []
 without_last_empty ((x ∷ xs) ∷ []) = (x ∷ xs) ∷ []
 without_last_empty (piece ∷ next ∷ pieces) = piece ∷ without_last_empty (next ∷ pieces)
 
--- an input split at LF, where a last piece that is empty is dropped
+-- an input split at LF, without an empty piece at the end
 unfoldable pub pieces_of : List ℕ → List (List ℕ)
 pieces_of bytes = without_last_empty (split 10 bytes)

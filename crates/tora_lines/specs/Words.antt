@@ -16,7 +16,7 @@ abbrev pub is_numeral : List ℕ → Bool
 is_numeral text =
     nat_lt 0 (length text) && list_all is_ascii_digit text && (not (slice_index text 0 == 48) || (length text == 1))
 
--- what digits go on to stand for, after the number so far
+-- the value of decimal digits that follow digits with the value n
 unfoldable pub value_from : ℕ → List ℕ → ℕ
 value_from n [] = n
 value_from n (c ∷ cs) = value_from (n * 10 + (c - 48)) cs
@@ -32,11 +32,11 @@ id_from n = if nat_lt 0 n && nat_lt n (2 ^ 32) then Some n else None
 unfoldable pub id_of : List ℕ → Option ℕ
 id_of text = option_and_then id_from (number_of text)
 
--- the pieces of a text between separators, always one at least
+-- the pieces of a text between separators; there is always at least one
 abbrev pub split : ℕ → List ℕ → List (List ℕ)
 split separator text = slice_split (λ x. x == separator) text
 
--- all ids, or nothing where one piece is none
+-- the ids, or None if a piece is not an id
 unfoldable pub ids_of : List (List ℕ) → Option (List ℕ)
 ids_of [] = Some []
 ids_of (piece ∷ pieces) = option_and_then (λ n. option_map (λ ns. n ∷ ns) (ids_of pieces)) (id_of piece)
@@ -45,6 +45,6 @@ ids_of (piece ∷ pieces) = option_and_then (λ n. option_map (λ ns. n ∷ ns) 
 abbrev pub is_dash : List ℕ → Bool
 is_dash text = (length text == 1) && (slice_index text 0 == 45)
 
--- ids between commas, or `-` for none
+-- ids separated by commas, or `-` for the empty list
 unfoldable pub list_of : List ℕ → Option (List ℕ)
 list_of text = if is_dash text then Some [] else ids_of (split 44 text)

@@ -1,24 +1,24 @@
 use thiserror::Error;
 
-/// How a replay ended.
+/// How the processing of a file of lines ended.
 #[derive(Clone, Copy, Debug, PartialEq, Eq)]
 pub enum Ended {
-    /// The whole input was taken.
+    /// The whole input was processed.
     Whole,
-    /// The line of this number, counted from 1, is the first that is a fault.
+    /// The line with this number, counted from 1, is the first fault.
     Fault(u64),
 }
 
-/// Why a replay could not go on, numbered 1 to 3 in this order.
+/// Why the processing of a file of lines failed, numbered 1 to 3 in this order.
 #[derive(Clone, Copy, Debug, PartialEq, Eq, Error)]
 pub enum ReplayError {
-    /// Memory was refused.
+    /// Memory ran out.
     #[error("memory was refused")]
     Memory,
-    /// The reader failed, or gave no end within 2^32 reads.
+    /// A read failed, or 2^32 reads did not reach the end of the input.
     #[error("the input could not be read")]
     Read,
-    /// The writer failed.
+    /// A write failed.
     #[error("the output could not be written")]
     Write,
 }

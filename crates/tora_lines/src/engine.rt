@@ -1,4 +1,4 @@
-//! From a reader of lines to a writer of answers.
+//! The engine: it reads lines and writes the output for each.
 ghost use Rattle.std.specs.Prelude.{◌≡◌, ◌≢◌, ◌+◌, ◌-◌, ◌^◌, ◌<◌, ◌≤◌, ◌++◌, [], length, drop, OnOk, IfOk, IfErr};
 ghost use Rattle.std.specs.Prelude.{IfSome, None, Ok, true, vec_len, ℕ, List, Some};
 ghost use Rattle.std.specs.Io.KnownBytes.{Appends, IsAtEnd, ReadConsumes};
@@ -17,10 +17,10 @@ use std::alloc::{AllocError, Global};
 use std::io::ErrorKind;
 use std::{io, mem};
 
-/// The most times that a reader is asked.
+/// The most reads of one input.
 pub const MOST_READS: u64 = 0x1_0000_0000;
 
-/// How many bytes are asked for at once.
+/// The size in bytes of the buffer for one read.
 pub const CHUNK: usize = 0x1_0000;
 
 fn put<W: Output>(writer: &mut W, text: &[u8]) -> Result<(), ReplayError>
@@ -34,7 +34,7 @@ fn put<W: Output>(writer: &mut W, text: &[u8]) -> Result<(), ReplayError>
     }
 }
 
-/// Takes one line, and writes what is printed for it.
+/// Processes one line and writes its output. Returns false if the line is a fault.
 pub fn answer<K: FileKind, W: Output>(
     alloc: Global,
     session: &mut Session<K>,
@@ -55,8 +55,7 @@ pub fn answer<K: FileKind, W: Output>(
     }
 }
 
-/// Takes the whole lines of the text, and says how many bytes are left behind them, or nothing at
-/// a fault.
+/// Processes the complete lines of the text. Returns how many bytes follow them, or `None` at a fault.
 fn drain<K: FileKind, W: Output>(
     alloc: Global,
     session: &mut Session<K>,
@@ -80,7 +79,7 @@ fn drain<K: FileKind, W: Output>(
     Ok(Some(rest.len()))
 }
 
-/// Puts bytes behind what is pending of a line, unless the line is then too long.
+/// Appends bytes to the pending part of a line. Returns false, and appends nothing, if the line would be too long.
 fn keep(pending: &mut Vec<u8>, bytes: &[u8]) -> Result<bool, ReplayError>
     requires { vec_len pending.old ≤ LONGEST_LINE }
     ensures { Keeps pending.old.items bytes.now pending.new.items result }
@@ -94,7 +93,8 @@ fn keep(pending: &mut Vec<u8>, bytes: &[u8]) -> Result<bool, ReplayError>
     }
 }
 
-/// Takes the line that is pending and ends so. Nothing is pending once it is taken.
+/// Processes the line that consists of the pending bytes and `end`; afterwards no bytes are pending. Returns false if
+/// the line is a fault.
 fn end_line<K: FileKind, W: Output>(
     alloc: Global,
     session: &mut Session<K>,
@@ -116,7 +116,8 @@ fn end_line<K: FileKind, W: Output>(
     Ok(taken)
 }
 
-/// Takes the whole lines of a text that begins with a line, and keeps what is left of it.
+/// Processes the complete lines of a text that begins with a line, and keeps the rest as pending. Returns false if a
+/// line is a fault.
 fn take_rest<K: FileKind, W: Output>(
     alloc: Global,
     session: &mut Session<K>,
@@ -139,7 +140,8 @@ fn take_rest<K: FileKind, W: Output>(
     keep(pending, &text[text.len() - left..])
 }
 
-/// Processes the complete lines of the pending bytes and the new chunk, and keeps the rest as pending.
+/// Processes the complete lines of the pending bytes and the new chunk, and keeps the rest as pending. Returns false if
+/// a line is a fault.
 fn take_chunk<K: FileKind, W: Output>(
     alloc: Global,
     session: &mut Session<K>,
@@ -166,7 +168,7 @@ fn take_chunk<K: FileKind, W: Output>(
     take_rest(alloc, session, number, writer, pending, &chunk[at + 1..])
 }
 
-/// Writes that a line is a fault.
+/// Writes `fault N` for the line with this number.
 pub fn fault<W: Output>(alloc: Global, number: u64, writer: &mut W) -> Result<Ended, ReplayError>
     ensures text { Ends (faulty number) (W.contents writer.old) (W.contents writer.new) result }
     ensures failed { IfErr result (λ e. e ≡ ReplayError.Write → IsUnwritten W.did_write writer.new) }
@@ -179,7 +181,7 @@ pub fn fault<W: Output>(alloc: Global, number: u64, writer: &mut W) -> Result<En
     Ok(Ended::Fault(number))
 }
 
-/// Says how an input ends that ends before this line.
+/// Ends an input whose next line would have this number: writes `fault N` if the end is a fault.
 pub fn close<K: FileKind, W: Output>(
     alloc: Global,
     session: &Session<K>,
@@ -196,7 +198,7 @@ pub fn close<K: FileKind, W: Output>(
     }
 }
 
-/// Takes a last line that has no end, and says how the input ended.
+/// Processes the last line, which has no LF and may be empty, and ends the input.
 fn finish<K: FileKind, W: Output>(
     alloc: Global,
     session: &mut Session<K>,
@@ -227,7 +229,7 @@ pub fn zeros(alloc: Global, size: usize) -> Result<Vec<u8>, AllocError>
     vec![in alloc; 0u8; size]
 }
 
-/// Asks the reader once.
+/// Reads once.
 pub fn read_some<R: Input>(reader: &mut R, chunk: &mut Vec<u8>) -> io::Result<usize>
     ensures call { R.did_read reader.old (given_by result chunk.new.items) reader.new }
     ensures len { vec_len chunk.new ≡ vec_len chunk.old }
@@ -237,23 +239,22 @@ pub fn read_some<R: Input>(reader: &mut R, chunk: &mut Vec<u8>) -> io::Result<us
     reader.get_some(chunk.as_mut_slice())
 }
 
-/// Reads the lines of a file to the end of the input or to the first line that is a fault, and writes what is printed
-/// for each.
+/// Reads the lines of a file to the end of the input or to the first fault, and writes the output of each line.
 ///
 /// # Errors
-/// `Memory` where memory was refused; `Read` where a read failed, or 2^32 reads came to no end; `Write` where a write
-/// failed. No line is taken in part.
+/// `Memory` if memory ran out; `Read` if a read failed, or 2^32 reads did not reach the end of the input; `Write` if a
+/// write failed. At `Memory` and `Read` the outputs of whole lines were written, never a part of one.
 pub fn read_lines<K: FileKind, R: Input, W: Output>(
     alloc: Global,
     state: K,
     reader: &mut R,
     writer: &mut W,
 ) -> Result<Ended, ReplayError>
-    // What was written is the text of the whole input, and the input ends so.
+    // The written text is the output of the whole input, and the input ends as the result says.
     ensures whole { IfOk result (λ ended. IfSome (R.remaining reader.old) (λ input.
         IsWholeText (text_of K.kind state 1) input (W.contents writer.old) (W.contents writer.new) ended)) }
     ensures at_end { result ≡ Ok Ended.Whole → IsAtEnd (R.remaining reader.new) }
-    // What was written begins the text of what was read.
+    // The written text is a prefix of the output of the lines that were read.
     ensures begun { IfErr result (λ e. e ≢ ReplayError.Write →
         IsFrontOfText (text_of K.kind state 1) (R.remaining reader.old) (R.remaining reader.new) (W.contents writer.old)
         (W.contents writer.new)) }
@@ -264,8 +265,8 @@ pub fn read_lines<K: FileKind, R: Input, W: Output>(
     read_session(alloc, &mut session, reader, writer)
 }
 
-/// Reads the lines of a file as `read_lines` does, for a program that ends behind it: what the state took is left to
-/// the system, and not given back piece by piece, which takes time where it is much.
+/// Reads the lines of a file as `read_lines` does, for a program that exits afterwards. The memory of the state is not
+/// freed, which would take time if there is much.
 ///
 /// # Errors
 /// Those of `read_lines`.
@@ -290,22 +291,22 @@ pub fn read_last_lines<K: FileKind, R: Input, W: Output>(
     ended
 }
 
-/// Reads the lines of a file as `read_lines` does, in a session that stays with its owner: it is before the first line.
+/// Reads the lines of a file as `read_lines` does, in a session that no line has changed yet. The caller keeps the
+/// session.
 ///
 /// # Errors
-/// `Memory` where memory was refused; `Read` where a read failed, or 2^32 reads came to no end; `Write` where a write
-/// failed. No line is taken in part.
+/// Those of `read_lines`.
 fn read_session<K: FileKind, R: Input, W: Output>(
     alloc: Global,
     session: &mut Session<K>,
     reader: &mut R,
     writer: &mut W,
 ) -> Result<Ended, ReplayError>
-    // What was written is the text of the whole input, and the input ends so.
+    // The written text is the output of the whole input, and the input ends as the result says.
     ensures whole { IfOk result (λ ended. IfSome (R.remaining reader.old) (λ input.
         IsWholeText (text_of K.kind session.old.state 1) input (W.contents writer.old) (W.contents writer.new) ended)) }
     ensures at_end { result ≡ Ok Ended.Whole → IsAtEnd (R.remaining reader.new) }
-    // What was written begins the text of what was read.
+    // The written text is a prefix of the output of the lines that were read.
     ensures begun { IfErr result (λ e. e ≢ ReplayError.Write →
         IsFrontOfText (text_of K.kind session.old.state 1) (R.remaining reader.old) (R.remaining reader.new)
         (W.contents writer.old) (W.contents writer.new)) }

@@ -1,4 +1,4 @@
-//! What was written is handed on.
+//! Flushing the output at the end.
 ghost use Rattle.std.specs.Prelude.{◌≡◌, Bool};
 ghost use Rattle.std.specs.Io.KnownBytes.{Keeps};
 ghost use Rattle.tora_lines.specs.Flushing.{after_flush};

@@ -1,4 +1,4 @@
-//! What stands in front of a text.
+//! Prefixes of texts.
 ghost use Rattle.std.specs.Prelude.{◌≡◌, ◌≤◌, IfSome, length};
 ghost use Rattle.std.specs.Option.{option_map};
 ghost use Rattle.tora_lines.specs.Fronts.{after};
@@ -6,7 +6,7 @@ ghost use Rattle.tora_lines.specs.Gives.{Gives};
 
 use crate::words::LineError;
 
-/// What follows a text that stands in front of another, if it does.
+/// The text after the prefix `front`; `None` if the text does not begin with it.
 #[tactic(auto, unfolding(crate::specs::Fronts::after))]
 pub fn after<'a>(front: &[u8], text: &'a [u8]) -> Option<&'a [u8]>
     ensures rest { option_map (λ rest. rest.now) result ≡ after front.now text.now }
@@ -19,10 +19,10 @@ pub fn after<'a>(front: &[u8], text: &'a [u8]) -> Option<&'a [u8]>
     }
 }
 
-/// What follows a text that has to stand in front of another.
+/// The text after the prefix `front`.
 ///
 /// # Errors
-/// `Fault` where it does not.
+/// `Fault` if the text does not begin with `front`.
 pub fn behind<'a>(front: &[u8], text: &'a [u8]) -> Result<&'a [u8], LineError>
     ensures { Gives (λ rest. rest.now) result (after front.now text.now) }
 {

@@ -1,4 +1,4 @@
-//! Readers whose calls contracts can name.
+//! Readers whose reads contracts can describe.
 ghost use Rattle.std.specs.Prelude.{ℕ, List, Option};
 ghost use Rattle.std.specs.Io.{ReadsAtMost};
 ghost use Rattle.std.specs.Io.KnownBytes.{ReadConsumes};
@@ -7,17 +7,17 @@ ghost use Rattle.tora_lines.specs.Reads.{Given, given_by, Gives};
 use std::io;
 use std::io::Read;
 
-/// A reader whose calls contracts can name: that a read was made, and what it gave. Every `Read` is an `Input`. A type
-/// that passes on the data of another reader implements `Input` and not `Read`; its calls give what that reader's calls
-/// gave.
+/// A reader whose reads contracts can describe. Every `Read` is an `Input`. A type that passes on the data of another
+/// reader can implement `Input` in place of `Read`, with the reads of that reader as its `did_read`.
 pub trait Input {
-    /// The bytes that reads will give from here on, where they are known.
+    /// The bytes that later reads will return, if they are known.
     ghost remaining: { Self → Option (List ℕ) };
 
-    /// What a read made of the reader: what it gave, and the reader after it.
+    /// Whether a read can return this and lead from the first reader to the second.
     ghost did_read: { Self → Given → Self → Type 0 };
 
-    /// Reads some bytes into the front of `buf`, at least one where there is one and one fits, and answers their count.
+    /// Reads some bytes into the front of `buf`, and returns how many: at least one, unless the input is at its end or
+    /// `buf` is empty.
     fn get_some(&mut self, buf: &mut [u8]) -> io::Result<usize>
         ensures call { did_read self.old (given_by result buf.new) self.new }
         ensures bound { ReadsAtMost result buf.new }

@@ -1,16 +1,16 @@
-//! A writer whose calls contracts tell.
+//! Writers whose calls contracts can describe.
 ghost use Rattle.std.specs.Prelude.{◌≡◌, ℕ, Bool, true, is_ok, List, OnOk};
 ghost use Rattle.std.specs.Io.KnownBytes.{Appends, Keeps};
 
 use std::io;
 use std::io::Write;
 
-/// A writer whose calls contracts tell: that a call was made, and how it was answered. Every writer is one.
+/// A writer whose calls contracts can describe. Every `Write` is an `Output`.
 pub trait Output: Write {
-    /// What writing all of some bytes made of the writer: the bytes, whether it succeeded, and the writer after it.
+    /// Whether a write of these bytes, with this success, can lead from the first writer to the second.
     ghost did_write: { Self → List ℕ → Bool → Self → Type 0 };
 
-    /// What handing on all that was written made of it: whether it succeeded, and the writer after it.
+    /// Whether a flush with this success can lead from the first writer to the second.
     ghost did_flush: { Self → Bool → Self → Type 0 };
 
     /// Writes all of some bytes.
@@ -18,7 +18,7 @@ pub trait Output: Write {
         ensures call { did_write self.old bytes.now (is_ok result) self.new }
         ensures bytes { OnOk result (Appends (Self.contents self.old) (Self.contents self.new) bytes.now) };
 
-    /// Hands on all that was written.
+    /// Flushes the writer.
     fn hand_on(&mut self) -> io::Result<()>
         ensures call { did_flush self.old (is_ok result) self.new }
         ensures bytes { Keeps (Self.contents self.old) (Self.contents self.new) };

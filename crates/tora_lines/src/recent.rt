@@ -1,11 +1,11 @@
-//! A reader that keeps the lines that were read last.
+//! A reader that remembers the last lines that were read.
 ghost use Rattle.std.specs.Prelude.{◌≡◌};
 
 use std::alloc::Global;
 use std::io;
 use std::io::Read;
 
-/// How many bytes are counted at once: a byte can count as many.
+/// The length in bytes of a piece whose line ends are counted in a `u8`.
 const PIECE: usize = 128;
 
 /// How many line ends a piece of at most `PIECE` bytes has.
@@ -17,8 +17,8 @@ fn ends_in_piece(piece: &[u8]) -> u8 {
     ends
 }
 
-/// How many line ends some bytes have. What is read is counted whole, and a sum of bytes without a branch, piece by
-/// piece, costs a twentieth of an iterator's `filter` and `count`.
+/// How many line ends some bytes have. Every read is counted, and sums of bytes without a branch take a twentieth of
+/// the time of `filter` and `count`.
 fn line_ends(bytes: &[u8]) -> u64 {
     let mut ends = 0u64;
     for piece in bytes.chunks(PIECE) {
@@ -27,18 +27,18 @@ fn line_ends(bytes: &[u8]) -> u64 {
     ends
 }
 
-/// The bytes of the last read, behind the front of the line that it began in.
+/// The bytes of the last read, preceded by the beginning of their first line from earlier reads.
 #[derive(Drop)]
 struct LastLines {
     bytes: Vec<u8>,
-    /// The number of the line that the bytes begin with, from 1.
+    /// The number of the first of these lines, from 1.
     first: u64,
-    /// Whether memory was refused, so that bytes are missing.
+    /// Whether bytes are missing, because memory ran out.
     is_lossy: bool,
 }
 
 impl LastLines {
-    /// The line of this number, without its LF, where it is here. A last piece that is empty is no line.
+    /// The line with this number, without its LF, if it is remembered. An empty piece after the last LF is not a line.
     fn line(&self, number: u64) -> Option<&[u8]> {
         if self.is_lossy || number < self.first {
             return None;
@@ -56,7 +56,7 @@ impl LastLines {
         Some(line)
     }
 
-    /// Forgets whole lines, and puts bytes behind what is left.
+    /// Forgets the complete lines, and appends bytes to the rest.
     fn keep(&mut self, more: &[u8]) {
         let ends = line_ends(self.bytes.as_slice());
         self.first = self.first.saturating_add(ends);
@@ -73,7 +73,7 @@ impl LastLines {
     }
 }
 
-/// Hands on what a reader gives, and keeps the lines that were read last.
+/// A reader that passes on the reads of another one, and remembers the last lines.
 #[derive(Drop)]
 pub struct Recent<R> {
     reader: R,
@@ -81,7 +81,7 @@ pub struct Recent<R> {
 }
 
 impl<R: Read> Recent<R> {
-    /// Nothing was read yet.
+    /// A reader with no reads yet.
     pub fn new(alloc: Global, reader: R) -> Recent<R>
         ensures { R.remaining result.reader ≡ R.remaining reader }
     {
@@ -95,12 +95,12 @@ impl<R: Read> Recent<R> {
         }
     }
 
-    /// Whether bytes are missing, since memory was refused.
+    /// Whether bytes are missing, because memory ran out.
     pub fn is_lossy(&self) -> bool {
         self.lines.is_lossy
     }
 
-    /// The line of this number, counted from 1, without its LF, where it was read last.
+    /// The line with this number, counted from 1, without its LF, if the last read had a part of it.
     pub fn line(&self, number: u64) -> Option<&[u8]> {
         self.lines.line(number)
     }

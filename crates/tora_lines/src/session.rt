@@ -1,4 +1,4 @@
-//! What is kept between two lines of a file, and the answer to the last line.
+//! The state between two lines of a file, and the output of the last line.
 ghost use Rattle.std.specs.Prelude.{◌≡◌, ◌≤◌, [], length, string_bytes, IfOk};
 ghost use Rattle.tora_lines.specs.LineText.{ending};
 ghost use Rattle.tora_lines.specs.Engine.{Kind};
@@ -14,18 +14,18 @@ pub const LONGEST_LINE: usize = 4096;
 pub trait FileKind: Drop {
     ghost kind: { Kind Self };
 
-    /// Takes a line of at most 4,096 bytes, and puts what is printed for it behind an empty text.
+    /// Processes a line of at most 4,096 bytes, and writes its output to `text`, which is empty before.
     fn take(&mut self, alloc: Global, line: &[u8], text: &mut String) -> Result<(), LineError>
         requires short { length line.now ≤ 4096 }
         requires empty { string_bytes text.old ≡ [] }
         ensures { TakesLine kind self.old line.now self.new (string_bytes text.new) result };
 
-    /// The number of the line that is a fault where the input ends before this line, if one is.
+    /// The number of the line that is a fault, if the input ends before the line `number` and that is a fault.
     fn end(&self, alloc: Global, number: u64) -> Result<Option<u64>, AllocError>
         ensures { IfOk result (λ fault. kind.text self.now number [] ≡ ending fault) };
 }
 
-/// The state between two lines, and the text printed for the last line.
+/// The state between two lines, and the output of the last line.
 #[derive(Drop)]
 pub struct Session<K> {
     pub state: K,
@@ -33,7 +33,7 @@ pub struct Session<K> {
 }
 
 impl<K: FileKind> Session<K> {
-    /// Before the first line.
+    /// A session before the first line.
     pub fn new(alloc: Global, state: K) -> Session<K>
         ensures { result.state ≡ state }
     {
@@ -43,7 +43,7 @@ impl<K: FileKind> Session<K> {
         }
     }
 
-    /// Takes a line, and keeps what is printed for it.
+    /// Processes a line, and stores its output. A line of more than 4,096 bytes is a fault.
     pub fn take(&mut self, alloc: Global, line: &[u8]) -> Result<(), LineError>
         ensures { TakesLine K.kind self.old.state line.now self.new.state (string_bytes self.new.text) result }
     {

@@ -1,4 +1,4 @@
-//! Lines of any length: one of more than 4,096 bytes is taken as an empty one.
+//! Lines of any length: one of more than 4,096 bytes is processed as an empty line.
 ghost use Rattle.std.specs.Prelude.{◌≡◌, ◌≢◌, ◌+◌, ◌^◌, ◌<◌, ◌≤◌, ◌++◌, ◌∷◌, [], ℕ, List, length, OnOk, IfOk, IfErr};
 ghost use Rattle.std.specs.Prelude.{IfSome, Ok, true, false};
 ghost use Rattle.std.specs.Io.KnownBytes.{IsAtEnd};
@@ -14,7 +14,7 @@ use crate::session::{FileKind, LONGEST_LINE, Session};
 use std::alloc::{AllocError, Global};
 use std::io::ErrorKind;
 
-/// The line that is being read: its bytes, where they are not too many.
+/// The line that is being read, without its bytes if there are more than 4,096.
 #[derive(Drop)]
 pub struct Held {
     bytes: Vec<u8>,
@@ -33,7 +33,7 @@ impl Held {
         })
     }
 
-    /// Whether nothing of the line was read.
+    /// Whether no byte of the line was read.
     fn is_empty(&self) -> bool
         ensures none { result ≡ true → (text : List ℕ) → Holds self.now text → text ≡ [] }
         ensures some { result ≡ false → (text : List ℕ) → Holds self.now text → 0 < length text }
@@ -41,7 +41,7 @@ impl Held {
         self.bytes.is_empty() && !self.is_too_long
     }
 
-    /// The next byte of the line.
+    /// Adds the next byte of the line.
     fn push(&mut self, byte: u8) -> Result<(), AllocError>
         ensures { OnOk result ((text : List ℕ) → Holds self.old text → Holds self.new (text ++ byte ∷ [])) }
     {
@@ -53,7 +53,7 @@ impl Held {
         Ok(())
     }
 
-    /// The line, or an empty one where it is too long.
+    /// The line, or an empty one if it is too long.
     fn shortened(&self) -> &[u8]
         ensures { (text : List ℕ) → Holds self.now text → result.now ≡ shortened text }
     {
@@ -64,7 +64,7 @@ impl Held {
         }
     }
 
-    /// The next line begins.
+    /// Begins the next line.
     fn clear(&mut self)
         ensures { Holds self.new [] }
     {
@@ -73,7 +73,7 @@ impl Held {
     }
 }
 
-/// Takes the lines that end in the bytes, and keeps the rest of them. It says whether no line was a fault.
+/// Processes the lines that end in these bytes, and keeps the rest. Returns false if a line is a fault.
 fn take_bytes<K: FileKind, W: Output>(
     alloc: Global,
     session: &mut Session<K>,
@@ -103,7 +103,7 @@ fn take_bytes<K: FileKind, W: Output>(
     Ok(true)
 }
 
-/// Takes a last line that has no end, and says how the input ended.
+/// Processes the last line, which has no LF and may be empty, and ends the input.
 fn finish_held<K: FileKind, W: Output>(
     alloc: Global,
     session: &mut Session<K>,
@@ -127,23 +127,22 @@ fn finish_held<K: FileKind, W: Output>(
     }
 }
 
-/// Reads lines as `read_lines` does, but takes a line of more than 4,096 bytes as an empty one: it is a fault only
-/// where an empty line is one.
+/// Reads lines as `read_lines` does, but processes a line of more than 4,096 bytes as an empty line, which may be a
+/// fault.
 ///
 /// # Errors
-/// `Memory` where memory was refused; `Read` where a read failed, or 2^32 reads came to no end; `Write` where a write
-/// failed. No line is taken in part.
+/// Those of `read_lines`.
 pub fn read_shortened_lines<K: FileKind, R: Input, W: Output>(
     alloc: Global,
     state: K,
     reader: &mut R,
     writer: &mut W,
 ) -> Result<Ended, ReplayError>
-    // What was written is the text of the whole input, and the input ends so.
+    // The written text is the output of the whole input, and the input ends as the result says.
     ensures whole { IfOk result (λ ended. IfSome (R.remaining reader.old) (λ input.
         IsWholeText (shortened_text_of K.kind state 1) input (W.contents writer.old) (W.contents writer.new) ended)) }
     ensures at_end { result ≡ Ok Ended.Whole → IsAtEnd (R.remaining reader.new) }
-    // What was written begins the text of what was read.
+    // The written text is a prefix of the output of the lines that were read.
     ensures begun { IfErr result (λ e. e ≢ ReplayError.Write →
         IsFrontOfText (shortened_text_of K.kind state 1) (R.remaining reader.old) (R.remaining reader.new)
         (W.contents writer.old) (W.contents writer.new)) }

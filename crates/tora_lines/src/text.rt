@@ -1,10 +1,10 @@
-//! What is printed.
+//! Lines of output.
 ghost use Rattle.std.specs.Prelude.{◌≡◌, ◌++◌, OnOk, string_bytes};
 ghost use Rattle.tora_lines.specs.LineText.{numbered};
 
 use std::alloc::AllocError;
 
-/// Puts a word, a number and the end of the line behind a text.
+/// Appends a word, a number and a line feed to a text.
 pub fn numbered(out: &mut String, word: &str, number: u64) -> Result<(), AllocError>
     ensures { OnOk result (string_bytes out.new ≡ string_bytes out.old ++ numbered word.now number) }
 {

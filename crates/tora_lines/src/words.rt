@@ -12,7 +12,7 @@ ghost use Rattle.tora_lines.specs.declared.words.LineError.TheVariants.{Memory};
 use std::alloc::{AllocError, AllocFailed, Global};
 use tora_height::Id;
 
-/// Why a line could not be taken: memory was refused, or the line is a fault.
+/// Why a line was not processed: memory ran out, or the line is a fault.
 #[derive(Clone, Copy, Debug, PartialEq, Eq)]
 pub enum LineError {
     Memory,
@@ -101,7 +101,7 @@ pub fn id(text: &[u8]) -> Option<Id>
     }
 }
 
-/// Ids between commas.
+/// Ids, separated by commas.
 fn ids(alloc: Global, text: &[u8]) -> Result<Vec<Id>, LineError>
     ensures value { Gives (λ v. v.items) result (ids_of (split 44 text.now)) }
     ensures positive { IfOk result (λ v. All (λ n. 0 < n) v.items) }
@@ -141,7 +141,7 @@ pub fn list(alloc: Global, text: &[u8]) -> Result<Vec<Id>, LineError>
     ids(alloc, text)
 }
 
-/// A number is read exactly where the text is what it prints as.
+/// A text is read as a number exactly if it is the printed form of that number.
 pub fn numbers_are_read_as_printed()
     ensures prints { (text : List ℕ) (n : ℕ) → number_of text ≡ Some n → (text ≡ decimal n) × (n < 2 ^ 64) }
     ensures again { (n : ℕ) → n < 2 ^ 64 → number_of (decimal n) ≡ Some n }
