@@ -1,4 +1,4 @@
--- The first line is read exactly where it is written so.
+-- A text is read as a first line exactly if it has the written form of one.
 use Rattle.std.proofs.Common.{◌≡◌, ℕ, codes, List, ◌∷◌, ◌++◌, Option, Some, refl, ap, ◌∙◌, arith}
 use Rattle.std.specs.Fmt.{decimal}
 use Rattle.tora_lines.specs.Words.{cut, id_of, list_of}

@@ -1,4 +1,4 @@
--- A line is read exactly where it is written so.
+-- A text is read as a line exactly if it has the written form of one.
 use Rattle.std.proofs.Common.{◌≡◌, subst, ℕ, ◌<◌, ◌^◌, ◌⊎◌, inl, inr, Bool, true, false, cond, ◌==◌, codes, List, [], ◌∷◌, ◌++◌, length, Option, None, Some, Result, Ok, Err, is_some, refl, sym, ap, ◌∙◌, arith}
 use Rattle.std.specs.Result.{result_ok}
 use Rattle.std.specs.Fmt.{decimal}
@@ -26,7 +26,7 @@ use Rattle.tora_lines.proofs.WordLaws.{some_is, bind_some, id_found, id_here, af
 
 -- ---- bytes
 
--- the last of three choices that gives something
+-- the last of three choices was made, if the result is a value
 chosen : (empty dash : Bool) (r : Result (List ℕ) FromHexError) (bytes : List ℕ) → cond empty None (cond dash (Some []) (result_ok r)) ≡ Some bytes
     → (empty ≡ false) × (((dash ≡ true) × (bytes ≡ [])) ⊎ (r ≡ Ok bytes))
 chosen true dash r bytes h = absurd cc
@@ -161,7 +161,7 @@ order_found text o h =
       | inr g ↦ or_up_found text o g
     ]
 
--- another first byte is another front
+-- texts with different first bytes are not prefixes of each other
 apart : (x y : ℕ) (xs ys : List ℕ) → (x == y) ≡ false → after (x ∷ xs) (y ∷ ys) ≡ None
 unfolding after
 apart x y xs ys e = rw e refl

@@ -30,7 +30,7 @@ Reply = CoreView × List ℕ
 abbrev pub replied : CoreView → List ℕ → Reply
 replied core text = (core, text)
 
--- an input, with the cause of its refusal, if it is refused
+-- the reply to an input, or its refusal with this cause, if there is one
 abbrev pub step_or : Option StepError → CoreView → Input → ℕ → Reply
 step_or (Some error) core input now = replied core (numbered (codes "refused ") (step_error_number error))
 step_or None core input now = replied (core_after core input now) (send_lines (sends_of core input now))

@@ -72,7 +72,7 @@ abbrev pub IsBegunWith : Erasure → Option (List ℕ) → Option (List ℕ) →
 IsBegunWith erasure old_reader new_reader old_writer new_writer =
     IsFrontOfText (whole_text (replay_rules_of erasure)) old_reader new_reader old_writer new_writer
 
--- ---- the same of a node that remembers no erased level
+-- ---- the same for a node with `Erasure::Plain`
 
 abbrev pub replay_rules : Rules (Option CoreView)
 replay_rules = replay_rules_of Plain

@@ -1,4 +1,4 @@
--- The kind of file that a replay is.
+-- A replay as a kind of file.
 use Rattle.tora_lines.specs.Engine.{Kind}
 use Rattle.tora_lines.specs.Kinds.{long_lines_are_faults}
 use Rattle.tora_lines.specs.LineText.{text_from}

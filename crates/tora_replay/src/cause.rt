@@ -29,7 +29,7 @@ pub enum Cause {
 }
 
 impl Cause {
-    /// Why the line is a fault. The error of a core that refuses it follows.
+    /// The text of the cause. For a core that refuses the line, the core's error follows the text.
     fn words(self) -> &'static str {
         match self {
             Cause::Missing => "the input ends where the first line is required",
@@ -130,7 +130,7 @@ fn next_cause(line: &[u8]) -> Cause {
     }
 }
 
-/// Why the line with this number is a fault. Without a line, the input ends before it.
+/// Why the line with this number is a fault. `None` is the end of the input before that line.
 pub fn cause_of(alloc: Global, number: u64, line: Option<&[u8]>) -> Cause {
     let Some(line) = line else {
         return Cause::Missing;

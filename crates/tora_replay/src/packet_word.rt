@@ -8,8 +8,8 @@ ghost use Rattle.tora_replay.specs.Lines.{bytes_of};
 use tora_lines::words::is_dash;
 use tora_packet::{LONGEST_PACKET, Packet, PacketError, decode};
 
-/// Decodes the packet in a word of hexadecimal digits; `None` if these are not digits. The buffer has one byte for each
-/// two digits.
+/// Decodes the packet in a word of hexadecimal digits, with `room` for its bytes; `None` unless the word is an even
+/// number of digits.
 #[tactic(auto, unfolding(crate::specs::Lines::bytes_of))]
 fn reading(digits: &[u8], room: &mut [u8]) -> Option<Result<Packet, PacketError>>
     requires some { 0 < length digits.now }
@@ -42,8 +42,8 @@ fn long_reading(digits: &[u8]) -> Option<Result<Packet, PacketError>>
     reading(digits, &mut [0; 2048])
 }
 
-/// Decodes the packet in a word of hexadecimal digits, or says why they are not a packet; `-` means no bytes. `None`
-/// for any other word.
+/// Decodes the packet in a word of hexadecimal digits, or returns why its bytes are not a packet; `-` stands for no
+/// bytes. `None` for any other word.
 #[tactic(auto, unfolding(crate::specs::Lines::bytes_of))]
 pub fn packet(text: &[u8]) -> Option<Result<Packet, PacketError>>
     requires { length text.now ≤ 4096 }

@@ -104,13 +104,13 @@ pub fn line(text: &[u8]) -> Option<Line>
     Some(Line { now, order })
 }
 
-/// A first line is read exactly if it has the documented form.
+/// A line is read as a first line exactly if it has the documented form.
 pub fn first_lines_are_read_as_written()
     ensures found { (text : List ℕ) (h : HeaderParts) → header_of text ≡ Some h → SpellsHeader text h }
     ensures only { (text : List ℕ) (h : HeaderParts) → SpellsHeader text h → header_of text ≡ Some h }
 {}
 
-/// A line after the first is read exactly if it has the documented form.
+/// A line is read as a line after the first exactly if it has the documented form.
 pub fn lines_are_read_as_written()
     ensures found { (text : List ℕ) (line : AnyLine) → line_of text ≡ Some line → SpellsLine text line }
     ensures only { (text : List ℕ) (line : AnyLine) → SpellsLine text line → line_of text ≡ Some line }

@@ -183,8 +183,8 @@ pub fn replay_with<R: Input, W: Output>(
     read_lines(alloc, state, reader, writer)
 }
 
-/// The line whose number a fault gives is the first line that is refused: all lines before it were carried out, and it
-/// was not.
+/// The line number of a fault is that of the first line that is a fault: all lines before it were carried out, and that
+/// line was not.
 pub fn fault_is_the_first()
     ensures found { (erasure : AnyErasure) (bytes : List ℕ) (n : ℕ) → first_fault_with erasure bytes ≡ Some n
         → IsFirstFaultWith erasure None 1 (pieces_of bytes) n }
