@@ -1,4 +1,4 @@
--- The packets of a life among items, one item after the other.
+-- The packets of a session among items, item by item.
 use Rattle.std.proofs.Common.{◌≡◌, refl, sym, ap, ◌∙◌, ℕ, ◌+◌, ◌<◌, true, false, List, [], ◌∷◌, ◌++◌, length, drop, get_or, arith, Option, Some, None, is_some}
 use Rattle.std.specs.Prelude.{option_to_list}
 use Rattle.std.proofs.lemmas.List.{at_drop_more, append_assoc, append-nil}
@@ -8,7 +8,7 @@ use Rattle.tora_seat.specs.declared.cargo.Cargo.{Cargo}
 use Rattle.tora_seat.specs.declared.cargo.Cargo.TheVariants as Gives
 use Rattle.tora_world.specs.Lists.{packets_of, parcels_in, packet_where, parcel_of}
 
--- what the first item gives comes before what the others give
+-- the result for a list is that for its first item, followed by that for the others
 abbrev pub IsInTurn : {X : Type 0} → (List X → List Packet) → Type 0
 IsInTurn {X} F = (x : X) (xs : List X) → F (x ∷ xs) ≡ F (x ∷ []) ++ F xs
 

@@ -1,4 +1,4 @@
--- Cargoes whose origins stand once and some of which stand apart, where more of both come behind those that are kept.
+-- Compressed cargoes, after more origins and more uncompressed cargoes were appended.
 use Rattle.std.proofs.Common.{◌≡◌, ℕ, ◌+◌, ◌<◌, List, [], ◌∷◌, ◌++◌, map, length, drop, slice_get, Some, Option, refl, sym, ap, ◌∙◌, subst, arith, length-append}
 use Rattle.std.specs.Prelude.{option_to_list}
 use Rattle.std.specs.List.{AllByRecursion}
@@ -48,7 +48,7 @@ module _ (origins : List Origin) (apart : List Cargo) (omore : List Origin) (amo
   all_kept [] one h is = (is, tt)
   all_kept (kept ∷ cargoes) one h is = (kept_stays kept h.0, all_kept cargoes one h.1 is)
 
--- a cargo more, which is kept
+-- one more cargo, which is stored
 module _ (origins after_origins : List Origin) (apart after_apart : List Cargo) (cargoes after : List KeptCargo) (kept : KeptCargo) (cargo : Cargo)
     (more_origins : IsMore origins after_origins) (more_apart : IsMore apart after_apart) (value : cargo_in after_origins after_apart kept ≡ cargo) (there : IsKeptCargo after_origins after_apart kept)
     (one : after ≡ cargoes ++ kept ∷ []) (h : AllByRecursion (IsKeptCargo origins apart) cargoes) where
@@ -74,7 +74,7 @@ module _ (origins after_origins : List Origin) (apart after_apart : List Cargo) 
       (subst (λ (cs : List Cargo). AllByRecursion (IsKeptCargo (origins ++ more_origins.0) cs) (cargoes ++ kept ∷ [])) (sym more_apart.1)
       (all_kept origins apart more_origins.0 more_apart.0 cargoes kept h now)))
 
--- what the packet of the cargo at a place tells of the cargoes from there on
+-- the packets of the cargoes from index i on are the packet of cargo i and those of the cargoes after it
 pub kept_in_turn : (life : Life) (cargoes : List Cargo) (i : ℕ) (o : Option Packet) → i < length cargoes
     → ((cargo : Cargo) → slice_get cargoes i ≡ Some cargo → option_to_list o ≡ packets_of life (parcels_in (cargo ∷ [])))
     → packets_of life (parcels_in (drop i cargoes)) ≡ option_to_list o ++ packets_of life (parcels_in (drop (i + 1) cargoes))

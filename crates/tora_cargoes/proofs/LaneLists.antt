@@ -1,4 +1,4 @@
--- The two lists of a lane, one behind the other.
+-- The two lists of a lane, one after the other.
 use Rattle.std.proofs.Common.{◌≡◌, ℕ, suc, ◌+◌, ◌<◌, subst, List, [], ◌∷◌, ◌++◌, length, drop, slice_get, sym, ap, ◌∙◌, arith, length-append, nat_lt}
 use Rattle.std.proofs.lemmas.Bool.Decides.{nat_tests}
 use Rattle.tora_arq.specs.declared.life.Life.{Life}
@@ -14,7 +14,7 @@ zero_more i = omega arith
 suc_more : (m i : ℕ) → suc m + i ≡ suc (m + i)
 suc_more m i = omega arith
 
--- what stands behind the first list
+-- an index after the first list is an index in the second
 pub get_behind : {A : Type 0} (xs ys : List A) (i : ℕ) → slice_get (xs ++ ys) (length xs + i) ≡ slice_get ys i
 get_behind [] ys i = ap (slice_get ys) (zero_more i)
 get_behind (x ∷ xs) ys i = ap (slice_get (x ∷ (xs ++ ys))) (suc_more (length xs) i) ∙ get_behind xs ys i
@@ -26,14 +26,14 @@ drop_behind (x ∷ xs) ys i = ap (λ n. drop n (x ∷ (xs ++ ys))) (suc_more (le
 shifted : (m i n : ℕ) → nat_lt (m + i) (m + n) ≡ nat_lt i n
 shifted m i n = grind (arith, nat_tests)
 
--- a number within the second list is one within both
+-- an index is within the second list exactly if, after the first list, it is within both
 pub within_both : {A : Type 0} (xs ys : List A) (i : ℕ) → nat_lt (length xs + i) (length (xs ++ ys)) ≡ nat_lt i (length ys)
 within_both xs ys i = ap (nat_lt (length xs + i)) (length-append xs ys) ∙ shifted (length xs) i (length ys)
 
 pub packets_both : (life : Life) (past cargoes : List Cargo) → packets_of life (parcels_in past) ++ packets_of life (parcels_in cargoes) ≡ packets_of life (parcels_in (past ++ cargoes))
 packets_both life past cargoes = sym (ap (packets_of life) (parcels-append past cargoes) ∙ of-append life (parcels_in past) (parcels_in cargoes))
 
--- the first cargo that waits is in the second list
+-- the first waiting cargo is in the second list
 pub waits : (l : LaneView) (past : List Cargo) (cargoes : CargoesView) (taken : ℕ) → lane_of past cargoes taken ≡ l → l.pulled < length l.put → taken < length cargoes.items
 waits l past cargoes taken is h =
     let w : length past + taken < length (past ++ cargoes.items) = subst (λ (v : LaneView). v.pulled < length v.put) (sym is) h in

@@ -1,4 +1,4 @@
--- Memory for what is put into a lane.
+-- Memory for the cargoes that are put into a lane.
 use Rattle.std.proofs.Common.{◌≡◌, ℕ, ◌+◌, ◌-◌, ◌<◌, ◌≤◌, ◌⊎◌, inl, inr, Bool, true, false, List, length, drop, sym, ap, ◌∙◌, subst, arith, length-drop, nat_lt, nat_eq, eqb-true, if◌then◌else◌}
 use Rattle.std.proofs.lemmas.Bool.{cases_Bool}
 use Rattle.std.proofs.lemmas.Bool.Decides.{nat_tests}
@@ -8,7 +8,7 @@ use Rattle.tora_cargoes.specs.declared.near_cargoes.TheConstants.{NEAR}
 use Rattle.tora_cargoes.specs.Lane.{CargoesView, lane_of, has_place_in, room_in, IsWhole, Fits}
 use Rattle.tora_cargoes.proofs.LaneLists.{drop_behind}
 
--- there is no list, or there is, and then its room is behind what is kept in less
+-- there is no list, or its room begins after the compressed cargoes
 pub room_cases : (past places : ℕ) → ((places ≡ 0) × (room_in past places ≡ 0)) ⊎ ((0 < places) × (room_in past places ≡ past + places))
 room_cases past places = go (cases_Bool (nat_eq places 0))
   where
@@ -16,7 +16,7 @@ room_cases past places = go (cases_Bool (nat_eq places 0))
     go (inl t) = inl (eqb-true places 0 t, ap (λ (b : Bool). if b then 0 else past + places) t)
     go (inr f) = inr (grind (arith, nat_tests, f), ap (λ (b : Bool). if b then 0 else past + places) f)
 
--- a cargo more has a place near, or in the list
+-- there is a place for one more cargo, inline or in the list
 pub push_fits : (past : List Cargo) (cargoes : CargoesView) (taken : ℕ) (spares : List ℕ) (spare : ℕ) → Fits (length past + taken) (room_in (length past) cargoes.places) spares spare → has_place_in (lane_of past cargoes taken) ≡ true
     → ((cargoes.places ≡ 0) × IsWhole spares spare) ⊎ (length cargoes.items < cargoes.places)
 push_fits past cargoes taken spares spare fits free = go (room_cases (length past) cargoes.places) fits
@@ -34,7 +34,7 @@ push_fits past cargoes taken spares spare fits free = go (room_cases (length pas
     go (inr some) (inl near) = let a = some.0 in let b = some.1 in let n = near.0 in absurd (omega (arith, a, b, n))
     go (inr some) (inr wide) = let is = some.1 in let f = few in inr (omega (arith, is, wide, f))
 
--- and one more behind it
+-- after that cargo the lane still fits
 pub still_fits : (past : List Cargo) (cargoes after : CargoesView) (taken : ℕ) (spares spares' : List ℕ) (spare : ℕ) → ((after.places ≡ cargoes.places) × (spares' ≡ spares)) ⊎ ((length cargoes.items ≤ NEAR) × (MOST_CARGOES + NEAR ≤ after.places)) → taken ≤ length cargoes.items
     → Fits (length past + taken) (room_in (length past) cargoes.places) spares spare → Fits (length past + taken) (room_in (length past) after.places) spares' spare
 still_fits past cargoes after taken spares spares' spare (inl same) within fits =
@@ -45,7 +45,7 @@ still_fits past cargoes after taken spares spares' spare (inr wider) within fits
     go (inl none) = let n = none.0 in let many = wider.1 in absurd (omega (arith, n, many))
     go (inr some) = let is = some.1 in let few = wider.0 in let many = wider.1 in inr (omega (arith, is, few, many, within))
 
--- once what left the lane is kept in less
+-- after the cargoes that left the lane were compressed
 pub room_made : (past places : ℕ) → (places ≡ 0) ⊎ (MOST_CARGOES ≤ places) → (room_in past places ≡ 0) ⊎ (past + 0 + MOST_CARGOES ≤ room_in past places)
 room_made past places (inl none) = inl (ap (room_in past) none)
 room_made past places (inr some) = go (room_cases past places)

@@ -1,4 +1,4 @@
-//! Cargoes as a simulator keeps them.
+//! Outbound messages (cargoes) in compressed form.
 ghost use Rattle.std.specs.Prelude.{◌≡◌, ◌<◌, ◌-◌, ◌^◌, ◌∷◌, ◌++◌, [], List, slice_get, length, vec_len, vec_capacity};
 ghost use Rattle.std.specs.Prelude.{IfOk, IfSome, OnOk, IsTrue, ◌↔◌};
 ghost use Rattle.tora_arq.specs.declared.life.Life.{Life as AnyLife};
@@ -17,53 +17,53 @@ use tora_height::{Height, Id};
 use tora_packet::{Packet, Query, Update};
 use tora_seat::Cargo;
 
-/// The most cargoes that are kept apart: the place of each fits 32 bits.
+/// The most cargoes that are stored uncompressed: the index of each fits 32 bits.
 const MOST_APART: usize = 0x1_0000_0000;
 
 /// The first time tag that has more than 24 bits.
 const FIRST_LONG: u64 = 0x100_0000;
 
-/// The number of origins that a list has room for at first: most lists with an origin get a few, one for each life.
+/// The number of origins that a list has room for at first. Most lists with an origin get a few: one for each session.
 const FIRST_ORIGINS: usize = 4;
 
-/// The value for a missing origin.
+/// The value of `KeptCargoes::last` before the first cargo.
 const NO_ORIGIN: Origin = Origin {
     life: Life { own: 0, peer: 0 },
     id: 0,
 };
 
-/// The life of a cargo, and for an update the node whose height it announces.
+/// The session of a cargo and, for an update, the node in its height.
 #[derive(Clone, Copy)]
 pub struct Origin {
     life: Life,
-    /// For a cut and a query this may be any node.
+    /// Any node for a cut or a query.
     id: Id,
 }
 
-/// A cargo, in 12 bytes.
+/// A compressed cargo, in 12 bytes.
 #[derive(Clone, Copy)]
 pub enum KeptCargo {
-    /// The number of the origin, whose life is cut.
+    /// A cut: the index of its origin.
     Cut(u16),
-    /// The number of the origin, and the destination of the query.
+    /// A query: the index of its origin, and its destination.
     Qry(u16, u32),
-    /// The reflection bit, the number of the origin, the destination, the node that defined the level, the low 16 bits
-    /// and the high 8 of the time tag in ticks of 100 ms, and the order within the level. The node whose height it is
-    /// stands with the origin.
+    /// An update: the reflection bit, the index of the origin, the destination, the node that defined the reference
+    /// level, the low 16 and the high 8 bits of the time tag in ticks of 100 ms, and the offset within the level. The
+    /// origin has the node of the height.
     Upd(u8, u16, u16, u16, u16, u8, i8),
-    /// The place among the cargoes that are kept apart: those with a clear, and those of greater numbers.
+    /// A clear, or a cargo with numbers that are too large for the other variants: its index among the uncompressed
+    /// cargoes.
     Apart(u32),
 }
 
 const _: () = prove!(size_of::<KeptCargo>() == 12);
 
-/// Cargoes in the order in which they came.
+/// Compressed cargoes, in order of arrival.
 #[derive(Drop)]
 pub struct KeptCargoes {
-    /// Whether there is room for one more.
+    /// Whether there is room for one more cargo.
     spare: bool,
-    /// The last of the origins, which is that of most cargoes that come: where the origins stand is not looked at for
-    /// it.
+    /// The last origin in `origins`. Most cargoes have it, so `origins` is not read for them.
     last: Origin,
     origins: Vec<Origin>,
     cargoes: KeptList,
@@ -89,7 +89,7 @@ impl Model for KeptCargoes {
 }
 
 impl KeptCargoes {
-    /// No cargoes.
+    /// An empty list.
     pub fn new(alloc: Global) -> KeptCargoes
         ensures { result.items ≡ [] }
     {
@@ -102,7 +102,7 @@ impl KeptCargoes {
         }
     }
 
-    /// How many there are.
+    /// The number of cargoes.
     pub fn len(&self) -> usize
         ensures len { result ≡ length self.now.items }
         ensures most { result < 2 ^ 63 }
@@ -110,10 +110,10 @@ impl KeptCargoes {
         self.cargoes.len()
     }
 
-    /// Makes room for one more.
+    /// Makes room for one more cargo.
     ///
     /// # Errors
-    /// Want of memory, or as many cargoes as can be kept.
+    /// Memory ran out, or no more cargoes can be stored.
     pub fn reserve(&mut self) -> Result<(), AllocError>
         ensures items { self.new.items ≡ self.old.items }
         ensures room { OnOk result (0 < self.new.places) }
@@ -145,7 +145,7 @@ impl KeptCargoes {
         self.cargoes.push(kept);
     }
 
-    /// The cargo at the index `place`, from 0 on.
+    /// The cargo at the index `place`, counted from 0.
     pub fn get(&self, place: usize) -> Option<Cargo>
         ensures { result ≡ slice_get self.now.items place }
     {
@@ -156,10 +156,10 @@ impl KeptCargoes {
     }
 }
 
-/// Makes room for one more origin; for the first ones at once.
+/// Makes room for one more origin, or for the first few.
 ///
 /// # Errors
-/// Want of memory.
+/// Memory ran out.
 #[inline(always)]
 fn reserve_origin(origins: &mut Vec<Origin>) -> Result<(), AllocError>
     ensures items { origins.new.items ≡ origins.old.items }
@@ -185,7 +185,7 @@ fn has_origin(cargo: &Cargo, origin: &Origin) -> bool
     }
 }
 
-/// An origin of a cargo, with the node of the last one where the cargo tells no height.
+/// An origin for a cargo. For a cargo without a height it has the node of the origin `last`.
 fn origin_of(cargo: &Cargo, last: &Origin) -> Origin
     ensures { IsOrigin cargo.now result }
 {
@@ -197,7 +197,7 @@ fn origin_of(cargo: &Cargo, last: &Origin) -> Origin
     Origin { life, id }
 }
 
-/// The number of the origin of a cargo, if it is the last that is kept.
+/// The index of a cargo's origin, if that is the last origin.
 fn last_number(origins: &[Origin], last: &Origin, cargo: &Cargo) -> Option<usize>
     requires { IsLastOrigin last.now origins.now }
     ensures { IfSome result (λ number. HasOrigin origins.now number cargo.now) }
@@ -227,7 +227,7 @@ fn number_of(origins: &mut Vec<Origin>, last: &mut Origin, cargo: &Cargo) -> usi
     number
 }
 
-/// Keeps a cargo whose origin has this number, in few bytes or apart.
+/// Stores a cargo whose origin has this index: compressed, or appended to the uncompressed cargoes.
 fn keep(apart: &mut Vec<Cargo>, number: usize, cargo: &Cargo) -> KeptCargo
     requires places { vec_len apart.old < vec_capacity apart.old }
     requires numbers { vec_len apart.old < 2 ^ 32 }
@@ -245,7 +245,7 @@ fn keep(apart: &mut Vec<Cargo>, number: usize, cargo: &Cargo) -> KeptCargo
     KeptCargo::Apart(place)
 }
 
-/// A cargo in few bytes, if its numbers are small.
+/// A cargo in compressed form, if its numbers are small enough.
 fn short(number: usize, cargo: &Cargo) -> Option<KeptCargo>
     ensures { IfSome result (IsShort number cargo.now) }
 {
@@ -258,7 +258,7 @@ fn short(number: usize, cargo: &Cargo) -> Option<KeptCargo>
     }
 }
 
-/// An update in few bytes, whose origin has this number, if its numbers are small.
+/// An update in compressed form, with this index of its origin, if its numbers are small enough.
 fn short_update(origin: u16, update: &Update) -> Option<KeptCargo>
     ensures { IfSome result (λ kept. (life : AnyLife) → IsShort origin (Cargo.Packet life (Packet.Upd update.now)) kept) }
 {
@@ -270,7 +270,7 @@ fn short_update(origin: u16, update: &Update) -> Option<KeptCargo>
     Some(KeptCargo::Upd(height.r(), origin, destination, oid, low, high, delta))
 }
 
-/// The low 16 bits and the high 8 of a time tag, if it has no more.
+/// The low 16 and the high 8 bits of a time tag, if it has at most 24 bits.
 fn short_tau(tau: u64) -> Option<(u16, u8)>
     ensures { IfSome result (λ parts. tau_of parts.0 parts.1 ≡ tau) }
 {
@@ -280,14 +280,14 @@ fn short_tau(tau: u64) -> Option<(u16, u8)>
     Some(((tau % 65536) as u16, (tau / 65536) as u8))
 }
 
-/// The time tag of these low 16 bits and high 8.
+/// The time tag with these low 16 and high 8 bits.
 fn long_tau(low: u16, high: u8) -> u64
     ensures { result ≡ tau_of low high }
 {
     65536 * u64::from(high) + u64::from(low)
 }
 
-/// The origin of a number.
+/// The origin at an index.
 fn origin_at(origins: &[Origin], number: u16) -> Origin
     ensures { result ≡ origin_at origins.now number }
 {
@@ -297,7 +297,7 @@ fn origin_at(origins: &[Origin], number: u16) -> Origin
     }
 }
 
-/// The cargo at a place of those apart.
+/// The uncompressed cargo at an index.
 fn apart_at(apart: &[Cargo], place: u32) -> Cargo
     ensures { result ≡ apart_in (slice_get apart.now place) }
 {
@@ -307,7 +307,7 @@ fn apart_at(apart: &[Cargo], place: u32) -> Cargo
     }
 }
 
-/// The cargo that is kept so.
+/// The cargo that is stored as `kept`.
 fn cargo_of(origins: &[Origin], apart: &[Cargo], kept: &KeptCargo) -> Cargo
     requires { IsKeptCargo origins.now apart.now kept.now }
     ensures { result ≡ cargo_in origins.now apart.now kept.now }
@@ -334,7 +334,7 @@ fn cargo_of(origins: &[Origin], apart: &[Cargo], kept: &KeptCargo) -> Cargo
     }
 }
 
-/// The height of these parts.
+/// The height with these parts.
 #[tactic(auto, using(tora_height::proofs::Ranges::height_has_no_fault))]
 fn height_of(tau: u64, oid: u32, r: u8, delta: i32, id: Id) -> Height
     requires { IsHeight (quintuple tau oid r delta id) }
@@ -352,7 +352,7 @@ pub fn append(cargoes: &mut Vec<Cargo>, cargo: &Cargo)
     ensures items { cargoes.new.items ≡ cargoes.old.items ++ cargo.now ∷ [] }
     ensures capacity { vec_capacity cargoes.new ≡ vec_capacity cargoes.old }
 {
-    // By its form: the prover makes no proof of a push of `*cargo`.
+    // In two cases, because the prover does not prove a push of `*cargo`.
     match cargo {
         Cargo::Packet(life, packet) => cargoes.push_reserved(Cargo::Packet(*life, *packet)),
         Cargo::Cut(life) => cargoes.push_reserved(Cargo::Cut(*life)),

@@ -7,13 +7,13 @@ use crate::kept_cargoes::KeptCargo;
 use std::alloc::{AllocError, Global};
 use std::marker::Model;
 
-/// How many cargoes stand near at most.
+/// The number of inline places.
 pub const NEAR_KEPT: usize = 4;
 
 /// The least number of places by which a short list grows.
 const FIRST_LISTED: usize = 12;
 
-/// A list of so many is long: it grows as lists do.
+/// From this length on, a list grows by the rule of `Vec`.
 const LONG_LIST: usize = 64;
 
 /// The greatest length of the list.
@@ -23,13 +23,13 @@ const MOST_LISTED: usize = 0x4000_0000_0000_0000;
 /// fourth cargo touches the list's memory.
 #[derive(Drop)]
 pub struct KeptList {
-    /// How many stand near.
+    /// The number of inline cargoes.
     count: usize,
     near: [KeptCargo; NEAR_KEPT],
     list: Vec<KeptCargo>,
 }
 
-/// The number of places by which a list of `count` cargoes grows at least. A short list doubles, so that it moves less
+/// The least number of places by which a list of `count` cargoes grows. A short list doubles, so that it moves less
 /// often.
 fn more_of(count: usize) -> usize
     ensures { NEAR_KEPT ≤ result }
@@ -54,7 +54,7 @@ impl Model for KeptList {
 }
 
 impl KeptList {
-    /// No cargoes.
+    /// An empty list.
     pub fn new(alloc: Global) -> KeptList
         ensures { result.items ≡ [] }
     {
@@ -65,7 +65,7 @@ impl KeptList {
         }
     }
 
-    /// How many there are.
+    /// The number of cargoes.
     #[inline(always)]
     pub fn len(&self) -> usize
         ensures len { result ≡ length self.now.items }
@@ -77,7 +77,7 @@ impl KeptList {
     /// Makes room for one more cargo. If no inline place is free, the inline cargoes move into the list.
     ///
     /// # Errors
-    /// Want of memory, or as many cargoes as can be kept.
+    /// Memory ran out, or no more cargoes can be stored.
     #[inline(always)]
     pub fn reserve(&mut self) -> Result<(), AllocError>
         ensures items { self.new.items ≡ self.old.items }
@@ -92,7 +92,7 @@ impl KeptList {
     /// Moves the inline cargoes into the list.
     ///
     /// # Errors
-    /// Want of memory, or as many cargoes as can be kept.
+    /// Memory ran out, or no more cargoes can be stored.
     #[inline(never)]
     fn put_away(&mut self) -> Result<(), AllocError>
         requires { self.old.places ≡ 0 }
@@ -118,7 +118,7 @@ impl KeptList {
         self.count += 1;
     }
 
-    /// The cargo at the index `place`, from 0 on.
+    /// The cargo at the index `place`, counted from 0.
     pub fn get(&self, place: usize) -> Option<KeptCargo>
         ensures { result ≡ slice_get self.now.items place }
     {
@@ -130,7 +130,7 @@ impl KeptList {
     }
 }
 
-/// Puts a cargo at a place near.
+/// Writes a cargo to an inline place.
 #[inline(always)]
 fn set_near(near: &mut [KeptCargo; NEAR_KEPT], at: usize, kept: KeptCargo)
     requires { at < NEAR_KEPT }

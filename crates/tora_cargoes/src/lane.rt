@@ -1,4 +1,4 @@
-//! The lane from a core to a link end, and what was ever put into it.
+//! The queue (lane) of outbound messages (cargoes) from a core to a link end, with all that it ever held.
 ghost use Rattle.std.specs.Prelude.{◌≡◌, ◌<◌, ◌≤◌, ◌⊎◌, ◌+◌, ◌++◌, ◌∷◌, [], true, suc, Some, length, nat_lt, slice_get};
 ghost use Rattle.std.specs.Prelude.{take, OnOk, IfOk};
 ghost use Rattle.tora_seat.specs.declared.TheConstants.{MOST_CARGOES};
@@ -15,17 +15,17 @@ use tora_arq::Life;
 use tora_packet::Packet;
 use tora_seat::{Cargo, MOST_CARGOES};
 
-/// The lane from a core to a link end, with all cargoes that were ever put into it.
+/// The queue (lane) from a core to a link end, with all cargoes that were ever put into it.
 ///
 /// Cargoes that have left the lane are compressed before the next turn of the node's core, when memory may be
 /// requested. A few waiting cargoes are stored inline; only a lane with more has a list.
 #[derive(Drop)]
 pub struct Lane {
-    /// How many of the cargoes left the lane.
+    /// How many of `cargoes` have left the lane.
     taken: usize,
-    /// The cargoes that were put last, in front those that left the lane.
+    /// The last cargoes that were put; those that have left the lane come first.
     cargoes: NearCargoes,
-    /// The cargoes before these, which left the lane.
+    /// The cargoes before `cargoes`, all of which have left the lane.
     past: KeptCargoes,
 }
 
@@ -60,7 +60,7 @@ impl Lane {
         self.taken < self.cargoes.len()
     }
 
-    /// Whether fewer cargoes wait than a lane holds.
+    /// Whether fewer than `MOST_CARGOES` cargoes wait.
     pub fn has_place(&self) -> bool
         ensures { result ≡ has_place_in self.now }
     {
@@ -97,7 +97,7 @@ impl Lane {
     /// has a list.
     ///
     /// # Errors
-    /// Want of memory.
+    /// Memory ran out.
     pub fn make_room(&mut self) -> Result<(), AllocError>
         ensures put { self.new.put ≡ self.old.put }
         ensures pulled { self.new.pulled ≡ self.old.pulled }
@@ -108,8 +108,8 @@ impl Lane {
     }
 
     /// If the list has more than four times the memory that its cargoes need, moves them to a list of the right size,
-    /// and gives the old one to the spare lists at the index `spare`. Nothing changes if the list is empty or memory is
-    /// refused.
+    /// and returns the old list to the pool `spares` at the index `spare`. Nothing changes if the list is empty or
+    /// memory runs out.
     #[inline(always)]
     pub fn shorten(&mut self, spares: &mut Spares, spare: usize)
         ensures put { self.new.put ≡ self.old.put }
@@ -118,8 +118,8 @@ impl Lane {
         self.cargoes.shorten(spares, spare);
     }
 
-    /// Puts a cargo at the back. There must be a place for it, and room, or the spare list of the place `spare`, which
-    /// it takes then.
+    /// Puts a cargo at the back. The lane must not be full. It must have room in its list, or no list and a list in the
+    /// pool `spares` at the index `spare`, which it takes when its inline places are full.
     #[inline(always)]
     pub fn put(&mut self, cargo: Cargo, spares: &mut Spares, spare: usize)
         requires room { Fits self.old.pulled self.old.room spares.old spare }
@@ -132,17 +132,17 @@ impl Lane {
         self.cargoes.push(&cargo, spares, spare);
     }
 
-    /// How many packets were put in a life.
+    /// How many packets of a session were ever put.
     pub fn sent_count(&self, life: Life) -> usize
         ensures { result ≡ length (packets_of life (parcels_in self.now.put)) }
     {
         count_kept(&self.past, life) + count_put(self.cargoes.as_slice(), life)
     }
 
-    /// The packets that were put in a life.
+    /// The packets of a session that were ever put, in order.
     ///
     /// # Errors
-    /// Want of memory.
+    /// Memory ran out.
     pub fn sent(&self, alloc: Global, life: Life) -> Result<Vec<Packet>, AllocError>
         ensures { IfOk result (λ v. v.items ≡ packets_of life (parcels_in self.now.put)) }
     {
@@ -153,10 +153,10 @@ impl Lane {
     }
 }
 
-/// Keeps the cargoes that left a lane in less: all of them, or those before the first for which there is no memory.
+/// Compresses the cargoes that have left a lane. If memory runs out, the first of them are compressed.
 ///
 /// # Errors
-/// Want of memory.
+/// Memory ran out.
 fn keep_taken(
     past: &mut KeptCargoes,
     cargoes: &mut NearCargoes,
@@ -178,7 +178,7 @@ fn keep_taken(
     if *taken == 0 { Ok(()) } else { Err(AllocError) }
 }
 
-/// Appends cargoes up to the first for which there is no memory, and says how many they are.
+/// Appends cargoes until memory runs out, and returns how many it appended.
 fn keep_first(past: &mut KeptCargoes, cargoes: &[Cargo]) -> usize
     ensures kept { past.new.items ≡ past.old.items ++ take result cargoes.now }
     ensures within { result ≤ length cargoes.now }

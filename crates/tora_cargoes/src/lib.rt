@@ -1,9 +1,9 @@
-//! The cargoes of a simulated world, those that wait in a lane and those that have left it, in few bytes.
+//! The outbound messages (cargoes) of a simulated world, those that wait in a queue (lane) and those that have left it.
 //!
 //! The prefix law speaks about all cargoes that were ever put into a lane, so a `Lane` keeps them all. The waiting ones
-//! are stored as they are, the first few inline. Those that have left are compressed in `KeptCargoes`, most of them to
-//! 12 bytes. Memory is requested before a core's step, so the step itself needs none: a lane has its own list, or takes
-//! the spare list of its neighbour from `Spares`.
+//! are stored uncompressed, the first few inline. Those that have left are compressed in `KeptCargoes`, most of them to
+//! 12 bytes. Memory is requested before a core's step, so the step itself needs none: a lane has a list of its own, or
+//! takes one from the pool `Spares`.
 //!
 //! ```rust
 //! let mut spares = Spares::new(alloc);

@@ -13,17 +13,17 @@ use std::mem;
 use tora_arq::Life;
 use tora_seat::{Cargo, MOST_CARGOES};
 
-/// How many cargoes stand near.
+/// The number of inline places.
 pub const NEAR: usize = 4;
 
-/// A list with memory for more than so many times its cargoes is long.
+/// A list is long if it has memory for more than this many times its cargoes.
 const LONG: usize = 4;
 
-/// Cargoes in the order in which they were put: a few where this stands itself, or all in a list. Where it is empty
-/// before a turn, its memory is given back, and the next few stand near again.
+/// Cargoes in the order in which they were put: up to `NEAR` inline, or all in a list. If there is none left before a
+/// turn of the core, the memory of the list is freed, and the next cargoes are stored inline.
 #[derive(Drop)]
 pub struct NearCargoes {
-    /// Whether they stand in the list.
+    /// Whether the cargoes are in the list.
     is_wide: bool,
     /// The number of inline cargoes, if there is no list.
     count: usize,
@@ -45,7 +45,7 @@ impl Model for NearCargoes {
 }
 
 impl NearCargoes {
-    /// No cargoes.
+    /// An empty list.
     pub fn new(alloc: Global) -> NearCargoes
         ensures items { result.items ≡ [] }
         ensures places { result.places ≡ 0 }
@@ -58,7 +58,7 @@ impl NearCargoes {
         }
     }
 
-    /// The cargoes.
+    /// The cargoes, in order.
     #[inline(always)]
     pub fn as_slice(&self) -> &[Cargo]
         ensures items { result.now ≡ self.now.items }
@@ -70,7 +70,7 @@ impl NearCargoes {
         &self.cells[..self.count]
     }
 
-    /// The cargo at a place.
+    /// The cargo at an index.
     #[inline(always)]
     pub fn at(&self, place: usize) -> Cargo
         requires { place < length self.now.items }
@@ -80,7 +80,7 @@ impl NearCargoes {
         self.as_slice()[place]
     }
 
-    /// How many there are.
+    /// The number of cargoes.
     #[inline(always)]
     pub fn len(&self) -> usize
         ensures len { result ≡ length self.now.items }
@@ -92,7 +92,7 @@ impl NearCargoes {
         self.count
     }
 
-    /// Takes the first ones away, so many.
+    /// Removes the first `count` cargoes.
     pub fn drop_first(&mut self, count: usize)
         requires { count ≤ length self.old.items }
         ensures items { self.new.items ≡ drop count self.old.items }
@@ -110,7 +110,7 @@ impl NearCargoes {
     /// the next cargoes are stored inline again.
     ///
     /// # Errors
-    /// Want of memory.
+    /// Memory ran out.
     pub fn reserve(&mut self) -> Result<(), AllocError>
         ensures items { self.new.items ≡ self.old.items }
         ensures near { self.old.places ≡ 0 → self.new.places ≡ 0 }
@@ -131,8 +131,8 @@ impl NearCargoes {
     }
 
     /// If the list has more than four times the memory that its cargoes need, moves them to a list of the right size,
-    /// and gives the old one to the spare lists at the index `place`. Nothing changes if the list is empty or memory is
-    /// refused.
+    /// and returns the old list to the pool `spares` at the index `place`. Nothing changes if the list is empty or
+    /// memory runs out.
     #[inline(never)]
     pub fn shorten(&mut self, spares: &mut Spares, place: usize)
         ensures items { self.new.items ≡ self.old.items }
@@ -153,8 +153,8 @@ impl NearCargoes {
         spares.give(place, long);
     }
 
-    /// Puts a cargo behind the others: near, in the list, or, where no place near is left, in one that it takes from
-    /// the spare ones, that of a place.
+    /// Appends a cargo: inline or to the list. If the inline places are full, all cargoes move to the list that the
+    /// pool `spares` has at the index `place`.
     #[inline(always)]
     pub fn push(&mut self, cargo: &Cargo, spares: &mut Spares, place: usize)
         requires { ((self.old.places ≡ 0) × IsWhole spares.old place) ⊎ (length self.old.items < self.old.places) }
@@ -178,10 +178,10 @@ impl NearCargoes {
     }
 }
 
-/// Cargoes in a list of their own, which has memory for no more of them.
+/// A list with these cargoes and room for no more.
 ///
 /// # Errors
-/// Want of memory.
+/// Memory ran out.
 fn copied(alloc: Global, cargoes: &[Cargo]) -> Result<Vec<Cargo>, AllocError>
     ensures { IfOk result (λ list. list.items ≡ cargoes.now) }
 {
@@ -212,7 +212,7 @@ fn drop_cells(cells: &mut [Cargo; NEAR], count: usize, first: usize)
     }
 }
 
-/// All that stand near, in the spare list of a place.
+/// All inline cargoes, in the list that the pool has at an index.
 #[inline(never)]
 fn listed(cells: &[Cargo; NEAR], spares: &mut Spares, place: usize) -> Vec<Cargo>
     requires { IsWhole spares.old place }

@@ -1,4 +1,4 @@
-//! The packets of a life, among cargoes.
+//! The packets of one session among cargoes.
 ghost use Rattle.std.specs.Prelude.{◌≡◌, ◌<◌, ◌≤◌, ◌^◌, ◌++◌, ◌∷◌, [], length, option_to_list, slice_get, OnOk, Some};
 ghost use Rattle.tora_seat.specs.declared.cargo.Cargo.{Cargo as AnyCargo};
 ghost use Rattle.tora_world.specs.Lists.{packets_of, parcels_in};
@@ -9,7 +9,7 @@ use tora_arq::Life;
 use tora_packet::Packet;
 use tora_seat::Cargo;
 
-/// The packet of a cargo, if the cargo belongs to this life.
+/// The packet of a cargo, if it belongs to this session.
 fn packet_put(cargo: &Cargo, life: Life) -> Option<Packet>
     ensures { option_to_list result ≡ packets_of life (parcels_in (cargo.now ∷ [])) }
 {
@@ -19,7 +19,7 @@ fn packet_put(cargo: &Cargo, life: Life) -> Option<Packet>
     }
 }
 
-/// How many packets of a life are among cargoes.
+/// How many packets of a session are among cargoes.
 pub fn count_put(put: &[Cargo], life: Life) -> usize
     ensures count { result ≡ length (packets_of life (parcels_in put.now)) }
     ensures few { result ≤ length put.now }
@@ -33,10 +33,10 @@ pub fn count_put(put: &[Cargo], life: Life) -> usize
     count
 }
 
-/// Appends the packets of a life that are among cargoes.
+/// Appends the packets of a session that are among cargoes.
 ///
 /// # Errors
-/// Want of memory.
+/// Memory ran out.
 pub fn list_put(packets: &mut Vec<Packet>, put: &[Cargo], life: Life) -> Result<(), AllocError>
     ensures { OnOk result (packets.new.items ≡ packets.old.items ++ packets_of life (parcels_in put.now)) }
 {
@@ -49,7 +49,7 @@ pub fn list_put(packets: &mut Vec<Packet>, put: &[Cargo], life: Life) -> Result<
     Ok(())
 }
 
-/// The packet of the cargo at an index, if the cargo belongs to this life.
+/// The packet of the cargo at an index, if it belongs to this session.
 fn packet_kept(kept: &KeptCargoes, place: usize, life: Life) -> Option<Packet>
     requires { place < length kept.now.items }
     ensures { (cargo : AnyCargo) → slice_get kept.now.items place ≡ Some cargo
@@ -61,7 +61,7 @@ fn packet_kept(kept: &KeptCargoes, place: usize, life: Life) -> Option<Packet>
     }
 }
 
-/// How many packets of a life are among cargoes that are kept.
+/// How many packets of a session are among compressed cargoes.
 pub fn count_kept(kept: &KeptCargoes, life: Life) -> usize
     ensures count { result ≡ length (packets_of life (parcels_in kept.now.items)) }
     ensures few { result < 2 ^ 63 }
@@ -75,10 +75,10 @@ pub fn count_kept(kept: &KeptCargoes, life: Life) -> usize
     count
 }
 
-/// Appends the packets of a life that are among cargoes that are kept.
+/// Appends the packets of a session that are among compressed cargoes.
 ///
 /// # Errors
-/// Want of memory.
+/// Memory ran out.
 pub fn list_kept(
     packets: &mut Vec<Packet>,
     kept: &KeptCargoes,

@@ -1,4 +1,4 @@
-//! Lists that stand ready for lanes which have no place left.
+//! A pool of empty lists for lanes whose inline places are full.
 ghost use Rattle.std.specs.Prelude.{◌≡◌, ◌<◌, ◌≤◌, ◌+◌, [], length, vec_capacity, slice_index, OnOk};
 ghost use Rattle.tora_seat.specs.declared.TheConstants.{MOST_CARGOES};
 ghost use Rattle.tora_cargoes.specs.declared.near_cargoes.TheConstants.{NEAR};
@@ -10,7 +10,7 @@ use std::marker::Model;
 use std::mem;
 use tora_seat::{Cargo, MOST_CARGOES};
 
-/// A list without cargoes.
+/// An empty list in a pool.
 #[derive(Drop)]
 pub struct Spare {
     list: Vec<Cargo>,
@@ -34,10 +34,10 @@ impl Spare {
         }
     }
 
-    /// Takes the memory for all cargoes that a lane holds, and for those that stand near.
+    /// Allocates room for all cargoes that a lane holds, and for the inline ones.
     ///
     /// # Errors
-    /// Want of memory.
+    /// Memory ran out.
     fn make_whole(&mut self) -> Result<(), AllocError>
         ensures { OnOk result (MOST_CARGOES + NEAR ≤ self.new) }
     {
@@ -54,16 +54,15 @@ impl Spare {
     }
 }
 
-/// A spare list for each neighbour of a node. A lane that needs a list takes the spare one of its neighbour. It gives
-/// the list back when it is shortened, or when it is empty before a turn of the core. Missing lists are allocated
-/// before the next turn, so an item never needs memory while it is served, and only lanes that once held many cargoes
-/// have a list.
+/// The pool of a node: an empty list for each neighbour. A lane that needs a list takes that of its neighbour. The lane
+/// returns the list when it is shortened. Missing lists are allocated before the next turn of the core, so serving an
+/// item needs no memory, and only lanes that once held many cargoes have a list.
 #[derive(Drop)]
 pub struct Spares {
     lists: Vec<Spare>,
-    /// So many of the first ones are known to be whole.
+    /// This many of the first lists are known to have room for all cargoes that a lane holds.
     whole: usize,
-    /// Whether one was taken since that was last forgotten.
+    /// Whether a list was taken since `forget_taken` was last called.
     is_taken: bool,
 }
 
@@ -79,7 +78,7 @@ impl Model for Spares {
 }
 
 impl Spares {
-    /// No list.
+    /// An empty pool.
     pub fn new(alloc: Global) -> Spares {
         Spares {
             lists: Vec::new(alloc),
@@ -88,10 +87,10 @@ impl Spares {
         }
     }
 
-    /// Makes so many of the first ones whole.
+    /// Makes the first `count` lists whole: each has room for all cargoes that a lane holds.
     ///
     /// # Errors
-    /// Want of memory.
+    /// Memory ran out.
     #[inline(always)]
     pub fn make_whole(&mut self, count: usize) -> Result<(), AllocError>
         ensures { OnOk result (AreWhole self.new count) }
@@ -102,10 +101,10 @@ impl Spares {
         self.make_more(count)
     }
 
-    /// The same where some are not known to be.
+    /// `make_whole` for lists that are not known to be whole.
     ///
     /// # Errors
-    /// Want of memory.
+    /// Memory ran out.
     #[inline(never)]
     fn make_more(&mut self, count: usize) -> Result<(), AllocError>
         ensures { OnOk result (AreWhole self.new count) }
@@ -115,7 +114,7 @@ impl Spares {
         Ok(())
     }
 
-    /// The list of a place, for the lane that takes it. One without memory stands in its place then.
+    /// Takes the list at an index, and leaves an empty list without memory there.
     pub fn take(&mut self, place: usize) -> Vec<Cargo>
         requires { IsWhole self.old place }
         ensures items { result.items ≡ [] }
@@ -127,20 +126,20 @@ impl Spares {
         self.lists[place].take()
     }
 
-    /// Whether one was taken since that was last forgotten: where none was, no lane has a longer list than before.
+    /// Whether a list was taken since `forget_taken` was last called. If not, no lane has a longer list than then.
     #[inline(always)]
     pub fn was_taken(&self) -> bool {
         self.is_taken
     }
 
-    /// From now on only those count that are taken later.
+    /// Resets `was_taken` to false.
     pub fn forget_taken(&mut self)
         ensures { self.new ≡ self.old }
     {
         self.is_taken = false;
     }
 
-    /// Puts a list in the place of the one of a place, if there is one.
+    /// Puts a list at an index, in place of the one there. If the pool has no list there, the new one is freed.
     pub fn give(&mut self, place: usize, list: Vec<Cargo>)
         requires { list.items ≡ [] }
     {
@@ -154,10 +153,10 @@ impl Spares {
     }
 }
 
-/// Makes whole all lists from the place `from` on up to so many.
+/// Makes the lists from the index `from` to below `count` whole.
 ///
 /// # Errors
-/// Want of memory.
+/// Memory ran out.
 fn make_all(lists: &mut Vec<Spare>, from: usize, count: usize) -> Result<(), AllocError>
     requires within { from ≤ length lists.old.items }
     requires whole { AreWhole lists.old.items from }
@@ -172,10 +171,10 @@ fn make_all(lists: &mut Vec<Spare>, from: usize, count: usize) -> Result<(), All
     Ok(())
 }
 
-/// Makes the list of a place whole, which comes anew where it is the next one.
+/// Makes the list at an index whole; appends it first if it is the next one.
 ///
 /// # Errors
-/// Want of memory.
+/// Memory ran out.
 fn make_one(lists: &mut Vec<Spare>, place: usize) -> Result<(), AllocError>
     requires { place ≤ length lists.old.items }
     ensures whole { OnOk result (IsWhole lists.new.items place) }

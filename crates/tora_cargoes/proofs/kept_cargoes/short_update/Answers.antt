@@ -9,12 +9,12 @@ use Rattle.tora_seat.specs.declared.cargo.Cargo.TheVariants as Gives
 use Rattle.tora_cargoes.specs.KeptCargoes.{origin_at, tau_of}
 use Rattle.tora_cargoes.proofs.kept_cargoes.short_update.Goals as goal
 
--- a number that fits is the same
+-- a conversion that succeeds keeps the number
 fitting : {A E : Type 0} (P : Type 0) (r : Result A E) (x y : A) → OkIff r P x → Some y ≡ result_ok r → P × (y ≡ x)
 fitting P (Ok z) x y h e = (let same : y ≡ z = cc in (h.0, same ∙ h.1))
 fitting P (Err z) x y h e = absurd cc
 
--- an update of the same parts is the same
+-- updates with the same parts are equal
 same_update : (u : UpdateParts) (h : Quintuple) (destination tau oid r id : ℕ) (delta : ℤ) → h ≡ u.height → destination ≡ u.destination → tau ≡ h.tau → oid ≡ h.oid → r ≡ h.r → delta ≡ h.delta → id ≡ h.id
     → update_of destination (quintuple tau oid r delta id) ≡ u
 same_update u h destination tau oid r id delta height d t o b e i =

@@ -2,7 +2,7 @@ use Rattle.std.proofs.Common.{◌≡◌, ◌+◌, ◌≤◌, length, drop}
 use Rattle.tora_world.specs.Lists.{packets_of, parcels_in}
 use Rattle.tora_cargoes.proofs.packets.count_kept.Given as goal
 
--- those that were counted and those of the rest are all
+-- the count so far and the packets of the rest make up the total
 abbrev pub invariant-loop-place : goal.invariant-loop-place
 invariant-loop-place l = record {
   few : l.count ≤ l.place;

@@ -15,7 +15,7 @@ invariant_of-self c =
       c.number_of-number.ensures.last,
     )
 
--- there is no room left
+-- there is no more room after the push
 none_left : (spare : Bool) → 0 ≡ one_if spare - 1
 none_left true = refl
 none_left false = refl
