@@ -60,7 +60,7 @@ pub none_before : (n : ℕ) (ends : List (ℕ × ℕ)) (count : ℕ) → ((i : �
 none_before n ends count below = others-none n (take count ends) (λ i lt.
     subst (λ (end : ℕ × ℕ). (end.0 == n) ≡ false) (sym (take-read ends count i (0, 0) lt)) (less-apart (get_or ends i (0, 0)).0 n (below i (0, 0) (omega arith) (take-below ends count i lt))))
 
--- the last ends are of greater ones
+-- the last ends are of greater nodes
 pub none_behind : (n : ℕ) (ends : List (ℕ × ℕ)) (count : ℕ) → ((i : ℕ) (d : ℕ × ℕ) → count ≤ i → i < length ends → leb (get_or ends i d).0 n ≡ false) → neighbours_in (drop count ends) n ≡ []
 none_behind n ends zero above = others-none n ends (λ i lt. more-apart (get_or ends i (0, 0)).0 n (above i (0, 0) (omega arith) lt))
 none_behind n [] (suc count) above = refl

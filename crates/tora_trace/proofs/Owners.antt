@@ -8,7 +8,7 @@ use Rattle.tora_core.proofs.AfterInputs.{same-me}
 use Rattle.tora_trace.specs.Copies.{CopyState}
 use Rattle.tora_trace.specs.Trace.{first_copy_of, is_copy_of, owner_of, owners_of}
 
--- a core that takes an input is that of the same node
+-- an input does not change the node of a core
 pub me_stays : (c : CoreView) (input : Input) (now : ℕ) → (core_after c input now).me ≡ c.me
 me_stays c input now = same-me c input now
 
@@ -17,13 +17,13 @@ pub owners_first : (erasure : Erasure) (choices : List (ℕ × Erasure)) (ends :
 owners_first erasure choices ends destinations [] = refl
 owners_first erasure choices ends destinations (n ∷ nodes) = ap (λ (ns : List ℕ). n ∷ ns) (owners_first erasure choices ends destinations nodes)
 
--- another copy of the same node in the place of one
+-- the owners do not change if a copy is replaced by one of the same node
 pub owners_set : (copies : List CopyState) (i : ℕ) (x y : CopyState) → x ≡ get_or copies i x → owner_of y ≡ owner_of x → owners_of (set copies i y) ≡ owners_of copies
 owners_set [] i x y is same = refl
 owners_set (z ∷ copies) zero x y is same = ap (λ (n : ℕ). n ∷ owners_of copies) (same ∙ ap owner_of is)
 owners_set (z ∷ copies) (suc i) x y is same = ap (λ (ns : List ℕ). owner_of z ∷ ns) (owners_set copies i x y is same)
 
--- a node is at the place of its copy
+-- a node has the same index among the nodes as its copy among the copies
 place-owners : (n : ℕ) (copies : List CopyState) → position_or_len (λ m. m == n) (owners_of copies) ≡ position_or_len (is_copy_of n) copies
 place-owners n [] = refl
 place-owners n (copy ∷ copies) = ap (λ (k : ℕ). if not (owner_of copy == n) then 1 + k else 0) (place-owners n copies)

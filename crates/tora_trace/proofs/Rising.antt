@@ -1,4 +1,4 @@
--- The place of a number in a list in which each is less than the next.
+-- The index of a number in a list in which each number is less than the next.
 use Rattle.std.proofs.Common.{◌≡◌, sym, ap, subst, ◌∙◌, ℕ, ◌+◌, ◌-◌, ◌<◌, ◌≤◌, ◌==◌, true, false, nat_lt, cond, List, length, get_or, Some, None, Result, Ok, Err, MatchResult, ltb-true, ltb-false, lt-ltb, ltb, eq-eqb, arith, inl, inr}
 use Rattle.std.specs.Result.{result_ok}
 use Rattle.std.specs.List.{position, position_or_len}
@@ -10,7 +10,7 @@ use Rattle.std.proofs.lemmas.List.Kept.{AllPairs-from_increasing}
 use Rattle.std.proofs.lemmas.List.Sorted.{searched}
 use Rattle.std.proofs.lemmas.List.Sums.{position_or_len_is}
 
--- one number more, which is greater than the one before it
+-- one more number, which is greater than the one before it
 pub rising_on : (xs : List ℕ) (i : ℕ) → 0 < i → ((k : ℕ) → k + 1 < i → get_or xs k 0 < get_or xs (k + 1) 0) → nat_lt (get_or xs (i - 1) 0) (get_or xs i 0) ≡ true
     → (k : ℕ) → k + 1 < i + 1 → get_or xs k 0 < get_or xs (k + 1) 0
 rising_on xs i some h here k lt = elim (cases_Bool (ltb (k + 1) i)) [

@@ -17,7 +17,7 @@ use Rattle.tora_core.specs.CoreRun.{CoreView, core_refusal_within, first_core_of
 use Rattle.tora_trace.specs.declared.route.Route.{Route}
 use Rattle.tora_trace.specs.Records.{up_record, down_record, packet_record, route_record}
 
--- the copy of a core, the life in which each link came up last, and the last recorded route to each destination
+-- the copy of a core, the last session of each link, and the last recorded route to each destination
 pub record CopyState : Type 0 where
   pub core : CoreView
   pub lives : List (ℕ × Life)
@@ -65,14 +65,14 @@ route_change t c told = if is_changed c told then core_record t c told.destinati
 abbrev pub route_changes : ℕ → CoreView → List Route → List ℕ
 route_changes t c routes = flat_map (route_change t c) routes
 
--- the recorded route after that
+-- the last recorded route after that
 unfoldable pub route_told : CoreView → Route → Route
 route_told c told = route_of c told.destination
 
 abbrev pub routes_told : CoreView → List Route → List Route
 routes_told c routes = map (route_told c) routes
 
--- ---- lives
+-- ---- sessions
 
 abbrev pub is_at : ℕ → ℕ × Life → Bool
 is_at k row = row.0 == k
@@ -80,7 +80,7 @@ is_at k row = row.0 == k
 abbrev pub is_elsewhere : ℕ → ℕ × Life → Bool
 is_elsewhere k row = not (is_at k row)
 
--- the life in which the link to a neighbour came up last
+-- the last session in which the link to a neighbour came up
 abbrev pub life_at : List (ℕ × Life) → ℕ → Option Life
 life_at lives k = option_map (λ row. row.1) (find (is_at k) lives)
 
@@ -88,7 +88,7 @@ abbrev pub with_life : List (ℕ × Life) → ℕ → Option Life → List (ℕ 
 with_life lives k None = lives
 with_life lives k (Some life) = filter (is_elsewhere k) lives ++ (k, life) ∷ []
 
--- a link comes up in the life that the item reports, if it reports one
+-- a link comes up in the session that the item reports, if it reports one
 abbrev pub lives_after : Option Life → List (ℕ × Life) → Input → List (ℕ × Life)
 lives_after life lives (In.LinkUp k) = with_life lives k life
 lives_after life lives (In.LinkDown k) = lives
@@ -112,7 +112,7 @@ link_record t n lives (In.LinkDown k) = down_of t n k (life_at lives k)
 link_record t n lives (In.Packet k packet) = []
 link_record t n lives (In.Need d) = []
 
--- the copy after an input whose item reports this life
+-- the copy after an input whose item reports this session
 unfoldable pub copy_after : Option Life → CopyState → Input → ℕ → CopyState
 copy_after life c input t = record {
   core = core_after c.core input t;

@@ -24,7 +24,7 @@ part_record t a b = decimal t ++ codes " part " ++ decimal a ++ codes " " ++ dec
 unfoldable pub mend_record : ℕ → ℕ → ℕ → List ℕ
 mend_record t a b = decimal t ++ codes " mend " ++ decimal a ++ codes " " ++ decimal b ++ line_end
 
--- `T up N K X Y`: the link to k came up at the core of n, in the life that its end writes {X, Y}
+-- `T up N K X Y`: the link to k came up at the core of n, in the session that its end writes {X, Y}
 unfoldable pub up_record : ℕ → ℕ → ℕ → Life → List ℕ
 up_record t n k life = decimal t ++ codes " up " ++ decimal n ++ codes " " ++ decimal k ++ codes " " ++ decimal life.own
     ++ codes " " ++ decimal life.peer ++ line_end

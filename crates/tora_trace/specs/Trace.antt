@@ -106,7 +106,7 @@ owner_of c = c.core.me
 abbrev pub owners_of : List CopyState → List ℕ
 owners_of copies = map owner_of copies
 
--- replaces the copy at a place, and the text
+-- replaces the copy at an index, and the text
 abbrev pub with_told : TraceState → ℕ → Told → TraceState
 with_told s at told = record s { copies = slice_set s.copies at told.0; text = told.1 }
 

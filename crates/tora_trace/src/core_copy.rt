@@ -15,7 +15,7 @@ use tora_arq::Life;
 use tora_core::{Core, CoreError, CoreLimits, Erasure, Input, Sends};
 use tora_height::Id;
 
-/// A copy of a node's core, the life in which each of its links came up last, and the last recorded route to each
+/// A copy of a node's core, the last session in which each of its links came up, and the last recorded route to each
 /// destination.
 #[derive(Drop)]
 pub struct CoreCopy {
@@ -111,8 +111,8 @@ impl CoreCopy {
         Ok(())
     }
 
-    /// Steps the inputs that the core accepted in an item, each at its tick, and appends their records to a text. The
-    /// life is the one that the item reported as up, if it did.
+    /// Steps the inputs that the core accepted in an item, each at its tick, and appends their records to a text.
+    /// `life` is the session that the item reported as up, if it did.
     pub fn step_all(
         &mut self,
         inputs: &[(Input, u64)],

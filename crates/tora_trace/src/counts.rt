@@ -6,7 +6,7 @@ ghost use Rattle.tora_trace.specs.Trace.{no_frames, one_more, with_body, with_fr
 use std::alloc::AllocError;
 use tora_frame::Body;
 
-/// Datagrams since the last record of them.
+/// Counts of datagrams since the last record of them.
 #[derive(Clone, Copy, Debug, PartialEq, Eq)]
 pub struct FrameCounts {
     /// HELLOs.
@@ -15,7 +15,7 @@ pub struct FrameCounts {
     pub datas: u64,
     /// ACKs.
     pub acks: u64,
-    /// Those of them that are not delivered because their link was parted.
+    /// Datagrams of any kind that are not delivered because their link was parted.
     pub losts: u64,
 }
 
@@ -33,7 +33,7 @@ fn one_more(is_more: bool, count: u64) -> Result<u64, AllocError>
 }
 
 impl FrameCounts {
-    /// No datagram.
+    /// Counts of 0.
     pub fn none() -> FrameCounts
         ensures { result ≡ no_frames }
     {

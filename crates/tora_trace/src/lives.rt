@@ -1,4 +1,4 @@
-//! The life in which each link of a node came up last.
+//! The last session in which each link of a node came up.
 ghost use Rattle.std.specs.Prelude.{◌≡◌, ◌++◌, OnOk, string_bytes, filter};
 ghost use Rattle.tora_trace.specs.Copies.{is_at, is_elsewhere, life_at, with_life, lives_after, up_of, down_of};
 ghost use Rattle.tora_trace.specs.Copies.{link_record};
@@ -8,21 +8,21 @@ use tora_arq::Life;
 use tora_core::Input;
 use tora_height::Id;
 
-/// The life in which the link to a neighbour came up last.
+/// The last session in which the link to a neighbour came up.
 fn life_at(lives: &[(Id, Life)], k: Id) -> Option<Life>
     ensures { result ≡ life_at lives.now k }
 {
     lives.iter().find(|row| row.0 == k).map(|row| row.1)
 }
 
-/// Removes the life of a link.
+/// Removes the session of a link.
 fn forget(lives: &mut Vec<(Id, Life)>, k: Id)
     ensures { lives.new.items ≡ filter (is_elsewhere k) lives.old.items }
 {
     lives.retain(|row| row.0 != k);
 }
 
-/// Notes the life in which a link comes up, if an item reported one.
+/// Stores the session in which a link comes up, if an item reported one.
 fn note_life(lives: &mut Vec<(Id, Life)>, k: Id, life: Option<Life>) -> Result<(), AllocError>
     ensures { OnOk result (lives.new.items ≡ with_life lives.old.items k life) }
 {
@@ -36,7 +36,7 @@ fn note_life(lives: &mut Vec<(Id, Life)>, k: Id, life: Option<Life>) -> Result<(
     }
 }
 
-/// Notes the life in which an input brings a link up.
+/// Stores the session in which an input brings a link up.
 pub fn note_lives(
     lives: &mut Vec<(Id, Life)>,
     input: &Input,

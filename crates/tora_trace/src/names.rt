@@ -1,4 +1,4 @@
-//! The nodes of a trace, and the place of each.
+//! The nodes of a trace, and the index of each.
 ghost use Rattle.std.specs.Prelude.{◌≡◌, ◌==◌, ⊤, MatchBool, IfOk, nat_lt};
 ghost use Rattle.std.specs.List.{position};
 ghost use Rattle.std.specs.List.Sorted.{IsStrictlyIncreasing};
@@ -12,7 +12,7 @@ use tora_height::Id;
 #[derive(Drop)]
 pub struct Names {
     nodes: Vec<Id>,
-    /// Whether each is less than the next. If so, a place is found by binary search.
+    /// Whether each number is less than the next. If so, an index is found by binary search.
     is_rising: bool,
 }
 
@@ -28,7 +28,7 @@ impl Model for Names {
 }
 
 impl Names {
-    /// The names of these nodes, which are copied.
+    /// The names of these nodes.
     ///
     /// # Errors
     /// Out of memory.
@@ -40,7 +40,7 @@ impl Names {
         Ok(Names { nodes, is_rising })
     }
 
-    /// The place of a node, from 0 on, if it is there: the first of them.
+    /// The index of a node, counted from 0; the first one, if it occurs twice. `None` if it does not occur.
     pub fn place(&self, n: Id) -> Option<usize>
         ensures { result ≡ position (λ m. m == n) self.now }
     {
@@ -66,7 +66,7 @@ fn is_rising(numbers: &[Id]) -> bool
     true
 }
 
-/// The first place of a number. `is_rising` says that each number is less than the next.
+/// The first index of a number. `is_rising` says that each number is less than the next.
 fn place_among(numbers: &[Id], is_rising: bool, n: Id) -> Option<usize>
     requires { MatchBool is_rising (IsStrictlyIncreasing numbers.now) ⊤ }
     ensures { result ≡ position (λ m. m == n) numbers.now }
@@ -78,7 +78,7 @@ fn place_among(numbers: &[Id], is_rising: bool, n: Id) -> Option<usize>
     }
 }
 
-/// The place of a number in an ascending list.
+/// The index of a number in an ascending list.
 fn place_by_halves(numbers: &[Id], n: Id) -> Option<usize>
     requires { IsStrictlyIncreasing numbers.now }
     ensures { result ≡ position (λ m. m == n) numbers.now }

@@ -126,7 +126,7 @@ pub fn write_routes(
     Ok(())
 }
 
-/// Notes a route as recorded.
+/// Stores a route as recorded.
 #[tactic(auto, unfolding(crate::specs::Copies::route_told))]
 fn note_route(core: &Core, told: &mut Route)
     ensures { told.new ≡ route_told core.now told.old }
@@ -135,7 +135,7 @@ fn note_route(core: &Core, told: &mut Route)
     *told = route_of(core, d);
 }
 
-/// Notes the routes as recorded.
+/// Stores the routes as recorded.
 pub fn note_routes(core: &Core, routes: &mut [Route])
     ensures { routes.new ≡ routes_told core.now routes.old }
 {

@@ -20,7 +20,7 @@ impl fmt::Display for HeightText {
     }
 }
 
-/// A next hop by its number, and none as `-`.
+/// A next hop by its number, or `-` if there is none.
 #[derive(Clone, Copy)]
 pub struct HopText(pub Option<Id>);
 

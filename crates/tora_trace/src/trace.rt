@@ -179,7 +179,7 @@ impl Trace {
         self.text.clear();
     }
 
-    /// Reports that a need of a destination went into a node's lane at a tick.
+    /// Reports that a need of a destination was put into the queue of a node's core at a tick.
     ///
     /// # Errors
     /// Out of memory.
@@ -212,8 +212,8 @@ impl Trace {
         writeln!(&mut self.text, "{now} mend {a} {b}")
     }
 
-    /// Reports that the core of a node accepted these inputs in an item, each at its tick. `life` is the one that the
-    /// item reported as up, if it did.
+    /// Reports that the core of a node accepted these inputs in an item, each at its tick. `life` is the session that
+    /// the item reported as up, if it did.
     ///
     /// # Errors
     /// Out of memory.
