@@ -9,7 +9,7 @@ use Rattle.tora_channel.specs.declared.table_text.TableError.{TableError}
 use Rattle.tora_channel.specs.declared.table_text.TableError.TheVariants.{Memory, Line}
 use Rattle.tora_channel.specs.TableText.{Numbers, Refuses, channel_line_of, after_line, from_line, lines_from}
 
--- lines that were read, and what is still read
+-- the lines that were read, followed by those of the rest
 abbrev pub with_front : List ChannelLine → Result (List ChannelLine) ℕ → Result (List ChannelLine) ℕ
 with_front front (Ok lines) = Ok (front ++ lines)
 with_front front (Err n) = Err n
@@ -76,7 +76,7 @@ starts text = nothing_before (lines_from 1 (split 10 text))
     nothing_before (Ok lines) = refl
     nothing_before (Err n) = refl
 
--- a line that is none, and its number
+-- an invalid line, and its number
 pub refuses : (n : ℕ) (read : Option ChannelLine) (e : TableError) (total : Result (List ChannelLine) ℕ) → Numbers n read (Err e) → (read ≡ None → total ≡ Err n) → Refuses e total
 refuses n read Memory total h f = tt
 refuses n read (Line m cause) total h f = rw h.1 (f h.0)

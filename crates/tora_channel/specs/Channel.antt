@@ -15,7 +15,7 @@ generator_at seed p = record {
   word_pos = ((p.round * 1024 + p.before) * 16) % 2 ^ 68;
 }
 
--- the word after a number of them
+-- the random word at this index, counted from 0
 abbrev pub word : ChaCha → ℕ → ℕ
 word g zero = (next_word 4 g).0
 word g (suc k) = word (next_word 4 g).1 k

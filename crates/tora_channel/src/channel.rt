@@ -8,7 +8,7 @@ use rand_core::SeedableRng;
 use rand_core::utils::NextWord;
 use tora_height::Id;
 
-/// Shares are counted in millionths.
+/// The number of parts in a whole: shares are in millionths.
 const PARTS: u32 = 1_000_000;
 
 /// The effect of a channel on datagrams: each is lost or not, arrives after a number of rounds, and may arrive twice.
@@ -26,7 +26,7 @@ pub struct Channel {
     pub most: u32,
 }
 
-/// Identifies a datagram: the round in which it was sent, its two nodes, and how many went from the one to the other
+/// Identifies a datagram: the round in which it was sent, its sender and receiver, and how many datagrams went that way
 /// before it in that round.
 #[derive(Clone, Copy, Debug, PartialEq, Eq)]
 pub struct Place {
@@ -36,7 +36,7 @@ pub struct Place {
     pub before: u64,
 }
 
-/// After how many rounds a datagram arrives, and after how many it arrives again. It is lost if it never arrives.
+/// After how many rounds a datagram arrives, and after how many it arrives again. `None` if it does not.
 #[derive(Clone, Copy, Debug, PartialEq, Eq)]
 pub struct Copies {
     pub first: Option<u64>,

@@ -23,7 +23,7 @@ pub struct Parts {
     pub delay: Option<(u32, u32)>,
 }
 
-/// The digit at a place; 0 after the last one.
+/// The digit at an index; 0 after the last one.
 fn digit(text: &[u8], place: usize) -> u32
     ensures value { result ≡ digit_at text.now place }
     ensures small { result < 256 }
@@ -93,7 +93,7 @@ fn delay(text: &[u8]) -> Option<(u32, u32)>
     Some((least as u32, most as u32))
 }
 
-/// The new value, if there is one and there was none before; otherwise `None`.
+/// `now`, if `before` is `None`; otherwise `None`.
 fn once<T: Copy>(before: Option<T>, now: Option<T>) -> Option<T>
     ensures { result ≡ once before now }
 {
@@ -108,7 +108,8 @@ impl Parts {
         delay: None,
     };
 
-    /// The parts with one more, `loss=SHARE`, `repeat=SHARE` or `delay=ROUNDS`. It must be new.
+    /// These parts with one more: `loss=SHARE`, `repeat=SHARE` or `delay=ROUNDS`. `None` if that part is invalid or
+    /// there already.
     #[tactic(auto, unfolding(crate::specs::Parts::with_part))]
     fn with(self, part: &[u8]) -> Option<Parts>
         ensures { result ≡ with_part self part.now }

@@ -16,13 +16,13 @@ use tora_lines::words;
 /// Why a line of a channel file is refused.
 #[derive(Clone, Copy, Debug, PartialEq, Eq)]
 pub enum LineCause {
-    /// It has fewer than four words.
+    /// The line has fewer than four words.
     Words,
     /// The first word is not a round.
     Round,
     /// The second or the third word is not a node.
     Node,
-    /// Both nodes are one.
+    /// The two nodes are the same.
     OwnLink,
     /// The text after the nodes is not the parts of a channel.
     Parts,
@@ -47,7 +47,7 @@ impl Display for LineCause {
 /// Why a channel file can't be read.
 #[derive(Clone, Copy, Debug, PartialEq, Eq)]
 pub enum TableError {
-    /// Memory was refused.
+    /// Memory ran out.
     Memory,
     /// The number of the first refused line, from 1, and the cause.
     Line(u64, LineCause),
@@ -147,7 +147,7 @@ fn channel_lines(alloc: Global, text: &[u8]) -> Result<Vec<ChannelLine>, TableEr
 /// The table of a channel file: lines `T A B PARTS`, in any order, each ended by LF.
 ///
 /// # Errors
-/// `Line` for the first line that is none, and `Memory` where memory was refused.
+/// `Line` for the first line that is invalid, and `Memory` if memory ran out.
 pub fn channel_table(alloc: Global, text: &[u8]) -> Result<ChannelTable, TableError>
     ensures { IsRead result (channel_lines_of text.now) }
 {
