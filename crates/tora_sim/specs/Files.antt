@@ -9,7 +9,7 @@ abbrev pub disk_of : FileSlot → LifeDisk
 disk_of (Slot.Opened file) = Opened file.owner file.numbers file.disk.state
 disk_of (Slot.Unopened owner disk) = Unopened owner disk.state
 
--- a number is at most the last one that the file drew, where the file is open
+-- a number is at most the last one that the file drew, if the file is open
 abbrev pub IsDrawn : ℕ → LifeDisk → Type 0
 IsDrawn number (Opened owner numbers s) = number ≤ numbers.drawn
 IsDrawn number (Unopened owner s) = Unit {0}

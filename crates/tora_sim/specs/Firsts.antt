@@ -1,4 +1,4 @@
--- Nodes and link ends as they are at the start.
+-- Nodes and link ends at the start.
 use Rattle.std.specs.Prelude.{◌≡◌, ℕ, suc, ◌+◌, ◌≤◌, false, List, [], ◌∷◌, ◌++◌, map, replicate, length, slice_get, Some}
 use Rattle.std.specs.List.{flat_map}
 use Rattle.tora_arq.specs.declared.times.Times.{Times}
@@ -17,8 +17,8 @@ use Rattle.tora_sim.specs.Nodes.{NodeView}
 use Rattle.tora_sim.specs.Store.{EachOf}
 use Rattle.tora_sim.specs.Readers.{ends_at}
 
--- the end of node n towards k, which speaks versions up to this one and has these times, and whose place among the
--- neighbours this is
+-- the end of node n towards k at the start, with this version, these times and this index of k among the neighbours of
+-- n
 pub record IsFirstEnd (version : Version) (times : Times) (n k place : ℕ) (link : LinkView) : Type 0 where
   pub node : link.node ≡ n
   pub peer : link.peer ≡ k
@@ -43,13 +43,13 @@ pub record IsFirstNode (t : Topology) (node : NodeView) : Type 0 where
   pub sending : node.sending ≡ Goes
   pub receive : node.receive ≡ false
 
--- the ends of a node stand among these one behind the other, from its first on
+-- the ends of a node are adjacent among these, from `node.first` on, in the order of its neighbours
 pub record HasEnds (t : Topology) (keys : List (ℕ × ℕ)) (node : NodeView) : Type 0 where
   pub within : node.first + length (neighbours_of t node.node) ≤ length keys
   pub at : (place k : ℕ) → slice_get (neighbours_of t node.node) place ≡ Some k
       → slice_get keys (node.first + place) ≡ Some (node.node, k)
 
--- the ends of one node more
+-- the ends of one more node were added
 pub record AreAdded (t : Topology) (times : Times) (n : ℕ) (links new : List LinkView) : Type 0 where
   pub keys : map key_of new ≡ map key_of links ++ ends_at t n
   pub each : EachOf (IsFirstLink t times) links → EachOf (IsFirstLink t times) new
@@ -63,7 +63,7 @@ pub record AreMade (t : Topology) (times : Times) (ns : List ℕ) (nodes : List 
     pub each_link : EachOf (IsFirstLink t times) links
     pub ends : EachOf (HasEnds t (map key_of links)) nodes
 
--- one node more, with its link ends
+-- one more node with its link ends
 abbrev pub IsMade : Topology → Times → ℕ → List NodeView → List LinkView → List NodeView → List LinkView → Type 0
 IsMade t times n nodes links more_nodes more_links =
     (ns : List ℕ) → AreMade t times ns nodes links → AreMade t times (ns ++ n ∷ []) more_nodes more_links

@@ -1,4 +1,4 @@
--- A link end as it is stored.
+-- A stored link end.
 use Rattle.std.specs.Prelude.{ℕ, ◌==◌, ◌&&◌, ◌<◌, ◌+◌, ◌≡◌, ◌⊎◌, suc, Bool, List, Option, None, Some, drop, length, slice_get, if◌then◌else◌}
 use Rattle.tora_sim.specs.Keyed.{IsOrdered}
 use Rattle.std.specs.Ordering.{nat_cmp, ordering_then}
@@ -47,7 +47,7 @@ link_of node peer seat end file put pulled room steps step_room = record {
 abbrev pub is_at : ℕ → ℕ → LinkView → Bool
 is_at n k link = (link.node == n) && (link.peer == k)
 
--- of which node and towards which peer a link end is
+-- the node and the peer of a link end
 abbrev pub key_of : LinkView → ℕ × ℕ
 key_of link = (link.node, link.peer)
 
@@ -55,7 +55,7 @@ key_of link = (link.node, link.peer)
 abbrev pub is_key : ℕ → ℕ → ℕ × ℕ → Bool
 is_key n k key = (key.0 == n) && (key.1 == k)
 
--- what waits in the lane
+-- the cargoes that wait in the lane
 abbrev pub waiting : LinkView → List Cargo
 waiting link = drop link.pulled link.put
 
@@ -71,19 +71,19 @@ after_open_at link now = record link {
 abbrev pub after_arm : LinkView → DiskCall → LinkView
 after_arm link call = record link { file = after_event (ArmsDisk call) link.file }
 
--- a cargo of the lane is submitted, or cuts
+-- the state after a cargo of the lane was submitted, or cut its session
 abbrev pub after_pull_at : LinkView → Option Cargo → LinkView
 after_pull_at link None = link
 after_pull_at link (Some cargo) = record link { state = after_cargo link.state cargo; pulled = suc link.pulled }
 
--- by ascending node and then peer
+-- the order of ends: by ascending node and then peer
 abbrev pub ComesBefore : LinkView → LinkView → Type 0
 ComesBefore x y = (x.node < y.node) ⊎ ((x.node ≡ y.node) × (x.peer < y.peer))
 
 abbrev pub AreRising : List LinkView → Type 0
 AreRising links = IsOrdered ComesBefore links
 
--- the keys by ascending node and then peer
+-- the order of keys: by ascending node and then peer
 abbrev pub HasKeyBefore : ℕ × ℕ → ℕ × ℕ → Type 0
 HasKeyBefore x y = (x.0 < y.0) ⊎ ((x.0 ≡ y.0) × (x.1 < y.1))
 
@@ -100,7 +100,7 @@ ticked now link = with_state link (after_tick link.settings link.state now)
 abbrev pub at_node : ℕ → (LinkView → LinkView) → LinkView → LinkView
 at_node n change link = if link.node == n then change link else link
 
--- so many link ends from a place on are changed so, and the others are as they were
+-- the `count` link ends from the index `first` on changed in this way, and the others are unchanged
 pub record AreChanged (change : LinkView → LinkView) (before links : List LinkView) (first count : ℕ) : Type 0 where
   pub as_many : length links ≡ length before
   pub done : (place : ℕ) (link : LinkView) → place < count → slice_get before (first + place) ≡ Some link

@@ -1,4 +1,4 @@
--- A node as it is stored.
+-- A stored node.
 use Rattle.std.specs.Prelude.{ℕ, suc, ◌==◌, ◌<◌, Bool, List, [], ◌∷◌, ◌++◌, set, slice_index}
 use Rattle.tora_core.specs.declared.Input.{Input}
 use Rattle.tora_seat.specs.Rows.{SeatView}
@@ -52,7 +52,7 @@ ComesBefore x y = x.node < y.node
 abbrev pub AreRising : List NodeView → Type 0
 AreRising nodes = IsOrdered ComesBefore nodes
 
--- an item more in the lane
+-- one more item in the queue of the core
 abbrev pub after_item : NodeView → ℕ → ℕ → What → NodeView
 after_item node seat now what = record node {
   items = node.items ++ record {

@@ -1,11 +1,10 @@
--- Two frames of a link end that go out one after the other, at the same tick.
+-- Two frames of a link end, sent one after the other at the same tick.
 use Rattle.std.specs.Prelude.{◌≡◌, ℕ, List, [], ◌∷◌, ◌++◌, Some}
 use Rattle.tora_frame.specs.FrameParts.{FrameParts}
 use Rattle.tora_arq.specs.LinkEnd.{after_transmit, frame_due}
 use Rattle.tora_sim.specs.Links.{LinkView, with_state}
 
--- the first frame due of an end went out, and then the next one: behind the datagrams that were sent before stand these
--- two
+-- the first two due frames of an end were sent, and their datagrams were appended
 pub record IsPairSent (before : LinkView) (now : ℕ) (after : LinkView) (sent all : List FrameParts) : Type 0 where
   pub first : FrameParts
   pub second : FrameParts

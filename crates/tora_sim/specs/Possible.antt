@@ -1,4 +1,4 @@
--- Which events may be possible, told by what is stored at a place.
+-- Which events may be possible, by what is stored at an index.
 use Rattle.std.specs.Prelude.{ℕ, Bool, true, not, ◌||◌, nat_lt, is_some, List, length, slice_get, Option, Some, None}
 use Rattle.tora_arq.specs.LinkEnd.{is_closed, first_event, frame_due}
 use Rattle.tora_world.specs.declared.event.Event.{Event}
@@ -10,17 +10,17 @@ use Rattle.tora_sim.specs.Nodes.{NodeView, is_of}
 abbrev pub has_cargo : LinkView → Bool
 has_cargo link = nat_lt link.pulled (length link.put)
 
--- what stands at a place, where it is the end of node n towards k, has something to do; anything else may have
+-- the end at an index has something to do, or it is not the end of node n towards k
 abbrev pub end_may : ℕ → ℕ → (LinkView → Bool) → Option LinkView → Bool
 end_may n k has None = true
 end_may n k has (Some link) = not (is_at n k link) || has link
 
--- what stands at a place, where it is node n, has an item in its lane; anything else may have
+-- the node at an index has an item in its queue, or it is not node n
 abbrev pub node_may : ℕ → Option NodeView → Bool
 node_may n None = true
 node_may n (Some node) = not (is_of n node) || nat_lt 0 (length node.items)
 
--- by the nodes, the link ends and the clock: what stands at the place has something to do for the event, or is another
+-- the node or link end at the index has something to do for the event, or is not the one of the event
 abbrev pub may_happen : List NodeView → List LinkView → ℕ → ℕ → Event → Bool
 may_happen nodes links clock place (Need n d) = true
 may_happen nodes links clock place Tick = true

@@ -1,4 +1,4 @@
--- Worlds in which nothing is to be done, and until which tick what is stored stays so.
+-- Worlds in which nothing is to be done, and the deadlines of link ends.
 use Rattle.std.specs.Prelude.{◌≡◌, ℕ, ◌+◌, ◌<◌, ◌≤◌, ◌⊎◌, ◌==◌, Bool, true, false, is_some, List, length, slice_get, slice_index, slice_set, Some}
 use Rattle.tora_arq.specs.Settings.{Settings}
 use Rattle.tora_arq.specs.LinkEnd.{EndState, is_closed, first_event, frame_due, after_tick}
@@ -23,8 +23,8 @@ pub record IsQuietEnd (w : World) (n k : ℕ) : Type 0 where
   pub sends : is_some (refusal_of w (Transmit n k)) ≡ true
   pub pumps : is_some (refusal_of w (Pump n k)) ≡ true
 
--- nothing is to be done before a tick at an end of these settings and this state, in whose lane a cargo waits or none,
--- and no tick before it changes the end
+-- the end is open and has no event, no cargo waits for it, and before the tick `until` no frame is due and no tick
+-- changes it
 pub record IsStillEnd (until : ℕ) (settings : Settings) (state : EndState) (waits : Bool) : Type 0 where
   pub opened : is_closed state ≡ false
   pub lane : waits ≡ false
@@ -41,7 +41,7 @@ pub record MayOnlySend (link : LinkView) : Type 0 where
 abbrev pub IsStill : ℕ → LinkView → Type 0
 IsStill until link = IsStillEnd until link.settings link.state (has_cargo link)
 
--- the same, but that the tick 0 says nothing
+-- `IsStill` for a deadline other than 0
 abbrev pub IsStillIf : ℕ → LinkView → Type 0
 IsStillIf until link = 0 < until → IsStill until link
 
@@ -49,38 +49,37 @@ IsStillIf until link = 0 < until → IsStill until link
 abbrev pub is_idle : NodeView → Bool
 is_idle node = length node.items == 0
 
--- of each link end whose tick is still to come nothing is to be done before it; of any other that says nothing
+-- until its deadline, each link end whose deadline has not come is still; a deadline that has come gives no information
 pub record AreStillEach (clock : ℕ) (stills : List ℕ) (links : List LinkView) : Type 0 where
   pub as_many : length stills ≡ length links
   pub still : (at : ℕ) (link : LinkView) → clock < slice_index stills at → slice_get links at ≡ Some link
       → IsStill (slice_index stills at) link
 
--- the same of the link ends from a place on
+-- `AreStillEach` for the link ends from an index on
 abbrev pub AreStillFrom : ℕ → ℕ → List ℕ → List LinkView → Type 0
 AreStillFrom from clock stills links = (at : ℕ) (link : LinkView) → from ≤ at → clock < slice_index stills at
     → slice_get links at ≡ Some link → IsStill (slice_index stills at) link
 
--- of so many ends from a place on nothing is known any more, and of any other what was, or nothing
+-- the deadlines of the `count` ends from the index `first` on are 0; each other one is unchanged, or 0
 pub record AreForgotten (before stills : List ℕ) (first count : ℕ) : Type 0 where
   pub as_many : length stills ≡ length before
   pub here : (place : ℕ) → place < count → slice_index stills (first + place) ≡ 0
   pub others : (at : ℕ) → (slice_index stills at ≡ 0) ⊎ (slice_index stills at ≡ slice_index before at)
 
--- nothing is known any more of the link end at a place, or in its lane no cargo waits, and of each end is known what
--- was
+-- the deadline of the link end at an index is 0, or no cargo waits in its lane; the other deadlines are unchanged
 abbrev pub IsForgottenWhere : List LinkView → List ℕ → List ℕ → ℕ → Type 0
 IsForgottenWhere links before stills at = (stills ≡ slice_set before at 0)
     ⊎ ((stills ≡ before) × ((link : LinkView) → slice_get links at ≡ Some link → has_cargo link ≡ false))
 
--- nothing is known any more of those of so many link ends from a place on in whose lane a cargo waits, and of any other
--- what was, or nothing
+-- of the `count` ends from the index `first` on, those with a waiting cargo have the deadline 0; each other deadline is
+-- unchanged, or 0
 pub record AreForgottenWhere (links : List LinkView) (before stills : List ℕ) (first count : ℕ) : Type 0 where
   pub as_many : length stills ≡ length before
   pub here : (place : ℕ) (link : LinkView) → place < count → slice_get links (first + place) ≡ Some link
       → has_cargo link ≡ true → slice_index stills (first + place) ≡ 0
   pub others : (at : ℕ) → (slice_index stills at ≡ 0) ⊎ (slice_index stills at ≡ slice_index before at)
 
--- what is known of each end but of those of so many from a place on in whose lane a cargo waits
+-- `AreStillEach`, except for those of the `count` ends from the index `first` on with a waiting cargo
 pub record AreStillBut (clock : ℕ) (stills : List ℕ) (links : List LinkView) (first count : ℕ) : Type 0 where
   pub as_many : length stills ≡ length links
   pub still : (at : ℕ) (link : LinkView) → clock < slice_index stills at → slice_get links at ≡ Some link

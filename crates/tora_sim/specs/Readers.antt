@@ -1,4 +1,4 @@
--- What is read of a simulated world.
+-- The readers of a simulated world.
 use Rattle.std.specs.Prelude.{ℕ, Bool, false, if◌then◌else◌, List, map}
 use Rattle.std.specs.List.{flat_map}
 use Rattle.tora_core.specs.CoreRun.{flag_of}

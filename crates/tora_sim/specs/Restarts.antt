@@ -13,11 +13,11 @@ use Rattle.tora_sim.specs.Nodes.{NodeView}
 abbrev pub restarted : Option (List ℕ) → LinkView → LinkView
 restarted torn link = record link { state = first_end; file = reopened torn link.file; pulled = length link.put }
 
--- a core of the same node, choice, neighbours and destinations before any input
+-- a core of the same node, choice of erasure, neighbours and destinations, before any input
 abbrev pub core_again : CoreView → CoreView
 core_again core = first_core_of core.erasure core.me core.neighbours (destinations_of core.views)
 
--- a node: its lane is empty, and its core has accepted nothing
+-- a node after a restart: its queue is empty, and its core has accepted nothing
 abbrev pub restarted_node : SeatView → NodeView → NodeView
 restarted_node seat node = record node {
   seat = seat;
@@ -26,7 +26,7 @@ restarted_node seat node = record node {
   counts = replicate (length node.counts) 0;
 }
 
--- there is a fresh end for each of so many link ends from a place on
+-- there is a fresh end for each of the `count` link ends from the index `first` on
 abbrev pub AreFresh : List LinkView → ℕ → ℕ → List LinkEndView → Type 0
 AreFresh links first count ends =
     (place : ℕ) (link : LinkView) → place < count → slice_get links (first + place) ≡ Some link

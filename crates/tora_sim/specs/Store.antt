@@ -1,4 +1,4 @@
--- What the simulator stores, and the world that it is.
+-- The data that the simulator stores, and the world that it represents.
 use Rattle.std.specs.Prelude.{◌≡◌, ℕ, zero, suc, ◌≤◌, ◌+◌, true, false, is_some, List, [], length, slice_get, slice_index, map, Option, Some, None, find}
 use Rattle.tora_frame.specs.FrameParts.{FrameParts}
 use Rattle.tora_arq.specs.declared.times.Times.{Times}
@@ -45,7 +45,7 @@ state_of topology times clock nodes links datagrams = record {
   datagrams = datagrams;
 }
 
--- ---- what is stored of a node or link, and what the first world has where there is none
+-- ---- the parts of the world, from what is stored of a node or link, or from the first world if nothing is
 
 abbrev pub seat_in : Topology → ℕ → Option NodeView → SeatState
 seat_in t n None = first_seat t n
@@ -93,7 +93,7 @@ node_at nodes n = find (is_of n) nodes
 abbrev pub link_at : List LinkView → ℕ → ℕ → Option LinkView
 link_at links n k = find (is_at n k) links
 
--- the world that is stored
+-- the world that the stored data represents
 abbrev pub world_of : SimState → World
 world_of s = record {
   topology = s.topology;
@@ -121,7 +121,7 @@ pub record IsLinkOf (t : Topology) (times : Times) (link : LinkView) : Type 0 wh
   pub back : is_link t link.peer link.node ≡ true
   pub pulled : link.pulled ≤ length link.put
 
--- holds of each item
+-- a property holds for each item
 abbrev pub EachOf : {A : Type 0} → (A → Type 0) → List A → Type 0
 EachOf {A} P xs = (i : ℕ) (x : A) → slice_get xs i ≡ Some x → P x
 
@@ -133,13 +133,13 @@ pub record IsNodeOf (t : Topology) (node : NodeView) : Type 0 where
   pub neighbours : node.seat.core.neighbours ≡ neighbours_of t node.node
   pub destinations : destinations_of node.seat.core.views ≡ ascending t.destinations
 
--- the link ends of a node stand one behind the other, in the order of its neighbours
+-- the link ends of a node are adjacent, in the order of its neighbours
 pub record AreEndsOf (t : Topology) (links : List LinkView) (node : NodeView) : Type 0 where
   pub within : node.first + node.count ≤ length links
   pub at : (place k : ℕ) (link : LinkView) → slice_get (neighbours_of t node.node) place ≡ Some k
       → slice_get links (node.first + place) ≡ Some link → (link.node ≡ node.node) × (link.peer ≡ k)
 
--- a datagram came over a link, from its sender to its receiver
+-- a datagram was sent over a link of the topology, from its sender to its receiver
 abbrev pub IsOfLink : Topology → FrameParts → Type 0
 IsOfLink t f = is_link t f.header.receiver f.header.sender ≡ true
 
@@ -154,7 +154,7 @@ pub record IsStore (s : SimState) : Type 0 where
   pub each_ends : EachOf (AreEndsOf s.topology s.links) s.nodes
   pub each_datagram : EachOf (IsOfLink s.topology) s.datagrams
 
--- the datagram of a number from 1 on
+-- the datagram with a number, counted from 1
 abbrev pub numbered : ℕ → List FrameParts → Option FrameParts
 numbered zero datagrams = None
 numbered (suc place) datagrams = slice_get datagrams place

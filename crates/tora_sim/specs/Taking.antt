@@ -1,4 +1,4 @@
--- A node's core takes its items, one after another.
+-- The turns of a node's core, one after another.
 use Rattle.std.specs.Prelude.{◌≡◌, ℕ, Bool, List, length, slice_index_or, slice_set, Result, MatchResult}
 use Rattle.tora_frame.specs.FrameParts.{FrameParts}
 use Rattle.tora_arq.specs.declared.times.Times.{Times}
@@ -15,8 +15,9 @@ use Rattle.tora_sim.specs.Quiet.{AreStillEach, AreStillBut}
 use Rattle.tora_sim.specs.Steps.{Happened, StopsWith, repeats}
 use Rattle.tora_sim.specs.Store.{SimState, IsStore, state_of, world_of}
 
--- what is known of a node and of all link ends once its core took items: where its ends stand, which of them are not
--- ready and at which there may be no memory, that others are as they were, and what is still known of each
+-- a node and all link ends after its core took items: the node's ends are at the same indexes, those outside `unready`
+-- are ready, only the one at `seat` may lack memory, other ends are unchanged, and deadlines hold except at ends with a
+-- cargo
 pub record AreTaken (x : NodeView) (links : List LinkView) (y : NodeView) (after : List LinkView) (unready : Unready)
     (seat : ℕ) : Type 0 where
   pub node : y.node ≡ x.node
@@ -30,7 +31,7 @@ pub record AreTaken (x : NodeView) (links : List LinkView) (y : NodeView) (after
   pub still : (clock : ℕ) (stills : List ℕ) → AreStillEach clock stills links
       → AreStillBut clock stills after x.first x.count
 
--- the core of node `n` took its items until none waited, so many at most, or until there was no memory for one
+-- the core of node `n` took its items until none waited, at most `most`, or until memory ran out for one
 pub record Takes (before after : SimState) (n most : ℕ) (result : Result Bool SimError) : Type 0 where
   pub store : IsStore after
   pub events : MatchResult result (λ some. Happened (world_of before) (repeats most (CoreTurn n) (world_of before))
@@ -38,7 +39,7 @@ pub record Takes (before after : SimState) (n most : ℕ) (result : Result Bool 
       (λ error. (error ≡ Refused.Memory) × StopsWith (world_of before) (repeats most (CoreTurn n) (world_of before))
       Refused.Memory (world_of after))
 
--- so it is in each world in which this is the node at a place, and these are all link ends
+-- the turns of a core, in any world in which this is a node at an index and these are all link ends
 abbrev pub TakesItems : ℕ → NodeView → List LinkView → Result Bool SimError → NodeView → List LinkView → Type 0
 TakesItems most x links result y after = (t : Topology) (times : Times) (clock : ℕ) (nodes : List NodeView)
     (ds : List FrameParts) (n home : ℕ) → IsStore (state_of t times clock nodes links ds) → IsFirst (is_of n) nodes home

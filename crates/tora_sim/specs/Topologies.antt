@@ -1,4 +1,4 @@
--- The links and destinations that are given.
+-- The given links and destinations.
 use Rattle.std.specs.Prelude.{◌≡◌, ℕ, ◌+◌, ◌==◌, ◌<◌, ◌≤◌, ◌||◌, Bool, false, List, [], ◌∷◌, ◌++◌, length, map, None, if◌then◌else◌}
 use Rattle.std.specs.List.{All, list_any}
 use Rattle.tora_core.specs.declared.erasure.Erasure.{Erasure}
@@ -22,19 +22,19 @@ topology_of links destinations = record {
   choices = [];
 }
 
--- the same, but for the nodes whose link ends speak version 1 of frames alone
+-- the topology with other nodes that speak only version 1 of frames
 abbrev pub with_olds : Topology → List ℕ → Topology
 with_olds t olds = record t { olds = olds }
 
--- the same, but for what nodes make of erased levels, and what single nodes make of them
+-- the topology with another treatment of erased levels and other choices of single nodes
 abbrev pub with_choices : Topology → Erasure → List (ℕ × Erasure) → Topology
 with_choices t erasure choices = record t { erasure = erasure; choices = choices }
 
--- one of them more
+-- one more node that speaks only version 1
 abbrev pub with_old : ℕ → List ℕ → List ℕ
 with_old n olds = if has_number n olds then olds else olds ++ n ∷ []
 
--- the nodes that are none of them
+-- the nodes that do not speak only version 1
 abbrev pub others : List ℕ → List ℕ → List ℕ
 others olds [] = []
 others olds (n ∷ nodes) = if has_number n olds then others olds nodes else n ∷ others olds nodes
@@ -43,7 +43,7 @@ others olds (n ∷ nodes) = if has_number n olds then others olds nodes else n �
 abbrev pub is_named : ℕ → List (ℕ × ℕ) → Bool
 is_named n links = list_any (λ p. (p.0 == n) || (p.1 == n)) links
 
--- with the other end of a link, where one end is the node
+-- the list with the other end of a link of the node added
 abbrev pub with_end : ℕ → Link → List ℕ → List ℕ
 with_end n link ends =
     if link.a == n then with_node link.b ends

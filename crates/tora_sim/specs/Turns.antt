@@ -1,4 +1,4 @@
--- What an item made of a node and its link ends.
+-- The effect of an item on a node and its link ends.
 use Rattle.std.specs.Prelude.{◌≡◌, ℕ, ◌+◌, List, [], ◌∷◌, ◌++◌, map, slice_get, slice_set, Option, Some, None, Result, MatchResult}
 use Rattle.tora_core.specs.Kept.{destinations_of}
 use Rattle.tora_seat.specs.declared.item.Item.{Item}
@@ -13,7 +13,7 @@ use Rattle.tora_sim.specs.Links.{LinkView}
 use Rattle.tora_sim.specs.Nodes.{NodeView}
 use Rattle.tora_sim.specs.Lanes.{LanesView, lanes_of, DidOffer}
 
--- the first item of a node's lane was served over these lanes
+-- the first item of a node's queue was served over these lanes
 pub record IsServed (before : NodeView) (lanes : LanesView) (item : Item) (after : NodeView) (lanes_after : LanesView) :
     Type 0 where
   pub items : before.items ≡ item ∷ after.items
@@ -33,7 +33,7 @@ pub record IsServed (before : NodeView) (lanes : LanesView) (item : Item) (after
     items = after.items;
   }
 
--- the packet that was stepped is noted at the link of the item's seat
+-- if a packet was stepped, it was recorded at the link end of the item's seat
 abbrev pub IsNoted : LanesView → ℕ → Option Stepped → List LinkView → Type 0
 IsNoted lanes seat None links = links ≡ lanes.links
 IsNoted lanes seat (Some p) links = (link : LinkView) × (slice_get lanes.links (lanes.first + seat) ≡ Some link)
@@ -44,7 +44,7 @@ IsNoted lanes seat (Some p) links = (link : LinkView) × (slice_get lanes.links 
       } ∷ [];
     }))
 
--- a node and all link ends after the first item of its lane
+-- a node and all link ends after the first item of its queue
 pub record IsTurned (before : NodeView) (links : List LinkView) (after : NodeView) (links_after : List LinkView) :
     Type 0 where
   pub item : Item
@@ -52,7 +52,7 @@ pub record IsTurned (before : NodeView) (links : List LinkView) (after : NodeVie
   pub served : IsServed before (lanes_of links before.first before.count) item after lanes
   pub noted : IsNoted lanes item.seat after.seat.stepped links_after
 
--- or there was no memory, and they are as they were
+-- the effect of a turn: the item was served, or memory ran out and nothing changed
 abbrev pub Turns : NodeView → List LinkView → Result (Unit {0}) SimError → NodeView → List LinkView → Type 0
 Turns before links result after links_after = MatchResult result (λ _. IsTurned before links after links_after)
     (λ error. (error ≡ Refused.Memory) × (after ≡ before) × (links_after ≡ links))

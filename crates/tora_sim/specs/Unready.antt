@@ -4,16 +4,16 @@ use Rattle.tora_sim.specs.declared.unready.Unready.{Unready}
 use Rattle.tora_sim.specs.Links.{LinkView}
 use Rattle.tora_sim.specs.Possible.{has_cargo}
 
--- a place among a node's ends is none of a range
+-- an index among a node's ends is outside a range
 abbrev pub IsOutside : Unready → ℕ → Type 0
 IsOutside range place = range.from ≤ place → place < range.behind → ⊥
 
--- an end is marked anew: only where no cargo waits in its lane, and it is another one than that at a place
+-- the mark of an end was renewed: it is set only if no cargo waits in its lane and its index is not `but`
 abbrev pub IsRemarked : List LinkView → ℕ → List Bool → List Bool → ℕ → Type 0
 IsRemarked links but before marks at = (mark : Bool) × (marks ≡ slice_set before at mark)
     × (mark ≡ true → (link : LinkView) → slice_get links at ≡ Some link → (has_cargo link ≡ false) × (at ≡ but → ⊥))
 
--- so many ends from a place on are marked anew, and each other one is marked where it was
+-- the marks of the `count` ends from the index `first` on were renewed, and each other mark is unchanged
 pub record AreRemarked (links : List LinkView) (but : ℕ) (before marks : List Bool) (first count : ℕ) : Type 0 where
   pub as_many : length marks ≡ length before
   pub here : (place : ℕ) (link : LinkView) → place < count → slice_get links (first + place) ≡ Some link

@@ -1,4 +1,4 @@
-//! A cut of the life of a link end, as where its link is broken.
+//! Cuts of the session of a link end, as after a broken link.
 ghost use Rattle.std.specs.Prelude.{◌≡◌};
 ghost use Rattle.tora_arq.specs.LinkEnd.{bound_life};
 ghost use Rattle.tora_seat.specs.Between.{after_cut_of_bound};
@@ -14,7 +14,7 @@ use tora_arq::lives_are_bound_once;
 use tora_height::Id;
 
 impl LinkParts {
-    /// Cuts the bound life, if there is one.
+    /// Cuts the bound session, if there is one.
     pub fn cut_bound(&mut self)
         ensures { self.new ≡ with_state self.old (after_cut_of_bound self.old.state (bound_life self.old.state)) }
     {
@@ -24,9 +24,9 @@ impl LinkParts {
 }
 
 impl Sim {
-    /// Cuts the life that the end of node `n` towards `k` is bound to, if it is bound, as a link layer has it that
-    /// tells of a broken link. It is no event, and nothing where there is no such link; the world is one of those that
-    /// threads may lead to.
+    /// Cuts the session that the end of node `n` towards `k` is bound to, if there is one, as a link layer does that
+    /// reports a broken link. Nothing changes if there is no such link. This is not an event of `step`, but the new
+    /// world is one that running threads can reach.
     pub fn cut_bound(&mut self, n: Id, k: Id)
         ensures { world_of self.new ≡ after_cut_at (world_of self.old) n k }
     {

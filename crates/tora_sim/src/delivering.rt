@@ -1,4 +1,4 @@
-//! Datagrams are delivered.
+//! Delivery of datagrams.
 ghost use Rattle.tora_sim.specs.Steps.{Repeats, Does, IsDone};
 ghost use Rattle.tora_world.specs.declared.event.Event.TheVariants.{Deliver};
 ghost use Rattle.std.specs.Prelude.{◌≡◌, true, false, Some, IfSome};
@@ -17,7 +17,7 @@ use tora_datagrams::Datagrams;
 use tora_frame::{BorrowedFrame, Header};
 
 impl Sim {
-    /// Hands a datagram to its receiver, unless the receive is armed to fail, and keeps the deadline of the end anew.
+    /// Hands a datagram to its receiver, unless the receive is armed to fail, and stores the new deadline of the end.
     #[inline(always)]
     pub(crate) fn deliver(&mut self, i: u64) -> Result<(), SimError>
         ensures { Does self.old (Deliver i) result self.new }
@@ -95,12 +95,11 @@ impl Sim {
         Ok(())
     }
 
-    /// Makes `Deliver` of a datagram happen until it is refused, at most `most` times, and returns whether it happened
-    /// at all.
+    /// Repeats `Deliver` of a datagram until it is refused, at most `most` times, and returns whether it happened at
+    /// all.
     ///
     /// # Errors
-    /// Where there is no memory for what waits at the end that takes it in. The world is then as after the deliveries
-    /// before it.
+    /// Memory ran out at the end that handles the frame. The earlier deliveries have happened.
     #[inline(always)]
     pub fn deliver_all(&mut self, i: u64, most: u64) -> Result<bool, AllocError>
         ensures { Repeats self.old most (Deliver i) result self.new }

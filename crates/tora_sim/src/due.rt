@@ -1,4 +1,4 @@
-//! Where something may be to be done, among the link ends.
+//! The search for link ends that may have something to do.
 ghost use Rattle.std.specs.Prelude.{◌≡◌, ◌+◌, ◌*◌, ◌<◌, ◌≤◌, ℕ, true, Some, IfNone, IfSome, length, max, slice_get};
 ghost use Rattle.std.specs.Prelude.{slice_index};
 ghost use Rattle.tora_sim.specs.Quiet.{IsQuietEnd};
@@ -22,10 +22,9 @@ impl Sim {
         are_ends(self.keys.as_slice(), ends)
     }
 
-    /// The first place from `place` on, in the order of `ends` and from 0 on, at which a link end may have something to
-    /// do: the ends that are passed over can't be opened, take a cargo, send a frame or give an event. Only ends are
-    /// passed over of which `settle` found until which tick that is so, and at which no event happened since that may
-    /// change it.
+    /// The first index from `place` on, in the order of `ends`, at which a link end may have something to do. No
+    /// skipped end can be opened, take a cargo, send a frame or give an event. An end is skipped only if its deadline
+    /// is stored and has not come.
     #[inline(always)]
     pub fn next_due(&self, place: usize) -> usize
         ensures onward { place ≤ result }
@@ -36,8 +35,8 @@ impl Sim {
     }
 }
 
-/// Whether these are the same ends, in the same order. It looks at every end: several at once take less time than one
-/// after another up to the one that is another.
+/// Whether these are the same ends, in the same order. Every end is compared, several at once, which is faster than a
+/// search for the first difference.
 fn are_ends(keys: &[(Id, Id)], ends: &[(Id, Id)]) -> bool
     ensures sound { result ≡ true → ends.now ≡ keys.now }
     ensures complete { ends.now ≡ keys.now → result ≡ true }
@@ -52,7 +51,7 @@ fn are_ends(keys: &[(Id, Id)], ends: &[(Id, Id)]) -> bool
     apart == 0
 }
 
-/// A number that is 0 where the two are the same end, and only there.
+/// 0 exactly if the two ends are the same.
 #[inline(always)]
 fn ends_apart(end: (Id, Id), other: (Id, Id)) -> Id
     ensures same { end ≡ other → result ≡ 0 }
@@ -61,7 +60,7 @@ fn ends_apart(end: (Id, Id), other: (Id, Id)) -> Id
     nodes_apart(end.0, other.0) | nodes_apart(end.1, other.1)
 }
 
-/// The same of two nodes.
+/// 0 exactly if the two nodes are the same.
 #[inline(always)]
 fn nodes_apart(n: Id, k: Id) -> Id
     ensures same { n ≡ k → result ≡ 0 }
@@ -107,7 +106,7 @@ fn due_from(stills: &Stills, now: u64, place: usize) -> usize
     place.max(end_count(stills))
 }
 
-/// The first such place in a block.
+/// The first index from `place` on, within a block, whose deadline has come.
 #[inline(always)]
 fn due_in_block(stills: &Stills, block: usize, now: u64, place: usize) -> Option<usize>
     requires { 16 * block < length stills.now }
@@ -126,7 +125,7 @@ fn due_in_block(stills: &Stills, block: usize, now: u64, place: usize) -> Option
     due_within(stills, now, place.max(first), first + count)
 }
 
-/// The first such place of the 16 from one on: all are looked at at once.
+/// The first of the 16 indexes from `from` on whose deadline has come. All are compared at once.
 #[inline(always)]
 fn due_of_sixteen(stills: &Stills, now: u64, from: usize) -> Option<usize>
     requires { from + 16 ≤ length stills.now }
@@ -144,7 +143,7 @@ fn due_of_sixteen(stills: &Stills, now: u64, from: usize) -> Option<usize>
     }
 }
 
-/// The first such place from one on and before another.
+/// The first index from `from` to below `to` whose deadline has come.
 fn due_within(stills: &Stills, now: u64, from: usize, to: usize) -> Option<usize>
     requires { to ≤ length stills.now }
     ensures none { IfNone result (AreLater now from to stills.now) }

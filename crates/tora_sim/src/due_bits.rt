@@ -1,4 +1,4 @@
-//! Which of sixteen ticks are not still to come, by one look at all of them.
+//! Which of sixteen deadlines have come, by one comparison of all of them.
 ghost use Rattle.std.specs.Prelude.{◌≡◌, ◌+◌, ◌≤◌, length};
 ghost use Rattle.tora_sim.specs.Stills.{due_bits};
 

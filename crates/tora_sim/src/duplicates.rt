@@ -8,7 +8,7 @@ use tora_height::Id;
 
 /// Whether some link is named twice, either way round.
 ///
-/// Each link is compared with all behind it, if the keys of the links do not show that no link is named twice.
+/// If the keys of the links do not show that all links differ, each link is compared with all later ones.
 pub fn has_repeated_link(links: &[(Id, Id)]) -> bool
     ensures { result ≡ has_repeated_link (links_in links.now) }
 {
@@ -18,7 +18,7 @@ pub fn has_repeated_link(links: &[(Id, Id)]) -> bool
     some_link_stands_again(links)
 }
 
-/// Whether some link is named again behind it, either way round: each is compared with all behind it.
+/// Whether some link is named again later, either way round. Each link is compared with all later ones.
 fn some_link_stands_again(links: &[(Id, Id)]) -> bool
     ensures { result ≡ has_repeated_link (links_in links.now) }
 {

@@ -1,4 +1,4 @@
-//! The events of a link end and its lane, but for frames.
+//! The events of a link end and its lane, except those of frames.
 ghost use Rattle.tora_world.specs.declared.event.Event.TheVariants.{Open, Pull, Pump};
 ghost use Rattle.tora_sim.specs.Steps.{Does};
 
@@ -26,7 +26,8 @@ impl Sim {
         Ok(())
     }
 
-    /// Submits a cargo of a lane, or cuts its life. The link end is looked for at the index `guess` first.
+    /// Submits the packet of a cargo of a lane, or cuts its session. The link end is looked for at the index `guess`
+    /// first.
     pub(crate) fn pull(&mut self, guess: usize, n: Id, k: Id) -> Result<(), SimError>
         ensures { Does self.old (Pull n k) result self.new }
     {
@@ -43,7 +44,8 @@ impl Sim {
         Ok(())
     }
 
-    /// Puts an event of an end into its node's lane. The link end is looked for at the index `guess` first.
+    /// Puts an event of an end into the queue of its node's core. The link end is looked for at the index `guess`
+    /// first.
     pub(crate) fn pump(&mut self, guess: usize, n: Id, k: Id) -> Result<(), SimError>
         ensures { Does self.old (Pump n k) result self.new }
     {

@@ -33,7 +33,7 @@ pub fn is_key(key: (Id, Id), n: Id, k: Id) -> bool
     key.0 == n && key.1 == k
 }
 
-/// The place of the end of node `n` towards `k`, by the keys of the ends.
+/// The index of the end of node `n` towards `k`, by the keys of the ends.
 pub fn place(_links: &Vec<LinkSlot>, keys: &Vec<(Id, Id)>, n: Id, k: Id) -> Option<usize>
     requires rising { AreRising _links.now.items }
     requires keys { keys.now.items ≡ map key_of _links.now.items }
@@ -44,7 +44,7 @@ pub fn place(_links: &Vec<LinkSlot>, keys: &Vec<(Id, Id)>, n: Id, k: Id) -> Opti
     search(ends, n, k)
 }
 
-/// The place of the end of node `n` towards `k`. It is `at`, if that end is there; otherwise the ends are searched.
+/// The index of the end of node `n` towards `k`. It is `at`, if that end is there; otherwise the ends are searched.
 #[inline(always)]
 pub fn place_near(
     links: &Vec<LinkSlot>,

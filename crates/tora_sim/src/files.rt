@@ -30,7 +30,7 @@ pub fn open(disk: MemDisk, owner: Owner) -> FileSlot
     }
 }
 
-/// A file in a place of its own.
+/// A life file in a box.
 ///
 /// # Errors
 /// `Memory`.
@@ -44,12 +44,12 @@ pub fn apart(alloc: Global, file: FileSlot) -> Result<Box<FileSlot>, SimError>
 }
 
 impl FileSlot {
-    /// Draws a number.
+    /// Draws a session number.
     pub fn draw(&mut self) -> Option<u64>
         ensures drawn { list_of result ≡ drawn_by Draw (disk_of self.old) }
         ensures disk { disk_of self.new ≡ after_event Draw (disk_of self.old) }
         ensures owner { owner_in (disk_of self.new) ≡ owner_in (disk_of self.old) }
-        // It is above every number that was drawn, and at most 2^62.
+        // The number is above every number that was drawn, and at most 2^62.
         ensures above { IfSome result (λ n. (earlier : ℕ) → IsDrawn earlier (disk_of self.old) → earlier < n) }
         ensures within { IfSome result (λ n. n ≤ 2 ^ 62) }
         ensures last { IfSome result (λ n. IsDrawn n (disk_of self.new)) }
@@ -65,7 +65,7 @@ impl FileSlot {
         }
     }
 
-    /// The next such call of the disk fails.
+    /// Makes the next call of this kind fail at the disk.
     pub fn arm(&mut self, call: DiskCall)
         ensures disk { disk_of self.new ≡ after_event (Arm call) (disk_of self.old) }
         ensures owner { owner_in (disk_of self.new) ≡ owner_in (disk_of self.old) }
@@ -77,7 +77,7 @@ impl FileSlot {
         }
     }
 
-    /// The disk crashes, and the life file is opened for its owner.
+    /// Crashes the disk, and opens the life file for its owner.
     pub fn restart(self, owner: Owner, torn: Option<[u8; 16]>) -> FileSlot
         requires same { owner ≡ owner_in (disk_of self) }
         requires node { 0 < owner.node }

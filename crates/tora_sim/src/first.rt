@@ -32,10 +32,10 @@ use tora_life::{MemDisk, Owner};
 use tora_seat::BareSeat;
 
 impl Sim {
-    /// The world of a topology at its start: no link end is open, every life file is empty, nothing is under way, and
-    /// the clock stands at 0.
+    /// The world of a topology at its start: no link end is open, every life file is empty, all queues are empty, no
+    /// datagram was sent, and the clock is 0.
     ///
-    /// Each link end has the standard times: 10 ticks of 100 ms between HELLOs, 50 of silence, 5 between tries, 8
+    /// Each link end has the standard times: 10 ticks of 100 ms between HELLOs, 50 of silence, 5 between tries, and 8
     /// tries. The lists of the topology are copied.
     ///
     /// # Errors
@@ -48,8 +48,8 @@ impl Sim {
         Sim::with_times(alloc, topology, Times::STANDARD)
     }
 
-    /// The world of a topology at its start, as `Sim::new` makes it, but with these times of each link end, none of
-    /// which is 0.
+    /// The world of a topology at its start, as `Sim::new` makes it, with these times at each link end. None of them is
+    /// 0.
     ///
     /// # Errors
     /// `Memory`.
@@ -211,7 +211,7 @@ fn new_link(
     }
 }
 
-/// What stands at the end of a link at its start.
+/// The parts of the end of a link at its start.
 fn new_parts(
     alloc: Global,
     version: Version,

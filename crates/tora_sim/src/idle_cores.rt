@@ -1,4 +1,4 @@
-//! Which cores have nothing to take.
+//! The search for cores with waiting items.
 ghost use Rattle.std.specs.Prelude.{◌≡◌, ◌<◌, ◌≤◌, ℕ, true, Some, is_some, slice_get};
 ghost use Rattle.tora_sim.specs.Store.{world_of};
 ghost use Rattle.tora_world.specs.World.{refusal_of};
@@ -9,9 +9,8 @@ use crate::sim::Sim;
 use tora_height::Id;
 
 impl Sim {
-    /// The first place from `place` on, among these nodes and from 0 on, at which a core may have an item to take:
-    /// `step` refuses each `CoreTurn` of the nodes that are passed over. Only nodes are passed over that stand at the
-    /// same place among `nodes`.
+    /// The first index from `place` on at which the core of a node may have an item to take: `step` refuses `CoreTurn`
+    /// of each skipped node. A node is skipped only if it is stored at the same index as in `nodes`.
     pub fn next_core(&self, nodes: &[Id], place: usize) -> usize
         ensures onward { place ≤ result }
         ensures passed { (at n : ℕ) → place ≤ at → at < result → slice_get nodes.now at ≡ Some n

@@ -7,7 +7,7 @@ use crate::sim::Sim;
 
 impl Sim {
     /// If the lane of the link end at an index is empty, allocates memory there for all that one item of the node can
-    /// put, and marks the end as ready. If memory is refused, the next turn of the node's core asks again.
+    /// put, and marks the end as ready. If memory runs out, the next turn of the node's core allocates it.
     #[inline(always)]
     pub(crate) fn make_ready_again(&mut self, at: usize)
         ensures { world_of self.new ≡ world_of self.old }
@@ -21,8 +21,8 @@ impl Sim {
         let _made = make_room_at(&mut self.links, &mut self.ready, at);
     }
 
-    /// The same for the end of a seat, if the seat belongs to a neighbour. The ends of the node begin at the index
-    /// `first`.
+    /// `make_ready_again` for the end with this seat, if the seat belongs to a neighbour. The ends of the node begin at
+    /// the index `first`.
     #[inline(always)]
     pub(crate) fn make_seat_ready(&mut self, first: usize, count: usize, seat: usize)
         ensures { world_of self.new ≡ world_of self.old }
@@ -32,8 +32,8 @@ impl Sim {
         }
     }
 
-    /// Gives long lists of lanes back to the spare lists, if a lane took one and no item waits for the core of the node
-    /// at the index `home`. The lanes are those of the `count` link ends from the index `first` on.
+    /// Returns the long lists of lanes to the pool, if a lane took a list and no item waits for the core of the node at
+    /// the index `home`. The lanes are those of the `count` link ends from the index `first` on.
     #[inline(always)]
     pub(crate) fn shorten_lanes(&mut self, home: usize, first: usize, count: usize)
         requires node { home < length self.old.nodes }

@@ -16,7 +16,7 @@ use tora_cargoes::Spares;
 use tora_seat::{Cargo, OutLanes, Stepped};
 
 /// The lanes of one node, among all link ends: the node's ends are adjacent, in the order of its neighbours. The lanes
-/// and the spare lists have memory for all that one item of the node can put.
+/// and the pool have memory for all that one item of the node can put.
 #[derive(Drop)]
 pub struct NodeLanes {
     links: Vec<LinkSlot>,
@@ -75,8 +75,8 @@ impl NodeLanes {
         }
     }
 
-    /// The ends, with the packet that was stepped, if one was, noted at the end at a place of the node. Those of the
-    /// node outside which each is ready are put into `unready`, and the spare lists into `spares`.
+    /// Returns the ends. If a packet was stepped, it is recorded at the node's end with the index `place`. All ends of
+    /// the node outside `unready` are ready afterwards. The pool of lists goes into `spares`.
     #[inline(always)]
     pub fn into_links(
         self,
@@ -109,7 +109,7 @@ impl NodeLanes {
     }
 }
 
-/// Notes at the end at a place a packet that was stepped.
+/// Records a packet that was stepped at the end with this index.
 fn note(links: &mut Vec<LinkSlot>, at: usize, step: &Stepped)
     requires within { at < length links.old.items }
     requires room { HasRoomAt links.old.items at }
@@ -123,7 +123,7 @@ fn note(links: &mut Vec<LinkSlot>, at: usize, step: &Stepped)
 }
 
 /// Allocates memory for all that one item can put at the `count` ends from the index `first` on: at the ends that are
-/// not marked as ready, and in as many spare lists.
+/// not marked as ready, and in as many lists of the pool.
 ///
 /// # Errors
 /// `Memory`. The ends do not change.
@@ -152,7 +152,7 @@ pub fn make_room(
     Ok(())
 }
 
-/// The same at the end at one index.
+/// `make_room` at the end with one index.
 ///
 /// # Errors
 /// `Memory`. The end does not change.
@@ -179,7 +179,7 @@ pub fn make_room_at(
 }
 
 /// Moves the cargoes of lanes with long lists into short lists, at the `count` ends from the index `first` on, and
-/// gives the long lists to the spare ones, so that the next lanes use the same few.
+/// returns the long lists to the pool, so that later lanes use the same few.
 pub fn shorten(
     links: &mut Vec<LinkSlot>,
     ready: &Vec<bool>,
@@ -199,7 +199,7 @@ pub fn shorten(
     }
 }
 
-/// The same at one end, whose list goes to the spare lists at the index `spare`.
+/// `shorten` at one end, whose list goes to the pool at the index `spare`.
 #[inline(always)]
 fn shorten_at(
     links: &mut Vec<LinkSlot>,

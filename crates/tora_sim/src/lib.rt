@@ -1,8 +1,8 @@
 //! A simulated world of nodes, links and datagrams.
 //!
-//! `Sim` is the world that the prefix law speaks of, with its cores, link ends, life files and lanes, as a value:
-//! `step` lets one event happen, or refuses it and changes nothing. Nothing happens by itself, and nothing is random.
-//! All datagrams that were ever sent stay, so that each can be delivered late, twice or never.
+//! `Sim` is a world of the prefix law as a value, with its cores, link ends, life files and lanes. `step` makes one
+//! event happen, or refuses it and changes nothing. Nothing happens without an event, and nothing is random. All
+//! datagrams that were ever sent are kept, so that each can be delivered late, twice or never.
 //!
 //! ```rust
 //! let topology = Topology::new(alloc, &[(1, 2)], &[2])?; // one link, and tables for the destination 2
@@ -58,7 +58,7 @@ mod watching;
 pub use sim::Sim;
 pub use topology::{Topology, topology_fault, topology_fault_within};
 pub use tora_world::{Call, Event, GREATEST_NODES, Limits, MOST_NODES, SimError};
-// the laws that every world of a simulator keeps
+// the laws that hold for every world of a simulator
 pub use tora_world::{
     entries_at_rest_are_heights, events_run_out, exact_entries_give_walks, no_gap_law,
     only_needs_are_refused, prefix_law, routes_at_rest_arrive, simulator_runs_are_free_runs,

@@ -1,4 +1,4 @@
-//! What a link end does with its lane, its life file and its events.
+//! The calls of a stored link end, idle or not: on its lane, its life file and its events.
 ghost use Rattle.std.specs.Prelude.{◌≡◌, ◌<◌, ◌++◌, ◌∷◌, [], true, false, IsTrue, OnOk, IfOk, IfErr, length, is_some};
 ghost use Rattle.std.specs.Prelude.{nat_lt, slice_get};
 ghost use Rattle.tora_arq.specs.EndRange.{link_end_of};
@@ -22,21 +22,21 @@ use tora_packet::Packet;
 use tora_seat::Cargo;
 
 impl LinkSlot {
-    /// Its node and its peer, by which the ends are in order.
+    /// The node and the peer; the ends are in the order of these keys.
     pub fn key(&self) -> (Id, Id)
         ensures { result ≡ (self.now.node, self.now.peer) }
     {
         self.parts.key()
     }
 
-    /// The place of the peer among the node's neighbours.
+    /// The index of the peer among the node's neighbours.
     pub fn seat(&self) -> usize
         ensures { result ≡ self.now.seat }
     {
         self.parts.seat()
     }
 
-    /// Whether the end has to be opened: an idle one is open.
+    /// Whether the end is closed; an idle end is open.
     #[inline(always)]
     pub fn is_closed(&self) -> bool
         ensures { result ≡ is_closed self.now.state }
@@ -44,7 +44,7 @@ impl LinkSlot {
         self.steady.is_none() && self.parts.is_closed()
     }
 
-    /// Whether the end has an event to give: a steady one has none.
+    /// Whether the end has an event to give; an idle end has none.
     #[inline(always)]
     pub fn has_event(&self) -> bool
         ensures { result ≡ is_some (first_event self.now.state) }
@@ -52,7 +52,7 @@ impl LinkSlot {
         self.steady.is_none() && self.parts.has_event()
     }
 
-    /// The next event of the end, which stays.
+    /// The next event of the end; it is not taken.
     pub fn next_event(&self) -> Option<LinkEvent>
         ensures { result ≡ first_event self.now.state }
     {
@@ -70,7 +70,7 @@ impl LinkSlot {
         event
     }
 
-    /// Draws a number, and opens the closed end with it, if one is drawn.
+    /// Draws a session number, and opens the closed end with it; does nothing if none is drawn.
     pub fn open(&mut self, now: u64)
         requires { IsTrue (is_closed self.old.state) }
         ensures { self.new ≡ after_open_at self.old now }
@@ -79,14 +79,14 @@ impl LinkSlot {
         self.parts.open(now);
     }
 
-    /// The next such call of the life file fails.
+    /// Makes the next call of this kind fail at the life file.
     pub fn arm(&mut self, call: DiskCall)
         ensures { self.new ≡ after_arm self.old call }
     {
         self.parts.arm(call);
     }
 
-    /// Cuts the bound life, if there is one.
+    /// Cuts the bound session, if there is one.
     pub fn cut_bound(&mut self)
         ensures { self.new ≡ with_state self.old (after_cut_of_bound self.old.state (bound_life self.old.state)) }
     {
@@ -94,7 +94,7 @@ impl LinkSlot {
         self.parts.cut_bound();
     }
 
-    /// Whether a cargo waits in the lane: at a steady end none does.
+    /// Whether a cargo waits in the lane; at an idle end none does.
     #[inline(always)]
     pub fn has_cargo(&self) -> bool
         ensures { result ≡ nat_lt self.now.pulled (length self.now.put) }
@@ -102,7 +102,7 @@ impl LinkSlot {
         self.steady.is_none() && self.parts.has_cargo()
     }
 
-    /// Takes a cargo of the lane, and submits its packet or cuts its life. Returns `false` if memory is refused;
+    /// Takes a cargo of the lane, and submits its packet or cuts its session. Returns `false` if memory runs out;
     /// nothing changes then.
     pub fn pull(&mut self) -> bool
         requires { self.old.pulled < length self.old.put }
@@ -126,7 +126,7 @@ impl LinkSlot {
         self.parts.make_ready()
     }
 
-    /// Shortens a long list of the lane, if a cargo waits. The long list goes to the spare lists at the index `spare`.
+    /// Shortens a long list of the lane, if a cargo waits. The long list goes to the pool at the index `spare`.
     #[inline(always)]
     pub fn shorten(&mut self, spares: &mut Spares, spare: usize)
         ensures { bare self.new ≡ bare self.old }
@@ -137,7 +137,7 @@ impl LinkSlot {
     }
 
     /// Puts a cargo at the back of the lane, unless the lane is full, and returns whether it did. If the lane needs a
-    /// list, it takes the spare list at the index `spare`.
+    /// list, it takes that of the pool at the index `spare`.
     pub fn offer(&mut self, cargo: Cargo, spares: &mut Spares, spare: usize) -> bool
         requires { Fits self.old.pulled self.old.room spares.old spare }
         ensures put { result ≡ has_place self.old }
@@ -170,7 +170,7 @@ impl LinkSlot {
         self.parts.restart(end, torn);
     }
 
-    /// Notes a packet of the peer that the node's core stepped, with its life.
+    /// Records a packet of the peer that the node's core stepped, with its session.
     pub fn note_step(&mut self, life: Life, packet: Packet)
         requires { length self.old.steps < self.old.step_room }
         ensures { self.new ≡ record self.old { steps = self.old.steps ++ record { life = life; packet = packet } ∷ [] } }
@@ -185,35 +185,35 @@ impl LinkSlot {
         self.parts.is_idle()
     }
 
-    /// The life that the end is bound in.
+    /// The session that the end is bound in.
     pub fn life(&self) -> Option<Life>
         ensures { result ≡ bound_life self.now.state }
     {
         self.parts.life()
     }
 
-    /// How many packets were put into the lane in a life.
+    /// How many packets of a session were put into the lane.
     pub fn sent_count(&self, life: Life) -> usize
         ensures { result ≡ length (packets_of life (parcels_in self.now.put)) }
     {
         self.parts.sent_count(life)
     }
 
-    /// The packets that were put into the lane in a life.
+    /// The packets of a session that were put into the lane.
     pub fn sent(&self, alloc: Global, life: Life) -> Result<Vec<Packet>, AllocError>
         ensures { IfOk result (λ v. v.items ≡ packets_of life (parcels_in self.now.put)) }
     {
         self.parts.sent(alloc, life)
     }
 
-    /// How many packets of the peer the node's core stepped in a life.
+    /// How many packets of the peer the node's core stepped in a session.
     pub fn taken_count(&self, life: Life) -> usize
         ensures { result ≡ length (packets_of life self.now.steps) }
     {
         self.parts.taken_count(life)
     }
 
-    /// The packets of the peer that the node's core stepped in a life.
+    /// The packets of the peer that the node's core stepped in a session.
     pub fn taken(&self, alloc: Global, life: Life) -> Result<Vec<Packet>, AllocError>
         ensures { IfOk result (λ v. v.items ≡ packets_of life self.now.steps) }
     {

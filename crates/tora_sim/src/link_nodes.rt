@@ -1,4 +1,4 @@
-//! The nodes that links name, and the neighbours that links give a node.
+//! The nodes of links, and the neighbours of a node.
 ghost use Rattle.std.specs.Prelude.{◌≡◌, ◌<◌, ◌≤◌, ◌-◌, true, MatchOption, MatchBool, length, nat_lt, if◌then◌else◌};
 ghost use Rattle.tora_core.specs.Numbers.{ascending, has_number};
 ghost use Rattle.tora_world.specs.Topology.{nodes_in, with_node, different_neighbours, other_ends};
@@ -14,7 +14,7 @@ use tora_world::GREATEST_NODES;
 /// of the node to itself names the node.
 const MOST_ENDS: usize = GREATEST_NEIGHBOURS + 1;
 
-/// Whether a link names a number.
+/// Whether a link names this node.
 pub fn is_named(n: Id, links: &[(Id, Id)]) -> bool
     ensures { result ≡ is_named n links.now }
 {
@@ -28,7 +28,7 @@ pub fn names_node(n: Id, links: &[(Id, Id)]) -> bool
     is_named(n, links)
 }
 
-/// The neighbours that links give a node, in ascending order.
+/// The neighbours of a node, in ascending order.
 pub fn neighbours_of(links: &[(Id, Id)], n: Id) -> ArrayVec<Id, GREATEST_NEIGHBOURS>
     requires { length (other_ends n (links_in links.now)) ≤ GREATEST_NEIGHBOURS }
     ensures { result.items ≡ ascending (other_ends n (links_in links.now)) }
@@ -44,7 +44,7 @@ pub fn neighbours_of(links: &[(Id, Id)], n: Id) -> ArrayVec<Id, GREATEST_NEIGHBO
     neighbours
 }
 
-/// The nodes that links name, ascending, where there are at most as many as any limits allow.
+/// The nodes that links name, in ascending order; `None` if there are more than the greatest limits allow.
 pub fn nodes_of(links: &[(Id, Id)]) -> Option<ArrayVec<Id, GREATEST_NODES>>
     ensures { MatchOption result (GREATEST_NODES < length (nodes_in (links_in links.now))) (λ nodes.
         nodes.items ≡ nodes_in (links_in links.now)) }
@@ -64,7 +64,7 @@ pub fn nodes_of(links: &[(Id, Id)]) -> Option<ArrayVec<Id, GREATEST_NODES>>
     Some(nodes)
 }
 
-/// Whether a node has links to more than `most` others.
+/// Whether a node has more than `most` neighbours.
 pub fn has_many_neighbours(most: usize, n: Id, links: &[(Id, Id)]) -> bool
     requires { most ≤ GREATEST_NEIGHBOURS }
     ensures { result ≡ nat_lt most (length (different_neighbours n (links_in links.now))) }
@@ -80,7 +80,7 @@ pub fn has_many_neighbours(most: usize, n: Id, links: &[(Id, Id)]) -> bool
     count_others(n, ends.as_slice()) > most
 }
 
-/// How many of the ends, which differ, are other nodes.
+/// How many of these nodes, which all differ, are not node `n`.
 pub fn count_others(n: Id, ends: &[Id]) -> usize
     ensures { result ≡ (if has_number n ends.now then length ends.now - 1 else length ends.now) }
 {
@@ -91,7 +91,7 @@ pub fn count_others(n: Id, ends: &[Id]) -> usize
     }
 }
 
-/// Puts the other end of a link of the node, if it is one; answers whether there was room.
+/// Adds the other end of a link to an ascending list, if it is a link of node `n`. Returns false if the list is full.
 pub fn put_end<const N: usize>(ends: &mut ArrayVec<Id, N>, n: Id, link: (Id, Id)) -> bool
     ensures { MatchBool result (ends.new.items ≡ with_end n (link_in link) ends.old.items)
         (N < length (with_end n (link_in link) ends.old.items)) }
@@ -105,7 +105,7 @@ pub fn put_end<const N: usize>(ends: &mut ArrayVec<Id, N>, n: Id, link: (Id, Id)
     }
 }
 
-/// Puts a number at its place, where it is not there; answers whether there was room.
+/// Adds a number to an ascending list, unless the list has it. Returns false if the list is full.
 pub fn put<const N: usize>(numbers: &mut ArrayVec<Id, N>, n: Id) -> bool
     ensures { MatchBool result (numbers.new.items ≡ with_node n numbers.old.items)
         (N < length (with_node n numbers.old.items)) }

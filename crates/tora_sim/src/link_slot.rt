@@ -1,4 +1,4 @@
-//! The link ends of all nodes, as HELLOs see them.
+//! A stored link end, in the form in which HELLOs are handled fast.
 ghost use Rattle.std.specs.Prelude.{◌≡◌, true, false, IfSome, IfNone, Some, is_some};
 ghost use Rattle.tora_arq.specs.LinkEnd.{after_frame, after_tick, after_transmit, frame_due};
 ghost use Rattle.tora_frame.specs.FrameParts.{IsHeader, frame_of};
@@ -14,11 +14,11 @@ use tora_arq::Steady;
 use tora_datagrams::Datagrams;
 use tora_frame::{BorrowedBody, BorrowedFrame, Header, Packets, Version};
 
-/// One end of a link. While the end is idle, the few fields that a HELLO reads are kept here, and all else in a box. So
-/// the ends lie close together, and most HELLOs read one or two lines of the cache.
+/// One end of a link. While the end is idle, the few fields that a HELLO reads are stored here, and all others in a
+/// box. So the ends are close together in memory, and most HELLOs read one or two cache lines.
 #[derive(Drop)]
 pub struct LinkSlot {
-    /// The fields of the end while it is idle, otherwise those of no end.
+    /// The fields of the end while it is idle; `is_none` otherwise.
     pub(crate) steady: Steady,
     pub(crate) parts: Box<LinkParts>,
 }
@@ -34,7 +34,7 @@ impl Model for LinkSlot {
     ghost invariant = { λ s. IsKept s.steady s.parts.value };
 }
 
-/// Writes the idle fields back into the parts, so that no idle fields are left.
+/// Writes the idle fields back into the parts, after which there are none.
 #[inline(always)]
 pub fn wake(steady: &mut Steady, parts: &mut LinkParts)
     requires { IsKept steady.old parts.old }
@@ -48,7 +48,7 @@ pub fn wake(steady: &mut Steady, parts: &mut LinkParts)
     steady.own = 0;
 }
 
-/// Keeps the idle fields, if the end is idle.
+/// Stores the idle fields, if the end is idle.
 #[inline(always)]
 pub fn keep(steady: &mut Steady, parts: &mut LinkParts)
     requires { is_none steady.old ≡ true }
@@ -75,7 +75,7 @@ fn has_packets(frame: &Option<BorrowedFrame<'_>>) -> bool {
 }
 
 impl LinkSlot {
-    /// An end of these parts.
+    /// An end with these parts.
     pub fn new(parts: Box<LinkParts>) -> LinkSlot
         ensures { result ≡ parts.value }
     {
@@ -95,7 +95,7 @@ impl LinkSlot {
         self.steady.has_frame_due(now)
     }
 
-    /// Takes the first frame due, whose packets are put into `packets`.
+    /// Takes the first frame that is due, and puts its packets into `packets`.
     #[inline(always)]
     pub fn send<'a>(&mut self, now: u64, packets: &'a mut Packets) -> Option<BorrowedFrame<'a>>
         ensures frame { result ≡ frame_due self.old.settings self.old.state now }
@@ -103,7 +103,7 @@ impl LinkSlot {
     {
         wake(&mut self.steady, &mut *self.parts);
         let frame = self.parts.send(now, packets);
-        // one that sent packets waits for their acknowledgement, and isn't steady
+        // an end that sent packets waits for their acknowledgement, so it is not idle
         if !has_packets(&frame) {
             keep(&mut self.steady, &mut *self.parts);
         }
@@ -172,15 +172,15 @@ impl LinkSlot {
         if !datagrams.push_pair(end, far_end, &first, &second) {
             return None;
         }
-        // By its fields: all others are as they were, and each that is written costs an instruction.
+        // Field by field, because each field that is written costs an instruction, and the others did not change.
         self.steady.said = behind.said;
         self.steady.heard = behind.heard;
         self.steady.owes_old_hello = behind.owes_old_hello;
         Some(self.steady.still_until())
     }
 
-    /// Handles a frame. Returns the tick before which the end has nothing to do then (0 if it has something to do at
-    /// once). `None` if memory is refused; nothing changes then.
+    /// Handles a frame, and returns the tick before which the end then has nothing to do; 0 if it has something to do
+    /// at once. `None` if memory runs out; nothing changes then.
     #[inline(always)]
     pub fn receive_and_look(&mut self, frame: &BorrowedFrame<'_>, now: u64) -> Option<u64>
         ensures state { IfSome result (λ _. self.new ≡ with_state self.old
@@ -190,7 +190,7 @@ impl LinkSlot {
     {
         wake(&mut self.steady, &mut *self.parts);
         let until = self.parts.receive_and_look(frame, now)?;
-        // One that has something to do at once isn't steady.
+        // An end that has something to do at once is not idle.
         if until > 0 {
             keep(&mut self.steady, &mut *self.parts);
         }
@@ -209,7 +209,7 @@ impl LinkSlot {
         if let Some(until) = self.hear(header, now) {
             return Some(until);
         }
-        // By value: where its address is handed on, each HELLO is written to memory for it.
+        // The header is copied: if its address were passed on, each HELLO would be written to memory first.
         self.receive_first_hello(*header, now)
     }
 
@@ -242,7 +242,7 @@ impl LinkSlot {
     {
         wake(&mut self.steady, &mut *self.parts);
         let until = self.parts.receive_hello_and_look(&header, now)?;
-        // One that has something to do at once isn't steady.
+        // An end that has something to do at once is not idle.
         if until > 0 {
             keep(&mut self.steady, &mut *self.parts);
         }
@@ -268,7 +268,7 @@ impl LinkSlot {
         !self.steady.is_none() && self.steady.is_calm(now)
     }
 
-    /// The same, whatever the tick changes.
+    /// Ticks an end whose idle fields do not show that the tick changes nothing.
     #[inline(never)]
     fn tick_parts(&mut self, now: u64)
         ensures { self.new ≡ with_state self.old (after_tick self.old.settings self.old.state now) }
@@ -277,7 +277,7 @@ impl LinkSlot {
         self.parts.tick(now);
     }
 
-    /// Before which tick nothing is to be done here; 0 where something is to be done at once.
+    /// The tick before which the end has nothing to do; 0 if it has something to do at once.
     #[inline(always)]
     pub fn still_until(&self) -> u64
         ensures { IsStillIf result self.now }

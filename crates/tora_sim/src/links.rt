@@ -1,4 +1,4 @@
-//! The link ends of all nodes, one behind the other.
+//! The parts of a link end.
 ghost use Rattle.tora_arq.specs.Settings.{IsTimes, settings_of};
 ghost use Rattle.std.specs.Prelude.{◌≡◌, ◌≢◌, ◌<◌, ◌≤◌, ◌+◌, ◌++◌, ◌∷◌, [], ℕ, true, false, IsTrue, IfSome, OnOk, IfOk};
 ghost use Rattle.std.specs.Prelude.{IfErr, length, is_some, nat_lt, slice_get};
@@ -34,12 +34,12 @@ use tora_seat::Cargo;
 pub struct LinkParts {
     /// Boxed, because it is seldom read.
     pub(crate) file: Box<FileSlot>,
-    /// The place of the peer among the node's neighbours.
+    /// The index of the peer among the node's neighbours.
     pub(crate) seat: usize,
     pub(crate) end: GrowingEnd,
     /// The lane from the node's core.
     pub(crate) lane: Lane,
-    /// The packets of the peer that the node's core ever stepped, each with its life.
+    /// The packets of the peer that the node's core ever stepped, each with its session.
     pub(crate) steps: KeptCargoes,
 }
 
@@ -61,21 +61,21 @@ impl Model for LinkParts {
 }
 
 impl LinkParts {
-    /// Its node and its peer, by which the ends are in order.
+    /// The node and the peer; the ends are in the order of these keys.
     pub fn key(&self) -> (Id, Id)
         ensures { result ≡ (self.now.node, self.now.peer) }
     {
         (self.end.me(), self.end.peer())
     }
 
-    /// The place of the peer among the node's neighbours.
+    /// The index of the peer among the node's neighbours.
     pub fn seat(&self) -> usize
         ensures { result ≡ self.now.seat }
     {
         self.seat
     }
 
-    /// Whether the end has to be opened.
+    /// Whether the end is closed.
     pub fn is_closed(&self) -> bool
         ensures { result ≡ is_closed self.now.state }
     {
@@ -90,7 +90,7 @@ impl LinkParts {
         self.end.has_event()
     }
 
-    /// The next event of the end, which stays.
+    /// The next event of the end; it is not taken.
     pub fn next_event(&self) -> Option<LinkEvent>
         ensures { result ≡ first_event self.now.state }
     {
@@ -104,7 +104,7 @@ impl LinkParts {
         self.end.has_frame_due(now)
     }
 
-    /// Before which tick no frame is due, and no tick ends the life.
+    /// The tick before which no frame is due and no tick ends the session.
     #[inline(always)]
     pub fn quiet_end_until(&self) -> u64
         ensures frames { (tick : ℕ) → tick < result → is_some (frame_due self.now.settings self.now.state tick)
@@ -122,7 +122,7 @@ impl LinkParts {
         self.end.on_tick(now);
     }
 
-    /// Takes the first frame due, whose packets are put into `packets`.
+    /// Takes the first frame that is due, and puts its packets into `packets`.
     #[inline(always)]
     pub fn send<'a>(&mut self, now: u64, packets: &'a mut Packets) -> Option<BorrowedFrame<'a>>
         ensures frame { result ≡ frame_due self.old.settings self.old.state now }
@@ -132,7 +132,7 @@ impl LinkParts {
         self.end.poll_transmit_into(now, packets)
     }
 
-    /// Takes a frame in, and says whether it did: it does not where there is no memory, and then nothing is changed.
+    /// Handles a frame. Returns `false` if memory runs out; nothing changes then.
     #[inline(always)]
     pub fn receive(&mut self, frame: &BorrowedFrame<'_>, now: u64) -> bool
         ensures state { result ≡ true → self.new ≡ with_state self.old
@@ -143,7 +143,7 @@ impl LinkParts {
         self.end.on_borrowed_frame(frame, now).is_ok()
     }
 
-    /// Takes a HELLO in, by its header, as `receive` does.
+    /// Handles a HELLO, given by its header, as `receive` does.
     #[inline(always)]
     pub fn receive_hello(&mut self, header: &Header, now: u64) -> bool
         requires { IsHeader header.now }
@@ -155,7 +155,7 @@ impl LinkParts {
         self.end.on_hello(header, now).is_ok()
     }
 
-    /// What HELLOs look at, where the end is steady and no cargo waits in its lane.
+    /// The fields that HELLOs read, if the end is idle and no cargo waits in its lane.
     pub fn steady(&self) -> Option<Steady>
         ensures steady { IfSome result (λ steady. IsSteadyLink steady self.now) }
         ensures same { IfSome result (λ steady. with_state self.now (resumed steady self.now.state) ≡ self.now) }
@@ -183,7 +183,7 @@ impl LinkParts {
         self.end.poll_event()
     }
 
-    /// Draws a number, and opens the closed end with it, if one is drawn.
+    /// Draws a session number, and opens the closed end with it; does nothing if none is drawn.
     pub fn open(&mut self, now: u64)
         requires { IsTrue (is_closed self.old.state) }
         ensures { self.new ≡ after_open_at self.old now }
@@ -193,7 +193,7 @@ impl LinkParts {
         }
     }
 
-    /// The next such call of the life file fails.
+    /// Makes the next call of this kind fail at the life file.
     pub fn arm(&mut self, call: DiskCall)
         ensures { self.new ≡ after_arm self.old call }
     {
@@ -207,7 +207,7 @@ impl LinkParts {
         self.lane.has_cargo()
     }
 
-    /// Takes a cargo of the lane, and submits its packet or cuts its life. Returns `false` if memory is refused;
+    /// Takes a cargo of the lane, and submits its packet or cuts its session. Returns `false` if memory runs out;
     /// nothing changes then.
     pub fn pull(&mut self) -> bool
         requires { self.old.pulled < length self.old.put }
@@ -256,8 +256,7 @@ impl LinkParts {
         Ok(!self.has_cargo())
     }
 
-    /// Shortens a long list of the lane, as `Lane::shorten` does. The long list goes to the spare lists at the index
-    /// `spare`.
+    /// Shortens a long list of the lane, as `Lane::shorten` does. The long list goes to the pool at the index `spare`.
     #[inline(always)]
     pub fn shorten(&mut self, spares: &mut Spares, spare: usize)
         ensures { bare self.new ≡ bare self.old }
@@ -266,7 +265,7 @@ impl LinkParts {
     }
 
     /// Puts a cargo at the back of the lane, unless the lane is full, and returns whether it did. If the lane needs a
-    /// list, it takes the spare list at the index `spare`.
+    /// list, it takes that of the pool at the index `spare`.
     #[inline(always)]
     pub fn offer(&mut self, cargo: Cargo, spares: &mut Spares, spare: usize) -> bool
         requires { Fits self.old.pulled self.old.room spares.old spare }
@@ -314,7 +313,7 @@ impl LinkParts {
         self.lane.take_all();
     }
 
-    /// Notes a packet of the peer that the node's core stepped, with its life.
+    /// Records a packet of the peer that the node's core stepped, with its session.
     pub fn note_step(&mut self, life: Life, packet: Packet)
         requires { length self.old.steps < self.old.step_room }
         ensures { self.new ≡ record self.old { steps = self.old.steps ++ record { life = life; packet = packet } ∷ [] } }
@@ -323,8 +322,8 @@ impl LinkParts {
     }
 }
 
-/// Submits the packet of a cargo, or cuts its life. Returns `false` if memory is refused; nothing changes then. A
-/// packet whose life has ended is dropped.
+/// Submits the packet of a cargo, or cuts its session. Returns `false` if memory runs out; nothing changes then. A
+/// packet whose session has ended is dropped.
 fn hand_in(end: &mut GrowingEnd, cargo: &Cargo) -> bool
     ensures state { result ≡ true → end.new ≡ record end.old { state = after_cargo end.old.state cargo.now } }
     ensures same { result ≡ false → end.new ≡ end.old }
@@ -338,7 +337,7 @@ fn hand_in(end: &mut GrowingEnd, cargo: &Cargo) -> bool
     }
 }
 
-/// Cuts the life that the link end is bound to, if there is one.
+/// Cuts the session that the link end is bound to, if there is one.
 pub fn cut_bound(end: &mut GrowingEnd)
     ensures { end.new ≡ record end.old { state = after_cut_of_bound end.old.state (bound_life end.old.state) } }
 {
@@ -347,7 +346,7 @@ pub fn cut_bound(end: &mut GrowingEnd)
     }
 }
 
-/// A closed end that speaks versions up to this one.
+/// A closed end that speaks frame versions up to this one.
 pub fn end_of(
     alloc: Global,
     version: Version,
@@ -364,7 +363,7 @@ pub fn end_of(
     GrowingEnd::new(alloc, version, me, peer, times)
 }
 
-/// Makes the next such call of each life file fail, at the `count` ends from the index `first` on.
+/// Makes the next call of this kind fail at the life file of each of the `count` ends from the index `first` on.
 pub fn arm(links: &mut Vec<LinkSlot>, first: usize, count: usize, call: DiskCall)
     requires { first + count ≤ length links.old.items }
     ensures { AreChanged (λ link. after_arm link call) links.old.items links.new.items first count }

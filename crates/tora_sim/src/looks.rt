@@ -8,7 +8,7 @@ use crate::stills::{
     keep_still, keep_tops, next_block, short, still_at,
 };
 
-/// Keeps the deadline of each link end anew whose deadline has come.
+/// Stores the new deadline of each link end whose deadline has come.
 pub fn look_at_ends(links: &Vec<LinkSlot>, stills: &mut Stills, now: u64)
     requires { AreStillEach now stills.old links.now.items }
     ensures { AreStillEach now stills.new links.now.items }
@@ -21,14 +21,15 @@ pub fn look_at_ends(links: &Vec<LinkSlot>, stills: &mut Stills, now: u64)
     keep_tops(stills, now);
 }
 
-/// The same for the ends of a block, and the deadline of the block.
+/// `look_at_ends` for the ends of a block; the deadline of the block is stored, too.
 fn look_at_block(links: &Vec<LinkSlot>, stills: &mut Stills, block: usize, now: u64)
     requires within { 16 * block < length stills.old }
     requires holds { AreStillEach now stills.old links.now.items }
     ensures many { length stills.new ≡ length stills.old }
     ensures holds { AreStillEach now stills.new links.now.items }
 {
-    // Most often the block's deadline has come, but none of its ends': they sent, and their deadlines were kept.
+    // Most often the block's deadline has come, but none of its ends': the ends sent, and their new deadlines were
+    // stored.
     keep_block(stills, block);
     if is_still_block(stills, block, now) {
         return;
@@ -37,7 +38,7 @@ fn look_at_block(links: &Vec<LinkSlot>, stills: &mut Stills, block: usize, now: 
     keep_block(stills, block);
 }
 
-/// The same for the ends of a block. A whole block is compared at once.
+/// `look_at_ends` for the ends of a block. All ends of a whole block are compared at once.
 fn look_at_dues(links: &Vec<LinkSlot>, stills: &mut Stills, block: usize, now: u64)
     requires within { 16 * block < length stills.old }
     requires holds { AreStillEach now stills.old links.now.items }
@@ -52,7 +53,7 @@ fn look_at_dues(links: &Vec<LinkSlot>, stills: &mut Stills, block: usize, now: u
     }
 }
 
-/// The same for the 16 ends from the index `first` on.
+/// `look_at_ends` for the 16 ends from the index `first` on.
 fn look_at_sixteen(links: &Vec<LinkSlot>, stills: &mut Stills, first: usize, now: u64)
     requires within { first + 16 ≤ length stills.old }
     requires holds { AreStillEach now stills.old links.now.items }
@@ -68,7 +69,7 @@ fn look_at_sixteen(links: &Vec<LinkSlot>, stills: &mut Stills, first: usize, now
     }
 }
 
-/// The same for the `count` ends from the index `first` on.
+/// `look_at_ends` for the `count` ends from the index `first` on.
 fn look_at_few(links: &Vec<LinkSlot>, stills: &mut Stills, first: usize, count: usize, now: u64)
     requires within { first + count ≤ length stills.old }
     requires holds { AreStillEach now stills.old links.now.items }
@@ -83,7 +84,7 @@ fn look_at_few(links: &Vec<LinkSlot>, stills: &mut Stills, first: usize, count: 
     }
 }
 
-/// Keeps the deadline of the end at an index anew.
+/// Stores the new deadline of the end at an index.
 #[inline(always)]
 fn look(links: &Vec<LinkSlot>, stills: &mut Stills, place: usize, _now: u64)
     requires within { place < length stills.old }

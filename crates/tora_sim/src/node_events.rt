@@ -16,7 +16,7 @@ use tora_life::DiskCall;
 use tora_seat::{MOST_ITEMS, What};
 
 impl Sim {
-    /// Puts the need of a destination into a node's lane.
+    /// Puts the need of a destination into the queue of a node's core.
     #[inline(never)]
     pub(crate) fn need(&mut self, n: Id, d: Id) -> Result<(), SimError>
         ensures { Does self.old (Need n d) result self.new }
@@ -31,7 +31,7 @@ impl Sim {
         self.nodes[home].put_item(seat, self.clock, What::Need(d))
     }
 
-    /// The core of a node serves the first item of its lane.
+    /// The core of a node serves the first item of its queue.
     #[inline(never)]
     pub(crate) fn core_turn(&mut self, n: Id) -> Result<(), SimError>
         ensures { Does self.old (CoreTurn n) result self.new }
@@ -48,7 +48,7 @@ impl Sim {
         }
     }
 
-    /// A node restarts: its core, ends and lanes are made anew, and its life files are opened after a crash.
+    /// Restarts a node: its core, ends and lanes are new, and its life files are opened after a crash.
     #[inline(never)]
     pub(crate) fn restart(&mut self, n: Id, torn: Option<[u8; 16]>) -> Result<(), SimError>
         ensures { Does self.old (Restart n torn) result self.new }
@@ -71,7 +71,7 @@ impl Sim {
         Ok(())
     }
 
-    /// Makes the next such call of a node fail.
+    /// Makes the next call of this kind fail at a node.
     #[inline(never)]
     pub(crate) fn arm(&mut self, n: Id, call: Call) -> Result<(), SimError>
         ensures { Does self.old (Arm n call) result self.new }
@@ -98,7 +98,7 @@ impl Sim {
         }
     }
 
-    /// Makes the next such call of each life file of node `n` fail. The node has the index `home`.
+    /// Makes the next call of this kind fail at each life file of node `n`. The node has the index `home`.
     fn arm_files(&mut self, n: Id, home: usize, call: DiskCall) -> Result<(), SimError>
         requires { IsFirst (is_of n) self.old.nodes home }
         ensures { Does self.old (Arm n (call_of call)) result self.new }

@@ -1,4 +1,4 @@
-//! The nodes: the core of each, and the lane into it.
+//! The nodes: the core of each, and its queue of items.
 ghost use Rattle.std.specs.Prelude.{◌≡◌, ◌<◌, ◌≤◌, ◌+◌, ◌++◌, ℕ, None, Some, IfSome, IfNone, IfOk, IfErr, OnErr, OnOk};
 ghost use Rattle.std.specs.Prelude.{MatchResult, find, length, map, replicate, slice_index, vec_len, vec_capacity};
 ghost use Rattle.tora_core.specs.CoreRun.{core_refusal_within};
@@ -22,7 +22,7 @@ use tora_seat::{
     offers_are_their_own_answers,
 };
 
-/// What becomes of the next datagram that a node sends.
+/// What happens to the next datagram that a node sends.
 #[derive(Clone, Copy, Debug, PartialEq, Eq)]
 pub enum Sending {
     Goes,
@@ -30,25 +30,25 @@ pub enum Sending {
     IsGone,
 }
 
-/// A node, with the lane into its core. What a round and a datagram ask of it stands in front.
+/// A node, with the queue into its core. The fields that a round and a datagram read come first.
 #[derive(Drop)]
 pub struct NodeSlot {
     pub(crate) node: Id,
     pub(crate) sending: Sending,
-    /// Whether the next datagram for it is not handed over.
+    /// Whether the next datagram for this node is not handed over.
     pub(crate) receive: bool,
-    /// The lane into its core.
+    /// The queue into its core.
     pub(crate) items: Queue<Item>,
-    /// The place of its first link end among all link ends.
+    /// The index of its first link end among all link ends.
     pub(crate) first: usize,
-    /// How many neighbours it has.
+    /// The number of its neighbours.
     pub(crate) count: usize,
-    /// How many items each seat has put since the node's last restart: those of the neighbours, and that of the
-    /// commands.
+    /// How many items each seat has put since the node's last restart: the seats of the neighbours in order, and then
+    /// that of the commands.
     pub(crate) counts: Vec<u64>,
     /// The inputs that its core accepted since the node's last restart, each with its tick.
     pub(crate) inputs: Vec<(Input, u64)>,
-    /// Its core's seat, in a place of its own: so the nodes lie close together.
+    /// The seat of its core, in a box, so that the nodes are close together in memory.
     pub(crate) seat: Box<BareSeat>,
 }
 
@@ -62,7 +62,7 @@ impl Model for NodeSlot {
 }
 
 impl NodeSlot {
-    /// Its number, by which the nodes are in order.
+    /// The number of the node; the nodes are in the order of these numbers.
     #[inline(always)]
     pub fn key(&self) -> Id
         ensures { result ≡ self.now.node }
@@ -70,7 +70,7 @@ impl NodeSlot {
         self.node
     }
 
-    /// Whether it is node `n`.
+    /// Whether this is node `n`.
     #[inline(always)]
     pub fn is_node(&self, n: Id) -> bool
         ensures { result ≡ is_of n self.now }
@@ -78,7 +78,7 @@ impl NodeSlot {
         self.node == n
     }
 
-    /// How many neighbours it has.
+    /// The number of neighbours.
     pub fn count(&self) -> usize
         ensures { result ≡ self.now.count }
     {
@@ -93,7 +93,7 @@ impl NodeSlot {
         self.items.len()
     }
 
-    /// What becomes of the next datagram that it sends.
+    /// What happens to the next datagram that this node sends.
     #[inline(always)]
     pub fn sending(&self) -> Sending
         ensures { result ≡ self.now.sending }
@@ -109,7 +109,7 @@ impl NodeSlot {
         self.sending = sending;
     }
 
-    /// Whether the next datagram for it is not handed over.
+    /// Whether the next datagram for this node is not handed over.
     #[inline(always)]
     pub fn receive(&self) -> bool
         ensures { result ≡ self.now.receive }
@@ -117,7 +117,7 @@ impl NodeSlot {
         self.receive
     }
 
-    /// Arms its next receive, or disarms it.
+    /// Arms its next receive to fail, or disarms it.
     #[inline(always)]
     pub fn arm_receive(&mut self, receive: bool)
         ensures { self.new ≡ record self.old { receive = receive } }
@@ -125,10 +125,10 @@ impl NodeSlot {
         self.receive = receive;
     }
 
-    /// Puts an item into the lane.
+    /// Puts an item into the queue.
     ///
     /// # Errors
-    /// `Memory`, which changes nothing: also where the seat has put 2^64 - 1 items.
+    /// `Memory`, also if the seat has put 2^64 - 1 items. Nothing changes then.
     pub fn put_item(&mut self, seat: usize, now: u64, what: What) -> Result<(), SimError>
         requires { seat < length self.old.counts }
         ensures { MatchResult result (λ _. self.new ≡ after_item self.old seat now what) (λ e. (e ≡ SimError.Memory)
@@ -150,24 +150,24 @@ impl NodeSlot {
         Ok(())
     }
 
-    /// The place of its first link end among all link ends.
+    /// The index of its first link end among all link ends.
     pub fn first(&self) -> usize
         ensures { result ≡ self.now.first }
     {
         self.first
     }
 
-    /// The packet that was stepped for the item last served, if one was.
+    /// The packet that was stepped for the last served item, if one was.
     pub fn stepped(&self) -> Option<Stepped>
         ensures { result ≡ self.now.seat.stepped }
     {
         self.seat.stepped()
     }
 
-    /// A new seat of a core of the same node, choice, neighbours and destinations.
+    /// A new seat, whose core has the same node, choice of erasure, neighbours and destinations.
     ///
     /// # Errors
-    /// `Memory` alone: a core of these lists was made before.
+    /// Only `Memory`: the same lists were accepted before.
     pub fn new_seat(&self, alloc: Global) -> Result<BareSeat, SimError>
         ensures made { IfOk result (λ seat. seat ≡ first_seat (core_again self.now.seat.core)) }
         ensures kept { IsCore self.now.seat.core }
@@ -188,12 +188,12 @@ impl NodeSlot {
                 Ok(seat) => Ok(seat),
                 Err(_) => Err(SimError::Memory),
             },
-            // No such core is refused.
+            // The core is not refused for another reason.
             Err(_) => Err(SimError::Memory),
         }
     }
 
-    /// Takes a new seat in place of its own; nothing is in the lane, and nothing is accepted.
+    /// Replaces its seat by a new one, empties the queue, and forgets the accepted inputs.
     pub fn restart(&mut self, seat: BareSeat)
         ensures { self.new ≡ restarted_node seat self.old }
     {
@@ -203,10 +203,11 @@ impl NodeSlot {
         self.counts.fill(0);
     }
 
-    /// Serves the first item of the lane over the lanes to the neighbours, and notes the inputs that the core accepted.
+    /// Serves the first item of the queue, offers to the lanes to the neighbours, and records the inputs that the core
+    /// accepted.
     ///
     /// # Errors
-    /// `Memory`, which changes nothing.
+    /// `Memory`. Nothing changes then.
     pub fn serve(&mut self, sends: &mut Sends, lanes: &mut NodeLanes) -> Result<Item, SimError>
         requires waits { 0 < length self.old.items }
         requires neighbours { length self.old.seat.core.neighbours ≤ lanes.old.count }
@@ -250,7 +251,7 @@ pub fn no_counts(alloc: Global, seats: usize) -> Result<Vec<u64>, SimError>
 /// moves.
 ///
 /// # Errors
-/// Want of memory.
+/// Memory ran out.
 #[inline(always)]
 fn make_room(inputs: &mut Vec<(Input, u64)>, most: usize) -> Result<(), AllocError>
     ensures items { inputs.new.items ≡ inputs.old.items }
@@ -263,7 +264,7 @@ fn make_room(inputs: &mut Vec<(Input, u64)>, most: usize) -> Result<(), AllocErr
     inputs.reserve(most.max(more))
 }
 
-/// Notes the inputs that a core accepted at a tick.
+/// Records the inputs that a core accepted at a tick.
 fn note_inputs(inputs: &mut Vec<(Input, u64)>, accepted: &[Input], now: u64)
     requires { vec_len inputs.old + length accepted.now ≤ vec_capacity inputs.old }
     ensures { inputs.new.items ≡ inputs.old.items ++ map (λ input. (input, now)) accepted.now }
@@ -273,7 +274,7 @@ fn note_inputs(inputs: &mut Vec<(Input, u64)>, accepted: &[Input], now: u64)
     }
 }
 
-/// The place of a node.
+/// The index of a node.
 pub fn place(nodes: &Vec<NodeSlot>, n: Id) -> Option<usize>
     requires { AreRising nodes.now.items }
     ensures first { IfSome result (λ i. IsFirst (is_of n) nodes.now.items i) }
@@ -282,7 +283,7 @@ pub fn place(nodes: &Vec<NodeSlot>, n: Id) -> Option<usize>
     search(nodes, n)
 }
 
-/// The place of a node. It is `at`, if the node is there; otherwise the nodes are searched.
+/// The index of a node. It is `at`, if the node is there; otherwise the nodes are searched.
 #[inline(always)]
 pub fn node_near(nodes: &Vec<NodeSlot>, at: usize, n: Id) -> Option<usize>
     requires { AreRising nodes.now.items }

@@ -1,5 +1,4 @@
-//! Two frames of a link end go out at once: a HELLO in both versions, as long as the peer isn't known to speak the
-//! newer one.
+//! The sending of two frames at once: a HELLO in both versions, as long as the peer is not known to speak version 2.
 ghost use Rattle.std.specs.Prelude.{◌≡◌, ◌≤◌, ◌∷◌, [], true, IfSome, IfNone};
 ghost use Rattle.tora_world.specs.declared.event.Event.TheVariants.{Transmit};
 ghost use Rattle.tora_sim.specs.Keyed.{IsFirst};
@@ -43,7 +42,7 @@ impl Sim {
         if most < 2 {
             return None;
         }
-        // What tells most ends apart is asked first: those of which the peer speaks the newer version pay for no more.
+        // This is checked first, as it excludes most ends: those whose peer speaks version 2 pay for nothing more.
         if !self.links[at].says_both() {
             return None;
         }

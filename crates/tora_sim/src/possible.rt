@@ -1,4 +1,4 @@
-//! A quick test whether an event may be possible now, from what is stored at an index.
+//! A quick test whether an event may be possible now.
 ghost use Rattle.std.specs.Prelude.{◌≡◌, ◌<◌, Some, true, false, is_some, nat_lt, length, map, slice_get};
 ghost use Rattle.tora_arq.specs.LinkEnd.{is_closed, first_event, frame_due};
 ghost use Rattle.tora_world.specs.World.{refusal_of};
@@ -16,14 +16,14 @@ use tora_height::Id;
 impl Sim {
     /// Whether an event may be possible now. If the answer is `false`, `step` refuses it.
     ///
-    /// `place` says where to look: it is the index of the node among `nodes` for a `CoreTurn`, and of the link end
-    /// among `ends` for `Open`, `Pull`, `Transmit` and `Pump`. Only this place is read; nothing is searched for. If
-    /// another node or end is there, and for every other event, the answer is `true`.
+    /// `place` is the index of the node among `nodes` for a `CoreTurn`, and of the link end among `ends` for `Open`,
+    /// `Pull`, `Transmit` and `Pump`. Only what is stored there is read. If another node or end is there, and for every
+    /// other event, the answer is `true`.
     #[inline(always)]
     pub fn may_happen(&self, place: usize, event: &Event) -> bool
-        // What stands at the place has something to do, or is another.
+        // The node or end at the index has something to do for the event, or is not the one of the event.
         ensures value { result ≡ may_happen self.now.nodes self.now.links self.now.clock place event.now }
-        // No event that is possible is left out.
+        // The answer is true for every event that is possible.
         ensures refused { result ≡ false → is_some (refusal_of (world_of self.now) event.now) ≡ true }
     {
         may_be(

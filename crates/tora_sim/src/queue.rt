@@ -1,4 +1,4 @@
-//! Queues that begin at their first place again.
+//! Queues that reuse their memory from the start when they are empty.
 ghost use Rattle.std.specs.Prelude.{◌≡◌, ◌<◌, ◌≤◌, ◌+◌, ◌++◌, ◌∷◌, [], drop, length, option_to_list, slice_get};
 ghost use Rattle.std.specs.Prelude.{MatchResult, IfOk, IfNone};
 
@@ -8,12 +8,11 @@ use std::marker::Model;
 /// The initial room of a queue, in items. It lies beside the node's other data, so few queues ever move to other pages.
 const FIRST_ROOM: usize = 32;
 
-/// Items in the order in which they came. An empty queue begins at its first place again, so it uses the same memory
-/// each time.
+/// Items in order of arrival. An empty queue starts at its first place again, so it uses the same memory each time.
 #[derive(Drop)]
 pub struct Queue<T> {
     list: Vec<T>,
-    /// How many of the first ones were taken.
+    /// How many items at the front of the list were taken.
     taken: usize,
 }
 
@@ -29,10 +28,10 @@ impl<T> Model for Queue<T> {
 }
 
 impl<T: Copy + Drop> Queue<T> {
-    /// No items.
+    /// An empty queue.
     ///
     /// # Errors
-    /// Want of memory.
+    /// Memory ran out.
     pub fn new(alloc: Global) -> Result<Queue<T>, AllocError>
         ensures { IfOk result (λ queue. queue.items ≡ []) }
     {
@@ -40,7 +39,7 @@ impl<T: Copy + Drop> Queue<T> {
         Ok(Queue { list, taken: 0 })
     }
 
-    /// How many there are.
+    /// The number of items.
     #[inline(always)]
     pub fn len(&self) -> usize
         ensures { result ≡ length self.now.items }
@@ -48,7 +47,7 @@ impl<T: Copy + Drop> Queue<T> {
         self.list.len() - self.taken
     }
 
-    /// The first one, which stays.
+    /// The first item; it is not taken.
     pub fn first(&self) -> Option<T>
         ensures { result ≡ slice_get self.now.items 0 }
     {
@@ -58,7 +57,7 @@ impl<T: Copy + Drop> Queue<T> {
     /// Appends an item.
     ///
     /// # Errors
-    /// Want of memory, which changes nothing.
+    /// Memory ran out. Nothing changes then.
     pub fn push(&mut self, item: T) -> Result<(), AllocError>
         ensures { MatchResult result (λ _. self.new.items ≡ self.old.items ++ item ∷ []) (λ _. self.new ≡ self.old) }
     {
@@ -84,7 +83,7 @@ impl<T: Copy + Drop> Queue<T> {
         Some(item)
     }
 
-    /// Removes all.
+    /// Removes all items.
     pub fn clear(&mut self)
         ensures { self.new.items ≡ [] }
     {

@@ -1,4 +1,4 @@
-//! Until which tick nothing is to be done.
+//! The tick before which nothing is to be done.
 ghost use Rattle.std.specs.Prelude.{◌≡◌, ℕ, true, false, is_some};
 ghost use Rattle.std.specs.List.{list_all};
 ghost use Rattle.tora_sim.specs.Quiet.{IsQuiet, is_idle};
@@ -13,7 +13,7 @@ use crate::stills::still_until;
 
 impl Sim {
     /// Whether it is known that nothing is to be done: no core has an item to take, and no link end can be opened, take
-    /// a cargo, send a frame or give an event. `settle` may make it known.
+    /// a cargo, send a frame or give an event. If it is not known, `settle` may find it out.
     pub fn is_quiet(&self) -> bool
         ensures { result ≡ true → IsQuiet (world_of self.now) }
     {
@@ -31,8 +31,8 @@ impl Sim {
         !are_idle(&self.nodes)
     }
 
-    /// Looks at each link end whose deadline has come for the tick before which it has nothing to do: until then
-    /// `next_due` leaves the end out, and no tick changes it. The world stays as it is.
+    /// Stores the new deadline of each link end whose deadline has come: the tick before which the end has nothing to
+    /// do. Until then `next_due` skips the end, and no tick changes it. The world does not change.
     pub fn settle(&mut self)
         ensures { self.new ≡ self.old }
     {

@@ -1,4 +1,4 @@
-//! Until when a link end has nothing to do.
+//! The deadline of a link end.
 ghost use Rattle.std.specs.Prelude.{◌≡◌, false, IfNone, IfSome};
 ghost use Rattle.tora_arq.specs.LinkEnd.{after_frame};
 ghost use Rattle.tora_frame.specs.FrameParts.{IsHeader, frame_of};
@@ -10,7 +10,8 @@ use crate::links::LinkParts;
 use tora_frame::{BorrowedFrame, Header};
 
 impl LinkParts {
-    /// Whether more than a frame may be due: the end is closed, a cargo waits in its lane, or it has an event to give.
+    /// Whether the end may have something to do besides sending: it is closed, a cargo waits in its lane, or it has an
+    /// event to give.
     #[inline(always)]
     fn is_busy(&self) -> bool
         ensures { result ≡ false → MayOnlySend self.now }
@@ -35,7 +36,7 @@ impl LinkParts {
         self.quiet_end_until()
     }
 
-    /// Handles a frame, and returns what `still_until` is then. `None` if memory is refused; nothing changes then.
+    /// Handles a frame, and returns `still_until` of the new state. `None` if memory runs out; nothing changes then.
     #[inline(always)]
     pub fn receive_and_look(&mut self, frame: &BorrowedFrame<'_>, now: u64) -> Option<u64>
         ensures state { IfSome result (λ _. self.new ≡ with_state self.old
@@ -49,7 +50,7 @@ impl LinkParts {
         Some(self.still_until())
     }
 
-    /// Handles a HELLO, given by its header, and returns the same.
+    /// Handles a HELLO, given by its header, as `receive_and_look` does.
     #[inline(always)]
     pub fn receive_hello_and_look(&mut self, header: &Header, now: u64) -> Option<u64>
         requires { IsHeader header.now }

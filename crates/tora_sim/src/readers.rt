@@ -1,4 +1,4 @@
-//! What is read of a simulated world.
+//! Reading the state of a simulated world.
 ghost use Rattle.std.specs.Prelude.{◌≡◌, ◌<◌, IfOk, Some, length, map, option_map, ◌++◌, []};
 ghost use Rattle.tora_core.specs.CoreRun.{height_of, hop_of};
 ghost use Rattle.tora_world.specs.Topology.{is_node, nodes_in, neighbours_of};
@@ -23,14 +23,14 @@ use tora_height::{Entry, Id};
 use tora_packet::Packet;
 
 impl Sim {
-    /// The topology that the world was made of.
+    /// The topology of the world.
     pub fn topology(&self) -> &Topology
         ensures { result.now ≡ self.now.topology }
     {
         &self.topology
     }
 
-    /// How many ticks of 100 ms have passed since the start.
+    /// The ticks of 100 ms since the start.
     pub fn clock(&self) -> u64
         ensures { result ≡ self.now.clock }
     {
@@ -40,7 +40,7 @@ impl Sim {
     /// The nodes, in ascending order.
     ///
     /// # Errors
-    /// Want of memory.
+    /// Memory ran out.
     pub fn nodes(&self, alloc: Global) -> Result<Vec<Id>, AllocError>
         ensures { IfOk result (λ v. v.items ≡ nodes_in self.now.topology.links) }
     {
@@ -51,7 +51,7 @@ impl Sim {
     /// The link ends, each as its node and its neighbour, by ascending node and then neighbour.
     ///
     /// # Errors
-    /// Want of memory.
+    /// Memory ran out.
     pub fn ends(&self, alloc: Global) -> Result<Vec<(Id, Id)>, AllocError>
         ensures { IfOk result (λ v. v.items ≡ ends_in self.now.topology) }
     {
@@ -63,7 +63,7 @@ impl Sim {
         Ok(ends)
     }
 
-    /// Appends the ends of a node, by the neighbours of its core: the links of the topology are not gone through.
+    /// Appends the ends of a node, by the neighbours of its core; the links of the topology are not read.
     fn put_ends_of(&self, ends: &mut Vec<(Id, Id)>, n: Id) -> Result<(), AllocError>
         ensures { IfOk result (λ _. ends.new.items ≡ ends.old.items ++ ends_at self.now.topology n) }
     {
@@ -73,7 +73,7 @@ impl Sim {
         }
     }
 
-    /// Whether a node has this number: the links of the topology are not gone through.
+    /// Whether a node has this number; the links of the topology are not read.
     pub(crate) fn has_node(&self, n: Id) -> bool
         ensures { result ≡ is_node self.now.topology n }
     {
@@ -83,7 +83,7 @@ impl Sim {
         }
     }
 
-    /// How many nodes there are.
+    /// The number of nodes.
     pub(crate) fn node_count(&self) -> usize
         ensures { result ≡ length (nodes_in self.now.topology.links) }
     {
@@ -91,7 +91,7 @@ impl Sim {
         self.nodes.len()
     }
 
-    /// The neighbours of a node, in ascending order, as its core has them; none where there is no such node.
+    /// The neighbours of a node, in ascending order, as its core has them; none if there is no such node.
     pub(crate) fn neighbours(&self, n: Id) -> &[Id]
         ensures { result.now ≡ neighbours_of self.now.topology n }
     {
@@ -101,21 +101,22 @@ impl Sim {
         }
     }
 
-    /// How many datagrams were ever sent, those that were lost on sending not counted.
+    /// How many datagrams were ever sent; those that were lost on sending do not count.
     pub fn datagrams(&self) -> u64
         ensures { result ≡ length self.now.datagrams }
     {
         self.datagrams.len() as u64
     }
 
-    /// The sender and the receiver of a datagram by its number, from 1 on; `None` where there is no such datagram.
+    /// The sender and the receiver of the datagram with this number, counted from 1; `None` if there is no such
+    /// datagram.
     pub fn datagram(&self, i: u64) -> Option<(Id, Id)>
         ensures { result ≡ option_map way_of (datagram (world_of self.now) i) }
     {
         way_of_numbered(&self.datagrams, i)
     }
 
-    /// The height of a node for a destination; `None` where there is no such node or destination.
+    /// The height of a node for a destination; `None` if there is no such node or destination.
     pub fn height(&self, n: Id, d: Id) -> Option<Entry>
         ensures { result ≡ height_at (world_of self.now) n d }
     {
@@ -125,8 +126,7 @@ impl Sim {
         }
     }
 
-    /// The next hop of a node to a destination; `None` where it has none, or where there is no such node or
-    /// destination.
+    /// The next hop of a node to a destination; `None` if the node has none, or there is no such node or destination.
     pub fn next_hop(&self, n: Id, d: Id) -> Option<Id>
         ensures { result ≡ hop_at (world_of self.now) n d }
     {
@@ -136,8 +136,8 @@ impl Sim {
         }
     }
 
-    /// How many packets the core of `a` put into the lane to `b` in a life, as the end of `a` writes it; 0 where there
-    /// is no such link or life.
+    /// How many packets of a session the core of `a` put into the lane to `b`; 0 if there is no such link or session.
+    /// `life` is the session as the end of `a` writes it.
     pub fn sent_count(&self, a: Id, b: Id, life: Life) -> usize
         ensures { result ≡ length (sent_packets (world_of self.now) a b life) }
     {
@@ -147,13 +147,13 @@ impl Sim {
         }
     }
 
-    /// The packets that the core of `a` put into the lane to `b` in a life, as the end of `a` writes it, the first of
-    /// them first; none where there is no such link or life.
+    /// The packets of a session that the core of `a` put into the lane to `b`, in order; none if there is no such link
+    /// or session. `life` is the session as the end of `a` writes it.
     ///
-    /// The packets of one life are not kept apart, so that the list is made at each call.
+    /// The list is built by a search at each call.
     ///
     /// # Errors
-    /// Want of memory.
+    /// Memory ran out.
     pub fn sent(&self, alloc: Global, a: Id, b: Id, life: Life) -> Result<Vec<Packet>, AllocError>
         ensures { IfOk result (λ v. v.items ≡ sent_packets (world_of self.now) a b life) }
     {
@@ -163,8 +163,8 @@ impl Sim {
         }
     }
 
-    /// How many packets of `a` the core of `b` stepped in a life, as the end of `b` writes it; 0 where there is no such
-    /// link or life.
+    /// How many packets of `a` the core of `b` stepped in a session; 0 if there is no such link or session. `life` is
+    /// the session as the end of `b` writes it.
     pub fn taken_count(&self, b: Id, a: Id, life: Life) -> usize
         ensures { result ≡ length (taken_packets (world_of self.now) b a life) }
     {
@@ -174,13 +174,13 @@ impl Sim {
         }
     }
 
-    /// The packets of `a` that the core of `b` stepped in a life, as the end of `b` writes it, the first of them first;
-    /// none where there is no such link or life.
+    /// The packets of `a` that the core of `b` stepped in a session, in order; none if there is no such link or
+    /// session. `life` is the session as the end of `b` writes it.
     ///
-    /// The packets of one life are not kept apart, so that the list is made at each call.
+    /// The list is built by a search at each call.
     ///
     /// # Errors
-    /// Want of memory.
+    /// Memory ran out.
     pub fn taken(&self, alloc: Global, b: Id, a: Id, life: Life) -> Result<Vec<Packet>, AllocError>
         ensures { IfOk result (λ v. v.items ≡ taken_packets (world_of self.now) b a life) }
     {
@@ -192,21 +192,21 @@ impl Sim {
 }
 
 impl NodeSlot {
-    /// The neighbours of its core, in ascending order.
+    /// The neighbours of the node, in ascending order.
     fn neighbours(&self) -> &[Id]
         ensures { result.now ≡ self.now.seat.core.neighbours }
     {
         self.seat.core().neighbours()
     }
 
-    /// Its height for a destination.
+    /// The height of the node for a destination.
     fn height(&self, d: Id) -> Option<Entry>
         ensures { result ≡ height_of self.now.seat.core d }
     {
         self.seat.core().height(d)
     }
 
-    /// Its next hop to a destination.
+    /// The next hop of the node to a destination.
     fn next_hop(&self, d: Id) -> Option<Id>
         ensures { result ≡ hop_of self.now.seat.core d }
     {
@@ -215,28 +215,28 @@ impl NodeSlot {
 }
 
 impl LinkParts {
-    /// How many packets were put into the lane in a life.
+    /// How many packets of a session were put into the lane.
     pub fn sent_count(&self, life: Life) -> usize
         ensures { result ≡ length (packets_of life (parcels_in self.now.put)) }
     {
         self.lane.sent_count(life)
     }
 
-    /// The packets that were put into the lane in a life.
+    /// The packets of a session that were put into the lane.
     pub fn sent(&self, alloc: Global, life: Life) -> Result<Vec<Packet>, AllocError>
         ensures { IfOk result (λ v. v.items ≡ packets_of life (parcels_in self.now.put)) }
     {
         self.lane.sent(alloc, life)
     }
 
-    /// How many packets of the peer the node's core stepped in a life.
+    /// How many packets of the peer the node's core stepped in a session.
     pub fn taken_count(&self, life: Life) -> usize
         ensures { result ≡ length (packets_of life self.now.steps) }
     {
         count_kept(&self.steps, life)
     }
 
-    /// The packets of the peer that the node's core stepped in a life.
+    /// The packets of the peer that the node's core stepped in a session.
     pub fn taken(&self, alloc: Global, life: Life) -> Result<Vec<Packet>, AllocError>
         ensures { IfOk result (λ v. v.items ≡ packets_of life self.now.steps) }
     {

@@ -1,4 +1,4 @@
-//! Whether the world is at rest.
+//! The test whether the world is at rest.
 ghost use Rattle.std.specs.Prelude.{◌≡◌, None, MatchOption, slice_get};
 ghost use Rattle.std.specs.List.{list_all};
 ghost use Rattle.tora_arq.specs.LinkEnd.{bound_life};
@@ -20,13 +20,13 @@ use tora_core::numbers_come_and_go;
 use tora_height::Id;
 
 impl Sim {
-    /// Whether nothing is under way: no item waits for a core, no cargo in a lane and no event in a link end; all
-    /// packets that were submitted are acknowledged; and each link is up at both cores in one life, in which both its
-    /// ends are bound, or at neither.
+    /// Whether the world is at rest: no item waits for a core, no cargo in a lane and no event in a link end; all
+    /// submitted packets are acknowledged; and each link is up at both cores in one session, in which both its ends are
+    /// bound, or at neither.
     ///
-    /// Frames may go on that say HELLO or repeat an ACK, datagrams may lie about, and a need may come at any time. In a
-    /// world at rest each entry is NULL, or the height of its neighbour, or the neighbour has no height, and walks go
-    /// down, as `tora_world::entries_at_rest_are_heights` and `tora_world::walks_at_rest_go_down` have it.
+    /// At rest, HELLOs and repeated ACKs may still be sent, datagrams may be undelivered, and a need may come at any
+    /// time. Each entry is then NULL, or the height of its neighbour, or the neighbour has no height, and walks go
+    /// down, as `tora_world::entries_at_rest_are_heights` and `tora_world::walks_at_rest_go_down` state.
     ///
     /// ```rust
     /// let topology = Topology::new(alloc, &[(1, 2)], &[2])?;
@@ -49,7 +49,7 @@ impl Sim {
         nodes.iter().all(|node| self.is_node_at_rest(node.key()))
     }
 
-    /// Whether no item waits for the core of a node, and its ends of its links are at rest.
+    /// Whether no item waits for the core of a node, and its link ends are at rest.
     fn is_node_at_rest(&self, n: Id) -> bool
         ensures { result ≡ is_node_at_rest (world_of self.now) n }
     {
@@ -71,7 +71,8 @@ impl Sim {
         self.first_item(n).is_none()
     }
 
-    /// Whether nothing waits at the end of `n` towards `k`, and the link is up at both in one life or at neither.
+    /// Whether nothing waits at the end of `n` towards `k`, and the link is up at both cores in one session or at
+    /// neither.
     fn is_link_at_rest(&self, n: Id, k: Id) -> bool
         ensures { result ≡ is_link_at_rest (world_of self.now) n k }
     {
@@ -93,8 +94,8 @@ impl Sim {
         }
     }
 
-    /// The life that the end of node `n` towards `k` is bound in; `None` where it is not bound, or where there is no
-    /// such link.
+    /// The session that the end of node `n` towards `k` is bound in; `None` if it is not bound, or if there is no such
+    /// link.
     pub fn bound_life(&self, n: Id, k: Id) -> Option<Life>
         ensures { result ≡ bound_life ((world_of self.now).ends n k) }
     {
@@ -104,7 +105,7 @@ impl Sim {
         }
     }
 
-    /// The life in which the link to `k` is up at the core of `n`.
+    /// The session in which the link to `k` is up at the core of `n`.
     fn life_at(&self, n: Id, k: Id) -> Option<Life>
         ensures { result ≡ life_at (world_of self.now) n k }
     {
@@ -121,7 +122,7 @@ impl Sim {
     }
 }
 
-/// Whether both cores have the same current life and the end is bound in it, or neither core has one.
+/// Whether both cores have the same current session and the end is bound in it, or neither core has one.
 fn is_one_life(here: Option<Life>, there: Option<Life>, bound: Option<Life>) -> bool
     ensures { result ≡ is_one_life here there bound }
 {
@@ -136,7 +137,7 @@ fn is_one_life(here: Option<Life>, there: Option<Life>, bound: Option<Life>) -> 
     }
 }
 
-/// Whether this is the life.
+/// Whether `bound` is this session.
 fn is_life(life: Life, bound: Option<Life>) -> bool
     ensures { result ≡ is_current life bound }
 {
@@ -177,7 +178,7 @@ impl LinkParts {
         self.end.waiting() == 0
     }
 
-    /// The life that the end is bound in.
+    /// The session that the end is bound in.
     pub fn life(&self) -> Option<Life>
         ensures { result ≡ bound_life self.now.state }
     {
@@ -186,7 +187,7 @@ impl LinkParts {
 }
 
 impl NodeSlot {
-    /// The life that is current for the neighbour at a place.
+    /// The current session of the neighbour with this index.
     fn current(&self, seat: usize) -> Option<Life>
         ensures { MatchOption (slice_get self.now.seat.core.neighbours seat) (result ≡ None) (λ k.
             result ≡ current_of self.now.seat.rows k) }

@@ -1,4 +1,4 @@
-//! The frames of a link end go out, one after another.
+//! The sending of the frames of a link end, one after another.
 ghost use Rattle.std.specs.Prelude.{◌≡◌, ◌<◌, true, false, length};
 ghost use Rattle.tora_sim.specs.Keyed.{IsFirst};
 ghost use Rattle.tora_sim.specs.Links.{is_at};
@@ -77,13 +77,13 @@ impl Sim {
         Ok(())
     }
 
-    /// Makes `Transmit` happen at the end of node `n` towards `k` until it is refused, at most `most` times, and
-    /// returns whether it happened at all. The end and its node are looked up once.
+    /// Repeats `Transmit` at the end of node `n` towards `k` until it is refused, at most `most` times, and returns
+    /// whether it happened at all. The end and its node are looked up once.
     ///
     /// `place` is the index of the link end among `ends`. If another end is there, the end is searched for.
     ///
     /// # Errors
-    /// Where there is no memory for a frame that is due. The world is then as after the frames before it.
+    /// Memory ran out for a frame that is due. The earlier frames were sent.
     #[inline(always)]
     pub fn transmit_all(
         &mut self,
@@ -151,7 +151,7 @@ impl Sim {
         true
     }
 
-    /// Sends the first due frame of an end: a HELLO by its idle fields, if they show one.
+    /// Sends the first due frame of an end. A HELLO is sent by the idle fields alone, if they show that it is due.
     #[inline(always)]
     fn transmit_first(&mut self, n: Id, k: Id, at: usize, home: usize) -> Result<(), SimError>
         requires end { IsFirst (is_at n k) self.old.links at }
@@ -202,8 +202,8 @@ impl Sim {
     }
 }
 
-/// Appends a datagram that a node sent by its link end at the index `end`, unless the send is armed to lose it. The arm
-/// is used up. `far_end` is a guess at the index of the receiving end.
+/// Appends a datagram that a node sent from its link end at the index `end`, unless the send is armed to lose it. A
+/// send that was armed is no longer armed. `far_end` is a guess at the index of the receiving end.
 #[inline(always)]
 pub fn note_sent(
     node: &mut NodeSlot,

@@ -25,15 +25,16 @@ pub struct Sim {
     pub(crate) links: Vec<LinkSlot>,
     /// The node and the peer of each link end. The ends are in the order of these keys, and a search reads only them.
     pub(crate) keys: Vec<(Id, Id)>,
-    /// For each link end the places of the other end of its link and of its node.
+    /// For each link end the indexes of the other end of its link and of its node.
     pub(crate) places: Vec<Places>,
     pub(crate) datagrams: Datagrams,
-    /// The deadline of each link end: before this tick it has nothing to do. A deadline that has come says nothing.
+    /// The deadline of each link end: before this tick it has nothing to do. A deadline that has come gives no
+    /// information.
     pub(crate) stills: Stills,
     /// Marks of the ends that are ready: the lane is empty, and the end has memory for all that one item of its node
     /// can put.
     pub(crate) ready: Vec<bool>,
-    /// Lists for lanes that are full.
+    /// A pool of lists for lanes that are longer than their inline places.
     pub(crate) spares: Spares,
 }
 
@@ -54,7 +55,7 @@ impl Model for Sim {
 }
 
 impl Sim {
-    /// The clock goes on, and every end is ticked.
+    /// Advances the clock by one tick, and ticks every end.
     pub(crate) fn tick(&mut self) -> Result<(), SimError>
         ensures { Does self.old Tick result self.new }
     {
@@ -66,19 +67,19 @@ impl Sim {
         Ok(())
     }
 
-    /// Lets one event happen.
+    /// Makes one event happen.
     ///
     /// # Errors
-    /// `NoNode` where there is no such node or link, `NoDatagram` where there is no such datagram, `NotPossible` where
-    /// the event is not possible now, and `Memory` last. The world is then as before.
+    /// `NoNode` if there is no such node or link, `NoDatagram` if there is no such datagram, `NotPossible` if the event
+    /// is not possible now, and last `Memory`. Nothing changes then.
     pub fn step(&mut self, event: &Event) -> Result<(), SimError>
         ensures { Does self.old event.now result self.new }
     {
         self.step_at(0, event)
     }
 
-    /// Makes one event happen as `step` does. `place` is the index of the link end of a `Pull` or `Pump` among `ends`,
-    /// so that it need not be searched for. If another end is there, it is.
+    /// Makes one event happen as `step` does. For a `Pull` or `Pump`, the link end is looked for at the index `place`
+    /// first.
     ///
     /// # Errors
     /// Those of `step`.
@@ -86,7 +87,7 @@ impl Sim {
     pub fn step_at(&mut self, place: usize, event: &Event) -> Result<(), SimError>
         ensures { Does self.old event.now result self.new }
     {
-        // What happens seldom is never put in here: each event would pay for the locals of all.
+        // Rare events are not inlined, because every event would pay for their local variables.
         match event {
             Event::Need(n, d) => self.need(*n, *d),
             Event::Tick => self.tick(),
@@ -101,10 +102,10 @@ impl Sim {
         }
     }
 
-    /// Lets events happen, one after another, up to the first that is refused.
+    /// Makes events happen, one after another, up to the first that is refused.
     ///
     /// # Errors
-    /// Those of `step`. The world is then as after the events before the refused one.
+    /// Those of `step`. The events before the refused one have happened.
     pub fn run(&mut self, events: &[Event]) -> Result<(), SimError>
         ensures { Runs self.old events.now result self.new }
     {

@@ -1,8 +1,8 @@
-//! For each link end a deadline: a tick before which something holds, for instance that the end has nothing to do. Each
-//! block of ends, and each block of blocks, has the earliest deadline of its members.
+//! A deadline for each link end: a tick before which something holds, for instance that the end has nothing to do. Each
+//! block of ends, and each block of blocks, has a deadline that is at most those of its members.
 //!
-//! Deadlines are stored in four bytes, so sixteen fit into a cache line. A later tick is stored as the greatest such
-//! number. After more than four thousand million rounds, every end is therefore examined in each round.
+//! Deadlines are stored in four bytes, so sixteen fit into a cache line. A later tick is stored as the greatest number
+//! of four bytes. Therefore, after more than four thousand million rounds every end is examined in each round.
 ghost use Rattle.std.specs.Prelude.{◌≡◌, ◌+◌, ◌*◌, ◌-◌, ◌^◌, ◌<◌, ◌≤◌, ℕ, true, IfNone, IfSome, MatchResult, length};
 ghost use Rattle.std.specs.Prelude.{min, replicate, slice_index, slice_set};
 ghost use Rattle.tora_sim.specs.Quiet.{AreForgotten};
@@ -16,17 +16,17 @@ use std::marker::Model;
 /// The number of link ends in a block; the last block may have fewer.
 pub const BLOCK: usize = 16;
 
-/// The deadline of each link end, in the order of the ends: the tick before which the end has nothing to do, or is
-/// plain.
+/// The deadline of each link end, in the order of the ends: the tick before which the end has nothing to do, or nothing
+/// to do but to send.
 ///
-/// The ends are in blocks of 16, and each block has a deadline, too, so one comparison skips a block. The blocks are
-/// grouped in the same way.
+/// The ends are in blocks of 16, and each block has a deadline, too, so one comparison skips a block. The blocks are in
+/// blocks of 16 in the same way.
 #[derive(Drop)]
 pub struct Stills {
     ends: Vec<u32>,
-    /// Of each block a tick that none of the ticks of its ends is before; 0 where nothing is known.
+    /// The deadline of each block, at most those of its ends.
     blocks: Vec<u32>,
-    /// Of each 16 blocks a tick that none of theirs is before.
+    /// The deadline of each 16 blocks, at most those of the blocks.
     tops: Vec<u32>,
 }
 
@@ -41,7 +41,7 @@ impl Model for Stills {
     ghost invariant = { λ s. AreBlocks s.blocks.items s.ends.items × AreBlocks s.tops.items s.blocks.items };
 }
 
-/// A tick in four bytes; a later tick becomes the greatest such number.
+/// A tick in four bytes; a later tick becomes the greatest number of four bytes.
 #[inline(always)]
 pub fn short(tick: u64) -> u32
     ensures { result ≡ short tick }
@@ -49,7 +49,7 @@ pub fn short(tick: u64) -> u32
     u32::try_from(tick).unwrap_or(u32::MAX)
 }
 
-/// Deadlines of `count` ends, all 0: nothing is known.
+/// Deadlines of `count` ends, all 0, which gives no information.
 pub fn no_stills(alloc: Global, count: usize) -> Result<Stills, SimError>
     ensures { MatchResult result (λ stills. stills ≡ replicate count 0) (λ e. e ≡ SimError.Memory) }
 {
@@ -70,7 +70,7 @@ fn zeros(alloc: Global, count: usize) -> Result<Vec<u32>, SimError>
     }
 }
 
-/// The number of the block in which an end stands.
+/// The number of the block of an end.
 #[inline(always)]
 pub fn block_of(at: usize) -> usize
     ensures from { 16 * result ≤ at }
@@ -92,7 +92,7 @@ fn blocks_of(count: usize) -> usize
     }
 }
 
-/// How many ends there are.
+/// The number of ends.
 #[inline(always)]
 pub fn end_count(stills: &Stills) -> usize
     ensures { result ≡ length stills.now }
@@ -100,7 +100,7 @@ pub fn end_count(stills: &Stills) -> usize
     stills.ends.len()
 }
 
-/// How many blocks there are.
+/// The number of blocks.
 pub fn block_count(stills: &Stills) -> usize
     ensures all { length stills.now ≤ 16 * result }
     ensures each { 16 * result < length stills.now + 16 }
@@ -108,7 +108,7 @@ pub fn block_count(stills: &Stills) -> usize
     blocks_of(stills.ends.len())
 }
 
-/// The place of the first end of a block, and how many ends stand in it.
+/// The index of the first end of a block, and the number of its ends.
 #[inline(always)]
 pub fn ends_of(stills: &Stills, block: usize) -> (usize, usize)
     requires { 16 * block < length stills.now }
@@ -121,7 +121,7 @@ pub fn ends_of(stills: &Stills, block: usize) -> (usize, usize)
     (first, (many - first).min(BLOCK))
 }
 
-/// The tick of an end.
+/// The deadline of an end.
 #[inline(always)]
 pub fn still_at(stills: &Stills, at: usize) -> u64
     requires { at < length stills.now }
@@ -140,7 +140,7 @@ pub fn dues_of(stills: &Stills, first: usize, now: u64) -> u16
     due_bits(stills.ends.as_slice(), first, now)
 }
 
-/// Whether the tick of a block tells that the ticks of its ends are still to come.
+/// Whether the deadline of a block has not come, so that those of its ends have not come either.
 #[inline(always)]
 pub fn is_still_block(stills: &Stills, block: usize, now: u64) -> bool
     requires { 16 * block < length stills.now }
@@ -149,7 +149,7 @@ pub fn is_still_block(stills: &Stills, block: usize, now: u64) -> bool
     now < u64::from(stills.blocks[block])
 }
 
-/// The first block from `block` on whose tick is not still to come: the ticks of the ends of those before it are.
+/// The first block from `block` on whose deadline has come.
 #[inline(always)]
 pub fn next_block(stills: &Stills, block: usize, now: u64) -> usize
     ensures onward { block ≤ result }
@@ -178,7 +178,7 @@ fn next_in(firsts: &Vec<u32>, ticks: &Vec<u32>, from: usize, now: u64) -> usize
     next
 }
 
-/// The first place from one on and before another at which a tick is not still to come.
+/// The first index from `from` to below `to` whose deadline has come.
 fn first_due(ticks: &Vec<u32>, now: u64, from: usize, to: usize) -> Option<usize>
     requires { to ≤ length ticks.now.items }
     ensures none { IfNone result (AreLater now from to ticks.now.items) }
@@ -206,7 +206,7 @@ fn set_block(blocks: &mut Vec<u32>, tops: &mut Vec<u32>, block: usize, tick: u32
     blocks[block] = tick;
 }
 
-/// Looks for the tick of each 16 blocks where it is not still to come: the first of theirs.
+/// Renews the deadline of each 16 blocks that has come: it becomes the earliest of the blocks' deadlines.
 pub fn keep_tops(stills: &mut Stills, now: u64)
     ensures { stills.new ≡ stills.old }
 {
@@ -224,7 +224,7 @@ fn keep_firsts(tops: &mut Vec<u32>, blocks: &Vec<u32>, now: u64)
     }
 }
 
-/// The same at one place.
+/// Renews the deadline at one index.
 fn keep_first(tops: &mut Vec<u32>, blocks: &Vec<u32>, top: usize)
     requires within { top < length tops.old.items }
     requires tops { AreBlocks tops.old.items blocks.now.items }
@@ -253,7 +253,7 @@ pub fn keep_still(stills: &mut Stills, at: usize, until: u32)
     stills.ends[at] = until;
 }
 
-/// Looks for the tick of a block: the first of those of its ends.
+/// Renews the deadline of a block: it becomes the earliest of its ends' deadlines.
 #[inline(always)]
 pub fn keep_block(stills: &mut Stills, block: usize)
     requires { 16 * block < length stills.old }
@@ -264,7 +264,7 @@ pub fn keep_block(stills: &mut Stills, block: usize)
     set_block(&mut stills.blocks, &mut stills.tops, block, until);
 }
 
-/// The first of the ticks of the `count` ends from the place `first` on.
+/// The earliest deadline of the `count` ends from the index `first` on.
 fn first_tick(ends: &Vec<u32>, first: usize, count: usize) -> u32
     requires { first + count ≤ length ends.now.items }
     ensures { (at : ℕ) → first ≤ at → at < first + count → result ≤ slice_index ends.now.items at }
@@ -279,7 +279,7 @@ fn first_tick(ends: &Vec<u32>, first: usize, count: usize) -> u32
     until
 }
 
-/// The same of the ends of a whole block: it is known how many they are, so that several are looked at at once.
+/// The earliest deadline of the ends of a whole block. Their number is a constant, so several are compared at once.
 #[inline(always)]
 fn first_of_block(ends: &Vec<u32>, first: usize) -> u32
     requires { first + 16 ≤ length ends.now.items }
@@ -292,7 +292,7 @@ fn first_of_block(ends: &Vec<u32>, first: usize) -> u32
     until
 }
 
-/// Nothing is known any more of the `count` ends from the place `first` on.
+/// Sets the deadlines of the `count` ends from the index `first` on to 0, which gives no information.
 pub fn forget(stills: &mut Stills, first: usize, count: usize)
     requires { first + count ≤ length stills.old }
     ensures { AreForgotten stills.old stills.new first count }

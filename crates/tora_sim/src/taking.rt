@@ -1,4 +1,4 @@
-//! A core takes its items, one after another.
+//! The turns of a node's core, one after another.
 ghost use Rattle.std.specs.Prelude.{MatchResult};
 ghost use Rattle.tora_sim.specs.Keyed.{IsFirst};
 ghost use Rattle.tora_sim.specs.Nodes.{is_of};
@@ -15,14 +15,13 @@ use tora_core::Sends;
 use tora_height::Id;
 
 impl Sim {
-    /// Repeats `CoreTurn` at node `n` until it is refused, at most `most` times, and answers whether it happened at
-    /// all: its core takes all items that wait. The node is found once, and what is known of its link ends is noted
-    /// once.
+    /// Repeats `CoreTurn` at node `n` until it is refused, at most `most` times, and returns whether it happened at
+    /// all. The node is looked up once, and the marks and deadlines of its link ends are updated once.
     ///
-    /// `place` is that of the node among `nodes`, from 0 on; if another node is there, the node is searched.
+    /// `place` is the index of the node among `nodes`. If another node is there, the node is searched for.
     ///
     /// # Errors
-    /// Where there is no memory for what an item may put. The world is then as after the items before it.
+    /// Memory ran out for what an item may put. The earlier items were served.
     pub fn turn_all(&mut self, place: usize, n: Id, most: u64) -> Result<bool, AllocError>
         ensures { Repeats self.old most (CoreTurn n) result self.new }
     {
@@ -32,7 +31,7 @@ impl Sim {
         self.turn_from(n, home, most)
     }
 
-    /// The same of the node at the place `home`.
+    /// `turn_all` for the node at the index `home`.
     #[inline(never)]
     pub(crate) fn turn_from(&mut self, _n: Id, home: usize, most: u64) -> Result<bool, AllocError>
         requires { IsFirst (is_of _n) self.old.nodes home }
@@ -70,7 +69,7 @@ impl Sim {
             &mut sends,
             most,
         );
-        // what the items changed, and what they left as it was
+        // the ends that the items may have changed, or that were not ready before
         let after = unready.joined(before).within(count);
         let start = first + after.from;
         forget_waiting(

@@ -1,4 +1,4 @@
-//! A tick of the link ends.
+//! A tick of all link ends.
 ghost use Rattle.std.specs.Prelude.{◌≡◌, ◌*◌, ◌<◌, false, Some, length, map, slice_get, slice_index, slice_set};
 ghost use Rattle.tora_sim.specs.Links.{LinkView, ticked, AreChanged};
 ghost use Rattle.tora_sim.specs.Quiet.{IsStill, AreStillEach, AreStillFrom};
@@ -6,7 +6,7 @@ ghost use Rattle.tora_sim.specs.Quiet.{IsStill, AreStillEach, AreStillFrom};
 use crate::link_slot::LinkSlot;
 use crate::stills::{Stills, block_count, ends_of, is_still_block, still_at};
 
-/// Ticks every end but those whose deadlines are still to come: this tick changes none of them.
+/// Ticks every end whose deadline has come. The tick changes no other end.
 pub fn tick(links: &mut Vec<LinkSlot>, stills: &Stills, now: u64)
     requires { AreStillEach now stills.now links.old.items }
     ensures { links.new.items ≡ map (ticked now) links.old.items }
@@ -16,7 +16,7 @@ pub fn tick(links: &mut Vec<LinkSlot>, stills: &Stills, now: u64)
     }
 }
 
-/// Ticks the ends of a block, unless a tick is known of all of them that is still to come.
+/// Ticks the ends of a block, unless the deadline of the block has not come.
 fn tick_block(links: &mut Vec<LinkSlot>, stills: &Stills, block: usize, now: u64)
     requires within { 16 * block < length stills.now }
     requires many { length stills.now ≡ length links.old.items }
@@ -32,7 +32,7 @@ fn tick_block(links: &mut Vec<LinkSlot>, stills: &Stills, block: usize, now: u64
     }
 }
 
-/// Ticks the end at a place, unless a tick is known of it that is still to come.
+/// Ticks the end at an index, unless its deadline has not come.
 #[inline(always)]
 fn tick_end(links: &mut Vec<LinkSlot>, stills: &Stills, place: usize, now: u64)
     requires known { place < length stills.now }
@@ -48,7 +48,7 @@ fn tick_end(links: &mut Vec<LinkSlot>, stills: &Stills, place: usize, now: u64)
     links[place].tick(now);
 }
 
-/// Whether no tick that is still to come is known of the end at a place.
+/// Whether the deadline of the end at an index has come.
 #[inline(always)]
 fn is_to_tick(stills: &Stills, place: usize, now: u64) -> bool
     requires { place < length stills.now }

@@ -1,4 +1,4 @@
-//! Which nodes there are, which links, and the destinations of their tables.
+//! The links of a world, and the destinations of its nodes' tables.
 ghost use Rattle.std.specs.Prelude.{◌≡◌, ◌⊎◌, ◌++◌, ◌∷◌, [], None, Some, IfErr, IfOk, OnOk, true, false, MatchBool};
 ghost use Rattle.std.specs.Prelude.{length, map, nat_lt};
 ghost use Rattle.std.specs.List.{list_any};
@@ -21,20 +21,20 @@ use tora_frame::Version;
 use tora_height::Id;
 use tora_world::{GREATEST_NODES, Limits};
 
-/// The links of a world and the destinations that each node's table has.
+/// The links of a world, and the destinations of every node's table.
 ///
-/// There are at most 64 nodes, each with at most 32 neighbours, and at most 64 destinations, or as many as the limits
-/// allow within which it was made. No link, either way round, and no destination is named twice, and no link leads from
-/// a node to itself. No number is 0. The link ends of some nodes may speak version 1 of frames alone.
+/// Within the standard limits there are at most 64 nodes, each with at most 32 neighbours, and at most 64 destinations.
+/// No link, either way round, and no destination is named twice, and no link leads from a node to itself. No number is
+/// 0. The link ends of some nodes may speak only version 1 of frames.
 #[derive(Debug, Drop)]
 pub struct Topology {
     links: Vec<(Id, Id)>,
     destinations: Vec<Id>,
-    /// The nodes whose link ends speak version 1 of frames alone.
+    /// The nodes whose link ends speak only version 1 of frames.
     olds: ArrayVec<Id, GREATEST_NODES>,
-    /// What nodes make of erased levels.
+    /// How nodes treat erased levels, without a choice of their own.
     erasure: Erasure,
-    /// The choices of erasure of single nodes; the last choice for a node counts.
+    /// The choices of single nodes; the last choice for a node counts.
     choices: Vec<(Id, Erasure)>,
 }
 
@@ -58,9 +58,9 @@ impl Topology {
     /// copied.
     ///
     /// # Errors
-    /// In this order: `TooMany` where there are more than 64 nodes, more than 32 neighbours of a node, or more than 64
-    /// destinations; `Repeated` where a link, either way round, or a destination is named twice; `OwnId` where a link
-    /// leads from a node to itself; `Memory`.
+    /// In this order: `TooMany` if there are more than 64 nodes, more than 32 neighbours of a node, or more than 64
+    /// destinations; `Repeated` if a link, either way round, or a destination is named twice; `OwnId` if a link leads
+    /// from a node to itself; `Memory`.
     pub fn new(
         alloc: Global,
         links: &[(Id, Id)],
@@ -79,9 +79,9 @@ impl Topology {
     /// The topology of these links and destinations, as `new` makes it, but within these limits.
     ///
     /// # Errors
-    /// In this order: `TooMany` where there are more nodes, neighbours of a node or destinations than the limits allow;
-    /// `Repeated` where a link, either way round, or a destination is named twice; `OwnId` where a link leads from a
-    /// node to itself; `Memory`.
+    /// In this order: `TooMany` if there are more nodes, neighbours of a node or destinations than the limits allow;
+    /// `Repeated` if a link, either way round, or a destination is named twice; `OwnId` if a link leads from a node to
+    /// itself; `Memory`.
     pub fn with_limits(
         alloc: Global,
         limits: Limits,
@@ -113,10 +113,10 @@ impl Topology {
         })
     }
 
-    /// The link ends of a node speak version 1 of frames alone.
+    /// Makes the link ends of a node speak only version 1 of frames.
     ///
     /// # Errors
-    /// `NoNode` where there is no such node, which changes nothing.
+    /// `NoNode` if there is no such node. Nothing changes then.
     pub fn set_old(&mut self, n: Id) -> Result<(), SimError>
         ensures ok { OnOk result ((is_node self.old n ≡ true) × (self.new
             ≡ with_olds self.old (with_old n self.old.olds))) }
@@ -131,17 +131,17 @@ impl Topology {
         Ok(())
     }
 
-    /// All nodes make this of erased levels, but for those that `choose` names.
+    /// Sets how all nodes treat erased levels, except those with a choice by `choose`.
     pub fn set_erasure(&mut self, erasure: Erasure)
         ensures { self.new ≡ record self.old { erasure = erasure } }
     {
         self.erasure = erasure;
     }
 
-    /// A node makes this of erased levels, whatever was said of it before.
+    /// Sets how one node treats erased levels, in place of any earlier choice.
     ///
     /// # Errors
-    /// `NoNode` where there is no such node, and `Memory`; either changes nothing.
+    /// `NoNode` if there is no such node, and `Memory`. Nothing changes then.
     pub fn choose(&mut self, n: Id, erasure: Erasure) -> Result<(), SimError>
         ensures ok { OnOk result ((is_node self.old n ≡ true) × (self.new
             ≡ record self.old { choices = self.old.choices ++ (n, erasure) ∷ [] })) }
@@ -157,7 +157,7 @@ impl Topology {
         }
     }
 
-    /// What a node makes of erased levels.
+    /// How a node treats erased levels.
     pub fn erasure_of(&self, n: Id) -> Erasure
         ensures { result ≡ erasure_at self.now n }
     {
@@ -167,21 +167,21 @@ impl Topology {
         )
     }
 
-    /// The nodes whose link ends speak version 1 of frames alone.
+    /// The nodes whose link ends speak only version 1 of frames.
     pub fn olds(&self) -> &[Id]
         ensures { result.now ≡ self.now.olds }
     {
         self.olds.as_slice()
     }
 
-    /// The links, as they were given.
+    /// The links, in the order given.
     pub fn links(&self) -> &[(Id, Id)]
         ensures { map link_in result.now ≡ self.now.links }
     {
         self.links.as_slice()
     }
 
-    /// The destinations, as they were given.
+    /// The destinations, in the order given.
     pub fn destinations(&self) -> &[Id]
         ensures { result.now ≡ self.now.destinations }
     {
@@ -232,7 +232,7 @@ impl Topology {
         }
     }
 
-    /// The same topology once more.
+    /// A copy of the topology.
     pub(crate) fn copied(&self, alloc: Global) -> Result<Topology, AllocError>
         ensures { IfOk result (λ t. t ≡ self.now) }
     {
@@ -253,25 +253,24 @@ impl Topology {
     }
 }
 
-/// The node's choice of erasure after one more choice.
+/// The node's treatment of erased levels after one more choice.
 fn chosen_by(n: Id, erasure: Erasure, choice: (Id, Erasure)) -> Erasure
     ensures { result ≡ chosen_by n erasure choice }
 {
     if choice.0 == n { choice.1 } else { erasure }
 }
 
-// ---- why there is no such topology
+// ---- why a topology is refused
 
-/// The cause for which `Topology::new` refuses these links and destinations, apart from `Memory`; `None` if it accepts
-/// them.
+/// The error of `Topology::new` for these links and destinations, apart from `Memory`; `None` if there is none.
 pub fn topology_fault(links: &[(Id, Id)], destinations: &[Id]) -> Option<CoreError>
     ensures { result ≡ topology_fault (topology_of links.now destinations.now) }
 {
     topology_fault_within(Limits::STANDARD, links, destinations)
 }
 
-/// Why there is no topology of these links and destinations within the limits, if there is none: the cause that
-/// `Topology::with_limits` answers, unless that is `Memory`.
+/// The error of `Topology::with_limits` for these limits, links and destinations, apart from `Memory`; `None` if there
+/// is none.
 pub fn topology_fault_within(
     limits: Limits,
     links: &[(Id, Id)],

@@ -20,8 +20,9 @@ use tora_cargoes::Spares;
 use tora_core::Sends;
 use tora_seat::offers_are_their_own_answers;
 
-/// Serves the first item of a node's lane. The node's link ends must have memory for all that it can put; those outside
-/// `unready` are ready, before and after. Afterwards all but the one at `seat` have memory for another item.
+/// Serves the first item of a node's queue. The node's link ends must have memory for all that it can put; those
+/// outside `unready` are ready, before and after. Afterwards all ends but the one at `seat` have memory for another
+/// item.
 ///
 /// # Errors
 /// `Memory`, which changes only `unready` and `seat`.
@@ -62,8 +63,8 @@ pub fn turn(
     }
 }
 
-/// Allocates memory for all that one more item of a node can put: at the end at `seat`, the only one that may have
-/// none, and in a spare list for each end.
+/// Allocates memory for all that one more item of a node can put: at the end at `seat`, the only one that may lack it,
+/// and in the pool for each end.
 ///
 /// # Errors
 /// `Memory`. The ends do not change.
@@ -100,11 +101,11 @@ fn make_room_again(
     Ok(())
 }
 
-/// Serves the items of a node's lane until none waits, at most `most`, and returns whether any was served. `unready`
-/// and `seat` are those of `turn`. Between two items, only the end at `seat` is looked at for memory.
+/// Serves the items of a node's queue until none waits, at most `most`, and returns whether any was served. `unready`
+/// and `seat` are those of `turn`. Between two items, only the end at `seat` is checked for memory.
 ///
 /// # Errors
-/// `Memory`. The items before are served.
+/// `Memory`. The earlier items were served.
 pub fn take_items(
     node: &mut NodeSlot,
     links: &mut Vec<LinkSlot>,
@@ -137,8 +138,8 @@ pub fn take_items(
     Ok(some)
 }
 
-/// Of the `count` link ends from the index `first` on, marks those with an empty lane as ready, but for the one at
-/// `but`, and forgets the deadlines of those with a cargo. The other deadlines stay: a turn changes only lanes and
+/// For the `count` link ends from the index `first` on: marks an end as ready if its lane is empty and its index is not
+/// `but`, and sets its deadline to 0 if a cargo waits. The other deadlines stay, because a turn changes only lanes and
 /// stepped packets.
 pub fn forget_waiting(
     links: &Vec<LinkSlot>,
@@ -160,7 +161,7 @@ pub fn forget_waiting(
     }
 }
 
-/// Marks the link end at an index anew, and forgets its deadline if a cargo waits.
+/// Renews the mark of the link end at an index, and sets its deadline to 0 if a cargo waits.
 #[inline(always)]
 fn forget_if_waiting(
     links: &Vec<LinkSlot>,

@@ -4,7 +4,7 @@ ghost use Rattle.tora_sim.specs.Unready.{IsOutside};
 
 use crate::ready::is_ready;
 
-/// A range of a node's link ends, by their indices among the node's ends.
+/// A range of a node's link ends, by their indexes among the node's ends.
 #[derive(Clone, Copy, Debug)]
 pub struct Unready {
     /// The first index.
@@ -14,7 +14,7 @@ pub struct Unready {
 }
 
 impl Unready {
-    /// No end.
+    /// The empty range.
     pub const NONE: Unready = Unready {
         from: usize::MAX,
         behind: 0,
@@ -69,7 +69,7 @@ impl Unready {
     }
 }
 
-/// A range that has each end without a mark, of the `count` ends of a node from the index `first` on.
+/// A range that includes each unmarked end, of the `count` ends of a node from the index `first` on.
 pub fn still_unready(ready: &Vec<bool>, first: usize, count: usize) -> Unready
     requires { first + count ≤ length ready.now.items }
     ensures { (place : ℕ) → place < count → IsOutside result place
@@ -82,7 +82,7 @@ pub fn still_unready(ready: &Vec<bool>, first: usize, count: usize) -> Unready
     unready
 }
 
-/// The range with one more index, unless the end there is marked. Among all ends its index is `at`.
+/// The range with one more index, unless the end there is marked. `at` is the index of that end among all ends.
 #[inline(always)]
 fn with_unready(ready: &Vec<bool>, at: usize, unready: Unready, place: usize) -> Unready
     requires within { at < length ready.now.items }

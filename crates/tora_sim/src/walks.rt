@@ -1,4 +1,4 @@
-//! Whether entries are exact, and the walk that follows next hops.
+//! The test whether entries are exact, and the walk along next hops.
 ghost use Rattle.std.specs.Prelude.{◌≡◌, ◌&&◌, true, option_map, MatchBool, IfOk, IfErr, Err};
 ghost use Rattle.std.specs.List.{list_all};
 ghost use Rattle.tora_core.specs.Numbers.{has_number};
@@ -17,12 +17,12 @@ use tora_core::numbers_come_and_go;
 use tora_height::{Entry, Id};
 
 impl Sim {
-    /// Whether entries are exact: each entry for destination `d` that is not NULL, of any node and any of its
-    /// neighbours whose link is up, is the height of that neighbour.
+    /// Whether the entries for destination `d` are exact: each entry that is not NULL, of any node and any neighbour
+    /// whose link is up, is the height of that neighbour.
     ///
-    /// It is asked of a destination of the topology; of any other number there are no entries. Where entries are exact,
-    /// the hops from any node with a height reach `d` within as many hops as there are nodes, and `walk` gives them, as
-    /// `tora_world::exact_entries_give_walks` has it. Nothing says that entries ever become exact.
+    /// For a number that is not a destination of the topology there are no entries. If entries are exact, next hops
+    /// lead from any node with a height to `d` within as many hops as there are nodes, and `walk` returns them, as
+    /// `tora_world::exact_entries_give_walks` states. It is not proved that entries ever become exact.
     ///
     /// ```rust
     /// let topology = Topology::new(alloc, &[(1, 2)], &[2])?;
@@ -37,13 +37,12 @@ impl Sim {
         self.are_exact(&self.nodes, d)
     }
 
-    /// The nodes that are met from node `n` to destination `d` by next hops, both of them included; `n` alone where it
-    /// is `d`.
+    /// The nodes on the way from node `n` to destination `d` by next hops, with both of them; `n` alone if it is `d`.
     ///
-    /// `None` where a node before `d` has no next hop, or where `d` is not met within as many hops as there are nodes.
+    /// `None` if a node before `d` has no next hop, or if `d` is not reached within as many hops as there are nodes.
     ///
     /// # Errors
-    /// In this order: `NoNode` where `n` is no node, or `d` no destination of the topology; `Memory`.
+    /// In this order: `NoNode` if `n` is not a node or `d` is not a destination of the topology; `Memory`.
     pub fn walk(&self, alloc: Global, n: Id, d: Id) -> Result<Option<Vec<Id>>, SimError>
         ensures refused { MatchBool (is_node self.now.topology n && has_number d self.now.topology.destinations)
             (IfErr result (λ e. e ≡ SimError.Memory)) (result ≡ Err SimError.NoNode) }
@@ -110,7 +109,7 @@ impl Sim {
         }
     }
 
-    /// The entry of neighbour `k` at node `n` for a destination; `None` where there is no such node, neighbour or
+    /// The entry of neighbour `k` at node `n` for a destination; `None` if there is no such node, neighbour or
     /// destination, or the link is not up.
     fn entry(&self, n: Id, k: Id, d: Id) -> Option<Entry>
         ensures { result ≡ entry_at (world_of self.now) n k d }
@@ -123,7 +122,7 @@ impl Sim {
 }
 
 impl NodeSlot {
-    /// Its entry of neighbour `k` for a destination.
+    /// The node's entry of neighbour `k` for a destination.
     fn entry(&self, k: Id, d: Id) -> Option<Entry>
         ensures { result ≡ entry_of self.now.seat.core d k }
     {

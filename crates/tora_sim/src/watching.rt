@@ -1,5 +1,5 @@
-//! What a trace or a drive reads of a simulated world: what waits for a core, what it accepted and requires, and what
-//! was sent.
+//! What a trace or an external control reads of a world: the items that wait for a core, the inputs that it accepted,
+//! the routes that it requires, and the datagrams that were sent.
 ghost use Rattle.std.specs.Prelude.{◌≡◌, slice_get};
 ghost use Rattle.tora_world.specs.World.{datagram};
 ghost use Rattle.tora_core.specs.CoreRun.{flag_of};
@@ -15,7 +15,7 @@ use tora_height::Id;
 use tora_seat::Item;
 
 impl Sim {
-    /// The item that the core of a node serves next; `None` where none waits, or where there is no such node.
+    /// The item that the core of a node serves next; `None` if none waits, or there is no such node.
     pub fn first_item(&self, n: Id) -> Option<Item>
         ensures { result ≡ slice_get ((world_of self.now).items n) 0 }
     {
@@ -25,8 +25,8 @@ impl Sim {
         }
     }
 
-    /// The inputs that the core of a node accepted since the node's last restart, each with its tick; none where there
-    /// is no such node.
+    /// The inputs that the core of a node accepted since the node's last restart, each with its tick; none if there is
+    /// no such node.
     pub fn inputs(&self, n: Id) -> &[(Input, u64)]
         ensures { result.now ≡ (world_of self.now).inputs n }
     {
@@ -36,7 +36,7 @@ impl Sim {
         }
     }
 
-    /// Whether the core of a node requires a route to a destination; not so where there is no such node or destination.
+    /// Whether the core of a node requires a route to a destination; false if there is no such node or destination.
     pub fn flag(&self, n: Id, d: Id) -> bool
         ensures { result ≡ flag_at (world_of self.now) n d }
     {
@@ -46,14 +46,14 @@ impl Sim {
         }
     }
 
-    /// A datagram by its number, from 1 on, whose packets are lent; `None` where there is no such datagram.
+    /// The datagram with this number, counted from 1, without copying its packets; `None` if there is no such datagram.
     pub fn borrowed_frame(&self, i: u64) -> Option<BorrowedFrame<'_>>
         ensures { result ≡ datagram (world_of self.now) i }
     {
         numbered(&self.datagrams, i)
     }
 
-    /// A datagram by its number, from 1 on; `None` where there is no such datagram.
+    /// The datagram with this number, counted from 1; `None` if there is no such datagram.
     pub fn frame(&self, i: u64) -> Option<Frame>
         ensures { result ≡ datagram (world_of self.now) i }
     {
@@ -63,21 +63,21 @@ impl Sim {
 }
 
 impl NodeSlot {
-    /// The item that its core serves next.
+    /// The item that the core of this node serves next.
     fn first_item(&self) -> Option<Item>
         ensures { result ≡ slice_get self.now.items 0 }
     {
         self.items.first()
     }
 
-    /// Whether its core requires a route to a destination.
+    /// Whether the core of this node requires a route to a destination.
     fn flag(&self, d: Id) -> bool
         ensures { result ≡ flag_of self.now.seat.core d }
     {
         self.seat.core().flag(d)
     }
 
-    /// The inputs that its core accepted since its last restart.
+    /// The inputs that the core of this node accepted since its last restart.
     fn inputs(&self) -> &[(Input, u64)]
         ensures { result.now ≡ self.now.inputs }
     {
