@@ -1,4 +1,4 @@
--- Calls that are made to fail.
+-- Calls that are armed to fail.
 use Rattle.std.proofs.Common.{◌≡◌, ℕ, zero, suc, ◌<◌, Bool, true, false, ◌&&◌, List, [], ◌∷◌, map, Option, Some, None, refl, sym, ap, ap₂, ◌∙◌, subst, arith, length, set, slice_get, is_some, cond, option_map, if◌then◌else◌, nat_eq, eqb-true, true≢false}
 use Rattle.std.proofs.lemmas.Bool.{and_parts}
 use Rattle.std.specs.Prelude.{slice_index_or}

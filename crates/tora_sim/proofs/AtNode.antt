@@ -1,4 +1,4 @@
--- What a world that is kept tells of the place where a node stands.
+-- From the store of a simulator to one node and its index.
 use Rattle.std.proofs.Common.{◌≡◌, ℕ, List, Some, ap, ◌∙◌, length, slice_get}
 use Rattle.std.specs.Prelude.{slice_index_or}
 use Rattle.tora_frame.specs.FrameParts.{FrameParts}
@@ -10,7 +10,7 @@ use Rattle.tora_sim.specs.Nodes.{NodeView, is_of}
 use Rattle.tora_sim.specs.Store.{state_of, IsStore, IsNodeOf, AreEndsOf, node_at}
 use Rattle.tora_sim.proofs.Needs.{node_place, is_there, of_node, named}
 
--- node n stands as x at the place i
+-- node n is stored as x at the index i
 pub record IsAt (t : Topology) (nodes : List NodeView) (links : List LinkView) (n i : ℕ) (x : NodeView) : Type 0 where
   pub place : slice_get nodes i ≡ Some x
   pub there : node_at nodes n ≡ Some x

@@ -1,4 +1,4 @@
--- The link ends of one node but for the memory that they have, and those of the others.
+-- The link ends of one node without their memory, among those of all nodes.
 use Rattle.std.proofs.Common.{◌≡◌, ℕ, zero, suc, ◌+◌, ◌<◌, List, [], ◌∷◌, map, set, ◌++◌, slice_get, Option, Some, None, refl, sym, ap, ◌∙◌, subst, arith}
 use Rattle.std.proofs.lemmas.Option.{none-some, same_Some}
 use Rattle.tora_seat.specs.declared.item.Item.{Item}
@@ -50,7 +50,7 @@ first_behind (suc count) [] at away = refl
 first_behind (suc count) (x ∷ links) zero away = absurd (away zero (omega arith) refl)
 first_behind (suc count) (x ∷ links) (suc at) away = first_behind count links at (λ place lt q. away (suc place) (omega (arith, lt)) (ap suc q))
 
--- any other end
+-- an end of another node
 pub between_outside : (first count : ℕ) (links : List LinkView) (at : ℕ) → ((place : ℕ) → place < count → at ≡ first + place → ⊥) → slice_get (bare_between first count links) at ≡ slice_get links at
 unfolding bare_between
 between_outside zero count links at away = first_behind count links at (λ place lt q. away place lt (q ∙ sym (zero_more place)))
@@ -76,18 +76,18 @@ between_set (suc first) count (x ∷ links) place y lt =
     ∙ ap (λ xs. x ∷ xs) (between_set first count links place y lt)
     ∙ ap (λ (m : ℕ). set (x ∷ bare_between first count links) m (bare y)) (sym (suc_more first place))
 
--- the others are as they were, if they are but for the memory of the node's
+-- the ends of other nodes are unchanged, if they are when the memory of the node's ends is left out
 pub others_between : (first count : ℕ) (before links : List LinkView) → AreOthersKept (bare_between first count before) (bare_between first count links) first count → AreOthersKept before links first count
 others_between first count before links h at away = sym (between_outside first count links at away) ∙ h at away ∙ between_outside first count before at away
 
--- no packet is noted
+-- no packet is recorded
 pub none_noted : (v : LanesView) (place : ℕ) (stepped : Option Stepped) (links : List LinkView) → stepped ≡ None → links ≡ v.links → IsNoted v place stepped links
 none_noted v place stepped links none same = subst (λ (o : Option Stepped). IsNoted v place o links) (sym none) same
 
 pub some_noted : (v : LanesView) (place : ℕ) (stepped : Option Stepped) (p : Stepped) (links : List LinkView) → stepped ≡ Some p → IsNoted v place (Some p) links → IsNoted v place stepped links
 some_noted v place stepped p links some noted = subst (λ (o : Option Stepped). IsNoted v place o links) (sym some) noted
 
--- a packet is noted at an end of the node
+-- a packet is recorded at an end of the node
 pub noted_between : (links after : List LinkView) (first count place : ℕ) (p : Stepped) → place < count → IsNoted (lanes_of links first count) place (Some p) after
     → IsNoted (lanes_of (bare_between first count links) first count) place (Some p) (bare_between first count after)
 noted_between links after first count place p lt (link, there, is) = (
@@ -96,7 +96,7 @@ noted_between links after first count place p lt (link, there, is) = (
   ap (bare_between first count) is ∙ between_set first count links place (record link { steps = link.steps ++ record { life = p.life; packet = p.packet } ∷ [] }) lt,
 )
 
--- ---- a turn, by what the lanes were before it and behind it
+-- ---- a turn, from the lanes before and after it
 
 pub lanes_before : (v : LanesView) (x : NodeView) (first count : ℕ) (links old : List LinkView) → v ≡ lanes_of (bare_between first count links) first count → first ≡ x.first → count ≡ x.count → links ≡ old → v ≡ lanes_of (bare_between x.first x.count old) x.first x.count
 lanes_before v x first count links old e f n same =
@@ -113,7 +113,7 @@ module _ (x y : NodeView) (v lanes : LanesView) (item : Item) (old : List LinkVi
   pub count_stays : lanes.count ≡ x.count
   count_stays = (lanes_stay x.seat.core.neighbours s.offers v lanes s.offered).1 ∙ ap (λ (u : LanesView). u.count) before
 
-  -- what is said of the ends in the place of the lanes is said of those of the node
+  -- a property of the ends at the index of the lanes is one of the ends of the node
   pub of_node : (P : List LinkView → Type 0) (links : List LinkView) → P (bare_between lanes.first lanes.count links) → P (bare_between x.first x.count links)
   of_node P links h = subst (λ (n : ℕ). P (bare_between x.first n links)) count_stays (subst (λ (f : ℕ). P (bare_between f lanes.count links)) first_stays h)
 

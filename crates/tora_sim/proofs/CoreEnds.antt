@@ -1,4 +1,4 @@
--- The neighbours of a node and its link ends, by its core.
+-- The neighbours and link ends of a node, by its core.
 use Rattle.std.proofs.Common.{◌≡◌, ◌∙◌, sym, ap, ℕ, [], map, get_or, Some, None, eqb-true, find}
 use Rattle.std.specs.Prelude.{is_some}
 use Rattle.std.proofs.lemmas.Option.{slice_get-get_or}

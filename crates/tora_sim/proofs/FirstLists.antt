@@ -1,4 +1,4 @@
--- The nodes and link ends of a world at its start, one more at a time.
+-- The nodes and link ends of a world at its start, added one at a time.
 use Rattle.std.proofs.Common.{◌≡◌, refl, sym, ap, ap₂, ◌∙◌, subst, ℕ, zero, suc, ◌+◌, ◌<◌, List, [], ◌∷◌, ◌++◌, map, take, length, get_or, slice_get, Some, None, arith}
 use Rattle.std.specs.Prelude.{option_map}
 use Rattle.std.proofs.lemmas.List.{append_assoc, map-append, map_push, map_more, flat_map_more, length-append, length-map}
@@ -20,7 +20,7 @@ use Rattle.tora_sim.specs.Firsts.{IsFirstEnd, IsFirstLink, IsFirstNode, HasEnds,
 use Rattle.tora_sim.proofs.Stores.{each_push}
 use Rattle.tora_sim.proofs.Peers.{PutInOrder, neighbours-ascend, place-of}
 
--- ---- a link end more
+-- ---- one more link end
 
 pub first-link : PutInOrder → (t : Topology) (times : Times) → IsTopology t → (n i d : ℕ) (x : LinkView) → i < length (neighbours_of t n) → IsFirstEnd (version_at t n) times n (get_or (neighbours_of t n) i d) i x → IsFirstLink t times x
 first-link order t times h n i d x lt f = record {
@@ -43,7 +43,7 @@ keys-more version times n ks old links i d x lt f e =
     ∙ append_assoc (map key_of old) (map (λ k. (n, k)) (take i ks)) ((n, get_or ks i d) ∷ [])
     ∙ ap (λ ys. map key_of old ++ ys) (sym (map_more (λ (k : ℕ). (n, k)) ks i d lt))
 
--- ends that were added to none are added to others
+-- a property of all items of two lists holds for their concatenation
 each_append : {A : Type 0} → (P : A → Type 0) (xs ys : List A) → EachOf P xs → EachOf P ys → EachOf P (xs ++ ys)
 each_append P [] ys h k j y e = k j y e
 each_append P (x ∷ xs) ys h k zero y e = h zero y e
@@ -58,7 +58,7 @@ added-behind t times n links parts h = record {
   each = λ before. each_append (IsFirstLink t times) links parts before (h.each (none_each (IsFirstLink t times)));
 }
 
--- ---- a node more
+-- ---- one more node
 
 read-left : {A : Type 0} → (xs ys : List A) (i : ℕ) (v : A) → slice_get xs i ≡ Some v → slice_get (xs ++ ys) i ≡ Some v
 read-left [] ys i v e = absurd cc
@@ -107,7 +107,7 @@ node-more t times n nodes links new node a f is first ns m = record {
       (has-own t n (map key_of links) node is (first ∙ sym (length-map links key_of))));
 }
 
--- none at all
+-- the empty list of nodes
 pub none-made : (t : Topology) (times : Times) → AreMade t times [] [] []
 none-made t times = record {
   names = refl;

@@ -1,4 +1,4 @@
--- What is stored at the start is kept as it must be, and is the first world.
+-- The stored data at the start has the invariant, and represents the first world.
 use Rattle.std.proofs.Common.{◌≡◌, refl, sym, ap, ap₂, ◌∙◌, subst, ℕ, zero, suc, ◌+◌, ◌==◌, ◌&&◌, Bool, true, false, List, [], ◌∷◌, map, drop, length, replicate, slice_get, slice_index, Option, Some, None, is_some, arith, if◌then◌else◌, eqb-true}
 use Rattle.tora_core.proofs.AfterInputs.{has-ascending}
 use Rattle.std.specs.Prelude.{option_map}
@@ -69,7 +69,7 @@ module _ (order : PutInOrder) (stays : StaysInOrder) (t : Topology) (times : Tim
   abbrev start : SimState
   start = state_of t times 0 nodes links []
 
-  -- ---- what is kept
+  -- ---- the invariant
 
   node-is : (n : ℕ) → is_node t n ≡ is_some (node_at nodes n)
   node-is n = sym (found-name n nodes ∙ ap (has_number n) m.names)

@@ -1,4 +1,4 @@
--- Fresh link ends for those of a node, and the ends restarted one after another.
+-- Fresh link ends for those of a node, and the restart of one end after another.
 use Rattle.std.proofs.Common.{◌≡◌, ℕ, zero, suc, ◌<◌, ◌≤◌, ◌+◌, ◌⊎◌, inl, inr, List, [], ◌∷◌, ◌++◌, length, set, slice_get, Option, Some, refl, sym, ap, ◌∙◌, arith, ltb}
 use borrow.Author.Tests.{ltb-true, ltb-false}
 use Rattle.std.proofs.lemmas.Bool.{cases_Bool}
@@ -30,11 +30,11 @@ item_at (x ∷ xs) (suc i) lt = item_at xs i (omega (arith, lt))
 pub same_item : {A : Type 0} → (x y : A) → Some x ≡ Some y → x ≡ y
 same_item x y e = cc
 
--- a number below the next one is below this one, or is it
+-- a number below the next one is below this one, or equal to it
 pub below_next : (j place : ℕ) → j < place + 1 → (j < place) ⊎ (j ≡ place)
 below_next j place lt = elim (cases_Bool (ltb j place)) [ inl e ↦ inl (ltb-true j place e) | inr e ↦ inr (let more = ltb-false j place e in omega (arith, lt, more)) ]
 
--- ---- a fresh end more
+-- ---- one more fresh end
 
 pub none_fresh : (links : List LinkView) (first : ℕ) (ends : List LinkEndView) → AreFresh links first 0 ends
 none_fresh links first ends place link lt e = absurd (omega (arith, lt))
@@ -52,7 +52,7 @@ more_fresh links first place x ends end h count within read e j link lt at = go 
         let is : x ≡ link = same_item x link (sym there ∙ ap (λ m. slice_get links (first + m)) (sym same) ∙ at) in
         ap (λ m. slice_get (ends ++ end ∷ []) m) (same ∙ sym count) ∙ get_back ends end ∙ ap Some (e ∙ ap (λ (z : LinkView). link_end_of z.settings first_end) is)
 
--- ---- an end more is changed
+-- ---- one more end is changed
 
 pub none_changed : (change : LinkView → LinkView) (links : List LinkView) (first : ℕ) → AreChanged change links links first 0
 none_changed change links first = record { as_many = refl; done = λ place link lt e. absurd (omega (arith, lt)); rest = λ i link elsewhere e. e }
@@ -62,7 +62,7 @@ module _ (change : LinkView → LinkView) (before links : List LinkView) (first 
   there : slice_get links (first + place) ≡ Some x
   there = let same = h.as_many in slice_get_read links (length links) (first + place) x refl (omega (arith, same, lt, within)) read
 
-  -- it is as it was
+  -- the end at this index is unchanged so far
   pub was : slice_get before (first + place) ≡ Some x
   was =
       let old = item_at before (first + place) (omega (arith, lt, within)) in
@@ -86,9 +86,9 @@ module _ (change : LinkView → LinkView) (before links : List LinkView) (first 
           ∙ set_same links (first + place) y (slice_get_within links (first + place) x there)
           ∙ ap Some (e ∙ ap change is)
 
--- ---- an end more is restarted
+-- ---- one more end is restarted
 
--- the ends from a place on are as they were
+-- the ends from an index on are unchanged so far
 pub record IsGoing (torn : Option (List ℕ)) (before links : List LinkView) (first place : ℕ) (ends_before ends : List LinkEndView) : Type 0 where
   pub changed : AreChanged (restarted torn) before links first place
   pub as_many : length ends ≡ length ends_before

@@ -1,4 +1,4 @@
--- The packet that an item steps is one of the neighbour at the item's seat.
+-- The packet that an item steps is from the neighbour at the item's seat.
 use Rattle.std.proofs.Common.{◌≡◌, ℕ, zero, suc, ◌⊎◌, inl, inr, List, [], ◌∷◌, ◌++◌, length, Option, Some, None, refl, ap, ◌∙◌}
 use Rattle.std.proofs.lemmas.Bool.{cond_both}
 use Rattle.std.specs.Prelude.{slice_get}
@@ -14,7 +14,7 @@ use Rattle.tora_seat.specs.declared.what.What.TheVariants as Tells
 use Rattle.tora_seat.specs.declared.item.Item.{Item}
 use Rattle.tora_seat.specs.Serving.{SeatState, Parcel, Step, Serving, Answers, with_current, with_pending, after_cut_tried, after_cuts_tried, after_sent, after_broadcast, after_broadcasts, accepting, after_answer, after_step, first_cut, after_settling, after_input, is_current, after_down, after_old_down, after_cut_asked, after_life_cut, after_link_item, after_other_item, after_item_of, begin_serving, serving_of}
 
--- no packet was stepped, or one of the neighbour at this place
+-- no packet was stepped, or one from the neighbour at this index
 abbrev pub AreStepsAt : List ℕ → ℕ → List Step → Type 0
 AreStepsAt ks place steps = (steps ≡ []) ⊎ ((k : ℕ) × (slice_get ks place ≡ Some k) × (p : Parcel) × (steps ≡ record { from = k; parcel = p } ∷ []))
 
@@ -77,7 +77,7 @@ module _ (answers : Answers) (ks : List ℕ) where
   life_cut_same v k now None = refl
   life_cut_same v k now (Some l) = down_same (after_cut_asked answers v k l) k now ∙ cut_same (with_pending v k (Some l)) k (Some l)
 
-  -- none yet, or one of neighbour k
+  -- no packet was stepped, or one from neighbour k
   abbrev OneOf : ℕ → List Step → Type 0
   OneOf k steps = (steps ≡ []) ⊎ ((p : Parcel) × (steps ≡ record { from = k; parcel = p } ∷ []))
 

@@ -1,4 +1,4 @@
--- Nodes and link ends that are found by their numbers, and the order of these.
+-- The search for nodes and link ends by their numbers, and the order of the numbers.
 use Rattle.std.proofs.Common.{◌≡◌, refl, sym, ap, ap₂, ◌∙◌, subst, ℕ, zero, suc, ◌<◌, ◌==◌, ◌&&◌, ◌||◌, ◌⊎◌, inl, inr, Bool, true, false, List, [], ◌∷◌, ◌++◌, map, length, get_or, slice_get, find, cond, is_some, Some, None, arith, if◌then◌else◌, eq-eqb, eqb-true}
 use Rattle.tora_core.proofs.AfterInputs.{has-ascending}
 use Rattle.std.proofs.lemmas.Bool.{or_left, or_right}
@@ -15,7 +15,7 @@ use Rattle.tora_world.proofs.SoundTopology.{unnamed}
 abbrev pub has_key : ℕ → ℕ → List (ℕ × ℕ) → Bool
 has_key n k keys = list_any (λ (e : ℕ × ℕ). (e.0 == n) && (e.1 == k)) keys
 
--- ---- what a search finds
+-- ---- the result of a search
 
 pub found-name : (n : ℕ) (nodes : List NodeView) → is_some (find (is_of n) nodes) ≡ has_number n (map (λ x. x.node) nodes)
 found-name n [] = refl
@@ -82,7 +82,7 @@ key-in t n k (m ∷ ns) =
         ∙ idle (has_number k (neighbours_of t n)) (has_number n ns)
     go false e = refl
 
--- an end is of a node
+-- the node of a link end is a node of the topology
 pub of-node : (t : Topology) (n k : ℕ) → (has_number n (nodes_in t.links) && is_link t n k) ≡ is_link t n k
 of-node t n k = go (has_number n (nodes_in t.links)) refl
   where
@@ -98,7 +98,7 @@ key-there (y ∷ links) zero x e =
     (or_left ((y.node == y.node) && (y.peer == y.peer)) (has_key y.node y.peer (map key_of links)) (ap₂ (λ a b. a && b) (eq-eqb y.node y.node refl) (eq-eqb y.peer y.peer refl)))
 key-there (y ∷ links) (suc i) x e = or_right ((y.node == x.node) && (y.peer == x.peer)) (has_key x.node x.peer (map key_of links)) (key-there links i x e)
 
--- the link between two nodes is a link of each
+-- a link between two nodes is a link of both
 pub other-way : (n k : ℕ) (links : List Link) → has_number k (other_ends n links) ≡ has_number n (other_ends k links)
 other-way n k [] = refl
 other-way n k (x ∷ links) = go (other-way n k links) (x.a == n) refl (x.b == n) refl (x.a == k) refl (x.b == k) refl

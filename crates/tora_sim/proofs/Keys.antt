@@ -1,4 +1,4 @@
--- Items that are found by a test which at most one of them passes.
+-- Items that are found by a test that at most one of them passes.
 use Rattle.std.proofs.Common.{◌≡◌, ℕ, zero, suc, ◌<◌, ◌≤◌, Bool, true, false, ◌⊎◌, inl, inr, List, [], ◌∷◌, length, map, get_or, set, slice_get, nat_eq, Option, Some, None, option_map, refl, sym, ap, ap₂, ◌∙◌, subst, arith, cond, find, eqb-true, eq-eqb, Ok, Err, Result, IfSome, IfNone, ltb}
 use borrow.Author.Tests.{ltb-true, ltb-false}
 use Rattle.std.specs.Result.{result_ok}
@@ -31,7 +31,7 @@ module _ {A : Type 0} where
   found_after p (y ∷ ys) zero new h e = ap (λ b. cond b (Some new) (find p ys)) e
   found_after p (y ∷ ys) (suc i) new h e = ap (λ b. cond b (Some y) (find p (set ys i new))) (h.before zero y (omega arith)) ∙ found_after p ys i new (rest p y ys i h) e
 
-  -- a test that neither the old nor the new item passes finds what it found
+  -- a search with a test that neither the old nor the new item passes has the same result
   pub other_after : (q : A → Bool) (xs : List A) (i : ℕ) (x new : A) → slice_get xs i ≡ Some x → q x ≡ false → q new ≡ false → find q (set xs i new) ≡ find q xs
   other_after q [] i x new e a b = refl
   other_after q (y ∷ ys) zero x new e a b =
@@ -82,7 +82,7 @@ place_first n k links i h lt e = record {
 equal_compared : (n k : ℕ) (link : LinkView) → is_at n k link ≡ true → compared n k link ≡ Equal
 equal_compared n k link e = let p = and_parts _ _ e in let a = eqb-true link.node n p.0 in let b = eqb-true link.peer k p.1 in grind (arith, nat_tests)
 
--- a read of the end at a place finds the first one
+-- the end at an index is the first with its key
 pub read_first : (n k : ℕ) (links : List LinkView) (i : ℕ) (x : LinkView) → AreRising links → i < length links → x ≡ get_or links i x → is_at n k x ≡ true → IsFirst (is_at n k) links i
 read_first n k links i x h lt read e = place_first n k links i h lt (λ d. equal_compared n k (get_or links i d) (subst (λ y. is_at n k y ≡ true) (read ∙ get_or_default links i x d lt) e))
 
@@ -214,7 +214,7 @@ node_first n nodes i h lt e = record {
 node_compared : (n : ℕ) (node : NodeView) → is_of n node ≡ true → ordered n node ≡ Equal
 node_compared n node e = let a = eqb-true node.node n e in grind (arith, nat_tests)
 
--- a read of the node at a place finds the first one
+-- the node at an index is the first with its number
 pub read_first_node : (n : ℕ) (nodes : List NodeView) (i : ℕ) (x : NodeView) → Nodes.AreRising nodes → i < length nodes → x ≡ get_or nodes i x → is_of n x ≡ true → IsFirst (is_of n) nodes i
 read_first_node n nodes i x h lt read e = node_first n nodes i h lt (λ d. node_compared n (get_or nodes i d) (subst (λ y. is_of n y ≡ true) (read ∙ get_or_default nodes i x d lt) e))
 

@@ -1,4 +1,4 @@
--- No call but an opening changes the number of an end's last life.
+-- Only the opening of an end changes the number of its last session.
 use Rattle.std.proofs.Common.{◌≡◌, ℕ, ◌<◌, ◌⊎◌, inl, inr, Option, Some, None, refl, sym, subst}
 use Rattle.tora_packet.specs.declared.Packet.{Packet}
 use Rattle.tora_frame.specs.FrameParts.{FrameParts}
@@ -34,7 +34,7 @@ submit_stays law s e life packet = elim (law s e (Submit life packet) tt) [ inl 
 pub cut_stays : LastsRise → (s : Settings) (e : EndState) (life : Life) → Stays e (after_cut e life)
 cut_stays law s e life = elim (law s e (Cut life) tt) [ inl same ↦ same | inr h ↦ absurd h.0 ]
 
--- so what was drawn stays so
+-- the last number of an end stays one that was drawn
 pub stays_drawn : (e after : EndState) (new : EndState) (file : LifeDisk) → new ≡ after → Stays e after → IsDrawn e.last_life file → IsDrawn new.last_life file
 stays_drawn e after new file is same h =
     subst (λ (x : EndState). IsDrawn x.last_life file) (sym is) (subst (λ n. IsDrawn n file) (sym same) h)

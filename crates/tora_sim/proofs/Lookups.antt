@@ -1,4 +1,4 @@
--- What is read of one node, one link end and its lists.
+-- Reading one node, and one link end with its lists.
 use Rattle.std.proofs.Common.{◌≡◌, sym, ap, ◌∙◌, ℕ, true, false, get_or, if◌then◌else◌, Some, None, is_some}
 use Rattle.std.proofs.lemmas.Option.{slice_get-get_or}
 use Rattle.tora_arq.specs.declared.life.Life.{Life}

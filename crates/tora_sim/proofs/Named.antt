@@ -1,4 +1,4 @@
--- The nodes and the neighbours that links name, taken from the last link to the first.
+-- The nodes and neighbours that links name, from the last link to the first.
 use Rattle.std.proofs.Common.{◌≡◌, refl, sym, ap, ◌∙◌, subst, ℕ, zero, suc, ◌+◌, ◌-◌, ◌<◌, ◌≤◌, ◌==◌, ◌||◌, Bool, true, false, nat_lt, List, [], ◌∷◌, length, drop, get_or, cond, arith, if◌then◌else◌}
 use Rattle.std.proofs.lemmas.Bool.{cond_both}
 use Rattle.std.proofs.lemmas.Bool.Decides.{nat_tests}
@@ -8,7 +8,7 @@ use Rattle.tora_world.specs.Topology.{Link, nodes_in, with_node, different, diff
 use Rattle.tora_world.proofs.SoundTopology.{length-with_number, one_if, IsSplit, split-different, has-with_node}
 use Rattle.tora_sim.specs.Topologies.{link_in, links_in, is_named, with_end}
 
--- ---- a number more is no shorter list
+-- ---- adding a number does not make a list shorter
 
 pub length-with_node-le : (k : ℕ) (ns : List ℕ) → length ns ≤ length (with_node k ns)
 length-with_node-le k ns =
@@ -20,7 +20,7 @@ length-with_end-le n link ns =
     (λ _. length-with_node-le link.b ns)
     (λ _. cond_both (link.b == n) (with_node link.a ns) ns (λ (xs : List ℕ). length ns ≤ length xs) (λ _. length-with_node-le link.a ns) (λ _. omega arith))
 
--- ---- the nodes of the links from a place on
+-- ---- the nodes of the links from an index on
 
 abbrev pub nodes_from : List (ℕ × ℕ) → ℕ → List ℕ
 nodes_from links i = nodes_in (links_in (drop i links))
@@ -38,7 +38,7 @@ nodes-fewer (x ∷ links) (suc i) =
     let two = length-with_node-le x.0 (with_node x.1 (nodes_in (links_in links))) in
     omega arith
 
--- too many after one end of a link, or after both, are too many
+-- if the nodes are too many after one end of a link, or after both, the links name too many
 pub many-by-one : (links : List (ℕ × ℕ)) (left most : ℕ) (items : List ℕ) (d : ℕ × ℕ) → 0 < left → left ≤ length links → items ≡ nodes_from links left
     → most < length (with_node (get_or links (left - 1) d).1 items) → most < length (nodes_in (links_in links))
 many-by-one links left most items d some within is more =
@@ -65,7 +65,7 @@ many-by-both links left most items behind d some within is next_is more =
     let size = ap length is_step in
     omega arith
 
--- ---- a number is a node's where a link names it
+-- ---- a link that names a number makes it a node
 
 or-more : (a b c d : Bool) → c ≡ (b || d) → ((a || b) || d) ≡ (a || c)
 or-more true b c d e = refl
@@ -78,7 +78,7 @@ named-nodes n (x ∷ links) =
     ∙ or-more (x.0 == n) (x.1 == n) (has_number n (with_node x.1 (nodes_in (links_in links)))) (has_number n (nodes_in (links_in links))) (has-with_node n x.1 (nodes_in (links_in links)))
     ∙ sym (has-with_node n x.0 (with_node x.1 (nodes_in (links_in links))))
 
--- ---- the other ends of a node's links from a place on
+-- ---- the other ends of a node's links from an index on
 
 abbrev pub ends_from : ℕ → List (ℕ × ℕ) → ℕ → List ℕ
 ends_from n links i = different (other_ends n (links_in (drop i links)))
@@ -109,7 +109,7 @@ ends-fewer n (x ∷ links) (suc i) =
 
 -- ---- how many of them are not the node itself
 
--- where there are more than 256, more than 255 are others, and so more than any smaller number
+-- if there are more than 256, more than 255 of them are other nodes, and so more than any smaller number
 pub many-above : (most n : ℕ) (links : List (ℕ × ℕ)) → most ≤ 255 → 256 < length (different (other_ends n (links_in links))) → nat_lt most (length (different_neighbours n (links_in links))) ≡ true
 many-above most n links small more =
     let ns : List ℕ = different (other_ends n (links_in links)) in
@@ -131,7 +131,7 @@ many-above most n links small more =
 pub fresh_node : (k : ℕ) (ns : List ℕ) → has_number k ns ≡ false → length (with_node k ns) ≡ suc (length ns)
 fresh_node k ns absent = ap (λ b. length (cond b ns (with_number k ns))) absent ∙ length-with_number k ns
 
--- too many after a link are too many
+-- if the ends are too many after a link, the links have too many
 pub many-ends : (most n : ℕ) (links : List (ℕ × ℕ)) (left : ℕ) (items : List ℕ) (d : ℕ × ℕ) → most ≤ 255 → 0 < left → left ≤ length links → items ≡ ends_from n links left
     → 256 < length (with_end n (link_in (get_or links (left - 1) d)) items) → nat_lt most (length (different_neighbours n (links_in links))) ≡ true
 many-ends most n links left items d small some within is more =

@@ -1,4 +1,4 @@
--- An item more in the lane of a node.
+-- One more item in the queue of a node's core.
 use Rattle.std.proofs.Common.{◌≡◌, ℕ, suc, ◌<◌, ◌⊎◌, inl, inr, Bool, true, false, ◌&&◌, List, [], ◌∷◌, ◌++◌, Some, None, refl, sym, ap, ap₂, ◌∙◌, subst, length, set, slice_get, is_some, nat_lt, nat_eq, if◌then◌else◌, eqb-true, eq-eqb, true≢false, Result, Ok, Err, MatchResult, arith}
 use Rattle.std.proofs.lemmas.Bool.{cases_Bool}
 use Rattle.std.proofs.lemmas.Option.{slice_get_read}
@@ -58,14 +58,14 @@ module _ (t : Topology) (times : Times) (clock : ℕ) (nodes : List NodeView) (l
   pub named : x.node ≡ n
   named = eqb-true x.node n (subst (λ z. is_of n z ≡ true) (sym read) (first.here x))
 
-  -- the commands have a seat behind those of the neighbours
+  -- the seat of the commands comes after those of the neighbours
   pub last_seat : x.count < length x.counts
   last_seat = omega (arith, of_node.seats)
 
   pub room_is : (b : Bool) → nat_lt (length x.items) 1024 ≡ b → has_room w n ≡ b
   room_is b e = ap (λ o. nat_lt (length (items_in o)) 1024) is_there ∙ e
 
-  -- an item of a seat of the node
+  -- an item of one seat of the node
   module _ (seat : ℕ) (what : What) (lt : seat < length x.counts) where
     abbrev new : NodeView
     new = after_item x seat clock what
@@ -124,11 +124,11 @@ module _ (t : Topology) (times : Times) (clock : ℕ) (nodes : List NodeView) (l
   unfolding effect_by
   need_effect d = refl
 
-  -- where there is no memory the node stays as it is
+  -- if memory runs out, the node is unchanged
   pub same_nodes : (y : NodeView) → y ≡ x → set nodes i y ≡ nodes
   same_nodes y e = ap (set nodes i) (e ∙ read) ∙ set-get_or nodes i x
 
-  -- what putting an item leaves
+  -- the node after an item was put, or memory ran out
   abbrev pub IsPut : ℕ → What → NodeView → Result (Unit {0}) SimError → Type 0
   IsPut seat what y r = MatchResult r (λ _. y ≡ after_item x seat clock what) (λ e. (e ≡ Refused.Memory) × (y ≡ x))
 

@@ -34,7 +34,7 @@ put_more : (k : ℕ) (offers : List Offer) (o : Offer) → put_to k (offers ++ o
 put_more k [] o = append-nil (cargo_where k o)
 put_more k (x ∷ offers) o = ap (λ ys. cargo_where k x ++ ys) (put_more k offers o) ∙ sym (append_assoc (cargo_where k x) (put_to k offers) (cargo_where k o))
 
--- a list is read at the place of a number that it has
+-- the item at the index of a number in a list is that number
 place_read : (k : ℕ) (ks : List ℕ) → place_of k ks < length ks → slice_get ks (place_of k ks) ≡ Some k
 place_read k [] lt = absurd (omega arith)
 place_read k (j ∷ ks) lt = go (cases_Bool (nat_eq j k)) (place_read k ks)
@@ -45,7 +45,7 @@ place_read k (j ∷ ks) lt = go (cases_Bool (nat_eq j k)) (place_read k ks)
         let less : suc (place_of k ks) < suc (length ks) = subst (λ (b : Bool). (if b then 0 else suc (place_of k ks)) < suc (length ks)) f lt in
         ap (λ (b : Bool). slice_get (j ∷ ks) (if b then 0 else suc (place_of k ks))) f ∙ again (omega (arith, less))
 
--- a change at one place, as a change of each
+-- a change at one index, as a change of all items
 pub set_map : (f g : LinkView → LinkView) (links : List LinkView) (i : ℕ) (old new : LinkView) → slice_get links i ≡ Some old → g old ≡ new
     → ((j : ℕ) (x : LinkView) → (j ≡ i → ⊥) → slice_get links j ≡ Some x → g x ≡ f x) → set (map f links) i new ≡ map g links
 set_map f g [] i old new e q other = refl
@@ -80,7 +80,7 @@ module _ (links : List LinkView) (rising : Links.AreRising links) where
       go (inr f) (inl t) = absurd (apart j i y x b a (grind (arith, nat_tests, t)) (sym p) (sym q))
       go (inr f) (inr g) = grind (arith, nat_tests, f, g)
 
-  -- an end that is stored is the one found by its node and its peer
+  -- the search by node and peer finds each stored end
   pub found_at : (i : ℕ) (x : LinkView) → slice_get links i ≡ Some x → link_at links x.node x.peer ≡ Some x
   found_at i x e = found (is_at x.node x.peer) links i x first e
     where
@@ -104,7 +104,7 @@ module _ (links : List LinkView) (rising : Links.AreRising links) where
 
 -- ---- offers to the lanes of node n
 
--- the end after an item of its node was served, of which these were the offers and the packets stepped
+-- the end after an item of its node was served, with these offers and stepped packets
 abbrev pub served_of : ℕ → List Offer → List Step → LinkView → LinkView
 served_of n offers steps link =
     if nat_eq link.node n then record link { put = link.put ++ put_to link.peer offers; steps = link.steps ++ stepped_from link.peer steps } else link
@@ -123,13 +123,13 @@ module _ (t : Topology) (times : Times) (clock : ℕ) (nodes : List NodeView) (l
   abbrev lanes : List Offer → LanesView
   lanes offers = lanes_of (given offers []) x.first x.count
 
-  -- the end of the neighbour at a place
+  -- the end of the neighbour with an index
   pub end_at : (place k : ℕ) (link : LinkView) → slice_get ks place ≡ Some k → slice_get links (x.first + place) ≡ Some link → (link.node ≡ n) × (link.peer ≡ k)
   end_at place k link e q =
       let told = ends.at place k link (ap (λ m. slice_get (neighbours_of t m) place) named ∙ e) q in
       (told.0 ∙ named, told.1)
 
-  -- what is at an end of the node
+  -- the state of an end of the node after the item
   at_home : (offers : List Offer) (steps : List Step) (link : LinkView) → link.node ≡ n → served_of n offers steps link ≡ record link { put = link.put ++ put_to link.peer offers; steps = link.steps ++ stepped_from link.peer steps }
   at_home offers steps link e = ap (λ (b : Bool). if b then record link { put = link.put ++ put_to link.peer offers; steps = link.steps ++ stepped_from link.peer steps } else link) (eq-eqb link.node n e)
 
@@ -195,7 +195,7 @@ module _ (t : Topology) (times : Times) (clock : ℕ) (nodes : List NodeView) (l
     pub answered : own_answers w n done o.to ≡ o.put
     answered = sym (did.answer ∙ ap (λ cs. nat_lt (length cs) MOST_CARGOES) waits)
 
-  -- what the offers came to
+  -- the effect of the offers so far
   pub record Offered (done offers : List Offer) (v : LanesView) : Type 0 where
     pub lanes : v ≡ lanes_of (given (done ++ offers) []) x.first x.count
     pub follows : Follows (own_answers w n) done offers
@@ -226,7 +226,7 @@ module _ (t : Topology) (times : Times) (clock : ℕ) (nodes : List NodeView) (l
           go true = ap₂ (λ (p : List Cargo) (s : List Parcel). record link { put = p; steps = s }) (append-nil link.put) (append-nil link.steps)
           go false = refl
 
-  -- the packet that step_was stepped is noted at the end of step_its neighbour
+  -- the packet that was stepped is recorded at the end of its neighbour
   module _ (offers : List Offer) (place : ℕ) (p : Stepped) (from : slice_get ks place ≡ Some p.from) (link : LinkView) (there : slice_get (given offers []) (x.first + place) ≡ Some link) where
     abbrev parcel : Parcel
     parcel = record { life = p.life; packet = p.packet }
@@ -263,7 +263,7 @@ module _ (t : Topology) (times : Times) (clock : ℕ) (nodes : List NodeView) (l
     pub noted : set (given offers []) (x.first + place) (record link { steps = link.steps ++ parcel ∷ [] }) ≡ given offers (step_of p ∷ [])
     noted = set_map (served_of n offers []) (served_of n offers (step_of p ∷ [])) links (x.first + place) step_old (record link { steps = link.steps ++ parcel ∷ [] }) step_was.1 step_here step_other
 
-  -- ---- what is found after the item
+  -- ---- the result of searches after the item
 
   module _ (offers : List Offer) (steps : List Step) where
     same_end : (link : LinkView) → IsSameLink link (served_of n offers steps link)
@@ -291,7 +291,7 @@ module _ (t : Topology) (times : Times) (clock : ℕ) (nodes : List NodeView) (l
         go None = refl
         go (Some link) = cases link (nat_eq link.node n)
 
-    -- a list of each end of the node grows by what is for its peer
+    -- a list of each end of the node grows by the part for its peer
     pub given_grows : {A : Type 0} → (f : Option LinkView → List A) (extra : ℕ → List A)
         → ((link : LinkView) → link.pulled ≤ length link.put → f (Some (record link { put = link.put ++ put_to link.peer offers; steps = link.steps ++ stepped_from link.peer steps })) ≡ f (Some link) ++ extra link.peer)
         → f None ≡ [] → ((k : ℕ) → is_some (link_at links n k) ≡ false → extra k ≡ [])

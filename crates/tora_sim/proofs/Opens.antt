@@ -43,7 +43,7 @@ slice_get_at [] i lt = absurd (omega arith)
 slice_get_at (x ∷ xs) zero lt = (x, refl, refl)
 slice_get_at (x ∷ xs) (suc i) lt = slice_get_at xs i (omega arith)
 
--- two reads of one place
+-- two reads of one index
 pub same_read : {A : Type 0} → (xs : List A) (i : ℕ) (x y : A) → i < length xs → x ≡ slice_index_or xs i x → y ≡ slice_index_or xs i y → x ≡ y
 same_read xs i x y lt a b = a ∙ get_or_default xs i x y lt ∙ sym b
 
@@ -73,7 +73,7 @@ module _ (t : Topology) (times : Times) (clock : ℕ) (nodes : List NodeView) (l
   pub is_linked : is_link t n k ≡ true
   is_linked = h.links n k ∙ ap is_some end_there
 
-  -- at an end that is stored an event is refused only where it is not possible
+  -- an event at a stored end is refused only if it is not possible
   pub at_end : (possible : Bool) (b : Bool) → possible ≡ b → (if is_link t n k then unless_possible possible else Some Refused.NoNode) ≡ unless_possible b
   at_end possible b e = ap₂ (λ (l : Bool) (p : Bool). if l then unless_possible p else Some Refused.NoNode) is_linked e
 

@@ -1,4 +1,4 @@
--- Two frames of a link end go out, one after the other.
+-- Two frames of a link end are sent, one after the other.
 use Rattle.std.proofs.Common.{◌≡◌, ℕ, ◌-◌, ◌≤◌, suc, Bool, true, false, Some, None, if◌then◌else◌, List, [], ◌∷◌, ◌++◌, set, refl, sym, ap, ◌∙◌, subst, arith, Option, is_some, true≢false, zero}
 use Rattle.std.specs.Prelude.{slice_index_or, IfSome, IfNone}
 use Rattle.std.proofs.lemmas.List.{get_or-set_same, set-set, set-get_or}
@@ -28,7 +28,7 @@ module _ (t : Topology) (times : Times) (clock : ℕ) (nodes : List NodeView) (l
   abbrev w : World
   w = world_of (state_of t times clock nodes links ds)
 
-  -- the world in between
+  -- the link end after the first frame
   abbrev first_sent : LinkView
   first_sent = with_state x (after_transmit x.settings x.state clock)
 
@@ -41,7 +41,7 @@ module _ (t : Topology) (times : Times) (clock : ℕ) (nodes : List NodeView) (l
   abbrev w' : World
   w' = world_of (state_of t times clock nodes between sent)
 
-  -- its node stays as it was
+  -- the node is unchanged
   same_node : y ≡ record y { sending = Sends.Goes }
   same_node = ap (λ s. record y { sending = s }) goes
 
@@ -88,7 +88,7 @@ module _ (t : Topology) (times : Times) (clock : ℕ) (nodes : List NodeView) (l
     subst (λ (v : World). (refusal_of v (Transmit n k) ≡ None) × (world_of (state_of t times clock nodes (set links i new) all) ≡ world_after v (Transmit n k))) done_first.world (done_next.accepted, done_next.world),
   )
 
--- what is kept of an end tells its state
+-- the idle fields give the state of an end
 shown_kept : (h : Steady) (link : LinkView) → is_none h ≡ false → shown h link ≡ with_state link (resumed h link.state)
 shown_kept h link some =
     ap (λ (none : Bool). with_state link (record link.state {
@@ -97,7 +97,7 @@ shown_kept h link some =
       owes_old_hello = if none then link.state.owes_old_hello else h.owes_old_hello;
     })) some
 
--- an end of which something is kept sent two frames
+-- an idle end sent two frames
 pub pair_sent : (h mid behind : Steady) (parts old : LinkView) (now : ℕ) (f g : FrameParts) (ds all : List FrameParts) → shown h parts ≡ old → is_none h ≡ false → frame_due parts.settings (resumed h parts.state) now ≡ Some f
     → after_transmit parts.settings (resumed h parts.state) now ≡ resumed mid parts.state → frame_due parts.settings (resumed mid parts.state) now ≡ Some g → after_transmit parts.settings (resumed mid parts.state) now ≡ resumed behind parts.state
     → all ≡ (ds ++ f ∷ []) ++ g ∷ [] → IsPairSent old now (shown (record h { said = behind.said; heard = behind.heard; owes_old_hello = behind.owes_old_hello }) parts) ds all
@@ -113,9 +113,9 @@ pair_sent h mid behind parts old now f g ds all view some due state due' state' 
       datagrams = put;
     })
 
--- ---- of the events some are left
+-- ---- the events that are left
 
--- what is left behind the first two of some events
+-- the events that are left after the first two
 pub begins_behind : (w : World) (most : ℕ) (event : Event) (after : World) → 2 ≤ most → AllAreDone w (event ∷ event ∷ []) after → Onward w (repeats most event w) after true (repeats (most - 2) event after)
 begins_behind w most event after le done =
     let more : most ≡ suc (suc (most - 2)) = omega (arith, le) in
@@ -123,7 +123,7 @@ begins_behind w most event after le done =
     let one : Onward w (repeats most event w) (world_after w event) true (repeats (suc (most - 2)) event (world_after w event)) = again w (repeats most event w) w (world_after w event) false (suc (most - 2)) event none (record { accepted = done.0; world = refl }) in
     again w (repeats most event w) (world_after w event) after true (most - 2) event one (record { accepted = done.1.0; world = done.1.1 })
 
--- what is left behind the first two, or from the first on
+-- the events that are left after the first two, or all of them
 pub begun : (w : World) (most first : ℕ) (event : Event) (after : World) (some : Bool) → (some ≡ true → (2 ≤ most) × AllAreDone w (event ∷ event ∷ []) after) → (some ≡ false → after ≡ w) → (some ≡ true → first ≡ 2) → (some ≡ false → first ≡ 0)
     → Onward w (repeats most event w) after some (repeats (most - first) event after)
 begun w most first event after true both same two none =
@@ -134,7 +134,7 @@ begun w most first event after false both same two none =
     subst (λ (v : World). Onward w (repeats most event w) v false (repeats (most - first) event v)) (sym (same refl))
     (subst (λ (m : ℕ). Onward w (repeats most event w) w false (repeats m event w)) all (begins w (repeats most event w)))
 
--- nothing more is due
+-- no further frame is due
 pub stopped : (start : World) (events : List Event) (w : World) (some : Bool) (j : ℕ) (event : Event) → Onward start events w some (repeats j event w) → is_some (refusal_of w event) ≡ true → Happened start events w some
 stopped start events w some zero event o stop = no_more start events w some event o
 stopped start events w some (suc j) event o stop = refused start events w some j event o stop

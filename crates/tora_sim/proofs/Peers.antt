@@ -1,4 +1,4 @@
--- The neighbours of a node in a topology: in ascending order, each once, none of them 0 or the node.
+-- The neighbours of a node in a topology: in ascending order, without repetition, and none of them 0 or the node.
 use Rattle.std.proofs.Common.{◌≡◌, ◌≢◌, refl, sym, ap, ◌∙◌, subst, ℕ, zero, suc, ◌+◌, ◌<◌, ◌≤◌, ◌==◌, Bool, true, false, ◌||◌, nat_lt, List, [], ◌∷◌, ◌++◌, length, get_or, arith, if◌then◌else◌, eq-eqb, eqb-true, true≢false}
 use Rattle.tora_core.proofs.AfterInputs.{has-ascending}
 use Rattle.std.specs.List.{All, AllByRecursion}
@@ -12,11 +12,11 @@ use Rattle.tora_world.proofs.SoundTopology.{length-with_number}
 use Rattle.tora_sim.proofs.Sound.{sorted_on}
 use Rattle.tora_world.proofs.SoundTopology.{sound, others-apart, others-once, has-with_node}
 
--- what tora_core's law says of numbers that are put in order
+-- the law of `tora_core` about sorted numbers
 abbrev pub PutInOrder : Type 0
 PutInOrder = (numbers : List ℕ) → has_repeat numbers ≡ false → IsAscending (ascending numbers)
 
--- and of one more number
+-- the law of `tora_core` about one more number
 abbrev pub StaysInOrder : Type 0
 StaysInOrder = (n : ℕ) (numbers : List ℕ) → has_number n numbers ≡ false → IsAscending numbers → IsAscending (with_number n numbers)
 
@@ -38,7 +38,7 @@ there (n ∷ ns) (suc i) d lt = go (n == get_or ns i d) (there ns i d (omega ari
     go true e = refl
     go false e = e
 
--- ---- the place of each of ascending numbers
+-- ---- the index of each of ascending numbers
 
 each-of : (P : ℕ → Type 0) (ns : List ℕ) (i d : ℕ) → AllByRecursion P ns → i < length ns → P (get_or ns i d)
 each-of P [] i d all lt = absurd (omega arith)
@@ -59,7 +59,7 @@ place-within k (n ∷ ns) =
     let rest = place-within k ns in
     cond_both (n == k) 0 (suc (place_of k ns)) (λ (m : ℕ). m ≤ suc (length ns)) (λ _. omega arith) (λ _. omega arith)
 
--- numbers in ascending order stay where they are put in order
+-- sorting does not change ascending numbers
 behind-all : (k : ℕ) (ns : List ℕ) → AllByRecursion (λ (n : ℕ). n < k) ns → with_number k ns ≡ ns ++ k ∷ []
 behind-all k [] all = refl
 behind-all k (n ∷ ns) all =
@@ -67,7 +67,7 @@ behind-all k (n ∷ ns) all =
     let test : nat_lt k n ≡ false = grind (arith, nat_tests) in
     ap (λ b. if b then k ∷ n ∷ ns else n ∷ with_number k ns) test ∙ ap (λ (xs : List ℕ). n ∷ xs) (behind-all k ns all.1)
 
--- each of the one list is below each of the other
+-- each number of the first list is below each of the second
 abbrev AllBelow : List ℕ → List ℕ → Type 0
 AllBelow acc ns = AllByRecursion (λ (n : ℕ). AllByRecursion (λ (m : ℕ). m < n) acc) ns
 

@@ -1,4 +1,4 @@
--- An event that the place tells to be impossible is refused.
+-- An event that is not possible at the given index is refused.
 use Rattle.std.proofs.Common.{◌≡◌, ℕ, inl, inr, Bool, true, false, not, ◌||◌, List, length, slice_get, is_some, nat_lt, Option, Some, None, refl, sym, ap, ◌∙◌, arith}
 use Rattle.std.specs.Prelude.{slice_index_or}
 use Rattle.std.proofs.lemmas.Option.{slice_get-get_or, slice_get_within}
@@ -44,7 +44,7 @@ module _ (t : Topology) (times : Times) (clock : ℕ) (nodes : List NodeView) (l
   abbrev w : World
   w = world_of (state_of t times clock nodes links ds)
 
-  -- an end that has nothing to do is the one that is looked for
+  -- an end that has nothing to do is the one of the event
   at_end : (event : Event) (n k place : ℕ) (has : LinkView → Bool) → ((x : LinkView) → IsFirst (is_at n k) links place → x ≡ slice_index_or links place x → has x ≡ false → IsImpossible w event)
       → end_may n k has (slice_get links place) ≡ false → IsImpossible w event
   at_end event n k place has law = go (slice_get links place) refl

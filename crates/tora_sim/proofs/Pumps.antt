@@ -1,4 +1,4 @@
--- An event of a link end goes into its node's lane.
+-- An event of a link end goes into the queue of its node's core.
 use Rattle.std.proofs.Common.{◌≡◌, ℕ, ◌<◌, inl, Bool, true, false, not, ◌&&◌, List, [], ◌∷◌, Some, None, refl, sym, ap, ap₂, ◌∙◌, subst, length, set, slice_get, nat_lt, eqb-true, arith}
 use Rattle.std.proofs.lemmas.Bool.{and_parts}
 use Rattle.std.specs.Prelude.{slice_index_or}
@@ -81,7 +81,7 @@ module _ (t : Topology) (times : Times) (clock : ℕ) (nodes : List NodeView) (l
     seat_is : x.seat ≡ place_of k (neighbours_of t n)
     seat_is = (h.each_link i x at).seat ∙ ap₂ (λ p m. place_of p (neighbours_of t m)) ends_of_it.1 ends_of_it.0
 
-    -- the seat of the link is one of the node's neighbours
+    -- the node has a seat for the link
     pub seat_room : x.seat < length y.counts
     seat_room =
         let node = of_node t times clock nodes links ds h n j y first' read' in

@@ -1,4 +1,4 @@
--- Where nothing is to be done before a tick, the clock alone goes on, and every turn is refused.
+-- Before a deadline of all ends, a tick changes only the clock, and every turn is refused.
 use Rattle.std.proofs.Common.{◌≡◌, ℕ, zero, suc, ◌+◌, ◌<◌, ◌≤◌, not, ◌&&◌, Bool, true, false, List, [], ◌∷◌, length, map, set, slice_get, is_some, Option, Some, None, refl, sym, ap, ap₂, ◌∙◌, subst, arith, if◌then◌else◌, option_map, nat_eq, eq-eqb}
 use Rattle.std.specs.List.{list_all}
 use Rattle.std.specs.Prelude.{slice_index_or}
@@ -27,7 +27,7 @@ use Rattle.tora_sim.proofs.Turning.{turn_refused}
 use Rattle.tora_sim.proofs.Possibles.{IsImpossible, is_impossible, no_event, read_of}
 use Rattle.tora_sim.proofs.Stores.{is_found}
 
--- what is still up to a tick is still up to an earlier one
+-- an end that is still until a tick is still until an earlier one
 pub earlier : (until before : ℕ) (link : LinkView) → before ≤ until → IsStill until link → IsStill before link
 earlier until before link le h = record {
   opened = h.opened;
@@ -37,7 +37,7 @@ earlier until before link le h = record {
   ticks = λ tick lt. h.ticks tick (omega (arith, lt, le));
 }
 
--- an end that is put where it stood
+-- replacing an end by itself
 pub set_same : (links : List LinkView) (i : ℕ) (x y : LinkView) → i < length links → x ≡ slice_index_or links i x → y ≡ x → set links i y ≡ links
 set_same [] i x y lt read e = absurd (omega (arith, lt))
 set_same (z ∷ links) zero x y lt read e = ap (λ (w : LinkView). w ∷ links) (e ∙ read)
@@ -99,7 +99,7 @@ module _ (t : Topology) (times : Times) (clock : ℕ) (nodes : List NodeView) (l
         pumps = λ n k. at_ends (Pump n k) n k until still (λ e. no_link w n k (not (is_empty (w.ends n k).events) && has_room w n) e) (λ x place first read s. is_impossible w (Pump n k) (pump_without t times clock nodes links ds h n k place x first read (no_event (first_event x.state) s.events)));
       }
 
-  -- nothing is to be done now at the end that stands where this key does
+  -- nothing is to be done at the end with this key
   pub quiet_at : (at : ℕ) (end : ℕ × ℕ) → slice_get (ends_in t) at ≡ Some end → ((link : LinkView) → slice_get links at ≡ Some link → IsStill (clock + 1) link) → IsQuietEnd w end.0 end.1
   quiet_at at end there still = go (slice_get links at) refl (sym (slice_get-map key_of links at) ∙ ap (λ (keys : List (ℕ × ℕ)). slice_get keys at) h.keys ∙ there)
     where

@@ -95,7 +95,7 @@ module _ (t : Topology) (times : Times) (clock : ℕ) (nodes : List NodeView) (l
           subst (λ z. IsStore (state_of t times clock (set nodes j z) links ds)) (sym a)
           (store_set_node n nodes j y disarmed first' at' same' t times clock links ds h)
 
-      -- the receive works
+      -- the receive is not armed
       module _ (m : ℕ) (x : LinkView) (first : IsFirst (is_at f.header.receiver f.header.sender) links m) (read : x ≡ slice_index_or links m x) where
         abbrev k : ℕ
         k = f.header.sender

@@ -1,4 +1,4 @@
--- Tests of a list that go from each item to those behind it, and tests of links by their two numbers.
+-- Tests of each item of a list against the later ones, and tests of links by their two nodes.
 use Rattle.std.proofs.Common.{◌≡◌, refl, sym, ap, ◌∙◌, ℕ, zero, suc, ◌+◌, ◌-◌, ◌<◌, ◌≤◌, ◌==◌, true, ◌||◌, List, [], ◌∷◌, length, take, drop, get_or, arith}
 use Rattle.std.proofs.lemmas.Bool.{or_right}
 use Rattle.std.specs.List.{list_any}
@@ -13,7 +13,7 @@ links-behind links zero e = e
 links-behind [] (suc i) e = e
 links-behind (x ∷ links) (suc i) e = or_right (has_link (link_in x) (links_in links)) (has_repeated_link (links_in links)) (links-behind links i e)
 
--- a link that stands again behind it
+-- a link that is named again later
 pub link-again : (links : List (ℕ × ℕ)) (left : ℕ) (d : ℕ × ℕ) → 0 < left → left ≤ length links
     → true ≡ has_link (link_in (get_or links (left - 1) d)) (links_in (take (length links - (left - 1 + 1)) (drop (left - 1 + 1) links)))
     → true ≡ has_repeated_link (links_in links)

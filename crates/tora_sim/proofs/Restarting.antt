@@ -39,7 +39,7 @@ use Rattle.tora_sim.proofs.NodeEnds.{changed_is}
 
 -- ---- numbers in ascending order
 
--- a number above all goes to the end
+-- a number above all others is added at the end
 at_end : (n : ℕ) (ns : List ℕ) → AllByRecursion (λ (m : ℕ). m < n) ns → with_number n ns ≡ ns ++ n ∷ []
 at_end n [] h = refl
 at_end n (m ∷ ns) h =
@@ -138,7 +138,7 @@ module _ (t : Topology) (times : Times) (clock : ℕ) (nodes : List NodeView) (l
       go None = refl
       go (Some link) = cases link (nat_eq link.node n)
 
-  -- what is read of an end of the node, and of another
+  -- reading an end of the node, and an end of another node
   changes : {A : Type 0} → (f : Option LinkView → A) (new : A) → ((link : LinkView) → f (Some (restarted torn link)) ≡ new) → f None ≡ new
       → ◌≡◌ {A = ℕ → ℕ → A} (λ a k. f (link_at after a k)) (λ a k. if nat_eq a n then new else f (link_at links a k))
   changes {A} f new same none = fun_ext (λ a. fun_ext (λ k. ap f (found_after a k) ∙ go a k (link_at links a k) refl (cases_Bool (nat_eq a n))))

@@ -1,4 +1,4 @@
--- What is read of a link to see whether its world is at rest.
+-- The idle test of a link end, for a world at rest.
 use Rattle.std.proofs.Common.{◌≡◌, refl, sym, ap, ap₂, ◌∙◌, subst, ℕ, zero, suc, ◌<◌, ◌≤◌, ◌&&◌, Bool, true, false, List, [], ◌∷◌, length, drop, get_or, arith, if◌then◌else◌, nat_eq, eqb-true, Option, Some, None, is_some}
 use Rattle.std.specs.Prelude.{not, nat_lt, find, slice_get, MatchOption}
 use Rattle.std.proofs.lemmas.Bool.{and_parts, false_from_ne_true}
@@ -28,7 +28,7 @@ left_over zero (x ∷ xs) lt = refl
 left_over (suc p) [] lt = absurd (omega (arith, lt))
 left_over (suc p) (x ∷ xs) lt = left_over p xs (omega (arith, lt))
 
--- a lane has a cargo just where fewer were pulled than put
+-- a lane has a waiting cargo exactly if fewer were pulled than put
 pub empty_lane : {A : Type 0} (p : ℕ) (xs : List A) (b : Bool) → nat_lt p (length xs) ≡ b → not b ≡ is_empty (drop p xs)
 empty_lane p xs true e = let lt : p < length xs = grind (arith, nat_tests, e) in sym (left_over p xs lt)
 empty_lane p xs false e = let le : length xs ≤ p = grind (arith, nat_tests, e) in ap is_empty (sym (drop_all p xs le))
@@ -60,7 +60,7 @@ module _ (s : SimState) (n k i : ℕ) (x : LinkView) (first : IsFirst (is_at n k
   pub bound_found : bound_life x.state ≡ bound_life ((world_of s).ends n k)
   bound_found = sym (ap (λ o. bound_life (end_in o)) link_found)
 
-  -- the life that is read in the seat of its node, at its place
+  -- the session in the seat of the node, at its index
   module _ (h : IsStore s) (j : ℕ) (y : NodeView) (first_node : IsFirst (is_of n) s.nodes j) (is_node_view : y ≡ get_or s.nodes j y) where
     node_there : slice_get s.nodes j ≡ Some y
     node_there = slice_get-get_or s.nodes j y first_node.within ∙ ap Some (sym is_node_view)

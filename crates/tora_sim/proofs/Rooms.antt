@@ -1,4 +1,4 @@
--- Memory that is taken at the link ends of a node before an item is served.
+-- Memory that is allocated at the link ends of a node before an item is served.
 use Rattle.std.proofs.Common.{◌≡◌, ℕ, zero, suc, ◌<◌, ◌≤◌, ◌+◌, ◌⊎◌, inl, inr, Bool, List, [], ◌∷◌, map, length, set, slice_get, Some, refl, sym, ap, ◌∙◌, subst, arith}
 use Rattle.std.proofs.lemmas.List.{length-map, length-set}
 use Rattle.std.proofs.lemmas.Bool.{cases_eq}
@@ -18,7 +18,7 @@ use Rattle.tora_sim.proofs.FreshEnds.{below_next}
 use Rattle.tora_sim.proofs.UnreadyEnds.{ready_but}
 use Rattle.tora_sim.proofs.Stores.{set_read}
 
--- there is room at the first so many of the node's ends
+-- there is room at the first ends of the node, up to `count`
 pub record RoomMade (before links : List LinkView) (first count : ℕ) : Type 0 where
   pub same : AreAlike before links
   pub room : (place : ℕ) (link : LinkView) → place < count → slice_get links (first + place) ≡ Some link → HasRoom link
@@ -37,7 +37,7 @@ no_room links first = record { same = refl; room = λ place link lt e. absurd (o
 pub same_length : (before links : List LinkView) → AreAlike before links → length links ≡ length before
 same_length before links h = sym (length-map links bare) ∙ ap length h ∙ length-map before bare
 
--- there is room at one end more
+-- there is room at one more end
 pub more_room : (before links after : List LinkView) (first place : ℕ) → RoomMade before links first place → AreAlike links after → HasRoomAt after (first + place) → AreOthersSame links after (first + place) → RoomMade before after first (place + 1)
 more_room before links after first place h e room others = record { same = e ∙ h.same; room = λ j link lt at. go j link at (below_next j place lt) }
   where
@@ -47,17 +47,17 @@ more_room before links after first place h e room others = record { same = e ∙
 
 -- ---- an offer
 
--- a lane in which there is memory, or no list
+-- a lane with memory, or without a list
 pub fits_room : (pulled room : ℕ) (spares : List ℕ) (place : ℕ) → Fits pulled room spares place → (room ≡ 0) ⊎ (pulled + MOST_CARGOES ≤ room)
 fits_room pulled room spares place (inl near) = inl near.0
 fits_room pulled room spares place (inr wide) = inr wide
 
--- another spare list is as whole as it was
+-- another list of the pool has its capacity still
 fits_still : (pulled room : ℕ) (spares after : List ℕ) (place other : ℕ) → (other ≡ place → ⊥) → AreOthersAsWhole spares after place → Fits pulled room spares other → Fits pulled room after other
 fits_still pulled room spares after place other away others (inl near) = inl (near.0, subst (λ (n : ℕ). MOST_CARGOES + NEAR ≤ n) (sym (others other away)) near.1)
 fits_still pulled room spares after place other away others (inr wide) = inr wide
 
--- where there is memory, or no list, and as many spare lists are whole
+-- the ends fit, if they have memory or no list, and the pool has a whole list for each
 pub all_fit : (links : List LinkView) (first count : ℕ) (spares : List ℕ) → HaveRoom links first count → AreWhole spares count → AreFitting links first count spares
 all_fit links first count spares room whole place link lt there = elim (room place link lt there).cargoes [ inl near ↦ inl (near, whole place lt) | inr wide ↦ inr wide ]
 

@@ -5,7 +5,7 @@ use Rattle.tora_world.specs.declared.sim_error.SimError.{SimError}
 use Rattle.tora_world.specs.World.{World}
 use Rattle.tora_sim.specs.Steps.{IsDone, IsRefused, AllAreDone, StopsWith}
 
--- what the rest of the events does is what all of them do
+-- the rest of the events leads to the same world as all of them
 pub record GoesOn (start : World) (events : List Event) (w : World) (rest : List Event) : Type 0 where
   pub done : (after : World) → AllAreDone w rest after → AllAreDone start events after
   pub stops : (error : SimError) (after : World) → StopsWith w rest error after → StopsWith start events error after

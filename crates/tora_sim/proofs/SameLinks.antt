@@ -1,4 +1,4 @@
--- Lists of link ends that differ only in what the order, the places and the settings of the ends do not see.
+-- Lists of link ends that agree in node, peer, seat and settings.
 use Rattle.std.proofs.Common.{◌≡◌, ℕ, zero, suc, ◌<◌, ◌≤◌, ◌+◌, Bool, true, false, ◌&&◌, inl, inr, List, [], ◌∷◌, map, length, get_or, slice_get, Option, Some, None, refl, sym, ap, ap₂, ◌∙◌, subst, arith, cond, is_some, option_map, nat_eq}
 use Rattle.tora_frame.specs.FrameParts.{FrameParts}
 use Rattle.tora_arq.specs.declared.times.Times.{Times}
@@ -125,7 +125,7 @@ store_same t times clock nodes xs ys ds same h = record {
   each_datagram = h.each_datagram;
 }
 
--- ---- what is found after each end changed in place
+-- ---- the result of a search after each end changed in place
 
 pub map_found : (f : LinkView → LinkView) → ((x : LinkView) → IsSameLink x (f x)) → (a k : ℕ) (xs : List LinkView) → link_at (map f xs) a k ≡ option_map f (link_at xs a k)
 map_found f h a k [] = refl
@@ -138,7 +138,7 @@ map_found f h a k (x ∷ xs) = ap₂ (λ (b : Bool) (r : Option LinkView). cond 
 is_itself : (x : LinkView) → IsSameLink x (bare x)
 is_itself x = record { node = refl; peer = refl; seat = refl; settings = refl; pulled = λ q. q }
 
--- what does not see the memory is the same of ends that differ only in it
+-- a function that does not read the memory has the same value for ends that differ only in it
 pub seen_alike : {A : Type 0} → (f : Option LinkView → A) → ((o : Option LinkView) → f (option_map bare o) ≡ f o) → (xs ys : List LinkView) → AreAlike xs ys → ◌≡◌ {A = ℕ → ℕ → A} (λ a k. f (link_at ys a k)) (λ a k. f (link_at xs a k))
 seen_alike {A} f blind xs ys e = fun_ext (λ a. fun_ext (λ k.
     sym (blind (link_at ys a k)) ∙ ap f (sym (map_found bare is_itself a k ys) ∙ ap (λ zs. link_at zs a k) e ∙ map_found bare is_itself a k xs) ∙ blind (link_at xs a k)))

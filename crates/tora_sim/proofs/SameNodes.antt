@@ -1,4 +1,4 @@
--- The nodes that a simulator stores are those of its topology, in their order.
+-- The stored nodes are those of the topology, in their order.
 use Rattle.std.proofs.Common.{◌≡◌, refl, sym, ap, ap₂, ◌∙◌, subst, ℕ, zero, suc, ◌<◌, ◌≤◌, ◌==◌, ◌||◌, ◌&&◌, ◌⊎◌, inl, inr, Bool, true, false, List, [], ◌∷◌, map, length, get_or, cond, find, is_some, Some, None, arith, true≢false, eqb-true, eq-eqb}
 use Rattle.std.proofs.lemmas.Bool.{cases_Bool, or_from}
 use Rattle.std.proofs.lemmas.Bool.Decides.{nat_tests}
@@ -12,7 +12,7 @@ use Rattle.tora_sim.specs.Store.{SimState, IsStore}
 use Rattle.tora_sim.proofs.KeyLists.{found-name}
 use Rattle.tora_sim.proofs.Peers.{StaysInOrder, nodes-ascend}
 
--- ---- two lists in ascending order of the same numbers are one
+-- ---- two ascending lists of the same numbers are equal
 
 here : (n : ℕ) (ns : List ℕ) → has_number n (n ∷ ns) ≡ true
 here n ns = ap (λ b. b || has_number n ns) (eq-eqb n n refl)

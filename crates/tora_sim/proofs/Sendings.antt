@@ -1,4 +1,4 @@
--- The frames of an end go out, one after another.
+-- The frames of a link end are sent, one after another.
 use Rattle.std.proofs.Common.{◌≡◌, ℕ, zero, suc, ◌<◌, inl, inr, ◌||◌, Bool, true, false, not, List, [], ◌∷◌, length, set, is_some, Option, Some, None, refl, sym, ap, ◌∙◌, subst, arith, if◌then◌else◌}
 use Rattle.std.specs.Prelude.{slice_index_or}
 use Rattle.std.proofs.lemmas.List.{get_or-set_same, get_or-set_other, length-set}
@@ -18,13 +18,13 @@ use Rattle.tora_sim.specs.Nodes.{NodeView, is_of}
 use Rattle.tora_sim.specs.Store.{SimState, IsStore, state_of, world_of, link_at}
 use Rattle.tora_sim.specs.Steps.{IsDone, IsRefused, StopsWith, repeats, Happened}
 
--- an end stands at each place within
+-- there is an end at each index below the length
 pub read_there : (links : List LinkView) (i : ℕ) → i < length links → (x : LinkView) × (x ≡ slice_index_or links i x)
 read_there [] i lt = absurd (omega (arith, lt))
 read_there (x ∷ links) zero lt = (x, refl)
 read_there (x ∷ links) (suc i) lt = read_there links i (omega (arith, lt))
 
--- an item that passes the test as well stands where the first one stood
+-- a new item that passes the test is found at the same index
 pub still_first : {A : Type 0} (p : A → Bool) (xs : List A) (i : ℕ) (new : A) → p new ≡ true → IsFirst p xs i → IsFirst p (set xs i new) i
 still_first {A} p xs i new passes h = record {
   within = subst (λ (m : ℕ). i < m) (sym (length-set xs i new)) h.within;
@@ -32,7 +32,7 @@ still_first {A} p xs i new passes h = record {
   before = λ j d lt. ap p (get_or-set_other xs i j new d (λ same. let e : j ≡ i = same in absurd (omega (arith, lt, e)))) ∙ h.before j d lt;
 }
 
--- a place of what is stored is one of what is seen
+-- an index in the stored data is one in its view
 pub end_of : {a b : SimState} (n k at : ℕ) → a ≡ b → IsFirst (is_at n k) b.links at → IsFirst (is_at n k) a.links at
 end_of n k at same h = subst (λ (s : SimState). IsFirst (is_at n k) s.links at) (sym same) h
 
@@ -47,7 +47,7 @@ pub still_node : (n : ℕ) (nodes : List NodeView) (home : ℕ) (x new : NodeVie
 still_node n nodes home x new h read e =
     still_first (is_of n) nodes home new (ap (is_of n) e ∙ subst (λ (z : NodeView). is_of n z ≡ true) (sym read) (h.here x)) h
 
--- it is refused for want of memory: it may be possible
+-- the event is refused because memory ran out, so it may be possible
 pub no_memory : (w : World) (n k : ℕ) (after : World) → IsRefused w (Transmit n k) Refused.Memory after → refusal_of w (Transmit n k) ≡ None
 no_memory w n k after r = elim r.cause [ inl e ↦ e.1 | inr e ↦ absurd (go (is_link w.topology n k) (is_some (frame_due (settings w n k) (w.ends n k) w.clock)) e) ]
   where
@@ -63,7 +63,7 @@ no_memory_then w i after r = elim r.cause [ inl e ↦ e.1 | inr e ↦ absurd (go
     go true e = cc
     go false e = let z : Some Refused.NoDatagram ≡ Some Refused.Memory = e in cc
 
--- it is refused for another cause
+-- the event is refused for another reason
 pub other_cause : (w : World) (event : Event) (error : SimError) (after : World) → (error ≡ Refused.Memory → ⊥) → IsRefused w event error after → is_some (refusal_of w event) ≡ true
 other_cause w event error after other r = elim r.cause [ inl e ↦ absurd (other e.0) | inr e ↦ ap is_some e ]
 
@@ -74,7 +74,7 @@ no_end t times clock nodes links ds h n k none =
     let w = world_of (state_of t times clock nodes links ds) in
     ap (λ (l : Bool). is_some (if l then unless_possible (is_some (frame_due (settings w n k) (w.ends n k) w.clock)) else Some Refused.NoNode)) (h.links n k ∙ ap is_some none)
 
--- ---- of the events these are left
+-- ---- the events that are left
 
 pub record Onward (start : World) (events : List Event) (w : World) (some : Bool) (left : List Event) : Type 0 where
   pub goes : world_after_all w left ≡ world_after_all start events
@@ -84,7 +84,7 @@ pub record Onward (start : World) (events : List Event) (w : World) (some : Bool
 pub begins : (w : World) (events : List Event) → Onward w events w false events
 begins w events = record { goes = refl; any = refl; stops = λ error after h. h }
 
--- what is left of a world is left of one that is the same
+-- the same for an equal store
 pub still_onward : {a b : SimState} (start : World) (events : List Event) (some : Bool) (j : ℕ) (event : Event) → a ≡ b → Onward start events (world_of b) some (repeats j event (world_of b)) → Onward start events (world_of a) some (repeats j event (world_of a))
 still_onward start events some j event same o = subst (λ (s : SimState). Onward start events (world_of s) some (repeats j event (world_of s))) (sym same) o
 
@@ -99,7 +99,7 @@ or_false false = refl
 ended : (start : World) (events : List Event) (w : World) (some : Bool) → Onward start events w some [] → Happened start events w some
 ended start events w some o = record { after_is = o.goes; some_is = sym (or_false some) ∙ o.any }
 
--- it happened
+-- the event happened
 pub again : (start : World) (events : List Event) (w next : World) (some : Bool) (j : ℕ) (event : Event) → Onward start events w some (repeats (suc j) event w) → IsDone w event next → Onward start events next true (repeats j event next)
 unfolding repeats
 again start events w next some j event o d =
@@ -108,14 +108,14 @@ again start events w next some j event o d =
     subst (λ (v : World). Onward start events v true (repeats j event v)) (sym d.world)
     (record { goes = o'.goes; any = sym (or_true some) ∙ o'.any; stops = λ error after h. o'.stops error after (inr (d.accepted, h)) })
 
--- it is refused
+-- the event is refused
 pub refused : (start : World) (events : List Event) (w : World) (some : Bool) (j : ℕ) (event : Event) → Onward start events w some (repeats (suc j) event w) → is_some (refusal_of w event) ≡ true → Happened start events w some
 unfolding repeats
 refused start events w some j event o stop =
     let left : repeats (suc j) event w ≡ [] = ap (λ (b : Bool). if b then [] else event ∷ repeats j event (world_after w event)) stop in
     ended start events w some (subst (λ (l : List Event). Onward start events w some l) left o)
 
--- there is no memory for it
+-- memory ran out for the event
 pub starved_of : (start : World) (events : List Event) (w next : World) (some : Bool) (j : ℕ) (event : Event) → Onward start events w some (repeats (suc j) event w) → refusal_of w event ≡ None → IsRefused w event Refused.Memory next → StopsWith start events Refused.Memory next
 unfolding repeats
 starved_of start events w next some j event o free r =
@@ -130,7 +130,7 @@ pub no_more : (start : World) (events : List Event) (w : World) (some : Bool) (e
 unfolding repeats
 no_more start events w some event o = ended start events w some o
 
--- it is refused at once
+-- the event is refused at once
 pub none_at_all : (w : World) (most : ℕ) (event : Event) → is_some (refusal_of w event) ≡ true → Happened w (repeats most event w) w false
 unfolding repeats
 none_at_all w zero event stop = record { after_is = refl; some_is = refl }

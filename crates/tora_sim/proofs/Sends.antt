@@ -1,4 +1,4 @@
--- The first frame due goes out.
+-- The first due frame is sent.
 use Rattle.std.proofs.Common.{◌≡◌, ℕ, inl, Bool, true, false, List, Some, None, refl, sym, ap, ap₂, ◌∙◌, subst, set, slice_get, is_some, eqb-true, true≢false}
 use Rattle.std.proofs.lemmas.Bool.{and_parts}
 use Rattle.std.specs.Prelude.{slice_index_or}
@@ -68,7 +68,7 @@ module _ (t : Topology) (times : Times) (clock : ℕ) (nodes : List NodeView) (l
   pub transmit_starved : is_some (frame_due x.settings x.state clock) ≡ true → IsRefused w (Happens.Transmit n k) Refused.Memory w
   transmit_starved e = record { cause = inl (refl, possible true e); world = refl }
 
-  -- the node of the end is there
+  -- the node of the end exists
   pub at_home : node_at nodes n ≡ None → ⊥
   at_home e = true≢false (sym (ap (is_node t) (sym ends_of_it.0) ∙ (h.each_link i x at).home) ∙ h.nodes n ∙ ap is_some e)
 

@@ -1,4 +1,4 @@
--- What is known of an item that was served, and of the node's seat after it.
+-- Facts on a served item, and on the node's seat after it.
 use Rattle.std.proofs.Common.{◌≡◌, ℕ, ◌<◌, ◌≤◌, ◌+◌, ◌||◌, inl, inr, Bool, false, List, [], ◌∷◌, length, Option, Some, None, refl, sym, ap, ap₂, ◌∙◌, subst, arith, nat_eq, nat_lt, if◌then◌else◌, eqb-true, MatchOption}
 use Rattle.std.proofs.lemmas.List.{length-map}
 use Rattle.std.proofs.lemmas.Option.{slice_get_within}
@@ -46,7 +46,7 @@ few_inputs before after item offers few own rising served =
     ap (λ v. length v.inputs) (served (answers_in offers) (own offers)) ∙ length-map after.inputs (λ input. (input, item.now)) in
     omega (arith, most, count)
 
--- what stays of a core over all inputs
+-- a property of a core that one input does not change, over all inputs
 pub stays_over : {A : Type 0} → (f : CoreView → A) → ((c : CoreView) (input : Input) (now : ℕ) → f (core_after c input now) ≡ f c) → (c : CoreView) (inputs : List (Input × ℕ)) → f (core_after_all c inputs) ≡ f c
 stays_over f h c [] = refl
 stays_over f h c ((input, now) ∷ inputs) = stays_over f h (core_after c input now) inputs ∙ h c input now
@@ -63,14 +63,14 @@ stays_served f h runs own before after item offers served =
     ap (λ v. f v.seat.core) (sym is) ∙ ap f (runs answers before.core.neighbours (Rows.state_of before) item)
     ∙ stays_over f h before.core (serving_of answers before.core.neighbours (Rows.state_of before) item).inputs
 
--- the lanes stay in their place
+-- the offers do not change the indexes of the lanes
 pub lanes_stay : (ks : List ℕ) (offers : List Offer) (lanes after : LanesView) → AreOffered DidOffer ks lanes offers after → (after.first ≡ lanes.first) × (after.count ≡ lanes.count)
 lanes_stay ks [] lanes after e = (ap (λ (v : LanesView). v.first) e, ap (λ (v : LanesView). v.count) e)
 lanes_stay ks (o ∷ offers) lanes after (between, did, rest) =
     let again = lanes_stay ks offers between after rest in
     (again.0 ∙ ap (λ (v : LanesView). v.first) did.lanes, again.1 ∙ ap (λ (v : LanesView). v.count) did.lanes)
 
--- a packet that was stepped is of the neighbour at the item's seat
+-- a stepped packet is from the neighbour at the item's seat
 pub seat_within : (before after : NodeView) (lanes lanes_after : LanesView) (item : Item) → ((offers : List Offer) → Follows (answers_in offers) [] offers)
     → length before.seat.core.neighbours ≤ lanes.count → IsServed before lanes item after lanes_after
     → (stepped : Option Stepped) → stepped ≡ after.seat.stepped → MatchOption stepped ⊤ (λ _. item.seat < lanes_after.count)
@@ -85,7 +85,7 @@ seat_within before after lanes lanes_after item own le s (Some p) e =
         let lt = slice_get_within before.seat.core.neighbours item.seat k at in
         omega (arith, same, lt, le)
 
--- ---- a core is not refused of the lists of a core within the greatest limits
+-- ---- the lists of a core within the greatest limits are accepted for a new one
 
 no_number : (me : ℕ) (numbers : List ℕ) → AllByRecursion (IsNeighbour me) numbers → has_number me numbers ≡ false
 no_number me [] h = refl

@@ -1,4 +1,4 @@
--- The other ends of a node's links, taken one link after the other.
+-- The other ends of a node's links, one link after another.
 use Rattle.std.proofs.Common.{◌≡◌, ◌≢◌, sym, ap, ◌∙◌, ℕ, ◌+◌, ◌<◌, ◌≤◌, ◌==◌, false, List, ◌∷◌, length, drop, get_or, arith, if◌then◌else◌, eq-eqb}
 use Rattle.std.specs.Prelude.{fold}
 use Rattle.std.proofs.lemmas.Bool.Decides.{nat_tests}
@@ -8,12 +8,12 @@ use Rattle.tora_world.specs.Topology.{other_ends}
 use Rattle.tora_sim.specs.Topologies.{links_in}
 use Rattle.tora_world.proofs.SoundTopology.{length-with_number}
 
--- ---- numbers put at their places one after the other
+-- ---- numbers that are inserted one after another
 
 abbrev pub sorted_on : List ℕ → List ℕ → List ℕ
 sorted_on acc ns = fold (λ sorted n. with_number n sorted) acc ns
 
--- one number more at its place, and one less behind it
+-- one more number is inserted, and one fewer is left
 pub neighbour-put : (acc new rest whole all : List ℕ) (k : ℕ) → new ≡ with_number k acc → whole ≡ k ∷ rest → length acc + length whole ≤ 255 → sorted_on acc whole ≡ all
     → (length new + length rest ≤ 255) × (sorted_on new rest ≡ all)
 neighbour-put acc new rest whole all k put is room e =
@@ -21,7 +21,7 @@ neighbour-put acc new rest whole all k put is room e =
     let b = ap length is in
     (omega (arith, length-with_number k acc), ap (λ xs. sorted_on xs rest) put ∙ sym (ap (sorted_on acc) is) ∙ e)
 
--- ---- the other ends from a place on
+-- ---- the other ends of the links from an index on
 
 pub ends-first : (n : ℕ) (links : List (ℕ × ℕ)) (i : ℕ) (d : ℕ × ℕ) → i < length links → (get_or links i d).0 ≡ n
     → other_ends n (links_in (drop i links)) ≡ (get_or links i d).1 ∷ other_ends n (links_in (drop (i + 1) links))

@@ -1,4 +1,4 @@
--- Ticks of link ends in blocks: what a block's tick tells of its ends, as ticks change.
+-- Deadlines of blocks, and what they show about the ends.
 use Rattle.std.proofs.Common.{◌≡◌, ℕ, zero, suc, ◌+◌, ◌*◌, ◌<◌, ◌≤◌, ◌⊎◌, inl, inr, max, List, length, sym, ap, ◌∙◌, arith}
 use Rattle.std.specs.Prelude.{slice_index}
 use Rattle.tora_sim.specs.Stills.{AreLater, AreBlocks}
@@ -14,7 +14,7 @@ block_at (suc at) = let b = block_at at in go b.0 b.1.0 b.1.1 (below_next at (16
     go block from to (inl less) = (block, (omega (arith, from), omega (arith, less)))
     go block from to (inr last) = (block + 1, (omega (arith, last), omega (arith, last)))
 
--- ---- what a block tells
+-- ---- what the deadline of a block shows
 
 pub all_later : (now until : ℕ) (blocks ends : List ℕ) → AreBlocks blocks ends → ((block : ℕ) → block < length blocks → (now < slice_index blocks block) × (until ≤ slice_index blocks block))
     → (at : ℕ) → at < length ends → (now < slice_index ends at) × (until ≤ slice_index ends at)
@@ -28,7 +28,7 @@ all_later now until blocks ends h all at within = go (block_at at)
         let less = here.0 in
         let le = here.1 in (omega (arith, less, least), omega (arith, le, least))
 
--- the blocks whose ticks are still to come, and their ends
+-- the blocks whose deadlines have not come, and their ends
 pub later_below : (now from to : ℕ) (blocks ends : List ℕ) → AreBlocks blocks ends → AreLater now from to blocks → AreLater now (16 * from) (16 * to) ends
 later_below now from to blocks ends h later at le lt within = go (block_at at)
   where
@@ -39,9 +39,9 @@ later_below now from to blocks ends h later at le lt within = go (block_at at)
         let here = later block (omega (arith, le, end)) (omega (arith, lt, begin)) (omega (arith, begin, within, many)) in
         omega (arith, least, here)
 
--- ---- ends that are passed over
+-- ---- skipped ends
 
--- one end more
+-- one more end
 pub one_more_later : (now from at here : ℕ) (ends : List ℕ) → here ≡ slice_index ends at → now < here → AreLater now from at ends → AreLater now from (at + 1) ends
 one_more_later now from at here ends is less before i le lt within = go (below_next i at lt)
   where
@@ -49,6 +49,6 @@ one_more_later now from at here ends is less before i le lt within = go (below_n
     go (inl l) = before i le l within
     go (inr q) = let same : slice_index ends i ≡ here = ap (slice_index ends) q ∙ sym is in omega (arith, same, less)
 
--- a block within which is looked from a place on
+-- a search that begins within a block
 pub later_from : (now place from to : ℕ) (ends : List ℕ) → AreLater now from to ends → AreLater now (max place from) to ends
 later_from now place from to ends h i le lt within = h i (omega (arith, le)) lt within

@@ -1,4 +1,4 @@
--- Of which link ends it is known until which tick nothing is to be done at them, as ends change.
+-- Deadlines of link ends, as ends change.
 use Rattle.std.proofs.Common.{◌≡◌, ℕ, zero, suc, ◌+◌, ◌<◌, ◌≤◌, ◌⊎◌, inl, inr, Bool, true, false, true≢false, nat_lt, if◌then◌else◌, List, [], ◌∷◌, ◌++◌, map, length, set, slice_get, Option, Some, None, Result, Ok, Err, refl, sym, ap, ◌∙◌, subst, arith, option_map}
 use Rattle.std.specs.Prelude.{replicate, slice_index, slice_index_or}
 use Rattle.std.proofs.Math.Nat.{min-le_left}
@@ -23,7 +23,7 @@ use Rattle.tora_sim.proofs.FreshEnds.{item_at, below_next}
 use Rattle.tora_sim.proofs.Quiets.{earlier, still_tick}
 use Rattle.tora_sim.proofs.Stores.{set_read, map_read}
 
--- ---- a tick as it is kept
+-- ---- a stored deadline
 
 pub short_still : (until : ℕ) (link : LinkView) → IsStillIf until link → IsStillIf (short until) link
 short_still until link s some = let le = min-le_left until 4294967295 in earlier until (short until) link le (s (omega (arith, some, le)))
@@ -43,7 +43,7 @@ none_known clock n stills links e many = record {
       absurd (omega (arith, lt, nothing));
 }
 
--- ---- what is known is used
+-- ---- using a deadline
 
 pub still_now : (clock : ℕ) (stills : List ℕ) (links : List LinkView) → AreStillEach clock stills links → (at : ℕ) (link : LinkView) → clock < slice_index stills at → slice_get links at ≡ Some link → IsStill (clock + 1) link
 still_now clock stills links h at link lt there = earlier (slice_index stills at) (clock + 1) link (omega (arith, lt)) (h.still at link lt there)
@@ -55,7 +55,7 @@ all_still now until stills links h all i x there =
     let at = all i (omega (arith, within, many)) in
     earlier (slice_index stills i) until x at.1 (h.still i x at.0 there)
 
--- ---- what is known of one end
+-- ---- the deadline of one end
 
 pub known_here : (now : ℕ) (stills after : List ℕ) (links : List LinkView) (place until : ℕ) (x : LinkView) → after ≡ set stills place until → place < length stills → slice_get links place ≡ Some x → IsStillIf until x → AreStillEach now stills links → AreStillEach now after links
 known_here now stills after links place until x e within there s h = record {
@@ -76,7 +76,7 @@ known_here now stills after links place until x e within there s h = record {
         let old : slice_index (set stills place until) at ≡ slice_index stills at = get_or-set_other stills place at until 0 off in
         subst (λ (n : ℕ). IsStill n link) (sym (ap (λ (ys : List ℕ). slice_index ys at) e ∙ old)) (h.still at link (subst (λ (n : ℕ). now < n) old lt) found)
 
--- ---- the clock goes on
+-- ---- the clock advances
 
 pub later_still : (clock now : ℕ) (stills : List ℕ) (links : List LinkView) → clock ≤ now → AreStillEach clock stills links → AreStillEach now stills links
 later_still clock now stills links le h = record { as_many = h.as_many; still = λ at link lt there. h.still at link (omega (arith, lt, le)) there }
@@ -92,7 +92,7 @@ ticked_still clock now stills links after le e h = record {
 
 -- ---- ends that change
 
--- an end at which something is to be done now: of it nothing was known
+-- an end at which something is to be done now: its deadline has come
 pub possible_still : (clock : ℕ) (stills : List ℕ) (links : List LinkView) (at : ℕ) (x new : LinkView) → at < length links → x ≡ slice_index_or links at x → ((until : ℕ) → clock < until → IsStill until x → ⊥) → AreStillEach clock stills links
     → AreStillEach clock stills (set links at new)
 possible_still clock stills links at x new within read never h = record { as_many = h.as_many ∙ sym (length-set links at new); still = λ j y lt there. go j y lt (set_read links at new j y there) }
@@ -101,7 +101,7 @@ possible_still clock stills links at x new within read never h = record { as_man
     go j y lt (inl p) = absurd (never (slice_index stills j) lt (h.still j x lt (ap (slice_get links) p.0 ∙ slice_get_read links (length links) at x refl within read)))
     go j y lt (inr old) = h.still j y lt old
 
--- an end of which nothing is known
+-- an end without a deadline
 pub unknown_still : (clock : ℕ) (stills : List ℕ) (links : List LinkView) (at : ℕ) (new : LinkView) → slice_index stills at ≡ 0 → AreStillEach clock stills links → AreStillEach clock stills (set links at new)
 unknown_still clock stills links at new nothing h = record { as_many = h.as_many ∙ sym (length-set links at new); still = λ j y lt there. go j y lt (set_read links at new j y there) }
   where
@@ -109,7 +109,7 @@ unknown_still clock stills links at new nothing h = record { as_many = h.as_many
     go j y lt (inl p) = let zero_there : slice_index stills j ≡ 0 = ap (slice_index stills) p.0 ∙ nothing in absurd (omega (arith, lt, zero_there))
     go j y lt (inr old) = h.still j y lt old
 
--- an end that changed, of which it is found until which tick nothing is to be done at it
+-- an end that changed, with its new deadline
 pub found_still : (clock : ℕ) (stills after : List ℕ) (links : List LinkView) (at until : ℕ) (new : LinkView) → at < length links → after ≡ set stills at until → IsStillIf until new → AreStillEach clock stills links → AreStillEach clock after (set links at new)
 found_still clock stills after links at until new within e s h = record {
   as_many = ap length e ∙ length-set stills at until ∙ h.as_many ∙ sym (length-set links at new);
@@ -136,7 +136,7 @@ found_still clock stills after links at until new within e s h = record {
         let same : slice_index (set stills at until) j ≡ slice_index stills j = get_or-set_other stills at j until 0 off in
         subst (λ (n : ℕ). IsStill n y) (sym (ap (λ (ys : List ℕ). slice_index ys j) e ∙ same)) (old_end j y (subst (λ (n : ℕ). clock < n) same lt) off (set_read links at new j y there))
 
--- ends that are each as still as they were
+-- all ends stay as still as they were
 pub mapped_still : (clock : ℕ) (stills : List ℕ) (links after : List LinkView) (f : LinkView → LinkView) → after ≡ map f links → ((until : ℕ) (x : LinkView) → IsStill until x → IsStill until (f x)) → AreStillEach clock stills links → AreStillEach clock stills after
 mapped_still clock stills links after f e keeps h = record {
   as_many = h.as_many ∙ sym (ap length e ∙ length-map links f);
@@ -159,7 +159,7 @@ alike_still clock stills links after e h = record {
         let s : IsStill (slice_index stills at) (bare x) = h.still at x lt read in
         subst (λ (z : LinkView). IsStill (slice_index stills at) z) same s
 
--- ---- ends of a node, of which nothing is known
+-- ---- ends of a node without deadlines
 
 pub one_forgotten : (before stills : List ℕ) (at : ℕ) → AreForgotten before stills at 1 → slice_index stills at ≡ 0
 one_forgotten before stills at f = let here : at + 0 ≡ at = omega arith in subst (λ (n : ℕ). slice_index stills n ≡ 0) here (f.here 0 (omega arith))
@@ -194,7 +194,7 @@ one_more_forgotten before stills after first place within e f = record {
         let old : slice_index (set stills (first + place) 0) at ≡ slice_index stills at = get_or-set_other stills (first + place) at 0 0 off in
         subst (λ (n : ℕ). (n ≡ 0) ⊎ (n ≡ slice_index before at)) (sym old) (f.others at)
 
--- so many ends changed, of which nothing is known
+-- the `count` ends from an index on changed, and have no deadlines
 pub changed_still : (clock : ℕ) (stills : List ℕ) (before links : List LinkView) (change : LinkView → LinkView) (first count : ℕ) → ((place : ℕ) → place < count → slice_index stills (first + place) ≡ 0) → AreChanged change before links first count → AreStillEach clock stills before
     → AreStillEach clock stills links
 changed_still clock stills before links change first count nothing c h = record {
@@ -216,7 +216,7 @@ changed_still clock stills before links change first count nothing c h = record 
 pub all_but : (clock : ℕ) (stills : List ℕ) (links : List LinkView) (first count : ℕ) → AreStillEach clock stills links → AreStillBut clock stills links first count
 all_but clock stills links first count h = record { as_many = h.as_many; still = λ at link lt there free. h.still at link lt there }
 
--- where no cargo waits behind an offer, none waited before it
+-- if no cargo waits after an offer, none waited before it
 pub none_before : (pulled : ℕ) (cargoes more : List Cargo) → nat_lt pulled (length (cargoes ++ more)) ≡ false → nat_lt pulled (length cargoes) ≡ false
 none_before pulled cargoes more e =
     let all = ltb-false pulled (length (cargoes ++ more)) e in
@@ -251,7 +251,7 @@ all_offers clock stills ks first count (o ∷ offers) lanes after f n (between, 
     (subst (λ (v : LanesView). AreStillBut clock stills v.links first count) (sym did.lanes)
     (offered_at clock stills lanes.links first count (place_of o.to ks) (lanes.first + place_of o.to ks) did.link o.cargo o.put here within did.there h))
 
--- a packet that was stepped changes nothing of what is known
+-- a recorded packet does not affect deadlines
 noted_at : (clock : ℕ) (stills : List ℕ) (links : List LinkView) (first count at : ℕ) (x new : LinkView) → slice_get links at ≡ Some x → has_cargo x ≡ has_cargo new → ((until : ℕ) → IsStill until x → IsStill until new) → AreStillBut clock stills links first count
     → AreStillBut clock stills (set links at new) first count
 noted_at clock stills links first count at x new there lane keeps h = record {
@@ -271,7 +271,7 @@ noted_but clock stills first count lanes seat (Some p) links (link, there, is) h
     let new : LinkView = record link { steps = link.steps ++ record { life = p.life; packet = p.packet } ∷ [] } in
     subst (λ (xs : List LinkView). AreStillBut clock stills xs first count) (sym is) (noted_at clock stills lanes.links first count (lanes.first + seat) link new there refl (λ until s. s) h)
 
--- of the ends of the node in whose lane no cargo waits, and of all others, what was known is still so
+-- after a turn, the deadlines of other nodes' ends and of ends without a waiting cargo still hold
 turned_but : (clock : ℕ) (stills : List ℕ) (node y : NodeView) (links after : List LinkView) (r : Result (Unit {0}) SimError) (first count : ℕ) → first ≡ node.first → count ≡ node.count → Turns node links r y after → AreStillBut clock stills links first count
     → AreStillBut clock stills after first count
 turned_but clock stills node y links after (Ok u) first count f n d h =
@@ -279,7 +279,7 @@ turned_but clock stills node y links after (Ok u) first count f n d h =
     (all_offers clock stills node.seat.core.neighbours first count d.served.offers (record { links = links; first = node.first; count = node.count }) d.lanes (sym f) (sym n) d.served.offered h)
 turned_but clock stills node y links after (Err e) first count f n d h = subst (λ (xs : List LinkView). AreStillBut clock stills xs first count) (sym d.2) h
 
--- the same of ends that have other memory
+-- deadlines hold for ends that differ only in their memory
 pub alike_but : (clock : ℕ) (stills : List ℕ) (links after : List LinkView) (first count : ℕ) → AreAlike links after → AreStillBut clock stills links first count → AreStillBut clock stills after first count
 alike_but clock stills links after first count e h = record {
   as_many = h.as_many ∙ sym (length-map links bare) ∙ sym (ap length e) ∙ length-map after bare;
@@ -293,7 +293,7 @@ alike_but clock stills links after first count e h = record {
         let s : IsStill (slice_index stills at) (bare x) = h.still at x lt read (λ place less w. ap has_cargo same ∙ free place less w) in
         subst (λ (z : LinkView). IsStill (slice_index stills at) z) same s
 
--- where what is said of the node's ends is said of them without the memory that they have
+-- the deadlines after a turn, when the turn is stated for the node's ends without their memory
 pub turned_still : (clock : ℕ) (stills : List ℕ) (node y : NodeView) (links after : List LinkView) (r : Result (Unit {0}) SimError) → Turns node (bare_between node.first node.count links) r y (bare_between node.first node.count after) → AreStillBut clock stills links node.first node.count
     → AreStillBut clock stills after node.first node.count
 turned_still clock stills node y links after r d h =

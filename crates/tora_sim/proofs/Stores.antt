@@ -1,4 +1,4 @@
--- What is stored, and the functions that it is, after a change of one link end or one node.
+-- The stored data and the functions of the world that it represents, after a change of one link end or one node.
 use Rattle.std.proofs.Common.{◌≡◌, ℕ, zero, suc, ◌<◌, ◌≤◌, ◌+◌, Bool, true, false, ◌&&◌, ◌⊎◌, inl, inr, List, [], ◌∷◌, ◌++◌, map, length, get_or, set, slice_get, Option, Some, None, refl, sym, ap, ap₂, ◌∙◌, subst, arith, cond, find, is_some, if◌then◌else◌, nat_eq, eqb-true, eq-eqb, true≢false}
 use Rattle.std.proofs.lemmas.Bool.{cases_Bool, and_parts}
 use Rattle.std.proofs.lemmas.Bool.Decides.{nat_tests}
@@ -67,9 +67,9 @@ each_map P f k [] h j y e = h j y e
 each_map P f k (x ∷ xs) h zero y e = let is : f x ≡ y = cc in subst P is (k x (h zero x refl))
 each_map P f k (x ∷ xs) h (suc j) y e = each_map P f k xs (λ m z q. h (suc m) z q) j y e
 
--- ---- the order of items stays where an item takes the place of one with the same number
+-- ---- the order of items is kept if an item is replaced by one with the same number
 
--- in the order a new item stands as the old one
+-- the new item is in the same order to the others as the old one
 pub record StandsAs {A : Type 0} (Before : A → A → Type 0) (x new : A) : Type 0 where
   pub after : (y : A) → Before y x → Before y new
   pub before : (y : A) → Before x y → Before new y
@@ -117,7 +117,7 @@ ordered_map {A} Before f k xs h a b d lt within =
     got (y ∷ ys) zero less = refl
     got (y ∷ ys) (suc j) less = got ys j (omega arith)
 
--- what is read after one item took the place of another
+-- reading an item after one item was replaced
 pub set_read : {A : Type 0} → (xs : List A) (i : ℕ) (new : A) (j : ℕ) (x : A) → slice_get (set xs i new) j ≡ Some x → ((j ≡ i) × (new ≡ x)) ⊎ (slice_get xs j ≡ Some x)
 set_read [] i new j x e = inr e
 set_read (y ∷ ys) zero new zero x e = inl (refl, cc)
@@ -130,7 +130,7 @@ set_read (y ∷ ys) (suc i) new (suc j) x e = elim (set_read ys i new j x e) [ i
 turned : (a b : ℕ) → nat_eq a b ≡ nat_eq b a
 turned a b = grind (arith, nat_tests)
 
--- the new one is at the same place
+-- the new end has the same key and index
 pub record IsSameLink (x new : LinkView) : Type 0 where
   pub node : new.node ≡ x.node
   pub peer : new.peer ≡ x.peer
@@ -153,19 +153,19 @@ ends_map t links f same y h = record {
       (ap (λ (z : LinkView). z.node) (sym o.2) ∙ (same o.0).node ∙ told.0, ap (λ (z : LinkView). z.peer) (sym o.2) ∙ (same o.0).peer ∙ told.1);
 }
 
--- what is read of each link end by its node and peer, as its life file is
+-- reading each link end by its node and peer
 pub each_at : {A : Type 0} (read : ℕ → ℕ → Option LinkView → A) (xs ys : ℕ → ℕ → Option LinkView)
     → ((a b : ℕ) → ◌≡◌ {A = ℕ → ℕ → A} (λ m j. read a b (xs m j)) (λ m j. read a b (ys m j)))
     → ◌≡◌ {A = ℕ → ℕ → A} (λ a b. read a b (xs a b)) (λ a b. read a b (ys a b))
 each_at {A} read xs ys same = fun_ext (λ a. fun_ext (λ b. ap (λ (g : ℕ → ℕ → A). g a b) (same a b)))
 
--- the keys stay where an end takes the place of one with the same key
+-- the keys are kept if an end is replaced by one with the same key
 pub keys_set : (links : List LinkView) (i : ℕ) (x new : LinkView) → slice_get links i ≡ Some x → key_of new ≡ key_of x → map key_of (set links i new) ≡ map key_of links
 keys_set [] i x new e q = refl
 keys_set (z ∷ links) zero x new e q = let is : z ≡ x = cc in ap (λ (key : ℕ × ℕ). key ∷ map key_of links) (q ∙ ap key_of (sym is))
 keys_set (z ∷ links) (suc i) x new e q = ap (λ (keys : List (ℕ × ℕ)). key_of z ∷ keys) (keys_set links i x new e q)
 
--- the keys stay where each end is changed in place
+-- the keys are kept if each end is changed in place
 pub keys_map : (f : LinkView → LinkView) → ((x : LinkView) → key_of (f x) ≡ key_of x) → (links : List LinkView) → map key_of (map f links) ≡ map key_of links
 keys_map f same [] = refl
 keys_map f same (x ∷ links) = ap₂ (λ (key : ℕ × ℕ) (keys : List (ℕ × ℕ)). key ∷ keys) (same x) (keys_map f same links)
@@ -196,7 +196,7 @@ module _ (n k : ℕ) (links : List LinkView) (i : ℕ) (x new : LinkView) (first
           other_after (is_at a b) links i x new there off (new_at a b ∙ off)
           ∙ sym (ap (λ c. if c then Some new else link_at links a b) f)
 
-  -- what is read of each end changes at this one
+  -- a function of each end changes only at this one
   pub link_changes : {A : Type 0} → (f : Option LinkView → A) → ◌≡◌ {A = ℕ → ℕ → A} (λ a b. f (link_at (set links i new) a b)) (put_at (λ a b. f (link_at links a b)) n k (f (Some new)))
   link_changes {A} f = fun_ext (λ a. fun_ext (λ b. ap f (found_now a b) ∙ go a b (nat_eq a n && nat_eq b k)))
     where
@@ -204,7 +204,7 @@ module _ (n k : ℕ) (links : List LinkView) (i : ℕ) (x new : LinkView) (first
       go a b true = refl
       go a b false = refl
 
-  -- what is the same of the old one and the new one stays at each end
+  -- a function with the same value for the old and the new end does not change
   pub link_stays : {A : Type 0} → (f : Option LinkView → A) → f (Some new) ≡ f (Some x) → ◌≡◌ {A = ℕ → ℕ → A} (λ a b. f (link_at (set links i new) a b)) (λ a b. f (link_at links a b))
   link_stays {A} f e = fun_ext (λ a. fun_ext (λ b. ap f (found_now a b) ∙ go a b (cases_Bool (nat_eq a n && nat_eq b k))))
     where
@@ -236,7 +236,7 @@ module _ (n k : ℕ) (links : List LinkView) (i : ℕ) (x new : LinkView) (first
         before = λ y b. elim b [ inl lt ↦ inl (subst (λ m. m < y.node) (sym same.node) lt) | inr p ↦ inr (same.node ∙ p.0, subst (λ m. m < y.peer) (sym same.peer) p.1) ];
       }
 
-  -- at each place there was one of the same node and peer
+  -- at each index there was an end with the same key
   was : (j : ℕ) (link : LinkView) → slice_get (set links i new) j ≡ Some link → (old : LinkView) × (slice_get links j ≡ Some old) × (old.node ≡ link.node) × (old.peer ≡ link.peer)
   was j link q = elim (set_read links i new j link q) [ inl e ↦ (x, ap (slice_get links) e.0 ∙ there, sym same.node ∙ ap (λ (z : LinkView). z.node) e.1, sym same.peer ∙ ap (λ (z : LinkView). z.peer) e.1) | inr e ↦ (link, e, refl, refl) ]
 
@@ -314,7 +314,7 @@ module _ (n : ℕ) (nodes : List NodeView) (i : ℕ) (x new : NodeView) (first :
           ap (λ c. f a (if c then Some new else node_at nodes a)) r
           ∙ sym (ap (λ c. if c then f n (Some new) else f a (node_at nodes a)) r)
 
-  -- what is read of each node, by its number too
+  -- a function of each node and its number does not change
   pub node_stays_by : {A : Type 0} → (f : ℕ → Option NodeView → A) → f n (Some new) ≡ f n (Some x) → ◌≡◌ {A = ℕ → A} (λ a. f a (node_at (set nodes i new) a)) (λ a. f a (node_at nodes a))
   node_stays_by {A} f e = fun_ext (λ a. ap (f a) (found_node a) ∙ go a (cases_Bool (nat_eq a n)))
     where
@@ -368,7 +368,7 @@ module _ (n : ℕ) (nodes : List NodeView) (i : ℕ) (x new : NodeView) (first :
     each_datagram = h.each_datagram;
   }
 
--- ---- a datagram more
+-- ---- one more datagram
 
 pub store_push : (t : Topology) (times : Times) (clock : ℕ) (nodes : List NodeView) (links : List LinkView) (ds : List FrameParts) (f : FrameParts) → IsOfLink t f → IsStore (state_of t times clock nodes links ds) → IsStore (state_of t times clock nodes links (ds ++ f ∷ []))
 store_push t times clock nodes links ds f p h = record {

@@ -1,4 +1,4 @@
--- A node's core takes its items, one after another.
+-- The turns of a node's core, one after another.
 use Rattle.std.proofs.Common.{◌≡◌, ℕ, suc, ◌+◌, ◌<◌, ◌≤◌, ◌-◌, ◌==◌, ◌⊎◌, inl, inr, Bool, true, false, not, List, [], ◌∷◌, ◌++◌, length, set, slice_get, is_some, Option, Some, None, Result, Ok, Err, MatchResult, refl, sym, ap, ◌∙◌, subst, arith, if◌then◌else◌}
 use Rattle.std.specs.Prelude.{slice_index_or, find}
 use Rattle.std.specs.declared.alloc.AllocError.{AllocError}
@@ -37,13 +37,13 @@ use Rattle.tora_sim.proofs.StillEnds as Still
 use Rattle.tora_sim.proofs.Turning.{turn_refused, turn_starved, between_does, between_store}
 use Rattle.tora_sim.proofs.UnreadyEnds.{turned_place}
 
--- what is said of the place of a node's ends is said of an equal one
+-- a property of the index and the count of a node's ends holds for equal numbers
 pub placed : (P : ℕ → ℕ → Type 0) (first count f n : ℕ) → first ≡ f → count ≡ n → P f n → P first count
 placed P first count f n a b h = subst (λ (m : ℕ). P m count) (sym a) (subst (λ (m : ℕ). P f m) (sym b) h)
 
 -- ---- the memory for one more item
 
--- there is room at each end, where there is at each but one, and that one is ready
+-- there is room at each end, if there is at each but one, and that one is ready
 pub room_known : (links : List LinkView) (first count seat : ℕ) (range : Unready) → AreReadyOutside links first count range → IsOutside range seat → HaveRoomBut links first count seat → HaveRoom links first count
 room_known links first count seat range ready out room place link lt there = go (cases_eq place seat)
   where
@@ -51,11 +51,11 @@ room_known links first count seat range ready out room place link lt there = go 
     go (inl q) = room_of link (ready place link lt (subst (λ (m : ℕ). IsOutside range m) (sym q) out) there)
     go (inr off) = room place link lt off there
 
--- or that one is none of the node's
+-- there is room at each end, if the one without room is not an end of the node
 pub room_beyond : (links : List LinkView) (first count seat : ℕ) → count ≤ seat → HaveRoomBut links first count seat → HaveRoom links first count
 room_beyond links first count seat le room place link lt there = room place link lt (λ q. omega (arith, le, lt, q)) there
 
--- or there is room at it now
+-- there is room at each end, if room was made at the one without it
 pub room_made : (links after : List LinkView) (first count seat : ℕ) → AreOthersSame links after (first + seat) → HasRoomAt after (first + seat) → HaveRoomBut links first count seat → HaveRoom after first count
 room_made links after first count seat others here room place link lt there = go (cases_eq place seat)
   where
@@ -63,7 +63,7 @@ room_made links after first count seat others here room place link lt there = go
     go (inl q) = here link (ap (λ (m : ℕ). slice_get after (first + m)) (sym q) ∙ there)
     go (inr off) = room place link lt off (sym (others (first + place) (λ (e : first + place ≡ first + seat). off (omega (arith, e)))) ∙ there)
 
--- what is known of the others stays so
+-- the others have their room still
 pub room_still : (links after : List LinkView) (first count seat : ℕ) → AreOthersSame links after (first + seat) → HaveRoomBut links first count seat → HaveRoomBut after first count seat
 room_still links after first count seat others room place link lt off there =
     room place link lt off (sym (others (first + place) (λ (e : first + place ≡ first + seat). off (omega (arith, e)))) ∙ there)
@@ -75,7 +75,7 @@ ready_still links after first count seat range others inside ready place link lt
 pub others_still : (links after : List LinkView) (first count seat : ℕ) → seat < count → AreOthersSame links after (first + seat) → AreOthersKept links after first count
 others_still links after first count seat lt others at away = others at (λ (q : at ≡ first + seat). away seat lt q)
 
--- ---- how many ends there are
+-- ---- the number of ends
 
 offers_many : (ks : List ℕ) (offers : List Offer) (lanes after : LanesView) → AreOffered DidOffer ks lanes offers after → length after.links ≡ length lanes.links
 offers_many ks [] lanes after e = ap (λ (v : LanesView). length v.links) e
@@ -99,7 +99,7 @@ turned_node : (x y : NodeView) (links after : List LinkView) (r : Result (Unit {
 turned_node x y links after (Ok u) d = (ap (λ (z : NodeView). z.node) d.served.node, ap length d.served.neighbours)
 turned_node x y links after (Err e) d = (ap (λ (z : NodeView). z.node) d.1, ap (λ (z : NodeView). length z.seat.core.neighbours) d.1)
 
--- ---- what is known of the node and the ends
+-- ---- facts on the node and the ends so far
 
 pub none_taken : (x : NodeView) (links : List LinkView) (range : Unready) (seat : ℕ) → length x.seat.core.neighbours ≡ x.count → AreReady (lanes_of links x.first x.count) range → AreTaken x links x links range seat
 none_taken x links range seat many ready = record {
@@ -120,7 +120,7 @@ module _ (x0 x : NodeView) (links0 links links1 : List LinkView) (range : Unread
       others at (λ place lt q. let f = h.first in let n = h.count in away place (omega (arith, lt, n)) (omega (arith, q, f)))
       ∙ h.others at away
 
-  -- memory was taken
+  -- memory was allocated
   pub roomed : AreReadyOutside links1 x.first x.count range → HaveRoomBut links1 x.first x.count seat → AreTaken x0 links0 x links1 range seat
   roomed ready room = record {
     node = h.node;
@@ -149,7 +149,7 @@ module _ (x0 x : NodeView) (links0 links links1 : List LinkView) (range : Unread
         ∙ same_length links links1 alike
         ∙ h.many
 
-    -- an item was served, or there was no memory for it
+    -- an item was served, or memory ran out for it
     pub taken_on : (after : Unready) (but : ℕ) → AreReadyOutside links2 x.first x.count after → HaveRoomBut links2 x.first x.count but → AreOthersKept links1 links2 x.first x.count → AreTaken x0 links0 y links2 after but
     taken_on after but ready room kept =
         let place = turned_place x y old new r d in
@@ -172,9 +172,9 @@ module _ (x0 x : NodeView) (links0 links links1 : List LinkView) (range : Unread
               (Still.alike_but clock stills links links1 x0.first x0.count alike (h.still clock stills each))))));
         }
 
--- ---- the events of which this is made
+-- ---- the events of a call of `turn_all`
 
--- what is left of the events behind some of them
+-- the events that are left after some of them
 pub record Goes (t : Topology) (times : Times) (clock : ℕ) (nodes : List NodeView) (links0 : List LinkView) (ds : List FrameParts) (n home most : ℕ) (x : NodeView) (links : List LinkView) (some : Bool) (left : ℕ) : Type 0 where
   pub store : IsStore (state_of t times clock (set nodes home x) links ds)
   pub events : Onward (world_of (state_of t times clock nodes links0 ds)) (repeats most (CoreTurn n) (world_of (state_of t times clock nodes links0 ds))) (world_of (state_of t times clock (set nodes home x) links ds)) some
@@ -192,7 +192,7 @@ none_gone t times clock nodes links ds n home most x h first read =
           (begins w (repeats most (CoreTurn n) w));
     }
 
--- it is refused for want of memory: it may be possible
+-- the turn is refused because memory ran out, so it may be possible
 pub no_memory_turn : (w : World) (n : ℕ) (after : World) → IsRefused w (CoreTurn n) Refused.Memory after → refusal_of w (CoreTurn n) ≡ None
 no_memory_turn w n after r = elim r.cause [ inl e ↦ e.1 | inr e ↦ absurd (go (is_node w.topology n) (is_empty (w.items n)) e) ]
   where
@@ -229,12 +229,12 @@ module _ (t : Topology) (times : Times) (clock : ℕ) (nodes : List NodeView) (l
         (other_cause w (CoreTurn n) Refused.NotPossible w (λ e. let z : Refused.NotPossible ≡ Refused.Memory = e in cc) (turn_refused t times clock now_nodes links ds g.store n home x first_now read_now none));
   }
 
-  -- as many are taken as may be
+  -- the greatest number of turns was taken
   pub enough_taken : Goes t times clock nodes links0 ds n home most x links some 0 → Takes (state_of t times clock nodes links0 ds) (state_of t times clock now_nodes links ds) n most (Ok some)
   enough_taken g = record { store = g.store; events = no_more start events w some (CoreTurn n) g.events }
 
   module _ (left : ℕ) (g : Goes t times clock nodes links0 ds n home most x links some (suc left)) (waits : 0 < length x.items) (links1 : List LinkView) (alike : AreAlike links links1) where
-    -- there is no memory for what the next one may put
+    -- memory ran out for what the next item may put
     pub room_refused : Takes (state_of t times clock nodes links0 ds) (state_of t times clock now_nodes links1 ds) n most (Err Refused.Memory)
     room_refused =
         let r = turn_starved t times clock now_nodes links ds g.store n home x first_now read_now waits links1 alike in
@@ -256,7 +256,7 @@ module _ (t : Topology) (times : Times) (clock : ℕ) (nodes : List NodeView) (l
           subst (λ (zs : List NodeView). IsStore (state_of t times clock zs links2 ds)) once
           (between_store t times clock now_nodes links ds g.store n home x first_now read_now links1 alike y links2 r d)
 
-      -- the next one is served
+      -- the next item is served
       pub one_taken : (u : Unit {0}) → Turns x (bare_between x.first x.count links1) (Ok u) y (bare_between x.first x.count links2) → Goes t times clock nodes links0 ds n home most y links2 true left
       one_taken u d = record {
         store = store_next (Ok u) d;
@@ -265,7 +265,7 @@ module _ (t : Topology) (times : Times) (clock : ℕ) (nodes : List NodeView) (l
             (between_does t times clock now_nodes links ds g.store n home x first_now read_now links1 alike y links2 (Ok u) waits d));
       }
 
-      -- there was no memory for it
+      -- memory ran out for the next item
       pub one_refused : (e : SimError) → Turns x (bare_between x.first x.count links1) (Err e) y (bare_between x.first x.count links2)
           → Takes (state_of t times clock nodes links0 ds) (state_of t times clock (set nodes home y) links2 ds) n most (Err e)
       one_refused e d =
@@ -280,7 +280,7 @@ module _ (t : Topology) (times : Times) (clock : ℕ) (nodes : List NodeView) (l
 
 -- ---- one item
 
--- an event that is possible, once at most
+-- a possible event, at most once
 pub at_most_one : (before after : SimState) (event : Event) (r : Result Bool AllocError) → refusal_of (world_of before) event ≡ None → Repeats before 1 event r after → MatchResult r (λ _. IsDone (world_of before) event (world_of after)) (λ _. IsRefused (world_of before) event Refused.Memory (world_of after))
 unfolding repeats
 at_most_one before after event (Ok some) free h =
@@ -293,18 +293,18 @@ at_most_one before after event (Err e) free h =
     let stops : StopsWith w (event ∷ []) Refused.Memory (world_of after) = subst (λ (es : List Event). StopsWith w es Refused.Memory (world_of after)) events h in
     elim stops [ inl r ↦ r | inr none ↦ absurd none.1 ]
 
--- none is asked for
+-- no event was requested
 pub none_asked : (w : World) (most : ℕ) (event : Event) → most ≡ 0 → Happened w (repeats most event w) w false
 unfolding repeats
 none_asked w most event none = subst (λ (m : ℕ). Happened w (repeats m event w) w false) (sym none) (record { after_is = refl; some_is = refl })
 
--- there is no memory for the first one
+-- memory ran out for the first event
 pub starved_at_once : (w next : World) (most n : ℕ) → 0 < most → IsRefused w (CoreTurn n) Refused.Memory next → StopsWith w (repeats most (CoreTurn n) w) Refused.Memory next
 starved_at_once w next most n some r =
     let left : most ≡ suc (most - 1) = omega (arith, some) in
     starved_of w (repeats most (CoreTurn n) w) w next false (most - 1) (CoreTurn n) (subst (λ (m : ℕ). Onward w (repeats most (CoreTurn n) w) w false (repeats m (CoreTurn n) w)) left (begins w (repeats most (CoreTurn n) w))) (no_memory_turn w n next r) r
 
--- so the events are of a world of which others are told: the same before it, and the same behind it
+-- the same events from an equal world, with equal worlds after them
 pub taken_between : (before : SimState) (other after last : SimState) (n most : ℕ) (r : Result Bool SimError) → world_of other ≡ world_of before → world_of last ≡ world_of after → Takes other after n most r
     → MatchResult r (λ some. Happened (world_of before) (repeats most (CoreTurn n) (world_of before)) (world_of last) some) (λ error. StopsWith (world_of before) (repeats most (CoreTurn n) (world_of before)) Refused.Memory (world_of last))
 taken_between before other after last n most (Ok some) same end d =

@@ -1,4 +1,4 @@
--- Every link end is ticked but those that the tick does not change.
+-- All link ends are ticked, except those that the tick does not change.
 use Rattle.std.proofs.Common.{◌≡◌, ℕ, zero, suc, ◌+◌, ◌-◌, ◌<◌, ◌≤◌, ◌⊎◌, inl, inr, min, List, [], ◌∷◌, map, length, set, slice_get, Some, refl, sym, ap, ◌∙◌, subst, arith}
 use Rattle.std.specs.Prelude.{slice_index, slice_index_or}
 use Rattle.std.proofs.lemmas.Option.{none-some, same_Some, slice_get_read, slice_get_within}
@@ -27,11 +27,11 @@ ticked_at now place links x new link within read e there =
     ap (λ (z : LinkView). set links place z) (e ∙ ap (ticked now) same)
 
 module _ (now first place count : ℕ) (before links : List LinkView) (h : AreChanged (ticked now) before links first place) (lt : place < count) (within : first + count ≤ length before) where
-  -- an end whose turn is still to come is as it was
+  -- an end that was not ticked yet is as still as before
   pub known_still : (stills : List ℕ) → AreStillFrom first now stills before → (link : LinkView) → now < slice_index stills (first + place) → slice_get links (first + place) ≡ Some link → IsStill (slice_index stills (first + place)) link
   known_still stills s link less there = s (first + place) link (omega arith) less (was (ticked now) before links first place count h lt within link (read_of links (first + place) link there))
 
-  -- one end more
+  -- one more end
   pub one_ticked : (after : List LinkView) → ((link : LinkView) → slice_get links (first + place) ≡ Some link → after ≡ set links (first + place) (ticked now link)) → AreChanged (ticked now) before after first (place + 1)
   one_ticked after e =
       let as_many = h.as_many in
@@ -41,7 +41,7 @@ module _ (now first place count : ℕ) (before links : List LinkView) (h : AreCh
 
 -- ---- blocks
 
--- ends whose ticks are still to come
+-- ends whose deadlines have not come
 pub block_same : (now first count : ℕ) (stills : List ℕ) (links : List LinkView) → length stills ≡ length links → AreStillFrom first now stills links → AreLater now first (first + count) stills → AreChanged (ticked now) links links first count
 block_same now first count stills links many s later = record {
   as_many = refl;
@@ -52,7 +52,7 @@ block_same now first count stills links many s later = record {
   rest = λ i link away there. there;
 }
 
--- all ends of a block, of which there may be fewer
+-- all ends of a block, which may have fewer than 16
 pub whole_block : (now first count : ℕ) (before links : List LinkView) → count ≡ min 16 (length before - first) → AreChanged (ticked now) before links first count → AreChanged (ticked now) before links first 16
 whole_block now first count before links e h = record {
   as_many = h.as_many;
@@ -60,7 +60,7 @@ whole_block now first count before links e h = record {
   rest = λ i link away there. h.rest i link (λ place lt q. away place (omega (arith, lt, e)) q) there;
 }
 
--- the ends behind those that are ticked are as still as they were
+-- the ends after those that were ticked are as still as before
 pub still_behind : (now first : ℕ) (stills : List ℕ) (before links : List LinkView) → AreStillEach now stills before → AreChanged (ticked now) before links 0 first → AreStillFrom first now stills links
 still_behind now first stills before links s h at link from less there =
     let within = slice_get_within links at link there in
@@ -70,7 +70,7 @@ still_behind now first stills before links s h at link from less there =
     let same : old.0 ≡ link = same_Some old.0 link (sym (h.rest at old.0 away old.1) ∙ there) in
     subst (λ (z : LinkView). IsStill (slice_index stills at) z) same (s.still at old.0 less old.1)
 
--- the ends of a block more
+-- the ends of one more block
 pub more_ticked : (now first count many : ℕ) (before between links : List LinkView) → first + count ≡ many → AreChanged (ticked now) before between 0 first → AreChanged (ticked now) between links first count → AreChanged (ticked now) before links 0 many
 more_ticked now first count many before between links e h k = record {
   as_many = k.as_many ∙ h.as_many;

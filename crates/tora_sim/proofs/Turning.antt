@@ -1,4 +1,4 @@
--- A node's core serves the first item of its lane.
+-- A node's core serves the first item of its queue.
 use Rattle.std.proofs.Common.{◌≡◌, ℕ, zero, suc, ◌<◌, ◌≤◌, ◌+◌, ◌⊎◌, ◌||◌, inl, inr, Bool, true, false, true≢false, not, nat_eq, eqb-true, eq-eqb, List, [], ◌∷◌, ◌++◌, map, length, set, slice_get, Option, Some, None, refl, sym, ap, ◌∙◌, subst, arith, is_some, if◌then◌else◌, Result, Ok, Err, MatchResult}
 use Rattle.std.proofs.lemmas.List.{drop-append-le}
 use Rattle.std.proofs.lemmas.Bool.{cases_Bool}
@@ -188,7 +188,7 @@ module _ (t : Topology) (times : Times) (clock : ℕ) (nodes : List NodeView) (l
         subst (λ xs. IsStore (state_of t times clock (set nodes i y) xs ds)) (sym links_is)
         (store_set_node n nodes i x y first at.place same t times clock after ds (given_store t times clock nodes links ds h n x at.node at.ends at.count s.offers steps))
 
--- ---- a turn, with the memory for it taken before
+-- ---- a turn for which memory was allocated before
 
 module _ (t : Topology) (times : Times) (clock : ℕ) (nodes : List NodeView) (links : List LinkView) (ds : List FrameParts) (h : IsStore (state_of t times clock nodes links ds))
     (n i : ℕ) (x : NodeView) (first : IsFirst (is_of n) nodes i) (read : x ≡ slice_index_or nodes i x) (roomy : List LinkView) (alike : AreAlike links roomy) where
@@ -211,7 +211,7 @@ module _ (t : Topology) (times : Times) (clock : ℕ) (nodes : List NodeView) (l
       subst (λ (zs : List NodeView). IsStore (state_of t times clock zs links' ds)) (sym (same_nodes t times clock nodes links ds h n i x first read y d.1))
       (subst (λ (xs : List LinkView). IsStore (state_of t times clock nodes xs ds)) (sym d.2) roomy_store)
 
--- ---- where what is said of the node's ends is said of them without the memory that they have
+-- ---- a turn that is stated for the node's ends without their memory
 
 module _ (t : Topology) (times : Times) (clock : ℕ) (nodes : List NodeView) (links : List LinkView) (ds : List FrameParts) (h : IsStore (state_of t times clock nodes links ds))
     (n i : ℕ) (x : NodeView) (first : IsFirst (is_of n) nodes i) (read : x ≡ slice_index_or nodes i x) (roomy : List LinkView) (alike : AreAlike links roomy) where

@@ -1,4 +1,4 @@
--- All that is known of a world, where an event leaves its link ends or its datagrams as they were.
+-- The invariant of a world, after an event that does not change its link ends or its datagrams.
 use Rattle.std.proofs.Common.{◌≡◌, ℕ, Bool, List, sym, subst}
 use Rattle.tora_arq.specs.declared.times.Times.{Times}
 use Rattle.tora_frame.specs.FrameParts.{FrameParts}

@@ -54,7 +54,7 @@ one_more_remarked links but before marks after first place within (mark, e, told
     marked_at p link (inl less) (inr off) there on = u.here p link less there (sym (set_other marks (first + place) (first + p) mark off) ∙ on)
     marked_at p link (inr same) (inr off) there on = absurd (off (ap (λ (m : ℕ). first + m) same))
 
--- an end more is looked at
+-- one more end is checked
 pub one_more_left : (marks : List Bool) (first at : ℕ) (before after : Unready) → ((place : ℕ) → place < at → IsOutside before place → slice_get marks (first + place) ≡ Some true)
     → ((other : ℕ) → IsOutside after other → IsOutside before other) → (IsOutside after at → slice_get marks (first + at) ≡ Some true)
     → (place : ℕ) → place < at + 1 → IsOutside after place → slice_get marks (first + place) ≡ Some true
@@ -79,7 +79,7 @@ pub ok_room : {P : Type 0} → (r : Result (Unit {0}) SimError) → is_err r ≡
 ok_room (Ok u) e h = h
 ok_room (Err r) e h = absurd (true≢false e)
 
--- there is room at each end of the node, and those outside the range are ready
+-- there is room at each end of the node, and the ends outside the range are ready
 pub before_turn : (marks : List Bool) (links : List LinkView) (left : Unready) (first count f n : ℕ) → first ≡ f → count ≡ n → f + n ≤ length links → ((place : ℕ) → place < count → IsOutside left place → slice_get marks (first + place) ≡ Some true)
     → AreReadyEach marks links → HaveRoom links first count → AreReady (lanes_of links f n) left
 before_turn marks links left first count f n e d within here each room = record {
@@ -107,7 +107,7 @@ ready_noted lanes place stepped links range after (link, there, is) wider here h
     subst (λ (xs : List LinkView). AreReadyOutside xs lanes.first lanes.count after) (sym is)
     (ready_but lanes.links lanes.first lanes.count place range after (record link { steps = link.steps ++ record { life = stepped.life; packet = stepped.packet } ∷ [] }) wider here h)
 
--- the lanes stay in their place, so that what is said of the ends is said of the node's
+-- the lanes keep their indexes, so a fact on their ends is one on the node's ends
 pub ready_turned : (before after : NodeView) (v lanes : LanesView) (item : Item) (links : List LinkView) (first count : ℕ) (range : Unready) → v.first ≡ first → v.count ≡ count → IsServed before v item after lanes → AreReadyOutside links lanes.first lanes.count range
     → AreReadyOutside links first count range
 ready_turned before after v lanes item links first count range f n s h =
@@ -118,7 +118,7 @@ pub ready_same : (v lanes : LanesView) (links : List LinkView) (first count : �
 ready_same v lanes links first count range f n e h =
     subst (λ (m : ℕ). AreReadyOutside links m count range) (ap (λ (z : LanesView). z.first) e ∙ f) (subst (λ (m : ℕ). AreReadyOutside links lanes.first m range) (ap (λ (z : LanesView). z.count) e ∙ n) h)
 
--- there is room at each end but one, also behind a packet that is noted there
+-- there is room at each end but one, also after a packet was recorded there
 pub room_noted : (lanes : LanesView) (place : ℕ) (stepped : Stepped) (links : List LinkView) → IsNoted lanes place (Some stepped) links → HaveRoom lanes.links lanes.first lanes.count → HaveRoomBut links lanes.first lanes.count place
 room_noted lanes place stepped links (link, there, is) room p x lt off at =
     room p x lt (sym (set_other lanes.links (lanes.first + place) (lanes.first + p) (record link { steps = link.steps ++ record { life = stepped.life; packet = stepped.packet } ∷ [] }) (λ q. off (omega (arith, q)))) ∙ sym (ap (λ (xs : List LinkView). slice_get xs (lanes.first + p)) is) ∙ at)
@@ -133,7 +133,7 @@ pub room_same : (v lanes : LanesView) (links : List LinkView) (first count but :
 room_same v lanes links first count but f n e h =
     subst (λ (m : ℕ). HaveRoomBut links m count but) (ap (λ (z : LanesView). z.first) e ∙ f) (subst (λ (m : ℕ). HaveRoomBut links lanes.first m but) (ap (λ (z : LanesView). z.count) e ∙ n) h)
 
--- ---- a turn leaves all ends of other nodes as they are
+-- ---- a turn does not change the ends of other nodes
 
 offers_leave : (ks : List ℕ) (first count : ℕ) (offers : List Offer) (lanes after : LanesView) → lanes.first ≡ first → lanes.count ≡ count → AreOffered DidOffer ks lanes offers after → AreOthersKept lanes.links after.links first count
 offers_leave ks first count [] lanes after f n e at away = ap (λ (v : LanesView). slice_get v.links at) e
@@ -158,9 +158,9 @@ served_leaves x y v lanes item stepped links first count f n s w e at away =
     noted_leaves first count lanes item.seat stepped links (stay.0 ∙ f) (stay.1 ∙ n) w e at away
     ∙ offers_leave x.seat.core.neighbours first count s.offers v lanes f n s.offered at away
 
--- ---- what is known after a turn
+-- ---- facts after a turn
 
--- a cargo waits at no end of the node outside the range
+-- no cargo waits at an end of the node outside the range
 pub forgotten_of_node : (links : List LinkView) (before stills : List ℕ) (first count : ℕ) (range : Unready) → AreReadyOutside links first count range → AreForgottenWhere links before stills (first + range.from) (range.behind - range.from)
     → AreForgottenWhere links before stills first count
 forgotten_of_node links before stills first count range h f = record {
@@ -179,7 +179,7 @@ forgotten_of_node links before stills first count range h f = record {
         let same : first + range.from + (place - range.from) ≡ first + place = omega (arith, more) in
         ap (slice_index stills) (sym same) ∙ f.here (place - range.from) link (omega (arith, more, less)) (ap (slice_get links) same ∙ there) waits
 
--- the ends that are marked are ready: those of the node outside the range, and those of other nodes that were
+-- the marked ends are ready: those of the node outside the range, and those of other nodes that were marked before
 pub ready_after : (before links : List LinkView) (was marks : List Bool) (first count seat but : ℕ) (range : Unready) → ((place : ℕ) → place < count → place ≡ seat → first + place ≡ but) → HaveRoomBut links first count seat → range.behind ≤ count → length links ≡ length before → AreOthersKept before links first count → AreReadyOutside links first count range
     → AreRemarked links but was marks (first + range.from) (range.behind - range.from) → AreReadyEach was before → AreReadyEach marks links
 ready_after before links was marks first count seat but range seated roomy small many others out_ready u each = record {

@@ -1,4 +1,4 @@
--- A walk that is made hop by hop.
+-- A walk, hop by hop.
 use Rattle.std.proofs.Common.{◌≡◌, ◌≢◌, ℕ, zero, suc, ◌==◌, Bool, false, List, [], ◌∷◌, ◌++◌, Option, None, Some, if◌then◌else◌, sym, ap, ◌∙◌, refl, append_assoc, eq-eqb, arith}
 use Rattle.std.proofs.lemmas.Bool.Decides.{nat_tests}
 use Rattle.std.specs.Prelude.{option_map}
@@ -12,7 +12,7 @@ none_before (Some after) = refl
 other : (m n : ℕ) → m ≢ n → (m == n) ≡ false
 other m n e = grind (arith, nat_tests)
 
--- nodes were met before this one, from which at most so many hops are left
+-- these nodes were passed before this one, from which at most this many hops are left
 module _ (w : World) (d node : ℕ) (nodes new : List ℕ) (all : Option (List ℕ)) (put : new ≡ nodes ++ node ∷ []) where
   pub at_end : (left : ℕ) → option_map (λ after. nodes ++ after) (walk_within left w node d) ≡ all → node ≡ d → Some new ≡ all
   at_end zero e is = ap Some put ∙ sym (ap (λ (b : Bool). option_map (λ after. nodes ++ after) (if b then Some (node ∷ []) else None)) (eq-eqb node d is)) ∙ e

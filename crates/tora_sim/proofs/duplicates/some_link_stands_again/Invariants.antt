@@ -3,7 +3,7 @@ use Rattle.tora_world.specs.Topology.{has_repeated_link}
 use Rattle.tora_sim.specs.Topologies.{links_in}
 use Rattle.tora_sim.proofs.duplicates.some_link_stands_again.Given as goal
 
--- no link that was taken stands again behind it
+-- no link so far is named again later
 abbrev pub invariant-loop-left : goal.invariant-loop-left
 invariant-loop-left l = record {
   within : l.left ≤ length l.links;

@@ -9,12 +9,12 @@ use Rattle.tora_world.specs.World.{owner_of}
 use Rattle.tora_sim.specs.Files.{disk_of, IsDrawn}
 use Rattle.tora_sim.proofs.first.new_parts.Goals as goal
 
--- no number is drawn yet
+-- no session number is drawn yet
 drawn_none : (disk : LifeDisk) → IsDrawn 0 disk
 drawn_none (Opened owner numbers s) = omega arith
 drawn_none (Unopened owner s) = tt
 
--- the owner stays, whether the file opens or not
+-- the owner is the same, whether the file opens or not
 same_owner : (owner : Owner) (r : Result Numbers LifeError) (s : State) → owner_in (opened_as owner r s) ≡ owner
 same_owner owner (Ok numbers) s = refl
 same_owner owner (Err e) s = refl

@@ -2,7 +2,7 @@ use Rattle.std.proofs.Common.{◌≡◌, ◌≤◌, length}
 use Rattle.tora_sim.proofs.Named.{ends_from}
 use Rattle.tora_sim.proofs.link_nodes.has_many_neighbours.Given as goal
 
--- the other ends in the links that were taken
+-- the other ends of the links so far
 abbrev pub invariant-loop-left : goal.invariant-loop-left
 invariant-loop-left l = record {
   within : l.left ≤ length l.links;

@@ -5,7 +5,7 @@ use Rattle.tora_sim.specs.Topologies.{links_in}
 use Rattle.tora_sim.proofs.Sound.{sorted_on}
 use Rattle.tora_sim.proofs.link_nodes.neighbours_of.Given as goal
 
--- the other ends of the rest, put to those so far, are all neighbours
+-- the other ends of the remaining links, added to those so far, are all neighbours
 abbrev pub invariant-loop-link : goal.invariant-loop-link
 invariant-loop-link l = record {
   room : length l.neighbours.items + length (other_ends l.n (links_in (drop l.link-index l.links))) ≤ 255;

@@ -5,6 +5,6 @@ use Rattle.tora_sim.proofs.looks.look_at_sixteen.Given as goal
 abbrev pub invariant-loop-dues : goal.invariant-loop-dues
 invariant-loop-dues l = (length l.stills ≡ length l.initial.stills) × AreStillEach l.now l.stills l.links.items
 
--- the lowest bit goes each time
+-- each turn of the loop clears the lowest bit
 abbrev pub decreases-loop-dues : goal.decreases-loop-dues
 decreases-loop-dues l = l.dues

@@ -2,6 +2,6 @@ use Rattle.std.proofs.Common.{ℕ, ◌+◌, ◌<◌, ◌≤◌}
 use Rattle.std.specs.Prelude.{slice_index}
 use Rattle.tora_sim.proofs.stills.first_tick.Given as goal
 
--- no tick so far is before that one
+-- `until` is at most each tick so far
 abbrev pub invariant-loop-place : goal.invariant-loop-place
 invariant-loop-place l = (at : ℕ) → l.first ≤ at → at < l.first + l.place → l.until ≤ slice_index l.ends.items at

@@ -2,7 +2,7 @@ use Rattle.std.proofs.Common.{◌≡◌, ℕ, List, set, sym, ap, ◌∙◌, sub
 use Rattle.std.proofs.lemmas.List.{set-get_or}
 use Rattle.tora_sim.proofs.stills.keep_still.Goals as goal
 
--- the same tick again
+-- the deadline is unchanged
 pub returns-then-index-until : goal.returns-then-index-until
 returns-then-index-until c =
     let ends = c.stills.inside.ends.items in

@@ -2,7 +2,7 @@ use Rattle.std.proofs.Common.{◌≤◌, ◌-◌, length}
 use Rattle.tora_sim.specs.Stills.{AreLater}
 use Rattle.tora_sim.proofs.stills.next_in.Given as goal
 
--- the ticks so far are still to come
+-- the ticks so far have not come
 abbrev pub invariant-loop-next : goal.invariant-loop-next
 invariant-loop-next l = (l.from ≤ l.next) × AreLater l.now l.from l.next l.ticks.items
 

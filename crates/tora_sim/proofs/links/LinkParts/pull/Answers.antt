@@ -13,7 +13,7 @@ use Rattle.tora_sim.proofs.links.LinkParts.pull.Goals as goal
 pub next-cargo-requires : goal.next-cargo-requires
 next-cargo-requires c = subst (λ (v : LinkView). v.pulled < length v.put) (sym c.self.view_is) c.requires
 
--- there is no memory
+-- memory ran out
 pub invariant_of-self : goal.invariant_of-self
 invariant_of-self c =
     let same = c.hand_in.ensures.same c.if-not-hand_in.true in (

@@ -5,7 +5,7 @@ no_first : {A : Type 0} (items : List A) → None ≡ slice_get items 0 → item
 no_first [] none = refl
 no_first (item ∷ items) none = absurd cc
 
--- the first of those behind so many, and the others
+-- the first item after those that were taken, and the items after it
 first_of : {A : Type 0} (list : List A) (taken : ℕ) (item : A) → Some item ≡ slice_get (drop taken list) 0 → drop taken list ≡ item ∷ drop (suc taken) list
 first_of [] zero item is = absurd cc
 first_of [] (suc taken) item is = absurd cc

@@ -56,7 +56,7 @@ returns-then-receive c =
 pub keep_still-requires : goal.keep_still-requires
 keep_still-requires c = omega (arith, c.in-Some-place_near.ensures.first.within, c.self.invariant.1.as_many)
 
--- ---- there is no memory
+-- ---- memory ran out
 
 module _ (c : goal.In_default-receive_and_look) where
   home_first : IsFirst (is_of c.in-Some.frame.header.receiver) c.self.inside.nodes.items c.in-Some-node_near.home
@@ -87,7 +87,7 @@ returns-in_default-receive_and_look c =
       world = ap (λ (xs : List LinkView). world_of (state_of s.topology s.times s.clock s.nodes.items xs s.datagrams.items)) (stays c);
     })
 
--- ---- it is taken in
+-- ---- the frame is handled
 
 pub invariant_of-self-2 : goal.invariant_of-self-2
 invariant_of-self-2 c =

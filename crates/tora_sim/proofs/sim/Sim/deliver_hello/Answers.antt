@@ -22,7 +22,7 @@ place_near-requires-clause-keys c = c.self.invariant.2 ∙ sym c.self.invariant.
 pub keep_still-requires : goal.keep_still-requires
 keep_still-requires c = omega (arith, c.in-Some-place_near.ensures.first.within, c.self.invariant.1.as_many)
 
--- ---- there is no memory
+-- ---- memory ran out
 
 module _ (c : goal.In_default-receive_hello_and_look) where
   stays : slice_set c.self.inside.links.items c.in-Some-place_near.at c.receive_hello_and_look.new.self ≡ c.self.inside.links.items
@@ -38,7 +38,7 @@ returns-in_default-receive_hello_and_look-clause-same c _ =
     let s = c.self.inside in
     ap (λ (xs : List LinkView). state_of s.topology s.times s.clock s.nodes.items xs s.datagrams.items) (stays c) ∙ c.self.view_is
 
--- ---- it is taken in
+-- ---- the HELLO is handled
 
 pub invariant_of-self-2 : goal.invariant_of-self-2
 invariant_of-self-2 c =

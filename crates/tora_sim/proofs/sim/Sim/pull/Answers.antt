@@ -28,7 +28,7 @@ returns-then-not-has_cargo c =
 waits : (x y : LinkView) → x ≡ y → nat_lt x.pulled (length x.put) ≡ true → y.pulled < length y.put
 waits x y same h = subst (λ (z : LinkView). z.pulled < length z.put) same (ltb-true x.pulled (length x.put) h)
 
--- ---- there is no memory
+-- ---- memory ran out
 
 module _ (c : goal.Then-not-pull) where
   stays : slice_set c.self.inside.links.items c.in-Some.at c.pull.new.self ≡ c.self.inside.links.items
@@ -52,7 +52,7 @@ returns-then-not-pull c =
       world = ap (λ (xs : List LinkView). world_of (state_of s.topology s.times s.clock s.nodes.items xs s.datagrams.items)) (stays c);
     })
 
--- ---- it is pulled
+-- ---- the cargo is pulled
 
 pub invariant_of-self-2 : goal.invariant_of-self-2
 invariant_of-self-2 c =

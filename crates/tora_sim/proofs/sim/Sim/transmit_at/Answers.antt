@@ -19,7 +19,7 @@ use Rattle.tora_sim.proofs.StillEnds.{possible_still}
 use Rattle.tora_sim.proofs.ReadyEnds.{kept_as}
 use Rattle.tora_sim.proofs.sim.Sim.transmit_at.Goals as goal
 
--- an end of which no frame is due stays as it is
+-- an end with no due frame is unchanged
 nothing_sent : (links : List LinkView) (i clock : ℕ) (x link : LinkView) → i < length links → x ≡ slice_index_or links i x → after_transmit x.settings x.state clock ≡ x.state → link ≡ with_state x (after_transmit x.settings x.state clock) → set links i link ≡ links
 nothing_sent links i clock x link within read stays e = set_same links i x link within read (e ∙ ap (with_state x) stays)
 
@@ -108,7 +108,7 @@ returns-clause-done c =
     c.args.home c.index_mut-2.result.now (node_of c.args._n c.args.home c.self.view_is c.requires.node) c.index_mut-2.ensures.value c.in-Some.frame (due c)
     c.send.new.self c.note_sent.new.node c.note_sent.new.datagrams.items c.in-Some.ensures.state c.note_sent.ensures.node (all c))
 
--- ---- the places stay
+-- ---- the indexes are unchanged
 
 pub returns-then-not-has_frame_due-clause-end : goal.returns-then-not-has_frame_due-clause-end
 returns-then-not-has_frame_due-clause-end c = end_of c.args._n c.args._k c.args.at c.self.view_is c.requires.end

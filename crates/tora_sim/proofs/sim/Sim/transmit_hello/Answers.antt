@@ -19,7 +19,7 @@ use Rattle.tora_sim.proofs.ReadyEnds.{kept_as}
 use Rattle.tora_sim.proofs.Unchanged.{datagrams_stay, links_stay}
 use Rattle.tora_sim.proofs.sim.Sim.transmit_hello.Goals as goal
 
--- ---- there is no memory, or no HELLO is due first
+-- ---- memory ran out, or the first due frame is not a HELLO
 
 pub invariant_of-self : goal.invariant_of-self
 invariant_of-self c =
@@ -37,7 +37,7 @@ returns-then-is_err-clause-end c = end_of c.args._n c.args._k c.args.at c.self.v
 pub returns-then-is_err-clause-node : goal.returns-then-is_err-clause-node
 returns-then-is_err-clause-node c = node_of c.args._n c.args.home c.self.view_is c.requires.node
 
--- an end of which no HELLO is due first stays as it is
+-- an end whose first due frame is not a HELLO is unchanged
 module _ (c : goal.In_default) where
   stays : slice_set c.self.inside.links.items c.args.at c.send_hello.new.self ≡ c.self.inside.links.items
   stays = set_same c.self.inside.links.items c.args.at c.index_mut.result.now c.send_hello.new.self (end_of c.args._n c.args._k c.args.at c.self.view_is c.requires.end).within c.index_mut.ensures.value c.in_default.ensures.none
@@ -62,7 +62,7 @@ returns-in_default-clause-end c =
 pub returns-in_default-clause-node : goal.returns-in_default-clause-node
 returns-in_default-clause-node c = node_of c.args._n c.args.home c.self.view_is c.requires.node
 
--- ---- a HELLO goes out
+-- ---- a HELLO is sent
 
 module _ (c : goal.After-self-2-1) where
   due : frame_due c.index_mut.result.now.settings c.index_mut.result.now.state c.self.inside.clock ≡ Some (frame_of c.in-Some.header Hello)

@@ -18,7 +18,7 @@ use Rattle.std.proofs.lemmas.List.{get_or-set_same}
 use Rattle.tora_sim.proofs.Unchanged.{datagrams_stay, links_stay}
 use Rattle.tora_sim.proofs.sim.Sim.transmit_pair.Goals as goal
 
--- ---- nothing went out
+-- ---- nothing was sent
 
 pub invariant_of-self : goal.invariant_of-self
 invariant_of-self c =
@@ -29,7 +29,7 @@ invariant_of-self c =
     (links_stay s.topology s.times s.clock s.nodes.items s.links.items s.datagrams.items s.keys.items s.stills s.ready.items c.self.invariant links stays) c.send_pair.new.datagrams.items
     (ap (λ (d : DatagramList). d.items) c.in_default.ensures.datagrams)
 
--- ---- both frames went out, and more may be due
+-- ---- both frames were sent, and more may be due
 
 pub invariant_of-self-then-self-until : goal.invariant_of-self-then-self-until
 invariant_of-self-then-self-until c =
@@ -55,7 +55,7 @@ returns-then-self-until-clause-done c =
           c.args.home c.index-2.result.now (node_of c.args._n c.args.home c.self.view_is c.requires.node) c.index-2.ensures (sym c.sending.ensures ∙ c.in-Goes.is) c.data_frames_are_what_was_submitted.ensures.frame c.send_pair.new.self c.send_pair.new.datagrams.items c.in-Some.ensures.sent),
     )
 
--- ---- both frames went out, and no more is due
+-- ---- both frames were sent, and no more is due
 
 pub invariant_of-self-2 : goal.invariant_of-self-2
 invariant_of-self-2 c =

@@ -1,6 +1,6 @@
 use Rattle.tora_sim.proofs.topology.Topology.choose.Goals as goal
 
--- what is kept of the links does not speak of choices
+-- the invariant of the links does not mention choices
 pub invariant_of-self : goal.invariant_of-self
 invariant_of-self c = record {
   numbers = record { links = c.self.invariant.numbers.links; destinations = c.self.invariant.numbers.destinations };
