@@ -1,4 +1,4 @@
--- What was put so far, and what is put for the rest.
+-- The items that were put so far, and those for the rest of the input.
 use Rattle.std.proofs.Common.{◌≡◌, ◌<◌, ◌≤◌, ℕ, true, false, ◌==◌, List, [], ◌∷◌, ◌++◌, length, Option, Some, None, refl, sym, ap, ◌∙◌, arith, subst, append_assoc, ◌+◌, drop, get_or, add-one}
 use Rattle.std.specs.Prelude.{is_some}
 use Rattle.std.specs.Io.KnownBytes.{Consumes, Keeps}
@@ -46,11 +46,11 @@ put_none tell a = (sym (append-nil a.0.put), refl, (refl, refl))
 pub bytes_at : (i : ℕ) (bytes : List ℕ) → i < length bytes → drop i bytes ≡ get_or bytes i 0 ∷ drop (i + 1) bytes
 bytes_at i bytes h = rw (drop-cons bytes i 0 h, add-one) refl
 
--- a byte that ends no line
+-- a byte other than LF
 pub byte_goes : (rest left : List ℕ) (c : ℕ) → (c == 10) ≡ false → put_from rest (c ∷ left) ≡ put_from (rest ++ c ∷ []) left
 byte_goes rest left c h = rw h refl
 
--- a byte that ends the line
+-- an LF
 pub line_goes : (rest left : List ℕ) (c : ℕ) → (c == 10) ≡ true → put_from rest (c ∷ left) ≡ put_for (asked_in rest) (put_from [] left)
 line_goes rest left c h = rw h refl
 
@@ -66,7 +66,7 @@ pushed tell text bytes left before after line next c p other holds = record {
   goes = λ more. p.goes more ∙ ap (λ (t : List What). whats p.items ++ t) (byte_goes p.rest (left ++ more) c other);
 }
 
--- what is put from the line on, once the line asks this
+-- the items from a line on, by the command of the line
 asks : (p : List ℕ) (left : List ℕ) (c : ℕ) (command : Command) → (c == 10) ≡ true → command ≡ asked_in p → put_from p (c ∷ left) ≡ put_for command (put_from [] left)
 asks p left c command h e = line_goes p left c h ∙ ap (λ (k : Command). put_for k (put_from [] left)) (sym e)
 
@@ -106,13 +106,13 @@ ended tell text bytes left before mid after line next c command Ends.Gone p at e
   )),
 )
 
--- an answer that ends it
+-- an answer that ends reading
 pub stopped : {C : Type 0} (tell : C → ℕ → C → Type 0) (text bytes left : List ℕ) (before mid after : InEnd × C) (line next : Line) (c : ℕ) (command : Command) (answer : Option CommandsEnd) → (p : Putting tell text bytes before mid line (c ∷ left)) → (c == 10) ≡ true
     → command ≡ asked_in p.rest → DidPut tell command mid after answer → is_some answer ≡ true → PutsAll tell text bytes before after next answer
 stopped tell text bytes left before mid after line next c command None p at e d some = absurd cc
 stopped tell text bytes left before mid after line next c command (Some end) p at e d some = ended tell text bytes left before mid after line next c command end p at e d
 
--- an answer that does not
+-- an answer that does not end reading
 pub went_on : {C : Type 0} (tell : C → ℕ → C → Type 0) (text bytes left : List ℕ) (before mid after : InEnd × C) (line next : Line) (c : ℕ) (command : Command) (answer : Option CommandsEnd) → (p : Putting tell text bytes before mid line (c ∷ left)) → (c == 10) ≡ true
     → command ≡ asked_in p.rest → DidPut tell command mid after answer → is_some answer ≡ false → Holds next [] → Putting tell text bytes before after next left
 went_on tell text bytes left before mid after line next c command None p at e d none holds = lined tell text bytes left before mid after line next c command p at e d holds
@@ -120,7 +120,7 @@ went_on tell text bytes left before mid after line next c command (Some end) p a
 
 -- ---- the last line
 
--- nothing follows quit
+-- nothing follows Quit
 pub quits : {C : Type 0} (tell : C → ℕ → C → Type 0) (before after : InEnd × C) → DidPut tell Asks.Quit before after None → ⊥
 quits tell before after d = too_long (whats d.0) (d.2 (Tells.Quit ∷ Tells.Quit ∷ []))
   where
@@ -131,7 +131,7 @@ pub nothing_asked : asked_in [] ≡ Asks.Unknown
 unfolding asked_by is_word after id_of number_of
 nothing_asked = refl
 
--- Quit behind nothing, where the last line is empty
+-- if the last line is empty, only Quit is put
 pub empty_last : {C : Type 0} (tell : C → ℕ → C → Type 0) (text : List ℕ) (before after : InEnd × C) (answer : Option CommandsEnd) → text ≡ [] → DidPut tell Asks.Quit before after answer → PutsLast tell text before after answer
 empty_last tell text before after None e d = quits tell before after d
 empty_last tell text before after (Some Ends.Quit) e d = (
@@ -143,7 +143,7 @@ empty_last tell text before after (Some Ends.End) e d = d
 empty_last tell text before after (Some Ends.Read) e d = d
 empty_last tell text before after (Some Ends.Gone) e d = ([], before.1, d.0, d.1, d.2, put_from text [], refl)
 
--- the last line, and Quit behind it
+-- the item of the last line, and then Quit
 pub last_then : {C : Type 0} (tell : C → ℕ → C → Type 0) (text : List ℕ) (before mid after : InEnd × C) (command : Command) (answer : Option CommandsEnd) → command ≡ asked_in text → DidPut tell command before mid None
     → DidPut tell Asks.Quit mid after answer → PutsLast tell text before after answer
 last_then tell text before mid after command None e p d = quits tell mid after d
@@ -169,7 +169,7 @@ pub went_last : {C : Type 0} (tell : C → ℕ → C → Type 0) (text : List �
 went_last tell text before mid after command None answer e p none d = last_then tell text before mid after command answer e p d
 went_last tell text before mid after command (Some end) answer e p none d = absurd cc
 
--- the last line, behind which nothing follows
+-- the last line, which ends reading
 pub last_ends : {C : Type 0} (tell : C → ℕ → C → Type 0) (text : List ℕ) (before after : InEnd × C) (command : Command) (end : CommandsEnd) → command ≡ asked_in text → DidPut tell command before after (Some end) → PutsLast tell text before after (Some end)
 last_ends tell text before after command Ends.Quit e d = (
   d.0,
@@ -261,7 +261,7 @@ stops tell r0 r1 r2 before mid after line next chunk Ends.Gone u c p =
       );
     }
 
--- the input has ended, or a read has failed
+-- the input is at its end, or a read failed
 all_given : {C : Type 0} (tell : C → ℕ → C → Type 0) (r0 r1 : Option (List ℕ)) (before mid : InEnd × C) (line : Line) → (u : Underway tell r0 r1 before mid line) → put_from [] u.given ≡ whats u.items ++ put_from u.rest []
 all_given tell r0 r1 before mid line u = ap (λ (t : List ℕ). put_from [] t) (sym (append-nil u.given)) ∙ u.goes []
 
@@ -315,7 +315,7 @@ closes_gone tell r0 r1 r2 before mid after line end u e p = record {
   );
 }
 
--- what the last line came to, with what ended the input
+-- the effect of the last line, and what ended the input
 pub closes_with : {C : Type 0} (tell : C → ℕ → C → Type 0) (r0 r1 r2 : Option (List ℕ)) (before mid after : InEnd × C) (line : Line) (end : CommandsEnd) (answer : Option CommandsEnd) → (u : Underway tell r0 r1 before mid line) → EndsReading end r1 r2
     → PutsLast tell u.rest mid after answer → is_gone answer ≡ false → Commands tell r0 r2 before after end
 closes_with tell r0 r1 r2 before mid after line end None u e p h = absurd p

@@ -1,4 +1,4 @@
--- The fault of a node, of those of its threads.
+-- The fault of a node, by the faults of its threads.
 use Rattle.std.proofs.Common.{◌≡◌, ◌∙◌, sym, ap, subst, refl, ℕ, zero, suc, ◌+◌, ◌<◌, ◌≤◌, Bool, List, [], ◌∷◌, length, get_or, drop, arith, Option, None, Some, add-one}
 use Rattle.std.proofs.Math.Seq.{drop-cons}
 use Rattle.std.proofs.lemmas.List.{drop_all}
@@ -55,7 +55,7 @@ none_of (k ∷ ks) = refl
 pub no_outcome : (ks : List ℕ) (os : List Outcome) (i : ℕ) → slice_get os i ≡ None → first_link_fault ks os ≡ first_link_fault (drop i ks) (drop i os) → first_link_fault ks os ≡ None
 no_outcome ks os i e so = so ∙ ap (λ (l : List Outcome). first_link_fault (drop i ks) l) (get_none os i e) ∙ none_of (drop i ks)
 
--- ---- what a fault may be
+-- ---- the faults that are possible
 
 pub core_fault : (fault : Option NodeError) (xs : List ServedItem) (gone : Bool) → EndsSo fault xs gone → IsCoreFault fault
 core_fault None xs gone h = tt

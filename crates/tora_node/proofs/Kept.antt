@@ -1,4 +1,4 @@
--- What the calls of a thread keep of its hub and its lanes, and which of them are calls of its wire.
+-- What the calls of a thread do not change in its hub and its queues, and which calls are those of its wire.
 use Rattle.std.proofs.Common.{◌≡◌, ◌∙◌, sym, ap, ℕ, zero, suc, Bool, true, false, List, [], ◌∷◌, map, Option, None, Some, Result, Ok, Err, ⊎_elim}
 use Rattle.std.specs.Prelude.{slice_get, slice_set}
 use Rattle.tora_arq.specs.declared.link_event.LinkEvent.{LinkEvent}
@@ -32,7 +32,7 @@ module _ {H W : Type 0} (take : H → Option Cargo → H → Type 0) (put : H �
   last_wire_calls h h_after w w_after t (Broken at) c = c.2
   last_wire_calls h h_after w w_after t Refused c = (c.1, c.3, c.4)
 
-  -- ---- what no call of the hub changes
+  -- ---- a value that no call of the hub changes
 
   module _ {V : Type 0} (v : H → V) (takes_keep : (h : H) (cargo : Option Cargo) (after : H) → take h cargo after → v after ≡ v h) (puts_keep : (h : H) (now : ℕ) (what : What) (answer : Result (Unit {0}) Gone) (after : H) → put h now what answer after → v after ≡ v h) where
     takes_some : (h : H) (cargoes : List Cargo) (after : H) → TakesSome take h cargoes after → v after ≡ v h
@@ -71,7 +71,7 @@ module _ {H W : Type 0} (take : H → Option Cargo → H → Type 0) (put : H �
     last_keeps h h_after w w_after t (Broken at) c = puts_up_to t.now c.0 t.told t.refused h_after c.3 ∙ takes_all h t.cargoes c.0 c.1
     last_keeps h h_after w w_after t Refused c = puts_no_more t.now c.0 t.told t.refused h_after c.5 ∙ takes_all h t.cargoes c.0 c.2
 
--- a call of the port, and one of the lane
+-- a call of the port, and one of the queue
 pub put_keeps : (p : InEnd) (now : ℕ) (what : What) (answer : Result (Unit {0}) Gone) (after : InEnd) → PutsAtPort p now what answer after → IsSamePort p after
 put_keeps p now what (Ok done) after c = c.0
 put_keeps p now what (Err gone) after c = c.0
@@ -80,7 +80,7 @@ pub take_keeps : (o : ReceiveEnd) (answer : Option Cargo) (after : ReceiveEnd) �
 take_keeps o (Some cargo) after c = c.0
 take_keeps o None after c = c.0
 
--- the ends of the lanes stay, where a thread calls this hub of its own
+-- the ends of the queues are the same after the calls of a thread
 module _ {H W : Type 0} (hub : H → LaneHub) (send : W → List ℕ → Result (Unit {0}) WireError → W → Type 0) (receive : W → Result (Option ℕ) WireError → List ℕ → W → Type 0) where
   abbrev pub TakesThere : H → Option Cargo → H → Type 0
   TakesThere h answer after = ((hub after).port ≡ (hub h).port) × TakesFromLane (hub h).outs answer (hub after).outs
@@ -111,13 +111,13 @@ module _ {H W : Type 0} (hub : H → LaneHub) (send : W → List ℕ → Result 
 
 -- ---- offers
 
--- offers to what the lanes show of themselves
+-- offers, in the view of the queues
 pub offered_as : {O P : Type 0} (f : O → P) (did : P → ℕ → Cargo → Bool → P → Type 0) (ks : List ℕ) (outs : O) (offers : List Offer) (after : O) → AreOffered (λ before place cargo put next. did (f before) place cargo put (f next)) ks outs offers after
     → AreOffered did ks (f outs) offers (f after)
 offered_as f did ks outs [] after h = ap f h
 offered_as f did ks outs (o ∷ offers) after h = (f h.0, h.1, offered_as f did ks h.0 offers after h.2)
 
--- the same of lanes that wake, which are the lanes inside
+-- offers to queues that wake are offers to the queues inside
 pub offered_inside : {O K P : Type 0} (f : O → P) (did : P → ℕ → Cargo → Bool → P → Type 0) (ks : List ℕ) (outs : WakingLanes O K) (offers : List Offer) (after : WakingLanes O K) → AreOffered (λ before place cargo put next. did (f before.lanes) place cargo put (f next.lanes)) ks outs offers after
     → AreOffered did ks (f outs.lanes) offers (f after.lanes)
 offered_inside f did ks outs offers after h = offered_as (λ o. f o.lanes) did ks outs offers after h
@@ -134,7 +134,7 @@ offer_keeps : (before after : List SendEnd) (place : ℕ) (cargo : Cargo) (put :
 offer_keeps before after place cargo true did = ap (map ring_of) did.3 ∙ ring_set before place did.0 cargo did.1
 offer_keeps before after place cargo false did = ap (map ring_of) did.3
 
--- the rings of the lanes stay
+-- the rings of the queues are unchanged
 pub rings_stay : (ks : List ℕ) (before after : List SendEnd) (offers : List Offer) → AreOffered DidOffer ks before offers after → map ring_of after ≡ map ring_of before
 rings_stay ks before after [] h = ap (map ring_of) h
 rings_stay ks before after (o ∷ offers) h = rings_stay ks h.0 after offers h.2 ∙ offer_keeps before h.0 (place_of o.to ks) o.cargo o.put h.1

@@ -1,4 +1,4 @@
--- Lists, and what stands at their places.
+-- Lists, and the items at their indexes.
 use Rattle.std.proofs.Common.{◌≡◌, ◌∙◌, sym, ap, subst, refl, cond, ℕ, zero, suc, ◌<◌, List, [], ◌∷◌, ◌++◌, length, append-nil, append_assoc, arith, Some}
 use Rattle.std.proofs.lemmas.Bool.{eq-eqb, ne_eqb}
 use Rattle.std.specs.List.{AllByRecursion}
@@ -37,7 +37,7 @@ get_within [] k h = absurd (omega arith)
 get_within (x ∷ xs) zero h = (x, refl)
 get_within (x ∷ xs) (suc k) h = get_within xs k (omega arith)
 
--- ---- what holds at each place of two lists
+-- ---- a property at each index of two lists
 
 module _ {A B : Type 0} (P : A → B → Type 0) where
   pub each_at : (xs : List A) (ys : List B) (k : ℕ) (x : A) (y : B) → Each P xs ys → slice_get xs k ≡ Some x → slice_get ys k ≡ Some y → P x y
@@ -60,14 +60,14 @@ module _ {A B : Type 0} (P : A → B → Type 0) where
   each_of (x ∷ xs) [] e h = absurd (omega (arith, e))
   each_of (x ∷ xs) (y ∷ ys) e h = (h zero x y refl refl, each_of xs ys (omega (arith, e)) (λ k z w a b. h (suc k) z w a b))
 
-  -- one more
+  -- one more item in each list
   pub each_more : (xs : List A) (ys : List B) (x : A) (y : B) → Each P xs ys → P x y → Each P (xs ++ x ∷ []) (ys ++ y ∷ [])
   each_more [] [] x y h one = (one, tt)
   each_more [] (w ∷ ys) x y h one = absurd h
   each_more (z ∷ xs) [] x y h one = absurd h
   each_more (z ∷ xs) (w ∷ ys) x y h one = (h.0, each_more xs ys x y h.1 one)
 
--- ---- what is left of a list, which is gone over
+-- ---- the rest of a list in a loop
 
 pub map_more : {B C : Type 0} (g : C → B) (ys : List C) (y : C) → map g (ys ++ y ∷ []) ≡ map g ys ++ g y ∷ []
 map_more g [] y = refl
@@ -81,7 +81,7 @@ module _ {A : Type 0} where
   gone_over done [] all e h = sym (append-nil done) ∙ h
   gone_over done (x ∷ rest) all e h = absurd (omega arith)
 
--- and one more is made of it
+-- one more result
 pub made_over : {A C : Type 0} (g : C → A) (ys : List C) (y : C) (before rest : List A) (x : A) (all : List A) → before ≡ x ∷ rest → g y ≡ x → map g ys ++ before ≡ all → map g (ys ++ y ∷ []) ++ rest ≡ all
 made_over g ys y before rest x all e same h = ap (λ (l : List _). l ++ rest) (map_more g ys y ∙ ap (λ (b : _). map g ys ++ b ∷ []) same) ∙ goes_over (map g ys) before rest x all e h
 
@@ -92,7 +92,7 @@ above p [] k n h e = absurd cc
 above p (m ∷ ns) zero n h e = let same : m ≡ n = cc in subst (λ (x : ℕ). p < x) same h.0
 above p (m ∷ ns) (suc k) n h e = above p ns k n h.1 e
 
--- each stands at one place alone
+-- a number has one index in an ascending list
 pub one_place : (ns : List ℕ) (k n : ℕ) → IsAscending ns → slice_get ns k ≡ Some n → place_of n ns ≡ k
 one_place [] k n h e = absurd cc
 one_place (m ∷ ns) zero n h e = let same : m ≡ n = cc in ap (λ b. cond b 0 (suc (place_of n ns))) (eq-eqb m n same)

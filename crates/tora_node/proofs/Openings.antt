@@ -13,13 +13,13 @@ use Rattle.tora_node.specs.Threads.{Each}
 use Rattle.tora_node.proofs.Lists.{each_at, each_long, get_map, get_within, length_map, same_got}
 
 module _ {A : Type 0} where
-  -- what stands at a place of the front
+  -- an item of the first of two lists
   get_front : (xs ys : List A) (k : ℕ) (x : A) → slice_get xs k ≡ Some x → slice_get (xs ++ ys) k ≡ Some x
   get_front [] ys k x e = absurd cc
   get_front (z ∷ xs) ys zero x e = e
   get_front (z ∷ xs) ys (suc k) x e = get_front xs ys k x e
 
-  -- what stands behind it
+  -- the first item after a list
   get_next : (xs : List A) (y : A) (ys : List A) → slice_get (xs ++ y ∷ ys) (length xs) ≡ Some y
   get_next [] y ys = refl
   get_next (x ∷ xs) y ys = get_next xs y ys

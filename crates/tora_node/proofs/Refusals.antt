@@ -1,4 +1,4 @@
--- The text of a refusal has one digit.
+-- The number of a refusal has one digit.
 use Rattle.std.proofs.Common.{◌≡◌, ◌+◌, [], ◌∷◌, ◌++◌, slice_set, refl}
 use Rattle.std.specs.Prelude.{codes}
 use Rattle.std.specs.Fmt.{decimal, digits}

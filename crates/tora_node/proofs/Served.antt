@@ -61,7 +61,7 @@ still_told : (told : Option (List Told)) (core : CoreView) → is_some (told_ane
 still_told None core e = e
 still_told (Some told) core e = refl
 
--- something is told only from `watch` on
+-- a state was printed only after `watch`
 told_since : (told : Option (List Told)) (what : What) (core : CoreView) → is_some (told_after told what core) ≡ true → (is_some told ≡ true) ⊎ (what ≡ Tells.Status Asked.Watch)
 told_since told (Tells.Status Asked.Watch) core e = inr refl
 told_since told (Tells.Status Asked.Json) core e = inl e
@@ -81,7 +81,7 @@ goes_more : (xs : List ServedItem) (x : ServedItem) → GoOn xs → x.item.what 
 goes_more [] x h other = (other, tt)
 goes_more (y ∷ xs) x h other = (h.0, goes_more xs x h.1 other)
 
--- ---- a run: what was taken, offered and written since its start
+-- ---- a run: the items taken, the offers and the output since its start
 
 pub record Ran {O : Type 0} (did : O → ℕ → Cargo → Bool → O → Type 0) (ks : List ℕ) (s : SeatState) (outs : O) (taken : List Item) (old : Option (List ℕ))
     (now : SeatState) (outs_now : O) (taken_now : List Item) (new : Option (List ℕ)) (told : Option (List Told)) : Type 0 where
@@ -107,7 +107,7 @@ Appends-then (Some a) (Some b) (Some c) xs ys p q = q ∙ ap (λ (t : List ℕ).
 abbrev pub nothing_ran : {O : Type 0} → (did : O → ℕ → Cargo → Bool → O → Type 0) (ks : List ℕ) (s : SeatState) (outs : O) (taken : List Item) (old : Option (List ℕ)) → Ran did ks s outs taken old s outs taken old None
 nothing_ran did ks s outs taken old = record { xs = []; taken_is = sym (append-nil taken); served = refl; offered = refl; written = Appends-nil old; told_is = refl; watched = λ e. absurd (false≢true e); goes = tt }
 
--- one more item was taken and served, with these offers; what it asks for is still to be written
+-- one more item was taken and served, with these offers; its output is not written yet
 pub record Done {O : Type 0} (did : O → ℕ → Cargo → Bool → O → Type 0) (ks : List ℕ) (s : SeatState) (outs : O) (taken : List Item) (old : Option (List ℕ))
     (item : Item) (v : Serving) (outs_new : O) (taken_new : List Item) (mid_text : Option (List ℕ)) (told : Option (List Told)) : Type 0 where
   pub front : List ServedItem
@@ -155,11 +155,11 @@ module _ {O : Type 0} (did : O → ℕ → Cargo → Bool → O → Type 0) (ks 
         watched = watched_then r.xs x told v.seat.core r.watched;
       }
 
-  -- the neighbours are those of the start
+  -- the neighbours are the first ones
   pub done : (now : List ℕ) → now ≡ ks → taken_new ≡ taken_mid ++ item ∷ [] → AreOffered did now outs_mid offers outs_new → Agrees now → v.offers ≡ offers → Done did ks s outs taken old item v outs_new taken_new mid_text told
   done now e t a f same = done_here t (subst (λ (l : List ℕ). AreOffered did l outs_mid offers outs_new) e a) (subst Agrees e f) same
 
--- and where it is not Quit the run goes on
+-- if the item is not Quit, the run goes on
 pub goes_on : (front : List ServedItem) (x : ServedItem) (item : Item) → GoOn front → x.item ≡ item → item.what ≢ Tells.Quit → GoOn (front ++ x ∷ [])
 goes_on front x item h is other = goes_more front x h (λ quit. other (sym (ap (λ (i : Item). i.what) is) ∙ quit))
 

@@ -1,4 +1,4 @@
--- What was offered, read back as answers, follows those answers.
+-- The answers taken from offers agree with the offers.
 use Rattle.std.proofs.Common.{◌≡◌, ℕ, List, [], ◌∷◌, ◌++◌, length, refl, ap, subst, append_assoc, Some}
 use Rattle.std.specs.Prelude.{slice_get}
 use Rattle.tora_seat.specs.Serving.{Offer}
@@ -18,7 +18,7 @@ told_follows before (o ∷ offers) = (
   subst (λ (all : List Offer). Follows (answers_told all) (before ++ o ∷ []) offers) (append_assoc before (o ∷ []) offers) (told_follows (before ++ o ∷ []) offers),
 )
 
--- offers that were made after one another
+-- offers that follow other offers
 pub offered_then : {O : Type 0} → (did : O → ℕ → Cargo → Bool → O → Type 0) (ks : List ℕ) (a b c : O) (xs ys : List Offer)
     → AreOffered did ks a xs b → AreOffered did ks b ys c → AreOffered did ks a (xs ++ ys) c
 offered_then did ks a b c [] ys p q = subst (λ o. AreOffered did ks o ys c) p q

@@ -1,4 +1,4 @@
--- What all threads of a node did, out of what each of them leaves.
+-- What all threads of a node did, from the result of each.
 use Rattle.std.proofs.Common.{◌≡◌, ◌∙◌, sym, ap, subst, refl, ℕ, IfOk, IfErr, List, [], ◌∷◌, ◌++◌, length, map, arith, Option, None, Some, Result, Ok, Err, inl, inr, ⊎_elim}
 use Rattle.std.specs.Prelude.{slice_get}
 use Rattle.tora_core.specs.CoreRun.{CoreView}
@@ -39,7 +39,7 @@ use Rattle.tora_node.proofs.Kept.{ring_of, rings_stay}
 use Rattle.tora_node.proofs.Lists.{as_long, each_at, each_long, each_of, get_map, get_within, got_within, length_map, map_get, one_place, same_got}
 use Rattle.tora_node.proofs.Runs.{faultless, no_fault}
 
--- what holds anyhow
+-- a fact that holds for every result
 pub always : (P : Type 0) → P → (result : Result EndedView NodeError) → IfOk result (λ _. P)
 always P p (Ok ended) = p
 always P p (Err e) = tt
@@ -53,7 +53,7 @@ runs_of (link ∷ links) (o ∷ outcomes) h = (h.0, runs_of links outcomes h.1)
 module _ {D W C Wr : Type 0} {disk : Disk.Ghosts D} {wire : Wire.Ghosts W} (send : W → List ℕ → Result (Unit {0}) WireError → W → Type 0) (receive : W → Result (Option ℕ) WireError → List ℕ → W → Type 0) (tell : C → ℕ → C → Type 0)
     (opened : ℕ → ℕ → D → Result ℕ LifeError → Type 0) (first : CoreView) (wires : List W) (disks : List D) (clocks : List C) (clock : C) (port : CoreEnd) (command : InEnd) (hubs : List (InEnd × ReceiveEnd)) (outs : List SendEnd)
     (contents : Wr → Option (List ℕ)) (writer : Wr) (new : List (NewLink D W disk wire)) (starts : List (Start D W C disk wire)) (core : CoreRest Wr) (rests : List LinkRest) where
-  -- what the threads of a node began with, and what they have left
+  -- the inputs and the results of the threads of a node
   pub record Left : Type 0 where
     pub lanes : AreLanes (length first.neighbours) port command hubs outs
     pub links_are : map link_made new ≡ links_of first
@@ -86,7 +86,7 @@ module _ {D W C Wr : Type 0} {disk : Disk.Ghosts D} {wire : Wire.Ghosts W} (send
     outs_long =
         as_long ring_of ring_of core.outs.ends.items outs (rings_stay first.neighbours outs core.outs.ends.items (offers_made h.served.xs) h.served.offered) ∙ h.lanes.links_are.out_count
 
-    -- the link at a place
+    -- the link at an index
     record AtPlace (k peer : ℕ) (w : W) (d : D) (s : C) (r : LinkRest) (out : SendEnd) : Type 0 where
       drawn : ℕ
       file : opened first.me peer d (Ok drawn)
@@ -133,7 +133,7 @@ module _ {D W C Wr : Type 0} {disk : Disk.Ghosts D} {wire : Wire.Ghosts W} (send
               (subst (λ (x : LinkStart W). LinkLeaves send receive tell x.link x.wire t.clock x.drawn t.hub r) begins (each_at _ starts rests k t r h.ran b.1 at_rest));
         }
 
-    -- ---- what the lanes' ends need to be brought together
+    -- ---- the conditions for settling the queues
 
     pub have_ends : Each (HasEnds core.port.lane) rests core.outs.ends.items
     have_ends = each_of _ rests core.outs.ends.items (rests_long ∙ sym outs_long) (λ k r out at_rest at_out.
@@ -153,7 +153,7 @@ module _ {D W C Wr : Type 0} {disk : Disk.Ghosts D} {wire : Wire.Ghosts W} (send
     taken_is : core.port.taken ≡ items_served h.served.xs
     taken_is = h.served.taken ∙ ap (λ (p : CoreEnd). p.taken ++ items_served h.served.xs) h.lanes.core_is
 
-    -- each link has run
+    -- each link ran
     run_at : (k : ℕ) (link : LinkName) (o : Outcome) → slice_get (links_of first) k ≡ Some link → slice_get (map outcome_of rests) k ≡ Some o → IsLinkRun link.me link.peer o.fault o.tally
     run_at k link o at_link at_outcome =
         let peer = map_get (name_of first.me) first.neighbours k link at_link in
@@ -224,7 +224,7 @@ module _ {D W C Wr : Type 0} {disk : Disk.Ghosts D} {wire : Wire.Ghosts W} (send
           let r = map_get outcome_of rests k outcome at_outcome in
           subst (λ (o : Outcome). LinkRan send receive tell (opened first.me peer d) first.me h.served.xs k peer w q o) r.2 (of_rest k peer w d q r.0 at_peer at_wire at_disk at_clock r.1)
 
-    -- ---- the commands, and all together
+    -- ---- the commands, and all threads together
 
     module _ (input : Option (List ℕ)) (after : InEnd) (end : CommandsEnd) (reads : CommandsFrom tell clock input command after end) where
       commands_ran : (left : List Item) → items_of after.seat core.port.taken ++ left ≡ after.put → CommandsRan tell clock input (length first.neighbours) core.port.taken
@@ -266,7 +266,7 @@ module _ {D W C Wr : Type 0} {disk : Disk.Ghosts D} {wire : Wire.Ghosts W} (send
         tallies_are = refl;
       }
 
-      -- ---- what the node answers
+      -- ---- the result of the node
 
       pub record Answers (sents : OffersAreSent) (result : Result EndedView NodeError) : Type 0 where
         pub core_is_run : IfOk result (λ ended. IsRunOf first ended.core)

@@ -1,4 +1,4 @@
--- What reading commands puts into the lane of the core.
+-- The items that reading commands puts into the queue of the core.
 use Rattle.std.specs.Prelude.{◌≡◌, ◌⊎◌, ℕ, nat_lt, ◌==◌, if◌then◌else◌, Bool, true, false, List, [], ◌∷◌, ◌++◌, length, map, Option}
 use Rattle.std.specs.Io.KnownBytes.{Consumes, IsAtEnd}
 use Rattle.tora_lines.specs.Reads.{Given, AreReads, NoneFailed, AreToTheEnd, FailedLast}
@@ -14,13 +14,13 @@ use Rattle.tora_node.specs.declared.commands.CommandsEnd.{CommandsEnd}
 use Rattle.tora_node.specs.declared.commands.CommandsEnd.TheVariants as Ends
 use Rattle.tora_node.specs.CommandText.{asked_by}
 
--- ---- what is put for an input
+-- ---- the items for an input
 
--- what a line asks: one of more than 4,096 bytes is no command
+-- the command of a line; a line of more than 4,096 bytes is not a command
 abbrev pub asked_in : List ℕ → Command
 asked_in line = if nat_lt 4096 (length line) then Asks.Unknown else asked_by line
 
--- what is put for a line, and then what is put behind it: nothing behind quit
+-- the item for a command, followed by the items after it; nothing follows Quit
 abbrev pub put_for : Command → List What → List What
 put_for (Asks.Need d) behind = Tells.Need d ∷ behind
 put_for (Asks.Cut k) behind = Tells.Cut k ∷ behind
@@ -29,19 +29,19 @@ put_for (Asks.Status status) behind = Tells.Status status ∷ behind
 put_for Asks.Quit behind = Tells.Quit ∷ []
 put_for Asks.Unknown behind = behind
 
--- What is put for the bytes of an input, behind these bytes of a line that has not ended. Each LF ends a line, and so
--- does the end of the input, which puts Quit
+-- the items for the bytes of an input, if `line` has the bytes of a line that has not ended; each LF ends a line, and
+-- the end of the input ends one, too, and puts Quit
 abbrev pub put_from : List ℕ → List ℕ → List What
 put_from line [] = put_for (asked_in line) (Tells.Quit ∷ [])
 put_from line (c ∷ bytes) = if c == 10 then put_for (asked_in line) (put_from [] bytes)
     else put_from (line ++ c ∷ []) bytes
 
--- no byte of it ends a line
+-- the bytes have no LF
 abbrev pub IsLine : List ℕ → Type 0
 IsLine [] = Unit {0}
 IsLine (c ∷ bytes) = ((c == 10) ≡ false) × IsLine bytes
 
--- ---- what reading commands does
+-- ---- the effect of reading commands
 
 abbrev pub whats : List Item → List What
 whats items = map (λ x. x.what) items
@@ -49,27 +49,25 @@ whats items = map (λ x. x.what) items
 abbrev pub ticks_put : List Item → List ℕ
 ticks_put items = map (λ x. x.now) items
 
--- These items were put at this port, each with a tick that was read of this clock for it, one after another; it is the
--- same port.
+-- These items were put at the same port, each with its tick of the clock, one after another.
 abbrev pub HasPut : {C : Type 0} → (C → ℕ → C → Type 0) → InEnd × C → List Item → InEnd × C → Type 0
 HasPut tell before items after = (after.0.put ≡ before.0.put ++ items) × AreRead tell before.1 (ticks_put items) after.1
     × IsSamePort before.0 after.0
 
--- one tick more was read, as for an item that was refused
+-- one more tick was read, for an item that the port refused
 abbrev pub ReadsMore : {C : Type 0} → (C → ℕ → C → Type 0) → C → C → Type 0
 ReadsMore tell clock after = (now : ℕ) × tell clock now after
 
--- The clock that is left, by why it has ended: the one behind the last item that was put, of which one tick more was
--- read where the port has answered Gone.
+-- The clock at the end: after the last item that was put, and after one more tick if the port returned Gone.
 abbrev pub LeavesClock : {C : Type 0} → (C → ℕ → C → Type 0) → CommandsEnd → C → C → Type 0
 LeavesClock tell Ends.Quit last after = after ≡ last
 LeavesClock tell Ends.End last after = after ≡ last
 LeavesClock tell Ends.Read last after = after ≡ last
 LeavesClock tell Ends.Gone last after = ReadsMore tell last after
 
--- Why it has ended, where an input that begins so had these items put: a line is quit, whatever comes behind it; the
--- input is at its end; a read has failed, which is taken for the end of the input; or the port has answered Gone, with
--- some left to put
+-- Why reading ended, and which items were put for the bytes so far: `Quit` after a line `quit`, whatever follows; `End`
+-- at the end of the input; `Read` after a failed read, which counts as the end; `Gone` if the port returned Gone, with
+-- some items left.
 abbrev pub EndsAt : CommandsEnd → List ℕ → List Item → Option (List ℕ) → Bool → Type 0
 EndsAt Ends.Quit given items remaining gone = (more : List ℕ) → put_from [] (given ++ more) ≡ whats items
 EndsAt Ends.End given items remaining gone = (put_from [] given ≡ whats items) × IsAtEnd remaining
@@ -77,7 +75,7 @@ EndsAt Ends.Read given items remaining gone = put_from [] given ≡ whats items
 EndsAt Ends.Gone given items remaining gone =
     (left : List What) × (put_from [] given ≡ whats items ++ left) × (gone ≡ true)
 
--- Some bytes were read, and what they ask was put at the port, with ticks of the clock
+-- Some bytes were read, and their items were put at the port, with ticks of the clock
 pub record Commands {C : Type 0} (tell : C → ℕ → C → Type 0) (old_reader new_reader : Option (List ℕ))
     (before after : InEnd × C) (end : CommandsEnd) : Type 0 where
   pub given : List ℕ
@@ -88,20 +86,19 @@ pub record Commands {C : Type 0} (tell : C → ℕ → C → Type 0) (old_reader
   pub clock : LeavesClock tell end last after.1
   pub ends : EndsAt end given items new_reader after.0.gone
 
--- why it has ended by these reads, the last of them first: with End where the last one gave nothing, with Read where it
--- failed, and none before it did; a line that asks for the end, and a port that has answered Gone, may end it at any
--- read
+-- why reading ended, by its reads, the last of them first: End if the last read gave nothing, and Read if it failed;
+-- reading may end at any read with Quit, or with Gone
 abbrev pub EndsByReads : CommandsEnd → List Given → Type 0
 EndsByReads Ends.Quit reads = NoneFailed reads
 EndsByReads Ends.End reads = AreToTheEnd reads
 EndsByReads Ends.Read reads = FailedLast reads
 EndsByReads Ends.Gone reads = NoneFailed reads ⊎ FailedLast reads
 
--- These reads led from one reader to another, and it has ended by them.
+-- These reads lead from one reader to another, and they fit the end.
 abbrev pub AreReadBy : {R : Type 0} → (R → Given → R → Type 0) → R → R → CommandsEnd → Type 0
 AreReadBy did_read old new end = (reads : List Given) × AreReads did_read old reads new × EndsByReads end reads
 
--- and what has become of the input and of the clock is not said
+-- `Commands`, for some reader and some clock at the end
 abbrev pub CommandsFrom : {C : Type 0} → (C → ℕ → C → Type 0) → C → Option (List ℕ) → InEnd → InEnd → CommandsEnd
     → Type 0
 CommandsFrom {C = C} tell clock old_reader before after end =

@@ -14,12 +14,12 @@ use Rattle.tora_node.specs.declared.commands.CommandsEnd.TheVariants as Ends
 use Rattle.tora_node.specs.declared.commands.Line.{Line}
 use Rattle.tora_node.specs.CommandRuns.{put_for, put_from, whats, HasPut, ReadsMore}
 
--- what is kept of a line of which this was read
+-- the stored line has these bytes, or it is too long
 abbrev pub Holds : Line → List ℕ → Type 0
 Holds line text =
     ((line.is_too_long ≡ false) × (line.bytes.items ≡ text)) ⊎ ((line.is_too_long ≡ true) × (4096 < length text))
 
--- what a command asks was put, and the next line follows, or nothing does
+-- the item of a command was put, and further lines follow (None) or not (Some)
 abbrev pub DidPut : {C : Type 0} → (C → ℕ → C → Type 0) → Command → InEnd × C → InEnd × C → Option CommandsEnd → Type 0
 DidPut tell command before after None = (items : List Item) × HasPut tell before items after
     × ((behind : List What) → put_for command behind ≡ whats items ++ behind)
@@ -30,7 +30,7 @@ DidPut tell command before after (Some Ends.Read) = ⊥
 DidPut tell command before after (Some Ends.Gone) = HasPut tell before [] (after.0, before.1) × (after.0.gone ≡ true)
     × ReadsMore tell before.1 after.1
 
--- behind this line the bytes had these items put, and what is put for the bytes that are left goes on so
+-- these items were put for the bytes after the beginning `text` of a line, and the items for the rest follow them
 pub record Putting {C : Type 0} (tell : C → ℕ → C → Type 0) (text bytes : List ℕ) (before after : InEnd
     × C) (line : Line) (left : List ℕ) : Type 0 where
   pub items : List Item
@@ -39,7 +39,7 @@ pub record Putting {C : Type 0} (tell : C → ℕ → C → Type 0) (text bytes 
   pub holds : Holds line rest
   pub goes : (more : List ℕ) → put_from text (bytes ++ more) ≡ whats items ++ put_from rest (left ++ more)
 
--- what the bytes ask behind this line was put, as far as lines end in them
+-- the items of the lines that end in these bytes were put, after the beginning `text` of a line
 abbrev pub PutsAll : {C : Type 0} → (C → ℕ → C → Type 0) → List ℕ → List ℕ → InEnd × C → InEnd × C → Line
     → Option CommandsEnd → Type 0
 PutsAll tell text bytes before after line None = Putting tell text bytes before after line []
@@ -53,7 +53,7 @@ PutsAll {C = C} tell text bytes before after line (Some Ends.Gone) =
     × ReadsMore tell last after.1
     × ((more : List ℕ) → (left : List What) × (put_from text (bytes ++ more) ≡ whats items ++ left))
 
--- what a last line asks was put, and then Quit
+-- the item of a last line was put, and then Quit
 abbrev pub PutsLast : {C : Type 0} → (C → ℕ → C → Type 0) → List ℕ → InEnd × C → InEnd × C → Option CommandsEnd → Type 0
 PutsLast tell text before after None = ⊥
 PutsLast tell text before after (Some Ends.Quit) = (items : List Item) × HasPut tell before items after
@@ -72,14 +72,14 @@ is_gone (Some Ends.End) = false
 is_gone (Some Ends.Read) = false
 is_gone None = false
 
--- nothing more is read: the input is at its end, or a read has failed
+-- reading ended: the input is at its end, or a read failed
 abbrev pub EndsReading : CommandsEnd → Option (List ℕ) → Option (List ℕ) → Type 0
 EndsReading Ends.Quit old new = ⊥
 EndsReading Ends.End old new = Consumes old new [] × IsAtEnd new
 EndsReading Ends.Read old new = Consumes old new []
 EndsReading Ends.Gone old new = ⊥
 
--- What one read came to: it gave bytes or was interrupted, it gave nothing, or it failed.
+-- The effect of one read: it gave bytes or was interrupted, it gave nothing, or it failed.
 abbrev pub ReadsOnce : {R : Type 0} → (R → Given → R → Type 0) → R → R → Result ℕ CommandsEnd → Type 0
 ReadsOnce did_read old new (Ok n) = (given : Given) × did_read old given new × GoesOn given
 ReadsOnce did_read old new (Err Ends.Quit) = ⊥

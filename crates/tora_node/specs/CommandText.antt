@@ -1,4 +1,4 @@
--- What a line asks of a node: `show`, `json`, `watch`, `quit`, `need D` or `cut K`, with D and K in decimal digits.
+-- The command of a line: `show`, `json`, `watch`, `quit`, `need D` or `cut K`, with D and K in decimal digits.
 use Rattle.std.specs.Prelude.{ℕ, Bool, ◌==◌, ◌&&◌, if◌then◌else◌, codes, is_some, List, length, Option, Some, None}
 use Rattle.tora_lines.specs.Fronts.{after}
 use Rattle.tora_lines.specs.Words.{id_of}
@@ -10,12 +10,12 @@ use Rattle.tora_node.specs.declared.commands.Command.TheVariants as Asks
 unfoldable pub is_word : List ℕ → List ℕ → Bool
 is_word word text = (length text == length word) && is_some (after word text)
 
--- a route to the destination that the digits spell
+-- the request of a route to the destination with these digits
 abbrev pub need_of : Option ℕ → Command
 need_of None = Asks.Unknown
 need_of (Some d) = Asks.Need d
 
--- the end of the current life of the neighbour that the digits spell
+-- the cut of the current session of the neighbour with these digits
 abbrev pub cut_of : Option ℕ → Command
 cut_of None = Asks.Unknown
 cut_of (Some k) = Asks.Cut k
@@ -24,12 +24,12 @@ abbrev pub cut_in : Option (List ℕ) → Command
 cut_in None = Asks.Unknown
 cut_in (Some digits) = cut_of (id_of digits)
 
--- what stands behind `need `, or else behind `cut `
+-- the command by the text after `need `, or else by the text after `cut `
 abbrev pub need_or_cut_in : Option (List ℕ) → Option (List ℕ) → Command
 need_or_cut_in None other = cut_in other
 need_or_cut_in (Some digits) other = need_of (id_of digits)
 
--- what a line asks
+-- the command of a line
 unfoldable pub asked_by : List ℕ → Command
 asked_by line =
     if is_word (codes "show") line then Asks.Show

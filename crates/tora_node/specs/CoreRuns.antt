@@ -1,4 +1,4 @@
--- What the core's thread does: it serves the items that it takes, one after another, and prints what they ask for.
+-- The work of the core's thread: it serves the items that it takes, one after another, and prints their output.
 use Rattle.std.specs.Prelude.{◌≡◌, ◌≢◌, ◌⊎◌, ℕ, Bool, true, false, List, [], ◌∷◌, ◌++◌, length, slice_get, codes, Option, Some, None}
 use Rattle.std.specs.Fmt.{decimal}
 use Rattle.tora_core.specs.declared.Input.{Input}
@@ -18,7 +18,7 @@ use Rattle.tora_node.specs.declared.watch.Told.{Told}
 use Rattle.tora_node.specs.StatusJson.{json_text}
 use Rattle.tora_node.specs.StatusLines.{all_told, state_text, changes_text}
 
--- an item that was served, and the cargoes that were offered in it, with their answers
+-- a served item, and the offers of outbound messages that it made, with their answers
 pub record ServedItem : Type 0 where
   pub item : Item
   pub offers : List Offer
@@ -27,16 +27,15 @@ abbrev pub was_put : Option Offer → Bool
 was_put None = false
 was_put (Some offer) = offer.put
 
--- the answers, read back from what was offered: that of the offer behind those before it
+-- the answers to offers, taken from these offers in order
 abbrev pub answers_told : List Offer → Answers
 answers_told offers before k = was_put (slice_get offers (length before))
 
--- serving the item by these answers
+-- serving the item with these answers
 abbrev pub serving_told : List ℕ → SeatState → ServedItem → Serving
 serving_told neighbours s x = serving_of (answers_told x.offers) neighbours s x.item
 
--- these items were served one after another: in each just these cargoes were offered, and the seat goes on as serving
--- leaves it
+-- these items were served one after another, with exactly these offers, and led to the seat `after`
 abbrev pub AreServed : List ℕ → SeatState → List ServedItem → SeatState → Type 0
 AreServed neighbours s [] after = after ≡ s
 AreServed neighbours s (x ∷ xs) after =
@@ -56,21 +55,21 @@ inputs_stepped neighbours s [] = []
 inputs_stepped neighbours s (x ∷ xs) = (serving_told neighbours s x).inputs
     ++ inputs_stepped neighbours (serving_told neighbours s x).seat xs
 
--- ---- what is printed
+-- ---- the output
 
--- the number of the refusal of a need
+-- `refused N`, if the answer is the refusal of a need
 abbrev pub refused_text : Answer → List ℕ
 refused_text (Says.Refused error) = codes "refused " ++ decimal (step_error_number error) ++ 10 ∷ []
 refused_text Says.Nothing = []
 refused_text Says.Show = []
 refused_text Says.Quit = []
 
--- what was told before is told anew, where a program watches: the lines of what has changed
+-- the lines for what has changed since the last printed state, if a program watches
 abbrev pub news_text : Option (List Told) → CoreView → List ℕ
 news_text None core = []
 news_text (Some told) core = changes_text told core
 
--- what an item of this tick asks to be printed, where it was answered so and left this seat, and this was told before
+-- the output for an item at a tick, by its answer, the seat after it, and the last printed state
 abbrev pub reply_text : Option (List Told) → ℕ → What → Answer → SeatState → List ℕ
 reply_text told now Tells.Show answer s = show_text s.core
 reply_text told now (Tells.Status Asked.Json) answer s = json_text now s
@@ -90,7 +89,7 @@ abbrev pub told_anew : Option (List Told) → CoreView → Option (List Told)
 told_anew None core = None
 told_anew (Some told) core = Some (all_told core)
 
--- what is told then: from `watch` on, that of the core behind each item that may have changed it
+-- the last printed state after an item: it is set by `watch`, and renewed by each item that may change the core
 abbrev pub told_after : Option (List Told) → What → CoreView → Option (List Told)
 told_after told (Tells.Status Asked.Watch) core = Some (all_told core)
 told_after told (Tells.Status Asked.Json) core = told
@@ -103,14 +102,14 @@ told_after told Tells.Beat core = told
 told_after told Tells.Show core = told
 told_after told Tells.Quit core = told
 
--- the text of all items
+-- the output for all items
 abbrev pub text_served : List ℕ → Option (List Told) → SeatState → List ServedItem → List ℕ
 text_served neighbours told s [] = []
 text_served neighbours told s (x ∷ xs) =
     let v : Serving = serving_told neighbours s x in
     text_of told x.item v ++ text_served neighbours (told_after told x.item.what v.seat.core) v.seat xs
 
--- what is told behind all items
+-- the last printed state after all items
 abbrev pub told_served : List ℕ → Option (List Told) → SeatState → List ServedItem → Option (List Told)
 told_served neighbours told s [] = told
 told_served neighbours told s (x ∷ xs) =
@@ -127,7 +126,7 @@ abbrev pub IsWatched : List ServedItem → Type 0
 IsWatched [] = ⊥
 IsWatched (x ∷ xs) = (x.item.what ≡ Tells.Status Asked.Watch) ⊎ IsWatched xs
 
--- where the core is shown or told, and where a change may be told, which is so while it is watched
+-- for this item the table or the state is printed; or changes may be, if the core is watched
 abbrev pub MayTell : Type 0 → What → Type 0
 MayTell watched Tells.Show = Unit {0}
 MayTell watched (Tells.Status status) = Unit {0}
@@ -139,11 +138,11 @@ MayTell watched (Tells.Down life reason) = watched
 MayTell watched Tells.Beat = ⊥
 MayTell watched Tells.Quit = ⊥
 
--- a fault of printing a text that takes memory
+-- a fault of printing a text that needs memory
 abbrev pub IsTextFault : NodeError → Type 0
 IsTextFault e = (e ≡ Fault.Memory) ⊎ (e ≡ Fault.Output)
 
--- memory is asked for only there, and there and of Need is printed
+-- the fault can occur at this item: Memory only where `MayTell` holds, Output also at Need
 abbrev pub MayFail : NodeError → Type 0 → What → Type 0
 MayFail Fault.Memory watched what = MayTell watched what
 MayFail Fault.Output watched what = MayTell watched what ⊎ IsNeed what
@@ -151,17 +150,18 @@ MayFail Fault.Lane watched what = ⊥
 MayFail (Fault.Life peer error) watched what = ⊥
 MayFail (Fault.Wire peer) watched what = ⊥
 
--- none of the items is Quit
+-- no item is Quit
 abbrev pub GoOn : List ServedItem → Type 0
 GoOn [] = Unit {0}
 GoOn (x ∷ xs) = (x.item.what ≢ Tells.Quit) × GoOn xs
 
--- the last of the items is so behind those before it, and none of these is Quit
+-- only the last item may be Quit, and `Is` holds for the items before it and for it
 abbrev pub EndsWith : (List ServedItem → What → Type 0) → List ServedItem → Type 0
 EndsWith Is xs =
     (front : List ServedItem) × (x : ServedItem) × (xs ≡ front ++ x ∷ []) × GoOn front × Is front x.item.what
 
--- without a fault with the first Quit, or before any of them, where the port has answered Gone
+-- without a fault, the first Quit is the last item, or there is none and the port returned Gone; a fault occurs at the
+-- last item
 abbrev pub EndsSo : Option NodeError → List ServedItem → Bool → Type 0
 EndsSo None xs gone = EndsWith (λ front what. what ≡ Tells.Quit) xs ⊎ (GoOn xs × (gone ≡ true))
 EndsSo (Some fault) xs gone = EndsWith (λ front what. MayFail fault (IsWatched front) what) xs

@@ -1,4 +1,4 @@
--- What the threads of a node's links come to.
+-- The results of the threads of a node's links.
 use Rattle.std.specs.Prelude.{◌≡◌, ◌⊎◌, ◌<◌, ℕ, List, [], ◌∷◌, ◌++◌, map, slice_get, Option, Some, None, Result, Ok, Err}
 use Rattle.tora_arq.specs.LinkEnd.{EndState, first_end}
 use Rattle.tora_arq.specs.Settings.{Settings, settings_of}
@@ -22,18 +22,18 @@ use Rattle.tora_neighbour.specs.declared.fault.LinkFault.{LinkFault}
 use Rattle.tora_node.specs.declared.link_task.Outcome.{Outcome}
 use Rattle.tora_node.specs.NodeRuns.{first_fault, IsNodeFault, IsCoreRun}
 
--- ---- which link it is
+-- ---- the name of a link
 
 -- the link of a node to a peer
 pub record LinkName : Type 0 where
   pub me : ℕ
   pub peer : ℕ
 
--- the link of a node to this peer
+-- the link of node `me` to this peer
 abbrev pub name_of : ℕ → ℕ → LinkName
 name_of me peer = record { me = me; peer = peer }
 
--- the link that a link end is made for
+-- the link of a link end
 abbrev pub name_in : Settings → LinkName
 name_in settings = name_of settings.me settings.peer
 
@@ -47,19 +47,19 @@ module _ {D W : Type 0} {disk : Disk.Ghosts D} {wire : Wire.Ghosts W} where
   abbrev pub wire_made : NewLink D W disk wire → W
   wire_made new = new.link.wire
 
-  -- its life file was opened on this disk
+  -- the life file of a new link was opened on this disk
   abbrev pub OpenedOn : (ℕ → ℕ → D → Result ℕ LifeError → Type 0) → D → NewLink D W disk wire → Type 0
   OpenedOn opened of new =
       opened new.link.end.settings.me new.link.end.settings.peer of (Ok new.link.file.numbers.drawn)
 
--- the links of a node whose core begins as this one, in ascending order of their peers
+-- the links of a node that begins with this core, in ascending order of their peers
 abbrev pub links_of : CoreView → List LinkName
 links_of first = map (name_of first.me) first.neighbours
 
--- ---- what its thread comes to
+-- ---- the result of a link's thread
 
--- The thread of a link: whole turns and a last one, of an end of version 2 with the standard times that was never
--- opened. It has counted the datagrams that came in them, and its fault is that of the way in which the last one ends
+-- The run of a link's thread: some turns and a last one, from a new end of version 2 with the standard times. The tally
+-- counts the datagrams of these turns, and the fault is that of the ending of the last turn
 pub record IsLinkRun (me peer : ℕ) (fault : Option LinkFault) (tally : Tally) : Type 0 where
   pub turns : List Turn
   pub last : Turn
@@ -69,7 +69,7 @@ pub record IsLinkRun (me peer : ℕ) (fault : Option LinkFault) (tally : Tally) 
   pub fault_is : fault ≡ fault_of ending
   pub tally_is : tally ≡ tally_after first_tally (turns ++ last ∷ [])
 
--- each link had a thread, and these are what they came to, in the same order
+-- the results of the links' threads, in order
 abbrev pub AreLinkRuns : List LinkName → List Outcome → Type 0
 AreLinkRuns [] [] = Unit {0}
 AreLinkRuns [] (outcome ∷ outcomes) = ⊥
@@ -77,7 +77,7 @@ AreLinkRuns (link ∷ links) [] = ⊥
 AreLinkRuns (link ∷ links) (outcome ∷ outcomes) = IsLinkRun link.me link.peer outcome.fault outcome.tally
     × AreLinkRuns links outcomes
 
--- each link had a thread, which ended without a fault, and these are their tallies, in the same order
+-- the tallies of the links' threads, in order, all without a fault
 abbrev pub AreFaultless : List LinkName → List Tally → Type 0
 AreFaultless [] [] = Unit {0}
 AreFaultless [] (tally ∷ tallies) = ⊥
@@ -86,7 +86,7 @@ AreFaultless (link ∷ links) (tally ∷ tallies) = IsLinkRun link.me link.peer 
 
 -- ---- why a node ends with a fault
 
--- memory is gone, or the life file of one of these links did not open
+-- memory ran out, or the life file of one of these links did not open
 abbrev pub IsOpening : List LinkName → NodeError → Type 0
 IsOpening links Fault.Memory = Unit {0}
 IsOpening links Fault.Lane = ⊥
@@ -95,7 +95,7 @@ IsOpening links (Fault.Life peer error) = (place : ℕ) × (link : LinkName) × 
 IsOpening links (Fault.Wire peer) = ⊥
 IsOpening links Fault.Output = ⊥
 
--- the life file of the link to this peer did not open on its disk, for this reason; those of the links before it did
+-- the life file of the link to this peer did not open, for this reason, and the earlier ones did
 pub record LifeFailed {D : Type 0} (opened : ℕ → ℕ → D → Result ℕ LifeError
     → Type 0) (links : List LinkName) (disks : List D) (peer : ℕ) (error : LifeError) : Type 0 where
   pub place : ℕ
@@ -108,7 +108,7 @@ pub record LifeFailed {D : Type 0} (opened : ℕ → ℕ → D → Result ℕ Li
   pub before : (k : ℕ) (other : LinkName) (file : D) → k < place → slice_get links k ≡ Some other
       → slice_get disks k ≡ Some file → (drawn : ℕ) × opened other.me other.peer file (Ok drawn)
 
--- memory is gone, or the life file of one of these links did not open on its disk
+-- memory ran out, or the life file of one of these links did not open on its disk
 abbrev pub FailsToOpen : {D : Type 0} → (ℕ → ℕ → D → Result ℕ LifeError → Type 0) → List LinkName → List D → NodeError
     → Type 0
 FailsToOpen opened links disks Fault.Memory = Unit {0}
@@ -117,7 +117,7 @@ FailsToOpen opened links disks (Fault.Life peer error) = LifeFailed opened links
 FailsToOpen opened links disks (Fault.Wire peer) = ⊥
 FailsToOpen opened links disks Fault.Output = ⊥
 
--- before its threads were started, or because one could not be, with these disks for the life files of its links
+-- a fault before the threads were started, or of starting them, with these disks for the life files
 abbrev pub FailsToStart : {D : Type 0} → (ℕ → ℕ → D → Result ℕ LifeError → Type 0) → CoreView → List D → NodeError
     → Type 0
 FailsToStart opened first disks Fault.Memory = Unit {0}
@@ -126,7 +126,7 @@ FailsToStart opened first disks (Fault.Life peer error) = LifeFailed opened (lin
 FailsToStart opened first disks (Fault.Wire peer) = ⊥
 FailsToStart opened first disks Fault.Output = ⊥
 
--- before its threads were started, or because one could not be
+-- a fault before the threads were started, or of starting them
 abbrev pub IsStartFault : CoreView → NodeError → Type 0
 IsStartFault first Fault.Memory = Unit {0}
 IsStartFault first Fault.Lane = IsNodeFault first.neighbours Fault.Lane
@@ -134,7 +134,7 @@ IsStartFault first (Fault.Life peer error) = IsNodeFault first.neighbours (Fault
 IsStartFault first (Fault.Wire peer) = ⊥
 IsStartFault first Fault.Output = ⊥
 
--- the first fault of what the threads of its core and its links came to
+-- the first fault in the results of the threads of the core and the links
 pub record IsThreadsFault (first : CoreView) (e : NodeError) : Type 0 where
   pub last : SeatView
   pub fault : Option NodeError

@@ -1,4 +1,4 @@
--- What a node ends with.
+-- The result of a node.
 use Rattle.std.specs.Prelude.{◌≡◌, ◌⊎◌, ℕ, ◌<◌, ◌==◌, Bool, List, [], ◌∷◌, length, slice_get, Option, Some, None, option_and_then}
 use Rattle.std.specs.List.{position}
 use Rattle.tora_core.specs.CoreRun.{CoreView, core_after_all}
@@ -14,15 +14,15 @@ use Rattle.tora_neighbour.specs.declared.fault.LinkFault.TheVariants as Of
 use Rattle.tora_node.specs.declared.link_task.Outcome.{Outcome}
 use Rattle.tora_node.specs.CoreRuns.{ServedItem, AreServed, inputs_stepped, EndsSo}
 
--- the core as the node left it, the tally of each neighbour, in ascending order, the items that the core has taken, and
--- whether its port has answered Gone
+-- the core at the end, the tally of each neighbour, in ascending order, the items that the core took, and whether its
+-- port returned Gone
 pub record EndedView : Type 0 where
   pub core : CoreView
   pub tallies : List Tally
   pub taken : List Item
   pub gone : Bool
 
--- the place of a neighbour, in ascending order from 0 on
+-- the index of a neighbour, in ascending order
 abbrev pub place_of : List ℕ → ℕ → Option ℕ
 place_of neighbours peer = position (λ n. n == peer) neighbours
 
@@ -40,7 +40,7 @@ abbrev pub fault_or : ℕ → Option LinkFault → Option NodeError → Option N
 fault_or peer (Some fault) others = Some (fault_of_link peer fault)
 fault_or peer None others = others
 
--- the fault of the least neighbour that has one, of what the threads of all neighbours came to, in ascending order
+-- the fault of the lowest neighbour that has one, by the results of all neighbours' threads, in ascending order
 abbrev pub first_link_fault : List ℕ → List Outcome → Option NodeError
 first_link_fault [] outcomes = None
 first_link_fault (k ∷ ks) [] = None
@@ -50,15 +50,16 @@ abbrev pub or_else : Option NodeError → Option NodeError → Option NodeError
 or_else (Some fault) other = Some fault
 or_else None other = other
 
--- the core's fault, then that of the least neighbour
+-- the core's fault, or else that of the lowest neighbour
 abbrev pub first_fault : Option NodeError → List ℕ → List Outcome → Option NodeError
 first_fault fault neighbours outcomes = or_else fault (first_link_fault neighbours outcomes)
 
--- it is one of the neighbours
+-- the peer is one of the neighbours
 abbrev pub IsNeighbour : List ℕ → ℕ → Type 0
 IsNeighbour neighbours peer = (place : ℕ) × (slice_get neighbours place ≡ Some peer)
 
--- a fault of a node with these neighbours; Lane only where there are none or more than lanes are made for
+-- a fault that a node with these neighbours can have; Lane only without neighbours, or with more than there can be
+-- queues for
 abbrev pub IsNodeFault : List ℕ → NodeError → Type 0
 IsNodeFault neighbours Fault.Memory = Unit {0}
 IsNodeFault neighbours Fault.Lane = (length neighbours ≡ 0) ⊎ (MOST_LINKS < length neighbours)
@@ -77,8 +78,8 @@ IsCoreFault (Some (Fault.Life peer error)) = ⊥
 IsCoreFault (Some (Fault.Wire peer)) = ⊥
 IsCoreFault (Some Fault.Output) = Unit {0}
 
--- Some items were served one after another from a seat on, and the core is the run of the inputs that serving made of
--- them. Only the last item may be Quit, and what it is fits the fault
+-- Some items were served one after another from the first seat on, and the core is the run of the inputs that this
+-- made. Only the last item may be Quit, and it fits the fault
 abbrev pub IsServedCore : SeatView → Option NodeError → CoreView → Type 0
 IsServedCore first fault core =
     (xs : List ServedItem) × (after : SeatState) × (gone : Bool)
@@ -86,11 +87,11 @@ IsServedCore first fault core =
     × (core ≡ core_after_all first.core (inputs_stepped first.core.neighbours (state_of first) xs))
     × EndsSo fault xs gone
 
--- what a core's thread comes to
+-- the result of a core's thread
 abbrev pub IsCoreRun : SeatView → SeatView → Option NodeError → Type 0
 IsCoreRun first last fault =
     IsServedCore first fault last.core × (last.core.neighbours ≡ first.core.neighbours) × IsCoreFault fault
 
--- the core of a node that began with this one and has ended without a fault
+-- the core of a node that began with the first one and ended without a fault
 abbrev pub IsRunOf : CoreView → CoreView → Type 0
 IsRunOf first core = IsServedCore (first_seat first) None core

@@ -1,4 +1,4 @@
--- What is settled once the threads of a node have ended.
+-- The queues of a node after its threads have ended.
 use Rattle.std.specs.Prelude.{◌≡◌, ◌⊎◌, List, ◌++◌, map, None, Some, Result, Ok, Err}
 use Rattle.tora_lane.specs.LaneRule.{items_of}
 use Rattle.tora_lane.specs.Ports.{InEnd}
@@ -10,13 +10,13 @@ use Rattle.tora_node.specs.declared.link_task.LinkRest.{LinkRest}
 use Rattle.tora_node.specs.NodeRuns.{EndedView, first_fault}
 use Rattle.tora_node.specs.Threads.{Each, IsSettled, outcome_of}
 
--- the lanes of each link, and the seat of the commands
+-- in the queues of each link, and in that of the commands, all that was put was taken or is left
 abbrev pub AreSettled : {Wr : Type 0} → CoreRest Wr → List LinkRest → InEnd → Type 0
 AreSettled core links command =
     Each (IsSettled core.port.taken) links core.outs.ends.items × (left : List Item)
     × (items_of command.seat core.port.taken ++ left ≡ command.put)
 
--- all are settled, and the first fault is answered; or memory is gone
+-- the queues are settled, and the result is the first fault or the ended node; or memory ran out
 abbrev pub SettlesTo : {Wr : Type 0} → CoreRest Wr → List LinkRest → InEnd → Result EndedView NodeError → Type 0
 SettlesTo core links command (Ok ended) =
     AreSettled core links command

@@ -1,4 +1,4 @@
--- What a node tells a program of itself: one line of JSON (RFC 8259), without a space, whose numbers are whole.
+-- The state of a node for a program: one line of JSON (RFC 8259), without a space, with whole numbers.
 use Rattle.std.specs.Prelude.{ℕ, Bool, true, false, codes, List, [], ◌∷◌, ◌++◌, Option, None, Some}
 use Rattle.std.specs.List.{flat_map}
 use Rattle.std.specs.Fmt.{decimal, signed_decimal}
@@ -32,12 +32,12 @@ height_json (Some h) =
     codes "[" ++ decimal h.tau ++ codes "," ++ decimal h.oid ++ codes "," ++ decimal h.r ++ codes ","
     ++ signed_decimal h.delta ++ codes "," ++ decimal h.id ++ codes "]"
 
--- a life by the numbers of this end and of the other one
+-- a session, by the number of this end and that of the peer
 abbrev pub life_json : Option Life → List ℕ
 life_json None = codes "null"
 life_json (Some life) = codes "[" ++ decimal life.own ++ codes "," ++ decimal life.peer ++ codes "]"
 
--- NULL also where there is none
+-- the entry, or NULL if there is none
 abbrev pub or_null : Option (Option Quintuple) → Option Quintuple
 or_null None = None
 or_null (Some height) = height
@@ -48,18 +48,18 @@ own_height core d = or_null (height_of core d)
 abbrev pub entry_height : CoreView → ℕ → ℕ → Option Quintuple
 entry_height core d k = or_null (entry_of core d k)
 
--- what a neighbour whose link is up told of a destination
+-- the height of a destination that a neighbour with a link that is up has sent
 unfoldable pub via_json : CoreView → ℕ → ℕ → List ℕ
 via_json core d k =
     codes "{\"node\":" ++ decimal k
     ++ codes ",\"height\":" ++ height_json (entry_height core d k)
     ++ codes ",\"direction\":\"" ++ direction_text (link_status (own_height core d) (entry_height core d k)) ++ codes "\"}"
 
--- a destination and the own height
+-- a destination, and the node's height
 unfoldable pub own_json : CoreView → ℕ → List ℕ
 own_json core d = codes "{\"to\":" ++ decimal d ++ codes ",\"height\":" ++ height_json (own_height core d)
 
--- whether a route is required, the next hop, and what the neighbours told
+-- whether a route is required, the next hop, and the neighbours' heights
 unfoldable pub route_json : CoreView → ℕ → List ℕ
 route_json core d =
     codes ",\"required\":" ++ truth_json (flag_of core d)
@@ -69,19 +69,18 @@ route_json core d =
 unfoldable pub destination_json : CoreView → ℕ → List ℕ
 destination_json core d = own_json core d ++ route_json core d
 
--- the life of a link that is current at the core, and one that is over there and whose cut still waits for room in its
--- lane
+-- a link with its current session at the core, and the session whose cut still waits for room in the queue
 unfoldable pub link_json : SeatState → ℕ → List ℕ
 link_json s k =
     codes "{\"peer\":" ++ decimal k ++ codes ",\"life\":" ++ life_json (s.current k) ++ codes ",\"cut\":"
     ++ life_json (s.pending k) ++ codes "}"
 
--- what the node makes of erased levels, where that is not plain
+-- the treatment of erased levels, unless it is plain
 abbrev pub erasure_json : Erasure → List ℕ
 erasure_json Plain = []
 erasure_json Remembered = codes ",\"erasure\":\"remembered\""
 
--- the whole line, at a tick
+-- the whole line at a tick
 unfoldable pub json_text : ℕ → SeatState → List ℕ
 json_text now s =
     codes "{\"node\":" ++ decimal s.core.me

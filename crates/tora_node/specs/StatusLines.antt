@@ -1,5 +1,4 @@
--- What a node tells a program that watches it: a line for each height and each next hop, and then for each one that has
--- changed.
+-- The output of `watch`: a line for each height and each next hop, and later one for each that has changed.
 use Rattle.std.specs.Prelude.{ℕ, ◌==◌, Bool, true, false, codes, if◌then◌else◌, List, [], ◌∷◌, ◌++◌, map, Option, None, Some, option_map}
 use Rattle.std.specs.List.{flat_map}
 use Rattle.std.specs.Ordering.{is_eq}
@@ -13,11 +12,11 @@ use Rattle.tora_core.specs.Kept.{destinations_of}
 use Rattle.tora_node.specs.declared.watch.Told.{Told}
 use Rattle.tora_node.specs.StatusJson.{own_height}
 
--- what is told of a destination: the own height and the next hop
+-- the printed state of a destination: the node's height and the next hop
 abbrev pub told_of : CoreView → ℕ → Told
 told_of core d = record { to = d; height = own_height core d; hop = hop_of core d }
 
--- of each destination, in ascending order
+-- the printed state of each destination, in ascending order
 abbrev pub all_told : CoreView → List Told
 all_told core = map (told_of core) (destinations_of core.views)
 
@@ -32,7 +31,7 @@ hop_line t = codes "hop " ++ decimal t.to ++ codes " " ++ hop_text t.hop ++ line
 abbrev pub told_lines : Told → List ℕ
 told_lines t = height_line t ++ hop_line t
 
--- all that is told of a core
+-- the lines for all destinations of a core
 abbrev pub state_text : CoreView → List ℕ
 state_text core = flat_map told_lines (all_told core)
 
@@ -48,7 +47,7 @@ is_same_hop None (Some b) = false
 is_same_hop (Some a) None = false
 is_same_hop (Some a) (Some b) = a == b
 
--- the lines of what has changed for a destination since this was told of it
+-- the lines for what has changed for a destination between two states
 abbrev pub change_text : Told → Told → List ℕ
 change_text old new =
     (if is_same_height old.height new.height then [] else height_line new) ++ (if is_same_hop old.hop new.hop then []
@@ -57,10 +56,10 @@ change_text old new =
 abbrev pub news_of : CoreView → Told → List ℕ
 news_of core old = change_text old (told_of core old.to)
 
--- and for each destination of which something was told
+-- the lines for what has changed for each destination since the last printed state
 abbrev pub changes_text : List Told → CoreView → List ℕ
 changes_text told core = flat_map (news_of core) told
 
--- what is kept of what was told, where a program watches
+-- the last printed state, if a program watches
 abbrev pub told_in : {A : Type 0} → Option (Vec Told A) → Option (List Told)
 told_in watch = option_map (λ told. told.items) watch

@@ -1,4 +1,4 @@
--- What the threads of a node leave.
+-- The results of the threads of a node.
 use Rattle.std.specs.Prelude.{◌≡◌, ℕ, List, [], ◌∷◌, ◌++◌, map, Option, None, Result}
 use Rattle.std.specs.Io.KnownBytes.{Appends}
 use Rattle.std.specs.declared.thread.PromisedHandle.{PromisedHandle}
@@ -29,26 +29,26 @@ use Rattle.tora_node.specs.LinkRuns.{LinkName, IsLinkRun, link_made}
 use Rattle.tora_node.specs.NodeRuns.{IsCoreFault}
 use Rattle.tora_node.specs.WireCalls.{HasCalled}
 
--- they are as many, and at each place it holds of both
+-- the lists have the same length, and P holds for the two items at each index
 abbrev pub Each : {A B : Type 0} → (A → B → Type 0) → List A → List B → Type 0
 Each P [] [] = Unit {0}
 Each P [] (y ∷ ys) = ⊥
 Each P (x ∷ xs) [] = ⊥
 Each P (x ∷ xs) (y ∷ ys) = P x y × Each P xs ys
 
--- the work of the thread of a handle
+-- the work of the thread with this handle
 abbrev pub begun_by : {L T : Type 0} → PromisedHandle L (Does T) → T
 begun_by handle = handle.promise.0.value
 
 -- ---- the thread of a link
 
--- its link, its wire, and the last number of its life file
+-- the link, the wire, and the last number of the life file
 pub record LinkStart (W : Type 0) : Type 0 where
   pub link : LinkName
   pub wire : W
   pub drawn : ℕ
 
--- the two ends of the lanes of a link, as its hub
+-- the port and the receiving end of a link's queues, as its hub
 abbrev pub hub_of : InEnd × ReceiveEnd → LaneHub
 hub_of ends = record { port = ends.0; outs = ends.1 }
 
@@ -66,8 +66,8 @@ module _ {D W C : Type 0} {disk : Disk.Ghosts D} {wire : Wire.Ghosts W} where
   abbrev pub clock_started : Start D W C disk wire → C
   clock_started start = start.clock
 
--- It has run this link with this wire, each turn at a tick that it has read of this clock, under the numbers behind
--- this one. What it has put and taken is what its turns did, by the same port and out of the same lane
+-- The thread ran this link over this wire, each turn at a tick of this clock, with session numbers that follow `drawn`.
+-- Its turns put the items and took the messages, at the same port and from the same queue
 pub record LinkLeaves {W C : Type 0} (send : W → List ℕ → Result (Unit {0}) WireError → W → Type 0) (receive : W
     → Result (Option ℕ) WireError → List ℕ → W → Type 0) (tell : C → ℕ → C
     → Type 0) (link : LinkName) (wire : W) (clock : C) (drawn : ℕ) (hub : LaneHub) (rest : LinkRest) : Type 0 where
@@ -82,8 +82,8 @@ pub record LinkLeaves {W C : Type 0} (send : W → List ℕ → Result (Unit {0}
 
 -- ---- the core's thread
 
--- It has served the items that it took, and its cargoes were offered to these lanes. Where nothing has failed, it has
--- written the text of these items behind what the writer held
+-- The thread served the items that it took, and offered its messages to these queues. Without a fault, it wrote the
+-- text of these items
 pub record CoreLeaves {Wr : Type 0} (contents : Wr → Option (List ℕ)) (first : SeatView) (port : CoreEnd)
     (outs : List SendEnd) (writer : Wr) (rest : CoreRest Wr) : Type 0 where
   pub xs : List ServedItem
@@ -98,17 +98,17 @@ pub record CoreLeaves {Wr : Type 0} (contents : Wr → Option (List ℕ)) (first
   pub written : rest.fault ≡ None → Appends (contents writer) (contents rest.writer)
       (text_served first.core.neighbours None (state_of first) xs)
 
--- ---- what is left in the lanes
+-- ---- what is left in the queues
 
 abbrev pub outcome_of : LinkRest → Outcome
 outcome_of rest = rest.outcome
 
--- the ends that a link's thread leaves belong to the lane into the core and to this lane
+-- the ends of a link's thread belong to the queue into the core and to this queue
 abbrev pub HasEnds : Lane → LinkRest → SendEnd → Type 0
 HasEnds lane rest out = (rest.hub.port.lane ≡ lane) × (out.ring ≡ rest.hub.outs.ring)
 
--- what was taken of its seat and then some items is what it put; and what it took and then some cargoes is what was
--- sent to it
+-- the items that were put at the link's seat are those that were taken and some that are left, and the messages that
+-- were sent to it are those that it received and some that wait
 abbrev pub IsSettled : List Item → LinkRest → SendEnd → Type 0
 IsSettled taken rest out =
     (left : List Item) × (items_of rest.hub.port.seat taken ++ left ≡ rest.hub.port.put)

@@ -1,4 +1,4 @@
--- What a node did, from its start until all of its threads had ended.
+-- What a node did from its start until all its threads had ended.
 use Rattle.std.specs.Prelude.{◌≡◌, ◌⊎◌, ◌<◌, ◌≤◌, ℕ, Bool, List, [], ◌∷◌, ◌++◌, length, map, slice_get, Option, None, Some, Result, Ok, IfOk, IfErr}
 use Rattle.std.specs.Io.KnownBytes.{Appends, Consumes}
 use Rattle.tora_core.specs.CoreRun.{CoreView, core_after_all}
@@ -24,9 +24,8 @@ use Rattle.tora_node.specs.LinkRuns.{IsLinkRun, FailsToStart, AreFaultless, IsCa
 use Rattle.tora_node.specs.NodeRuns.{EndedView, IsNodeFault, IsRunOf, first_fault}
 use Rattle.tora_node.specs.WireCalls.{HasCalled}
 
--- The thread of the link at a place has run it. The items of its seat that the core served, and then those left in the
--- lane, are what its turns put. The cargoes that its turns took, and then those left in its lane, are what serving put
--- for it
+-- The thread of the link at an index ran it. Its turns put the items that the core served, and then some that are left.
+-- Serving put the messages that its turns took, and then some that wait
 pub record LinkExchanged (me : ℕ) (xs : List ServedItem) (place peer : ℕ) (outcome : Outcome) : Type 0 where
   pub run : IsLinkRun me peer outcome.fault outcome.tally
   pub left : List Item
@@ -34,8 +33,8 @@ pub record LinkExchanged (me : ℕ) (xs : List ServedItem) (place peer : ℕ) (o
   pub waiting : List Cargo
   pub cargoes : cargoes_taken (run.turns ++ run.last ∷ []) ++ waiting ≡ put_to peer (offers_made xs)
 
--- and it has run it with this wire, each turn at a tick that it has read of this clock, under the numbers behind the
--- last one of its life file, each the next
+-- `LinkExchanged`, and the thread used this wire, with each turn at a tick of this clock, and with session numbers that
+-- follow the last one of its life file
 pub record LinkRan {W C : Type 0} (send : W → List ℕ → Result (Unit {0}) WireError → W → Type 0) (receive : W
     → Result (Option ℕ) WireError → List ℕ → W → Type 0) (tell : C → ℕ → C → Type 0) (opened : Result ℕ LifeError
     → Type 0) (me : ℕ) (xs : List ServedItem) (place peer : ℕ) (wire : W) (clock : C) (outcome : Outcome) : Type 0 where
@@ -46,8 +45,8 @@ pub record LinkRan {W C : Type 0} (send : W → List ℕ → Result (Unit {0}) W
   pub last_drawn : ℕ
   pub numbers : AreDrawn drawn (numbers_opened (exchanged.run.turns ++ exchanged.run.last ∷ [])) last_drawn
 
--- Some bytes were read, and the items of the last seat that the core served, and then those left in the lane, are what
--- they ask, each with a tick that was read of this clock for it
+-- Some bytes were read, and their items, each with its tick of this clock, are those of the last seat that the core
+-- served, and then some that are left
 pub record CommandsRan {C : Type 0} (tell : C → ℕ → C → Type 0) (clock : C) (input : Option (List ℕ)) (seat : ℕ)
     (served : List Item) : Type 0 where
   pub given : List ℕ
@@ -62,10 +61,10 @@ pub record CommandsRan {C : Type 0} (tell : C → ℕ → C → Type 0) (clock :
   pub ends : EndsAt end given put rest gone
   pub items : items_of seat served ++ left ≡ put
 
--- The threads of a node that began with this core, these wires, these disks, these clocks of the links and one of the
--- commands, this input, and a writer that held these bytes. Items were served one after another, the core is the run of
--- the inputs that serving made of them, and each link and the commands had a thread that put them. Where the core had
--- no fault, the text of these items was written behind what the writer held. The first of their faults is the answer
+-- What the threads of a node did that began with this core, these wires, disks and clocks of the links, this clock of
+-- the commands, this input, and a writer with the content `held`. Items were served one after another, and the core is
+-- the run of the inputs that this made. The threads of the links and the commands put these items. Without a fault of
+-- the core, the text of the items was written. The result is the first fault of the threads
 pub record NodeRan {W D C : Type 0} (send : W → List ℕ → Result (Unit {0}) WireError → W → Type 0) (receive : W
     → Result (Option ℕ) WireError → List ℕ → W → Type 0) (tell : C → ℕ → C → Type 0) (opened : ℕ → ℕ → D
     → Result ℕ LifeError → Type 0) (first : CoreView) (wires : List W) (disks : List D) (clocks : List C) (clock : C)
@@ -90,7 +89,7 @@ pub record NodeRan {W D C : Type 0} (send : W → List ℕ → Result (Unit {0})
     pub answer_is : first_fault fault first.neighbours outcomes ≡ answer
     pub tallies_are : tallies ≡ map (λ o. o.tally) outcomes
 
--- a node that ends with a fault: one of its start, where nothing is written or memory is gone, or the first one of its
+-- a node that ends with a fault: one of its start, with nothing written unless memory ran out, or the first one of its
 -- threads
 abbrev pub EndsWithFault : {W D C Wr : Type 0} → (W → List ℕ → Result (Unit {0}) WireError → W → Type 0)
     → (W → Result (Option ℕ) WireError → List ℕ → W → Type 0) → (C → ℕ → C → Type 0)
@@ -103,26 +102,26 @@ EndsWithFault {Wr = Wr} send receive tell opened contents first wires disks cloc
     × NodeRan send receive tell opened first wires disks clocks clock input (contents writer) (contents after) (Some e)
     core tallies taken gone)
 
--- What a node answers that began with this core, these wires, these disks, these clocks of the links and one of the
--- commands, this input and this writer, which is given back so
+-- The result of a node that began with this core, these wires, disks and clocks of the links, this clock of the
+-- commands, this input and this writer, and the writer that is returned
 pub record NodeAnswers {W D C Wr : Type 0} (send : W → List ℕ → Result (Unit {0}) WireError → W → Type 0) (receive : W
     → Result (Option ℕ) WireError → List ℕ → W → Type 0) (tell : C → ℕ → C → Type 0) (opened : ℕ → ℕ → D
     → Result ℕ LifeError → Type 0)
     (contents : Wr → Option (List ℕ)) (first : CoreView) (wires : List W) (disks : List D) (clocks : List C) (clock : C)
     (input : Option (List ℕ)) (writer : Wr) (left : Option Wr)
     (answer : Result EndedView NodeError) : Type 0 where
-  -- where it ends without a fault, the core is the run of what serving makes of some items from the first core on
+  -- without a fault, the core is the run of the inputs that serving some items made, from the first core on
   pub core : IfOk answer (λ ended. IsRunOf first ended.core)
-  -- then each tally is that of a run of a new end of version 2 with the standard times, which has ended without a fault
+  -- without a fault, each tally is that of a run of a new end of version 2 with the standard times
   pub links : IfOk answer (λ ended. AreFaultless (links_of first) ended.tallies)
   -- a fault of a link names one of the neighbours
   pub fault : IfErr answer (IsNodeFault first.neighbours)
-  -- a fault is one of the start, or the first one of what the threads came to
+  -- a fault is one of the start, or the first fault of the threads
   pub cause : IfErr answer (IsCause first)
-  -- then it has neighbours, and no more than lanes are made for
+  -- without a fault, the node has neighbours, and there are queues for all
   pub count : IfOk answer (λ ended. (0 < length first.neighbours) × (length first.neighbours ≤ MOST_LINKS))
-  -- what its threads did: the runs of its links with their wires and life files, the commands that were read, and the
-  -- items that the core served, which are what these have put, as the lanes carry it, and whose text was written
+  -- without a fault: the runs of the links with their wires and life files, the commands that were read, and the items
+  -- that the core served, which these have put, and whose text was written
   pub ran : IfOk answer (λ ended. (after : Wr) × (left ≡ Some after)
       × NodeRan send receive tell opened first wires disks clocks clock input (contents writer) (contents after) None
       ended.core ended.tallies ended.taken ended.gone)

@@ -1,4 +1,4 @@
--- The calls that the thread of a link makes of its wire and its clock.
+-- The calls of a link's thread on its wire and its clock.
 use Rattle.std.specs.Prelude.{◌≡◌, ℕ, List, [], ◌∷◌, ◌++◌, Option, Result}
 use Rattle.tora_neighbour.specs.Calls.{SendsSome, ReceivesOnce, ExchangesUpTo}
 use Rattle.tora_neighbour.specs.Turns.{Turn, AreRead, ticks_of}
@@ -6,7 +6,7 @@ use Rattle.tora_neighbour.specs.declared.ending.Ending.{Ending}
 use Rattle.tora_neighbour.specs.declared.ending.Ending.TheVariants.{NoNumber, Broken, Refused}
 use Rattle.tora_neighbour.specs.declared.wire.WireError.{WireError}
 
--- in whole turns: the sends, and then one receive, by whose answer and buffer it is what came in (`came_of`)
+-- the calls of the turns before the last: in each the sends, and then one receive, which gives what came in (`came_of`)
 abbrev pub AreWireCalls : {W : Type 0} → (W → List ℕ → Result (Unit {0}) WireError → W → Type 0)
     → (W → Result (Option ℕ) WireError → List ℕ → W → Type 0) → W → List Turn → W → Type 0
 AreWireCalls send receive wire [] after = after ≡ wire
@@ -14,7 +14,7 @@ AreWireCalls {W = W} send receive wire (t ∷ turns) after =
     (sent between : W) × SendsSome send wire t.sent t.answers sent × ReceivesOnce receive sent t.answer t.buffer between
     × AreWireCalls send receive between turns after
 
--- in the last turn, by how it ends
+-- the calls of the last turn, by its ending
 abbrev pub LastWireCalls : {W : Type 0} → (W → List ℕ → Result (Unit {0}) WireError → W → Type 0)
     → (W → Result (Option ℕ) WireError → List ℕ → W → Type 0) → W → Turn → Ending → W → Type 0
 LastWireCalls send receive wire t (NoNumber error) after = after ≡ wire
@@ -23,7 +23,7 @@ LastWireCalls send receive wire t (Broken at) after = ExchangesUpTo send receive
 LastWireCalls {W = W} send receive wire t Refused after = (sent : W) × SendsSome send wire t.sent t.answers sent
     × ReceivesOnce receive sent t.answer t.buffer after
 
--- the calls of this wire in these turns, each of which has read its own tick of this clock, one after another
+-- the calls on this wire in these turns, each with its own tick of this clock, one after another
 pub record HasCalled {W C : Type 0} (send : W → List ℕ → Result (Unit {0}) WireError → W → Type 0) (receive : W
     → Result (Option ℕ) WireError → List ℕ → W → Type 0) (tell : C → ℕ → C
     → Type 0) (wire : W) (clock : C) (turns : List Turn) (last : Turn) (ending : Ending) : Type 0 where

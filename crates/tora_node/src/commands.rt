@@ -1,4 +1,4 @@
-//! The commands of a running node, one a line.
+//! The commands of a running node, one on each line.
 ghost use Rattle.std.specs.Prelude.{◌≡◌, ◌<◌, ◌≤◌, ◌++◌, ◌∷◌, [], ℕ, List, IfOk, IfErr, IfSome, true, length, take};
 ghost use Rattle.std.specs.Prelude.{codes};
 ghost use Rattle.tora_lines.specs.Fronts.{after};
@@ -20,34 +20,34 @@ use tora_lines::{Input, after};
 use tora_neighbour::Clock;
 use tora_seat::Status;
 
-/// The longest line that can be a command, in bytes without its end.
+/// The most bytes of a command, without its LF.
 pub const LONGEST_COMMAND: usize = 4096;
 
-/// What the log says of the commands.
+/// The list of commands, for the log.
 const COMMANDS: &str = "commands are `need D`, `cut K`, `show`, `json`, `watch`, `quit` and `help`";
 
-/// How many bytes one read asks for at most.
+/// The most bytes of one read.
 const CHUNK: usize = 512;
 
-/// What a line asks of a node.
+/// What a line requests from a node.
 #[derive(Clone, Copy, Debug, PartialEq, Eq)]
 pub enum Command {
     /// A route to a destination.
     Need(Id),
-    /// The end of the life that is current at a neighbour.
+    /// A cut of the current session of a neighbour.
     Cut(Id),
-    /// The lines of the core's table.
+    /// The table of the core.
     Show,
-    /// What of the core is to be told to a program: `json` or `watch`.
+    /// `json` or `watch`: the state of the core, for a program.
     Status(Status),
     /// The end of the node.
     Quit,
-    /// Nothing: the line is no command.
+    /// Nothing, as the line is not a command.
     Unknown,
 }
 
-/// What a line asks: `show`, `json`, `watch`, `quit`, `need D` or `cut K`, where D and K are numbers from 1 to 2^32 - 1
-/// in decimal digits, without a sign and without leading zeros.
+/// The command of a line: `show`, `json`, `watch`, `quit`, `need D` or `cut K`, where D and K are numbers from 1 to
+/// 2^32 - 1 in decimal digits, without a sign and without leading zeros. `Unknown` for any other line.
 #[tactic(auto, unfolding(crate::specs::CommandText::asked_by))]
 pub fn command_of(line: &[u8]) -> Command
     ensures exact { result ≡ asked_by line.now }
@@ -75,7 +75,7 @@ pub fn command_of(line: &[u8]) -> Command
     }
 }
 
-/// The command of a line that is no other command: `cut K`, or an unknown one.
+/// The command of a line that is none of the others: `cut K`, or `Unknown`.
 fn cut_asked(line: &[u8]) -> Command
     ensures exact { result ≡ cut_in (after (codes "cut ") line.now) }
     ensures cut { (d : ℕ) → result ≡ Command.Need d → ⊥ }
@@ -95,15 +95,15 @@ fn cut_asked(line: &[u8]) -> Command
 pub enum CommandsEnd {
     /// A line was `quit`.
     Quit,
-    /// The input has ended.
+    /// The input is at its end.
     End,
-    /// A read has failed.
+    /// A read failed.
     Read,
-    /// Nobody takes items any more.
+    /// The core no longer takes items.
     Gone,
 }
 
-/// The line that is being read: its bytes, where they are not too many for a command.
+/// The line that is being read, without its bytes if there are more than 4,096.
 #[derive(Drop)]
 struct Line {
     bytes: ArrayVec<u8, LONGEST_COMMAND>,
@@ -121,14 +121,14 @@ impl Line {
         }
     }
 
-    /// Whether nothing of the line was read.
+    /// Whether no byte of the line was read.
     fn is_empty(&self) -> bool
         ensures { result ≡ true → (text : List ℕ) → Holds self.now text → text ≡ [] }
     {
         self.bytes.is_empty() && !self.is_too_long
     }
 
-    /// The next byte of the line.
+    /// Adds the next byte of the line.
     fn push(&mut self, byte: u8)
         ensures { (text : List ℕ) → Holds self.old text → Holds self.new (text ++ byte ∷ []) }
     {
@@ -137,7 +137,7 @@ impl Line {
         }
     }
 
-    /// Logs the line where it is no command, with those that are, which `help` asks for.
+    /// Logs the commands if the line is `help`, and logs a line that is not a command.
     fn tell<R: Log>(&self, rt: &R) {
         let line = self.bytes.as_slice();
         if self.is_too_long {
@@ -155,7 +155,7 @@ impl Line {
         }
     }
 
-    /// What the line asks; the next line begins.
+    /// The command of the line. The next line begins.
     fn take(&mut self) -> Command
         ensures asked { (text : List ℕ) → Holds self.old text → result ≡ asked_in text }
         ensures next { Holds self.new [] }
@@ -171,12 +171,13 @@ impl Line {
     }
 }
 
-/// Logs that this is no command, with those that are.
+/// Logs that this is not a command, and which the commands are.
 fn tell_unknown<R: Log, D: Display + Drop>(rt: &R, what: D) {
     warn!(rt; "{what} is no command; {COMMANDS}");
 }
 
-/// Puts what a command asks. Nothing follows `quit`, and where nobody takes items any more.
+/// Puts the item of a command into the queue of the core. Returns why no further command follows: after `quit`, and if
+/// the core no longer takes items.
 fn put<R: Wait + Log, C: Clock>(
     rt: &R,
     clock: &mut C,
@@ -200,10 +201,10 @@ fn put<R: Wait + Log, C: Clock>(
     }
 }
 
-/// Reads once, and answers how many bytes it gave: none where it was interrupted, so that it is made again.
+/// Reads once, and returns the number of bytes: 0 if the read was interrupted and is to be repeated.
 ///
 /// # Errors
-/// `End` at the end of the input, and `Read` where the read failed.
+/// `End` at the end of the input, and `Read` if the read failed.
 fn read<Rd: Input>(reader: &mut Rd, chunk: &mut [u8; CHUNK]) -> Result<usize, CommandsEnd>
     ensures count { IfOk result (λ n. n ≤ 512) }
     ensures bytes { IfOk result (λ n. Consumes (Rd.remaining reader.old) (Rd.remaining reader.new) (take n chunk.new)) }
@@ -228,8 +229,8 @@ fn read<Rd: Input>(reader: &mut Rd, chunk: &mut [u8; CHUNK]) -> Result<usize, Co
     }
 }
 
-/// Puts what the lines ask that end in the bytes, and keeps the rest of them. Nothing follows `quit`, and where nobody
-/// takes items any more.
+/// Puts the items of the lines that end in these bytes, and keeps the rest. Returns why no further command follows, as
+/// `put` does.
 fn put_all<R: Wait + Log, C: Clock>(
     rt: &R,
     clock: &mut C,
@@ -254,7 +255,7 @@ fn put_all<R: Wait + Log, C: Clock>(
     None
 }
 
-/// Puts what a last line asks, which has no end, and then `Quit`.
+/// Puts the item of the last line, which has no LF, and then `Quit`.
 fn put_last<R: Wait + Log, C: Clock>(
     rt: &R,
     clock: &mut C,
@@ -274,7 +275,7 @@ fn put_last<R: Wait + Log, C: Clock>(
     put(rt, clock, port, Command::Quit)
 }
 
-/// Whether nobody takes items any more.
+/// Whether the core no longer takes items.
 fn is_gone(end: Option<CommandsEnd>) -> bool
     ensures { result ≡ is_gone end }
 {
@@ -284,12 +285,12 @@ fn is_gone(end: Option<CommandsEnd>) -> bool
     }
 }
 
-/// Reads commands and puts what they ask, until `quit`, the end of the input, a read that fails, or `Gone`. Answers why
-/// it has ended.
+/// Reads commands and puts their items into the queue of the core, until `quit`, the end of the input, a failed read,
+/// or `Gone`. Returns why it ended.
 ///
-/// A line that is no command is logged and passed over; so is `help`, which logs the commands. The end of the input and
-/// a failed read put `Quit`, and a last line without its end counts. Each item has a tick that is read of the clock
-/// when it is put. It may wait.
+/// A line that is not a command is logged and skipped; `help` logs the commands. The end of the input and a failed read
+/// put `Quit`, after the command of a last line without LF. Each item has the tick of the clock when it is put. The
+/// function waits while the queue is full.
 pub fn run_commands<R: Wait + Log, Rd: Input, C: Clock>(
     rt: &R,
     reader: &mut Rd,
@@ -298,7 +299,7 @@ pub fn run_commands<R: Wait + Log, Rd: Input, C: Clock>(
 ) -> CommandsEnd
     ensures put { Commands C.did_tell (Rd.remaining reader.old) (Rd.remaining reader.new) (port.old, clock.old)
         (port.new, clock.new) result }
-    // It ends by its reads: with `Read` where one failed, and with `End` where one gave nothing.
+    // The reads determine the end: `Read` if one failed, and `End` if one gave nothing.
     ensures reads { AreReadBy Rd.did_read reader.old reader.new result }
 {
     let mut chunk = [0; CHUNK];
@@ -322,8 +323,8 @@ pub fn run_commands<R: Wait + Log, Rd: Input, C: Clock>(
     unreachable!()
 }
 
-/// What is put for an input is what its lines ask, one after another; and behind a last line without its end, `Quit`.
-/// This says it of lines that are short enough for a command; `command_of` says what a line asks.
+/// The items for an input are those of its lines in order; after a last line without LF, `Quit` follows. This holds for
+/// lines of at most 4,096 bytes, and `command_of` gives the command of each.
 pub fn commands_are_put_line_by_line()
     ensures line { (line rest : List ℕ) → IsLine line → length line ≤ 4096
         → put_from [] (line ++ 10 ∷ rest) ≡ put_for (asked_by line) (put_from [] rest) }

@@ -1,4 +1,4 @@
-//! What a node is to be.
+//! The node, neighbours and destinations of a core.
 ghost use Rattle.std.specs.Prelude.{◌≡◌, ◌<◌, All, Err, IfErr, IfOk, MatchOption, None, OnOk};
 ghost use Rattle.tora_core.specs.CoreRun.{core_refusal, first_core, first_core_of};
 ghost use Rattle.tora_core.specs.Numbers.{IsAscending};
@@ -42,7 +42,7 @@ impl Config {
         Config::with_erasure(alloc, Erasure::Plain, me, peers, dests)
     }
 
-    /// Node `me` as `new` makes it, with this choice of what becomes of erased levels.
+    /// As `new`, with this treatment of erased levels.
     ///
     /// # Errors
     /// Those of `Core::new`, in its order.
@@ -67,7 +67,7 @@ impl Config {
         Ok(Config { core })
     }
 
-    /// The neighbours, ascending.
+    /// The neighbours, in ascending order.
     pub fn peers(&self) -> &[Id]
         ensures { result.now ≡ self.now.neighbours }
     {

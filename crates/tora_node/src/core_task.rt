@@ -15,8 +15,8 @@ use tora_lane::{CorePort, OutPut, OutPuts, Settling};
 use tora_neighbour::Wake;
 use tora_seat::CoreSeat;
 
-/// What the core's thread leaves: its seat, what its port has taken, its ends of the lanes to the neighbours, and what
-/// it has written to.
+/// What is left of the core's thread: its seat, its port with the items taken, its ends of the queues to the
+/// neighbours, and its writer.
 #[derive(Drop)]
 pub(crate) struct CoreRest<Wr> {
     pub(crate) seat: CoreSeat,
@@ -26,7 +26,7 @@ pub(crate) struct CoreRest<Wr> {
     pub(crate) writer: Wr,
 }
 
-/// The work of the core's thread: the seat, its lanes, what wakes the neighbours' threads, and what it writes to.
+/// The work of the core's thread: the seat, its queues, the wakers of the neighbours' threads, and the writer.
 #[derive(Drop)]
 pub(crate) struct CoreStart<K, Wr> {
     alloc: Global,
@@ -72,7 +72,7 @@ impl<K: Wake + Drop, Wr: Write + Drop> Task<CoreRest<Wr>> for CoreStart<K, Wr> {
     }
 }
 
-/// Puts the parts of the core's work together. `Err` gives the writer back where memory is gone.
+/// Puts the parts of the core's work together. The error is the writer, if memory runs out.
 pub(crate) fn new_core_start<K: Drop, Wr: Drop>(
     alloc: Global,
     core: Core,

@@ -27,11 +27,11 @@ use tora_seat::{Answer, CoreSeat, Item, OutLanes, Status, What, accepted_inputs_
 pub struct CoreEnd<O> {
     /// The seat.
     pub seat: CoreSeat,
-    /// Its port.
+    /// The port from which it took items.
     pub port: CorePort,
-    /// The lanes to the neighbours.
+    /// The queues to the neighbours.
     pub outs: O,
-    /// Why it has ended: `None` after Quit and where the port has answered `Gone`, otherwise `Memory` or `Output`.
+    /// Why it ended: `None` after `Quit` or if the port returned `Gone`, otherwise `Memory` or `Output`.
     pub fault: Option<NodeError>,
 }
 
@@ -48,7 +48,7 @@ fn write<W: Write>(writer: &mut W, text: &[u8]) -> Result<(), NodeError>
     }
 }
 
-/// Writes a text, where there is one.
+/// Writes a text, unless it is empty.
 fn write_some<W: Write>(writer: &mut W, text: &[u8]) -> Result<(), NodeError>
     ensures ok { OnOk result (Appends (W.contents writer.old) (W.contents writer.new) text.now) }
     ensures err { IfErr result (λ e. e ≡ NodeError.Output) }
@@ -87,7 +87,7 @@ fn print_json<W: Write>(
     write(writer, text.as_bytes())
 }
 
-/// Prints the refusal of a need, if it is one.
+/// Prints `refused N`, if the answer is the refusal of a need.
 fn print_refusal<W: Write>(answer: &Answer, writer: &mut W) -> Result<(), NodeError>
     ensures ok { OnOk result (Appends (W.contents writer.old) (W.contents writer.new) (refused_text answer.now)) }
     ensures err { IfErr result (λ e. e ≡ NodeError.Output) }
@@ -121,7 +121,7 @@ fn begin_watch<W: Write>(
     write(writer, text.as_bytes())
 }
 
-/// Prints what has changed since the last time, and remembers what it has printed.
+/// Prints what has changed since it was last printed, and stores what is printed.
 fn print_changes<W: Write>(
     alloc: Global,
     seat: &CoreSeat,
@@ -143,7 +143,7 @@ fn print_changes<W: Write>(
     write_some(writer, text.as_bytes())
 }
 
-/// Prints what has changed, where the core is watched.
+/// Prints what has changed, if the core is watched.
 fn print_news<W: Write>(
     alloc: Global,
     seat: &CoreSeat,
@@ -161,7 +161,7 @@ fn print_news<W: Write>(
     }
 }
 
-/// Prints the refusal of a need, if it is one, and what has changed, where the core is watched.
+/// Prints `refused N` if a need was refused, and then what has changed if the core is watched.
 fn answer_need<W: Write>(
     alloc: Global,
     seat: &CoreSeat,
@@ -178,7 +178,7 @@ fn answer_need<W: Write>(
     print_news(alloc, seat, watch, writer)
 }
 
-/// Prints what an item asks for, and what it has changed, where the core is watched.
+/// Prints the output for an item, and what it changed if the core is watched.
 fn reply<W: Write>(
     alloc: Global,
     seat: &CoreSeat,
@@ -216,12 +216,13 @@ fn is_quit(what: &What) -> bool
     }
 }
 
-/// Takes items and serves them one after another, until `Quit`, `Gone` or a fault, and prints what they ask for: the
-/// table of the core for `Show`, a line of JSON for `Status(Json)`, all heights and next hops for `Status(Watch)` and
-/// each change of them from then on, and `refused N` for a `Need` that the core refuses with the number N. What is
+/// Takes items and serves them one after another, until `Quit`, `Gone` or a fault, and prints their output: the table
+/// of the core for `Show`, a line of JSON for `Status(Json)`, all heights and next hops for `Status(Watch)` and each
+/// change of them from then on, and `refused N` for a `Need` that the core refuses with the number N. The writer is
+/// flushed after each output.
 /// printed is flushed at once.
-///
-/// Memory is asked for only where the table, a line of JSON, or heights and next hops are printed, and behind each item
+/// Memory is allocated only to print the table, a line of JSON, or heights and next hops, and, while these are watched,
+/// after each item that may have changed them.
 /// that may have changed these while they are watched.
 pub fn run_core<R: Wait, O: OutLanes, W: Write>(
     rt: &R,
@@ -232,7 +233,7 @@ pub fn run_core<R: Wait, O: OutLanes, W: Write>(
     writer: &mut W,
 ) -> CoreEnd<O>
     requires { length seat.core.neighbours ≤ O.count outs }
-    // The items taken were served; where nothing has failed, what was written is their text.
+    // The items taken were served; without a fault, their text was written.
     ensures runs { (xs : List ServedItem) × (result.port.taken ≡ port.taken ++ items_served xs)
         × AreServed seat.core.neighbours (state_of seat) xs (state_of result.seat)
         × AreOffered O.did_offer seat.core.neighbours outs (offers_made xs) result.outs

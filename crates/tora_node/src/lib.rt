@@ -1,6 +1,6 @@
 //! A running node: the thread of its core, a thread for each neighbour, and the commands.
 //!
-//! The core's thread owns the core. It takes items from a lane and serves them one after another. Each neighbour's
+//! The core's thread owns the core. It takes items from a queue and serves them one after another. Each neighbour's
 //! thread runs its link end over a wire. The thread that starts the node reads the commands.
 //!
 //! ```rust

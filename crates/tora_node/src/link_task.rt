@@ -8,14 +8,14 @@ use std::sync::Wait;
 use tora_life::Disk;
 use tora_neighbour::{Clock, Finished, LaneHub, LinkFault, Tally, Wire, run_neighbour};
 
-/// What a neighbour's thread came to.
+/// The result of a neighbour's thread.
 #[derive(Clone, Copy)]
 pub(crate) struct Outcome {
     pub(crate) fault: Option<LinkFault>,
     pub(crate) tally: Tally,
 }
 
-/// What a neighbour's thread leaves: what it came to, and its ends of the lanes.
+/// What is left of a neighbour's thread: its result, and its ends of the queues.
 #[derive(Drop)]
 pub(crate) struct LinkRest {
     pub(crate) outcome: Outcome,
@@ -55,7 +55,7 @@ impl<D: Disk + Drop, W: Wire + Drop, C: Clock + Drop> Task<LinkRest> for Start<D
     }
 }
 
-/// How many datagrams spelt no frame, at most 2^64 - 1.
+/// The number of datagrams that were not frames, at most 2^64 - 1.
 fn bad_datagrams(tally: &Tally) -> u64 {
     let mut bad: u64 = 0;
     for number in 0..LAST_FRAME_ERROR {

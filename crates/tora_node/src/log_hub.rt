@@ -1,4 +1,4 @@
-//! A hub that logs what its link tells.
+//! A hub that logs the sessions of its link.
 use log::{Log, info};
 use std::fmt::Display;
 use std::sync::Wait;
@@ -6,14 +6,14 @@ use tora_height::Id;
 use tora_lane::{Cargo, Gone, What};
 use tora_neighbour::Hub;
 
-/// A hub around another one, which logs that a life of the link begins or ends, as it is put.
+/// A wrapper of a hub that logs each session of the link that begins or ends.
 #[derive(Drop)]
 pub struct LogHub<L, H> {
-    /// Where it logs.
+    /// The log.
     pub log: L,
     /// The neighbour.
     pub peer: Id,
-    /// The hub.
+    /// The wrapped hub.
     pub hub: H,
 }
 

@@ -27,8 +27,8 @@ use tora_life::Disk;
 use tora_neighbour::{Clock, LinkFault, Tally, Wake, Wire};
 use tora_seat::CoreSeat;
 
-/// What a node has ended with. Contracts see its core, the tally of each neighbour in ascending order, the items that
-/// the core has taken, and whether its port has answered `Gone`.
+/// A node that has ended. Contracts see its core, the tally of each neighbour in ascending order, the items that the
+/// core took, and whether its port returned `Gone`.
 #[derive(Drop)]
 pub struct Ended {
     seat: CoreSeat,
@@ -51,14 +51,14 @@ impl Model for Ended {
 }
 
 impl Ended {
-    /// The core as the node left it.
+    /// The core at the end.
     pub fn core(&self) -> &Core
         ensures { result.now ≡ self.now.core }
     {
         self.seat.core()
     }
 
-    /// The counts of datagrams from a neighbour, by outcome; `None` if it is no neighbour.
+    /// The counts of datagrams from a neighbour, by outcome; `None` if there is no such neighbour.
     pub fn tally(&self, peer: Id) -> Option<Tally>
         ensures { result ≡ tally_of self.now peer }
     {
@@ -67,14 +67,14 @@ impl Ended {
     }
 }
 
-/// The place of a neighbour, in ascending order from 0 on.
+/// The index of a neighbour, in ascending order.
 fn place_of(neighbours: &[Id], peer: Id) -> Option<usize>
     ensures { result ≡ place_of neighbours.now peer }
 {
     neighbours.iter().position(|n| *n == peer)
 }
 
-/// The fault of a node by that of a neighbour's thread.
+/// The fault of a node for the fault of a neighbour's thread.
 fn fault_of(peer: Id, fault: LinkFault) -> NodeError
     ensures { result ≡ fault_of_link peer fault }
 {
@@ -84,7 +84,7 @@ fn fault_of(peer: Id, fault: LinkFault) -> NodeError
     }
 }
 
-/// The fault of the least neighbour that has one.
+/// The fault of the lowest neighbour that has one.
 #[tactic(auto, using(crate::proofs::Faults::fault_here, crate::proofs::Faults::fault_behind, crate::proofs::Faults::no_fault_behind, crate::proofs::Faults::no_outcome))]
 fn first_link_fault(neighbours: &[Id], outcomes: &[Outcome]) -> Option<NodeError>
     ensures { result ≡ first_link_fault neighbours.now outcomes.now }
@@ -115,8 +115,8 @@ fn first_fault(
     }
 }
 
-/// Brings all lanes of a node together, once its threads have ended, behind no outcomes; the first fault is answered,
-/// and the writer is given back.
+/// Joins the ends of a node's queues after its threads have ended, and returns the first fault or the ended node, with
+/// the writer. `outcomes` is empty before.
 fn settled<Wr: Drop>(
     rests: Rests<CoreRest<Wr>, LinkRest>,
     outcomes: Vec<Outcome>,
@@ -159,23 +159,22 @@ fn settled<Wr: Drop>(
     }
 }
 
-/// Runs a node until its commands or a fault of its core end it, and gives the writer back. The writer is `None` only
-/// where the answer is `Memory`.
+/// Runs a node until its commands or a fault of its core end it, and returns the writer. The writer is `None` only if
+/// the result is `Memory`.
 ///
-/// It takes one wire, one disk and one clock for each link, by ascending neighbour, and a clock for the commands. First
-/// it makes the core, the link ends and the lanes, then it opens the life files by ascending neighbour; the first fault
-/// there is answered, and no thread starts. Then the core and each neighbour have a thread, and the commands are read
-/// by this one: `need D`, `show` and `quit`, one a line; any other line is logged and passed over, and the end of the
-/// input is a `quit`. The core's thread writes the lines of `show`, and `refused N` for a need that is refused. A link
-/// whose thread has ended with a fault is down from then on, and the others go on.
+/// It takes one wire, one disk and one clock for each link, in ascending order of the neighbours, and a clock for the
+/// commands. First it makes the core, the link ends and the queues, and opens the life files in order; after a fault
+/// here no thread starts. Then the core and each neighbour have a thread, and this thread reads the commands as
+/// `run_commands` does. The core's thread prints their output, as `run_core` does. A link whose thread has ended by a
+/// fault is down from then on, and the others go on.
 ///
-/// The thread of a neighbour is woken once a cargo was put into its lane: the wakers stand in the order of the wires,
-/// and where there is none, nobody is woken. No clause says that anybody is.
+/// The thread of a neighbour is woken when a message was put into its queue. The wakers are in the order of the wires;
+/// without a waker, the thread is not woken. No contract states that a thread is woken.
 ///
 /// # Errors
-/// `Lane` where there are no neighbours or more than lanes are made for; `Memory`, also where a thread can't be
-/// started; `Life` with the neighbour where its life file does not open. Once all threads have ended: the fault of the
-/// core (`Memory`, `Output`), otherwise that of the least neighbour (`Life`, `Wire`).
+/// Before the threads: `Lane` if there are no neighbours or more than there can be queues for; `Memory`, also if a
+/// thread cannot be started; `Life` with the neighbour if its life file does not open. After the threads have ended:
+/// the fault of the core (`Memory`, `Output`), otherwise that of the lowest neighbour (`Life`, `Wire`).
 pub fn run_node<
     R: Threads + Wait + Log + Sync,
     D: Disk + Send + Drop,

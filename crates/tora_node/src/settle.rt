@@ -1,4 +1,4 @@
-//! Bringing the ends of a node's lanes together, once its threads have ended.
+//! Joining the ends of a node's queues after its threads have ended.
 ghost use Rattle.std.specs.Prelude.{◌≡◌, [], IfSome, length, map};
 ghost use Rattle.tora_lane.specs.Ports.{IsPortOf};
 ghost use Rattle.tora_node.specs.Threads.{Each, HasEnds, IsSettled, outcome_of};
@@ -7,7 +7,8 @@ use crate::link_task::{LinkRest, Outcome};
 use tora_lane::{OutPut, Settling, settle_out};
 use tora_neighbour::LaneHub;
 
-/// Settles the lanes of each link, and puts what the links came to behind no outcomes. `None` where memory is gone.
+/// Joins the ends of each link's queues, by which contracts know that what was put was taken or is left. Returns the
+/// results of the links; `outcomes` is empty before. `None` if memory runs out.
 pub(crate) fn settle_links(
     port: &mut Settling,
     outs: Vec<OutPut>,

@@ -1,4 +1,4 @@
-//! Making the links and the lanes of a node, before its threads are started.
+//! Making the links and the queues of a node, before its threads are started.
 ghost use Rattle.std.specs.Prelude.{◌≡◌, ◌⊎◌, ◌<◌, ◌≤◌, Err, IfErr, IfOk, IfSome, length, map};
 ghost use Rattle.tora_lane.specs.NodeLanes.{AreLanes};
 ghost use Rattle.tora_node.specs.declared.fault.NodeError.{NodeError};
@@ -16,7 +16,7 @@ use tora_lane::{InPort, LaneError, Lanes, MOST_LINKS, OutTake, lanes};
 use tora_life::{Disk, LifeError, LifeFile};
 use tora_neighbour::{LaneHub, Link, Wire};
 
-/// The ends of a node's links, by ascending neighbour, never opened.
+/// The link ends of a node, in ascending order of the neighbours, never opened.
 pub(crate) fn new_ends(alloc: Global, core: &Core) -> Option<Vec<NewEnd>>
     ensures { IfSome result (λ ends. map link_ended ends.items ≡ map (name_of core.now.me) core.now.neighbours) }
 {
@@ -33,7 +33,7 @@ pub(crate) fn new_ends(alloc: Global, core: &Core) -> Option<Vec<NewEnd>>
     Some(ends)
 }
 
-/// The lanes of a node with this many links.
+/// The queues of a node with this many links.
 pub(crate) fn new_lanes<R: Wait>(rt: &R, alloc: Global, links: usize) -> Result<Lanes, NodeError>
     ensures made { IfOk result (λ l. AreLanes links l.core l.command l.links.items l.outs.items × (0 < links)
         × (links ≤ MOST_LINKS)) }

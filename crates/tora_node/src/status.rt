@@ -24,14 +24,14 @@ fn or_null(entry: Option<Entry>) -> Entry
     }
 }
 
-/// The own height for a destination.
+/// The node's height for a destination.
 pub fn own_height(core: &Core, d: Id) -> Entry
     ensures { result ≡ own_height core.now d }
 {
     or_null(core.height(d))
 }
 
-/// The height that a neighbour told for a destination.
+/// The height that a neighbour last sent for a destination.
 fn entry_height(core: &Core, d: Id, k: Id) -> Entry
     ensures { result ≡ entry_height core.now d k }
 {
@@ -55,7 +55,7 @@ fn direction(core: &Core, d: Id, k: Id) -> &'static str
     }
 }
 
-/// Puts a height behind a text, by its five parts.
+/// Appends a height to a text, by its five parts.
 fn write_height(out: &mut String, height: Entry) -> Result<(), AllocError>
     ensures { OnOk result (string_bytes out.new ≡ string_bytes out.old ++ height_json height) }
 {
@@ -70,7 +70,7 @@ fn write_height(out: &mut String, height: Entry) -> Result<(), AllocError>
     }
 }
 
-/// Puts a number behind a text, if there is one.
+/// Appends a number to a text, or `null`.
 fn write_number(out: &mut String, number: Option<Id>) -> Result<(), AllocError>
     ensures { OnOk result (string_bytes out.new ≡ string_bytes out.old ++ number_json number) }
 {
@@ -80,7 +80,7 @@ fn write_number(out: &mut String, number: Option<Id>) -> Result<(), AllocError>
     }
 }
 
-/// Puts the numbers of a life behind a text, if there is one.
+/// Appends the numbers of a session to a text, or `null`.
 fn write_life(out: &mut String, life: Option<Life>) -> Result<(), AllocError>
     ensures { OnOk result (string_bytes out.new ≡ string_bytes out.old ++ life_json life) }
 {
@@ -125,7 +125,7 @@ fn write_vias(out: &mut String, core: &Core, d: Id) -> Result<(), AllocError>
     }
 }
 
-/// Puts a destination and the own height behind a text.
+/// Appends a destination and the node's height to a text.
 #[tactic(auto, unfolding(crate::specs::StatusJson::own_json))]
 fn write_own(out: &mut String, core: &Core, d: Id) -> Result<(), AllocError>
     ensures { OnOk result (string_bytes out.new ≡ string_bytes out.old ++ own_json core.now d) }
@@ -148,7 +148,7 @@ fn write_route(out: &mut String, core: &Core, d: Id) -> Result<(), AllocError>
     out.push_str("}")
 }
 
-/// Puts a destination behind a text.
+/// Appends a destination to a text.
 #[tactic(auto, unfolding(crate::specs::StatusJson::destination_json))]
 fn write_destination(out: &mut String, core: &Core, d: Id) -> Result<(), AllocError>
     ensures { OnOk result (string_bytes out.new ≡ string_bytes out.old ++ destination_json core.now d) }
@@ -157,7 +157,7 @@ fn write_destination(out: &mut String, core: &Core, d: Id) -> Result<(), AllocEr
     write_route(out, core, d)
 }
 
-/// Puts the destinations of the table behind a text.
+/// Appends the destinations of the table to a text.
 fn write_destinations(out: &mut String, core: &Core) -> Result<(), AllocError>
     ensures { OnOk result (string_bytes out.new
         ≡ string_bytes out.old ++ array_json (destination_json core.now) (destinations_of core.now.views)) }
@@ -176,7 +176,7 @@ fn write_destinations(out: &mut String, core: &Core) -> Result<(), AllocError>
     }
 }
 
-/// Puts the link of the neighbour at a place behind a text.
+/// Appends the link of the neighbour at an index to a text.
 #[tactic(auto, unfolding(crate::specs::StatusJson::link_json))]
 fn write_link(out: &mut String, seat: &CoreSeat, place: usize, k: Id) -> Result<(), AllocError>
     requires { slice_get seat.now.core.neighbours place ≡ Some k }
@@ -190,7 +190,7 @@ fn write_link(out: &mut String, seat: &CoreSeat, place: usize, k: Id) -> Result<
     out.push_str("}")
 }
 
-/// Puts the links behind a text.
+/// Appends the links to a text.
 fn write_links(out: &mut String, seat: &CoreSeat) -> Result<(), AllocError>
     ensures { OnOk result (string_bytes out.new
         ≡ string_bytes out.old ++ array_json (link_json (state_of seat.now)) seat.now.core.neighbours) }
@@ -209,7 +209,7 @@ fn write_links(out: &mut String, seat: &CoreSeat) -> Result<(), AllocError>
     }
 }
 
-/// Appends the node's choice of erasure to a text, if it is not plain.
+/// Appends the node's treatment of erased levels to a text, unless it is plain.
 fn write_erasure(out: &mut String, erasure: Erasure) -> Result<(), AllocError>
     ensures { OnOk result (string_bytes out.new ≡ string_bytes out.old ++ erasure_json erasure) }
 {

@@ -6,15 +6,15 @@ use std::thread::Promise;
 
 /// The work of a thread.
 pub(crate) trait Task<O> {
-    /// What it leaves, by what it begins with.
+    /// What the work can leave as its result.
     ghost leaves: { Self → O → Type 0 };
 
-    /// Does it.
+    /// Does the work.
     fn run<R: Wait + Log>(self, rt: &R) -> O
         ensures { leaves self result };
 }
 
-/// That a thread does this work.
+/// The promise that a thread does this work.
 #[derive(Drop)]
 pub(crate) struct Does<T>(pub(crate) Snapshot<T>);
 

@@ -25,9 +25,10 @@ pub(crate) struct Rests<O, L> {
     pub(crate) end: CommandsEnd,
 }
 
-/// Starts the threads of core and neighbours, and puts the commands meanwhile, until all threads have ended.
+/// Starts the threads of the core and the neighbours, reads the commands meanwhile, and waits until all threads have
+/// ended.
 ///
-/// `None` where a thread could not be started, or memory is gone; then those that were started have ended.
+/// `None` if a thread could not be started, or memory ran out; then those that were started have ended.
 pub(crate) fn run_threads<
     R: Threads + Wait + Log + Sync,
     O: Send + Drop,
@@ -87,8 +88,8 @@ pub(crate) fn run_threads<
     )
 }
 
-/// Starts a thread for each task, in order, behind no threads. `None` where one could not be started, or memory is
-/// gone; the scope waits for those that were.
+/// Starts a thread for each task, in order; the list of threads is empty before. `None` if a thread could not be
+/// started, or memory ran out; the scope waits for those that were started.
 fn start_all<
     's,
     E,
@@ -117,7 +118,7 @@ fn start_all<
     Some(handles)
 }
 
-/// An empty list with room for `count` items. `None` if memory is refused.
+/// An empty list with room for `count` items. `None` if memory runs out.
 fn room_for<X: Drop>(alloc: Global, count: usize) -> Option<Vec<X>>
     ensures { IfSome result (λ room. room.items ≡ []) }
 {
@@ -128,8 +129,8 @@ fn room_for<X: Drop>(alloc: Global, count: usize) -> Option<Vec<X>>
     }
 }
 
-/// Joins threads, in order, behind no results. `None` where memory is gone; the scope of the threads waits for those
-/// left.
+/// Joins threads, in order; the list of results is empty before. `None` if memory runs out; the scope of the threads
+/// waits for the others.
 fn join_all<R: Threads, L: Drop, T: Task<L>>(
     rt: &R,
     handles: Vec<PromisedHandle<L, Does<T>>>,

@@ -2,21 +2,21 @@
 use tora_neighbour::Wake;
 use tora_seat::{Cargo, OutLanes};
 
-/// Tells each of them that the core has ended.
+/// Signals to all wakers that the core has ended.
 pub(crate) fn end_all<K: Wake>(wakers: &[K]) {
     for waker in wakers {
         waker.end();
     }
 }
 
-/// The lanes from a core to its neighbours, which wake the thread of a neighbour once a cargo was put into its lane.
+/// The queues from a core to its neighbours. Putting a message into one wakes the thread of that neighbour.
 ///
-/// They are the lanes inside.
+/// For contracts these are the queues `lanes`.
 #[derive(Drop)]
 pub struct WakingLanes<O, K> {
-    /// The lanes.
+    /// The queues.
     pub lanes: O,
-    /// What wakes the thread at the end of each lane, in the order of the lanes. Where there is none, nobody is woken.
+    /// The wakers of the threads, in the order of the queues. A thread without a waker is not woken.
     pub wakers: Vec<K>,
 }
 

@@ -1,4 +1,4 @@
-//! What `watch` prints of a core.
+//! The output of `watch`.
 ghost use Rattle.std.specs.Prelude.{◌≡◌, ◌++◌, IfOk, OnOk, string_bytes};
 ghost use Rattle.std.specs.List.{flat_map};
 ghost use Rattle.tora_node.specs.StatusLines.{told_of, all_told, height_line, hop_line, told_lines, is_same_height};
@@ -13,13 +13,13 @@ use tora_height::{Entry, Id};
 #[derive(Clone, Copy, Debug)]
 pub(crate) struct Told {
     pub(crate) to: Id,
-    /// The own height.
+    /// The node's height.
     pub(crate) height: Entry,
     /// The next hop.
     pub(crate) hop: Option<Id>,
 }
 
-/// The state of a destination that is printed.
+/// The printed state of a destination.
 fn told_of(core: &Core, d: Id) -> Told
     ensures { result ≡ told_of core.now d }
 {
@@ -30,7 +30,7 @@ fn told_of(core: &Core, d: Id) -> Told
     }
 }
 
-/// The state of each destination that is printed.
+/// The printed state of each destination.
 pub(crate) fn all_told(alloc: Global, core: &Core) -> Result<Vec<Told>, AllocError>
     ensures { IfOk result (λ told. told.items ≡ all_told core.now) }
 {
@@ -40,7 +40,7 @@ pub(crate) fn all_told(alloc: Global, core: &Core) -> Result<Vec<Told>, AllocErr
         .collect(alloc)
 }
 
-/// Puts `height D H` behind a text.
+/// Appends `height D H` to a text.
 #[tactic(auto, unfolding(crate::specs::StatusLines::height_line))]
 fn write_height(out: &mut String, told: &Told) -> Result<(), AllocError>
     ensures { OnOk result (string_bytes out.new ≡ string_bytes out.old ++ height_line told.now) }
@@ -52,7 +52,7 @@ fn write_height(out: &mut String, told: &Told) -> Result<(), AllocError>
     }
 }
 
-/// Puts `hop D K` behind a text.
+/// Appends `hop D K` to a text.
 #[tactic(auto, unfolding(crate::specs::StatusLines::hop_line))]
 fn write_hop(out: &mut String, told: &Told) -> Result<(), AllocError>
     ensures { OnOk result (string_bytes out.new ≡ string_bytes out.old ++ hop_line told.now) }
@@ -86,7 +86,7 @@ fn is_same_hop(a: Option<Id>, b: Option<Id>) -> bool
     }
 }
 
-/// Appends the lines of what has changed for a destination to a text.
+/// Appends the lines for what has changed for a destination to a text.
 fn write_change(out: &mut String, old: &Told, new: &Told) -> Result<(), AllocError>
     ensures { OnOk result (string_bytes out.new ≡ string_bytes out.old ++ change_text old.now new.now) }
 {
@@ -99,7 +99,7 @@ fn write_change(out: &mut String, old: &Told, new: &Told) -> Result<(), AllocErr
     Ok(())
 }
 
-/// Appends the lines of what has changed for a destination since it was last printed.
+/// Appends the lines for what has changed for a destination since it was last printed.
 fn write_news(out: &mut String, old: &Told, core: &Core) -> Result<(), AllocError>
     ensures { OnOk result (string_bytes out.new ≡ string_bytes out.old ++ news_of core.now old.now) }
 {
@@ -107,7 +107,7 @@ fn write_news(out: &mut String, old: &Told, core: &Core) -> Result<(), AllocErro
     write_change(out, old, &new)
 }
 
-/// Puts both lines of a destination behind a text.
+/// Appends both lines of a destination to a text.
 fn write_told(out: &mut String, told: &Told) -> Result<(), AllocError>
     ensures { OnOk result (string_bytes out.new ≡ string_bytes out.old ++ told_lines told.now) }
 {
@@ -115,7 +115,7 @@ fn write_told(out: &mut String, told: &Told) -> Result<(), AllocError>
     write_hop(out, told)
 }
 
-/// The lines of all that is told.
+/// The lines for all destinations.
 pub(crate) fn state(alloc: Global, told: &[Told]) -> Result<String, AllocError>
     ensures { IfOk result (λ text. string_bytes text ≡ flat_map told_lines told.now) }
 {
@@ -126,7 +126,7 @@ pub(crate) fn state(alloc: Global, told: &[Told]) -> Result<String, AllocError>
     Ok(out)
 }
 
-/// The lines of what has changed since the last printed state.
+/// The lines for what has changed since the last printed state.
 pub(crate) fn changes(alloc: Global, told: &[Told], core: &Core) -> Result<String, AllocError>
     ensures { IfOk result (λ text. string_bytes text ≡ changes_text told.now core.now) }
 {
