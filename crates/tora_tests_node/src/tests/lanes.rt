@@ -1,4 +1,4 @@
-//! The lanes of a node, by one thread and by many.
+//! The queues (lanes) of a node, used by one thread and by many.
 ghost use Rattle.std.specs.Prelude.{◌≡◌};
 
 use super::sees::{same, same_at, sees, sees_at, there};
@@ -14,7 +14,7 @@ mod most_links;
 mod threads;
 mod two_links;
 
-/// The cargo with this number, from 1 on.
+/// The outbound message with this number, from 1 on.
 fn cargo(number: u64) -> Cargo {
     Cargo::Cut(Life {
         own: number,
@@ -22,7 +22,7 @@ fn cargo(number: u64) -> Cargo {
     })
 }
 
-/// Sees what a put at this tick answers.
+/// Checks the result of a put at this tick.
 fn put_is<R: Wait + Abort>(
     rt: &R,
     port: &mut InPort,
@@ -35,17 +35,17 @@ fn put_is<R: Wait + Abort>(
     same_at(rt, &port.put(rt, now, what), &wanted, "a put", &now);
 }
 
-/// Sees that the core's port tells that the seats have ended, and stays so.
+/// Checks that the core's port reports that the seats have ended, at two calls.
 fn seats_have_ended<R: Wait + Abort>(rt: &R, core: &mut CorePort) {
     for at in 0..2 {
         same_at(rt, &core.take(rt), &Err(Gone), "the seats have ended", &at);
     }
 }
 
-/// Numbers of links, and whether there are lanes for so many.
+/// Numbers of links, and whether there can be queues for them.
 const LINKS: &[(usize, bool)] = &[(0, false), (1, true), (32, true), (33, false)];
 
-/// Sees for which of these numbers of links there are lanes.
+/// Checks for which of these numbers of links there are queues.
 fn each_has_lanes<R: Wait + Abort>(rt: &R, alloc: Global, rows: &[(usize, bool)]) {
     for (links, wanted) in rows {
         let is_so = match lanes(rt, alloc, *links) {
@@ -63,7 +63,7 @@ fn node_has_one_to_32_links(rt: HostRuntime) {
     same(&rt, &number, &1, "the number of an error");
 }
 
-/// Puts an item of this link, and sees that the core takes it.
+/// Puts an item of this link, and checks that the core takes it.
 fn use_port<R: Wait + Abort>(rt: &R, port: &mut InPort, core: &mut CorePort, seat: usize) {
     put_is(rt, port, 7, What::Beat, Ok(()));
     let item = there(rt, core.take(rt).ok(), "the item");
@@ -71,7 +71,7 @@ fn use_port<R: Wait + Abort>(rt: &R, port: &mut InPort, core: &mut CorePort, sea
     same(rt, &found, &(seat, 1, 7), "the item");
 }
 
-/// Sends a cargo, and sees that the link takes it and no other.
+/// Sends a message, and checks that the link takes it and no other.
 fn use_out(rt: &impl Abort, out: &mut OutPut, take: &mut OutTake) {
     same(rt, &take.take(), &None, "no cargo at first");
     same(rt, &out.send(cargo(1)), &Ok(()), "a send");
@@ -79,7 +79,7 @@ fn use_out(rt: &impl Abort, out: &mut OutPut, take: &mut OutTake) {
     same(rt, &take.take(), &None, "no cargo behind it");
 }
 
-/// Goes over the lanes of a node that has just been made, by one thread: an item and a cargo of the last link.
+/// Uses the new queues of a node, in one thread: an item and a message of the last link.
 fn use_lanes<R: Wait + Abort>(rt: &R, lanes: Lanes, links: usize) {
     let Lanes {
         mut core,
@@ -94,7 +94,7 @@ fn use_lanes<R: Wait + Abort>(rt: &R, lanes: Lanes, links: usize) {
     use_out(rt, &mut out, &mut take);
 }
 
-/// Goes over the lanes of a node with each of these numbers of links, where there is memory for them.
+/// Uses the queues of nodes with each of these numbers of links, unless memory runs out for them.
 fn use_new_lanes<R: Wait + Abort>(rt: &R, alloc: Global, rows: &[usize]) {
     for links in rows {
         match lanes(rt, alloc, *links) {
@@ -104,8 +104,8 @@ fn use_new_lanes<R: Wait + Abort>(rt: &R, alloc: Global, rows: &[usize]) {
     }
 }
 
-// Where memory is refused `lanes` answers so, and nothing is left of what it had made: the next call finds what it
-// needs. No other call of a lane takes memory, but for one that waits.
+// If memory runs out, `lanes` reports it and frees what it has made, so the next call finds the memory that it needs.
+// No other call of a queue allocates memory, except one that waits.
 #[test]
 fn want_of_memory_is_answered(rt: HostRuntime) {
     use_new_lanes(&rt, rt.alloc(), &[1, 2, 32]);

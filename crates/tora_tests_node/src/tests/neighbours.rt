@@ -1,4 +1,4 @@
-//! A neighbour's thread over memory.
+//! The thread of a neighbour, over wires and disks in memory.
 ghost use Rattle.std.specs.Prelude.{◌≡◌, ◌≢◌, ◌<◌};
 ghost use Rattle.tora_arq.specs.LinkEnd.{first_end};
 
@@ -19,7 +19,7 @@ mod life_files;
 mod runs;
 mod sockets;
 
-// A clock that goes on by so many ticks each time it is read.
+// A clock that advances by a number of ticks each time it is read.
 #[derive(Drop)]
 struct Leaping {
     now: u64,
@@ -40,7 +40,7 @@ fn clock_of(step: u64) -> Leaping {
     Leaping { now: 0, step }
 }
 
-// The bytes of a frame, by the table of the formats.
+// The bytes of a frame, by the table of formats.
 fn frame_bytes(
     alloc: Global,
     kind: u8,
@@ -82,7 +82,7 @@ fn file_of(rt: &impl Abort, disk: MemDisk) -> LifeFile<MemDisk> {
     }
 }
 
-// An end that is open, and has told nothing.
+// An open end without an event to poll.
 fn open_end(rt: &impl Abort, alloc: Global, me: Id, peer: Id, life: u64) -> LinkEnd
     requires me { 0 < me }
     requires peer { 0 < peer }
@@ -96,7 +96,7 @@ fn open_end(rt: &impl Abort, alloc: Global, me: Id, peer: Id, life: u64) -> Link
     end
 }
 
-// Sees what an end makes of a datagram.
+// Checks how an end counts a datagram.
 fn takes(
     rt: &impl Abort,
     end: &mut LinkEnd,
@@ -108,7 +108,7 @@ fn takes(
     same(rt, &take_in(end, tally, datagram, 0), &wanted, what);
 }
 
-// How many datagrams were counted.
+// The number of datagrams that were counted.
 pub(super) fn total(tally: &Tally) -> u64 {
     let mut sum = 0u64;
     for verdict in [

@@ -40,14 +40,14 @@ fn config_of(rt: &impl Abort, alloc: Global, me: u32, peers: &[u32]) -> Config
     )
 }
 
-/// A list of one.
+/// A list with one item.
 fn list_of<T: Drop>(rt: &impl Abort, alloc: Global, value: T) -> Vec<T> {
     let mut list = Vec::new(alloc);
     sees(rt, list.push(value).is_ok(), "memory for a list");
     list
 }
 
-/// Runs a node over these wires and disks, one of each for each link.
+/// Runs a node over these wires and disks, one for each link.
 fn run_over<
     R: Threads + Wait + Sync + time::Clock + log::Log + Abort,
     W: Wire + Send + Drop,
@@ -76,7 +76,7 @@ fn run_over<
     ended
 }
 
-/// Runs a node with one link over the loopback, whose thread is woken.
+/// Runs a node with one link over the loopback, with a waker for the link's thread.
 fn run_one<R: Threads + Wait + Sync + time::Clock + log::Log + Abort>(
     rt: &R,
     alloc: Global,
@@ -113,7 +113,7 @@ fn run_one<R: Threads + Wait + Sync + time::Clock + log::Log + Abort>(
     ended.is_ok() && screen.is_some()
 }
 
-/// Waits until the other node has printed, 10 s at most.
+/// Waits until the other node has printed, at most 10 s.
 fn wait_for_print<R: time::Clock>(rt: &R, course: &Course) {
     for _ in 0..100 {
         if course.printed.load(Ordering::SeqCst) == 1 {
@@ -153,8 +153,8 @@ fn two_nodes_on_the_loopback(rt: HostRuntime) {
     same(&rt, &found, &1, "the route is found");
 }
 
-/// What two wires that look for each other tell: whether each was asked for a datagram, and how many have met the
-/// other.
+/// The observations of two wires that wait for each other: whether each was asked for a datagram, and how many of them
+/// met the other.
 #[derive(Drop)]
 struct Asked {
     first: AtomicU64,
@@ -162,8 +162,8 @@ struct Asked {
     met: AtomicU64,
 }
 
-/// Runs node 1 with these neighbours, one or two, over wires that look for each other; the life file of the first is on
-/// this disk. Answers the fault.
+/// Runs node 1 with these neighbours, one or two, over wires that wait for each other. The life file of the first
+/// neighbour is on this disk. Returns the fault.
 fn run_over_meeting<'a, R: Threads + Wait + Sync + time::Clock + log::Log + Abort>(
     rt: &'a R,
     alloc: Global,
@@ -201,8 +201,8 @@ fn run_over_meeting<'a, R: Threads + Wait + Sync + time::Clock + log::Log + Abor
     ended.err()
 }
 
-/// The same, with what the wires tell: the fault, 1 where the first was asked for a datagram, and how many have met the
-/// other.
+/// Runs node 1 as `run_over_meeting` does, and returns what the wires observed: the fault, 1 if the first wire was
+/// asked for a datagram, and how many of them met the other.
 fn run_meeting<R: Threads + Wait + Sync + time::Clock + log::Log + Abort>(
     rt: &R,
     alloc: Global,
@@ -233,7 +233,7 @@ const TAG: [u8; 32] = [
     0xb3, 0xb6, 0xb9, 0xcd, 0xff, 0xff, 0xff, 0xfe, 0xff, 0xff, 0xff, 0xfd,
 ];
 
-/// Sees the fault of a run over this life file of the one neighbour 3. No thread is started.
+/// Checks the fault of a run with one neighbour, 3, and this life file. No thread is started.
 fn fault_is<R: Threads + Wait + Sync + time::Clock + log::Log + Abort>(
     rt: &R,
     alloc: Global,
@@ -255,7 +255,7 @@ fn a_life_file_of_another_link_starts_no_thread(rt: HostRuntime) {
     fault_is(&rt, rt.alloc(), ByteDisk::of_tag(&TAG), LifeError::Foreign);
 }
 
-/// Lines, and the commands that they are.
+/// Lines, and the command of each.
 const LINES: &[(&[u8], Command)] = &[
     (b"show", Command::Show),
     (b"json", Command::Status(Status::Json)),
@@ -291,7 +291,7 @@ const LINES: &[(&[u8], Command)] = &[
     (b"quit\r", Command::Unknown),
 ];
 
-/// Sees the command that each line is.
+/// Checks the command of each line.
 fn each_is_command(rt: &impl Abort, rows: &[(&[u8], Command)]) {
     for (line, wanted) in rows {
         same_at(rt, &command_of(line), wanted, "the command", line);
@@ -303,7 +303,7 @@ fn lines_that_are_commands(rt: HostRuntime) {
     each_is_command(&rt, LINES);
 }
 
-/// Sees that the neighbours are 2 and 3.
+/// Checks that the neighbours are 2 and 3.
 fn peers_are(rt: &impl Abort, peers: &[u32]) {
     same(rt, &peers, &[2, 3].as_slice(), "the neighbours");
 }
@@ -326,7 +326,7 @@ fn want_of_memory_refuses_a_configuration(rt: HostRuntime) {
     }
 }
 
-/// Runs node 1 between nodes 2 and 3 over wires on which nothing comes, with these commands.
+/// Runs node 1 between nodes 2 and 3, with these commands, over wires on which no datagram arrives.
 fn run_in_memory<R: Threads + Wait + Sync + time::Clock + log::Log + Abort>(
     rt: &R,
     alloc: Global,
@@ -348,7 +348,7 @@ fn run_in_memory<R: Threads + Wait + Sync + time::Clock + log::Log + Abort>(
     run_over(rt, alloc, config, wires, disks, &mut reader, page)
 }
 
-/// The node has a link to this peer, of which nothing was counted; or it has none.
+/// Checks that the node has a link to this peer and counted nothing on it, or that it has no such link.
 fn counted_nothing(rt: &impl Abort, ended: &Ended, peer: Id, is_link: bool) {
     match ended.tally(peer) {
         Some(tally) => sees_at(rt, is_link && total(&tally) == 0, "a link", &peer),
@@ -356,7 +356,7 @@ fn counted_nothing(rt: &impl Abort, ended: &Ended, peer: Id, is_link: bool) {
     }
 }
 
-/// The core is that of node 1 with neighbours 2 and 3.
+/// Checks that the core is that of node 1 with neighbours 2 and 3.
 fn is_core_of_1(rt: &impl Abort, ended: &Ended) {
     same(rt, &ended.core().me(), &1, "the node of the core");
     peers_are(rt, ended.core().neighbours());
@@ -371,7 +371,7 @@ fn want_of_memory_ends_a_node(rt: HostRuntime) {
     let commands = b"need 9\nhello\nshow\nneed 0\nquit\nshow\n";
     match run_in_memory(&rt, rt.alloc(), commands, &mut page) {
         Err(error) => {
-            // What was printed before stands whole.
+            // The output before the fault is complete.
             same(&rt, &error, &NodeError::Memory, "no memory");
             let is_whole = page.length == 0 || page.length == 10 || page.length == 37;
             sees(&rt, is_whole, "whole lines");

@@ -1,27 +1,27 @@
-//! What the tests see. Each check is one call of a function of this module, which is proved once: an assertion that
-//! stands in a test is proved there, together with the text that it would print. The line that a failure names is one
-//! of this module, so each call says what was looked at.
+//! The checks of the tests. Each check is a call of a function here, which is proved once. An assertion inside a test
+//! would be proved there, with the text that it prints. A failure names a line of this module, so each call passes a
+//! text that says what it checks.
 ghost use Rattle.std.specs.Prelude.{◌≡◌, Some};
 
 use std::fmt::Debug;
 use std::process::Abort;
 
-/// Sees that this is so.
+/// Checks that a condition holds.
 pub fn sees(rt: &impl Abort, is_so: bool, what: &str) {
     assert!(rt; is_so, "{what}");
 }
 
-/// Sees that this is so at one row of a table, or at one turn of a loop.
+/// Checks that a condition holds for one row of a table or one turn of a loop.
 pub fn sees_at<P: Debug>(rt: &impl Abort, is_so: bool, what: &str, place: &P) {
     assert!(rt; is_so, "{what} at {place:?}");
 }
 
-/// Sees that the value that was got is the one that is wanted.
+/// Checks that a value is the wanted one.
 pub fn same<T: PartialEq + Debug>(rt: &impl Abort, got: &T, wanted: &T, what: &str) {
     assert_eq!(rt; *got, *wanted, "{what}");
 }
 
-/// Sees the same at one row of a table, or at one turn of a loop.
+/// Checks a value for one row of a table or one turn of a loop.
 pub fn same_at<T: PartialEq + Debug, P: Debug>(
     rt: &impl Abort,
     got: &T,
@@ -32,19 +32,19 @@ pub fn same_at<T: PartialEq + Debug, P: Debug>(
     assert_eq!(rt; *got, *wanted, "{what} at {place:?}");
 }
 
-/// Sees that a text is the one that is wanted.
+/// Checks that a text is the wanted one.
 pub fn same_text(rt: &impl Abort, got: &str, wanted: &str, what: &str) {
     assert_eq!(rt; got, wanted, "{what}");
 }
 
-/// Sees that there are as many of these as there are links; what is called behind it relies on that.
+/// Checks that the count is the number of links, as the calls after it require.
 pub fn as_many(rt: &impl Abort, count: usize, links: usize)
     ensures { count ≡ links }
 {
     assert!(rt; count == links, "as many as there are links");
 }
 
-/// The value that is there; otherwise the test ends.
+/// The value, if there is one; otherwise the test fails.
 pub fn there<T: Drop>(rt: &impl Abort, value: Option<T>, what: &str) -> T
     ensures { value ≡ Some result }
 {
@@ -54,7 +54,7 @@ pub fn there<T: Drop>(rt: &impl Abort, value: Option<T>, what: &str) -> T
     }
 }
 
-/// Ends the test: what was to be refused was not, or the other way round.
+/// Fails the test: something was not refused that should be, or the other way round.
 pub fn ends(rt: &impl Abort, what: &str) -> ! {
     panic!(rt; "{what}")
 }

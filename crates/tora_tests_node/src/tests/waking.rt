@@ -7,11 +7,11 @@ use std::test::Fail;
 use std::time::Clock;
 use tora_neighbour::{NodeClock, SocketWaker, Wake, WakingWire, Wire, WireError};
 
-/// A wire, and what ends its waits.
+/// A wire, and the waker that ends its waits.
 pub(super) type Woken<'a, R> = (WakingWire<'a, &'a R>, SocketWaker<'a, &'a R>);
 
-/// Two wires to each other, by these clocks, on two free ports of this address: one of the 500 from this one on, and
-/// the one 500 above it.
+/// Two wires to each other with these clocks, on two free ports of this address: one of the 500 ports from `from` on,
+/// and the port 500 above it.
 pub(super) fn woken_pair<'a, R: Net + Clock>(
     rt: &'a R,
     alloc: Global,
@@ -33,7 +33,7 @@ pub(super) fn woken_pair<'a, R: Net + Clock>(
     None
 }
 
-/// Sees what receives answer one after another.
+/// Checks the results of receives, one after another.
 fn receives<W: Wire>(
     rt: &impl Abort,
     wire: &mut W,
@@ -46,7 +46,7 @@ fn receives<W: Wire>(
     }
 }
 
-/// Sees that three datagrams that have come are given one a receive, and then none.
+/// Checks that three waiting datagrams are returned by one receive each, and that the next receive returns none.
 fn three_come<R: Clock + Abort>(rt: &R, (first, second): (Woken<'_, R>, Woken<'_, R>)) {
     let (mut first, _waker) = first;
     let (mut second, _other) = second;
@@ -59,7 +59,7 @@ fn three_come<R: Clock + Abort>(rt: &R, (first, second): (Woken<'_, R>, Woken<'_
     receives(rt, &mut first, &[Ok(Some(1)), Ok(None)], "what came back");
 }
 
-/// The second address is passed over where the system has none.
+/// The second address is skipped if the system does not have it.
 #[test]
 fn datagrams_that_came_are_given_one_a_receive(rt: HostRuntime) {
     let alloc = rt.alloc();
@@ -72,7 +72,7 @@ fn datagrams_that_came_are_given_one_a_receive(rt: HostRuntime) {
     }
 }
 
-/// A thousand waits, of which each ends by a wake-up: without one each would take as long as the rest of a tick.
+/// A thousand waits, each of which a wake-up ends; without one, each would last until the end of a tick.
 #[test]
 fn wake_ups_end_waits(rt: HostRuntime) {
     let clock = NodeClock::new(&rt);

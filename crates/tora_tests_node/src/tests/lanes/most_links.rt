@@ -1,4 +1,4 @@
-//! Threads over the lanes of a node with as many links as there may be.
+//! Threads over the queues of a node with the greatest number of links.
 use super::super::sees::{same, same_at, sees};
 use super::threads::{put_all, put_from, send_again, take_all, take_items};
 use super::{cargo, seats_have_ended};
@@ -9,14 +9,13 @@ use std::thread;
 use std::thread::{Threads, join};
 use tora_lane::*;
 
-/// How many items each seat puts, and how many cargoes go to each link.
+/// How many items each seat puts, and how many messages go to each link.
 const EACH: u64 = 1000;
 
 /// How many items all seats put.
 const ALL: u64 = 33_000;
 
-/// The port of a link, its end of the lane from the core, and how many items were put and cargoes taken as they should
-/// be.
+/// The port of a link, its end of the queue from the core, and how many items were put and messages taken as expected.
 #[derive(Drop)]
 struct LinkSide {
     port: InPort,
@@ -25,7 +24,7 @@ struct LinkSide {
     taken: u64,
 }
 
-/// The core's port, its ends of all lanes, and how many items were taken as they should be.
+/// The core's port, its ends of all queues, and how many items were taken as expected.
 #[derive(Drop)]
 struct CoreSide {
     core: CorePort,
@@ -33,7 +32,7 @@ struct CoreSide {
     taken: u64,
 }
 
-/// The thread of a link: all items are put before the first cargo is taken.
+/// The work of a link's thread: it puts all items, and then takes the messages.
 fn run_side<R: Wait>(rt: &R, side: &mut LinkSide, seat: usize) {
     side.put = put_all(rt, &mut side.port, seat, EACH);
     side.taken = take_all(rt, &mut side.take, EACH);
@@ -51,7 +50,7 @@ fn run_sides<R: Threads + Wait + Sync>(rt: &R, sides: Vec<LinkSide>) -> Vec<Link
     sides
 }
 
-/// The core's thread: all items are taken before the first cargo is sent.
+/// The work of the core's thread: it takes all items, and then sends the messages.
 fn run_core<R: Wait>(rt: &R, side: CoreSide) -> CoreSide {
     let CoreSide {
         mut core,
@@ -67,7 +66,7 @@ fn run_core<R: Wait>(rt: &R, side: CoreSide) -> CoreSide {
     CoreSide { core, outs, taken }
 }
 
-/// Runs the command seat and the core: answers how many items the command seat put, and the core's side.
+/// Runs the seat of the commands and the core. Returns how many items that seat put, and the core's side.
 fn run_rest<R: Threads + Wait + Sync>(rt: &R, command: InPort, core: CoreSide) -> (u64, CoreSide) {
     join(
         rt,
@@ -76,7 +75,7 @@ fn run_rest<R: Threads + Wait + Sync>(rt: &R, command: InPort, core: CoreSide) -
     )
 }
 
-/// The lanes of a node with as many links as there may be.
+/// The queues of a node with the greatest number of links.
 fn most_links<R: Wait + Abort>(rt: &R, alloc: Global) -> (CoreSide, Vec<LinkSide>, InPort) {
     let Ok(
         Lanes {
@@ -107,8 +106,8 @@ fn most_links<R: Wait + Abort>(rt: &R, alloc: Global) -> (CoreSide, Vec<LinkSide
     (core, sides, command)
 }
 
-// 32 link seats and the command seat put 1,000 items each, and 1,000 cargoes go to each link, all from threads of their
-// own.
+// 32 seats of links and that of the commands put 1,000 items each, and 1,000 messages go to each link, all from threads
+// of their own.
 #[test]
 fn lane_order_of_the_most_links(rt: HostRuntime) {
     let (core, sides, command) = most_links(&rt, rt.alloc());

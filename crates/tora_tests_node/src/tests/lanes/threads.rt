@@ -1,5 +1,5 @@
-//! What the threads of a node do: a link's and the command seat's put items, the core's takes them and sends cargoes,
-//! and a link's takes those.
+//! The work of a node's threads: those of the links and the commands put items, the core's takes them and sends
+//! outbound messages, and a link's takes these.
 ghost use Rattle.std.specs.Prelude.{◌≡◌};
 
 use super::cargo;
@@ -8,7 +8,7 @@ use std::thread;
 use tora_arq::Life;
 use tora_lane::{Cargo, CorePort, InPort, OutPut, OutTake, What};
 
-/// What a seat's item with this number tells.
+/// The content of a seat's item with this number.
 fn told(seat: usize, number: u64) -> What {
     What::Up(Life {
         own: number,
@@ -16,7 +16,7 @@ fn told(seat: usize, number: u64) -> What {
     })
 }
 
-/// Puts this many items, and answers how many were put.
+/// Puts this many items, and returns how many were put.
 pub fn put_all<R: Wait>(rt: &R, port: &mut InPort, seat: usize, count: u64) -> u64
     ensures { port.new.lane ≡ port.old.lane }
 {
@@ -29,7 +29,7 @@ pub fn put_all<R: Wait>(rt: &R, port: &mut InPort, seat: usize, count: u64) -> u
     put
 }
 
-/// Puts this many items from a port that is given, and answers how many were put.
+/// Puts this many items at a port that is passed by value, and returns the port and how many were put.
 pub fn put_from<R: Wait>(rt: &R, port: InPort, seat: usize, count: u64) -> (InPort, u64)
     ensures { result.0.lane ≡ port.lane }
 {
@@ -38,7 +38,7 @@ pub fn put_from<R: Wait>(rt: &R, port: InPort, seat: usize, count: u64) -> (InPo
     (port, put)
 }
 
-/// Takes this many cargoes, and answers how many were those that were sent, in order.
+/// Takes this many messages, and returns how many were the expected ones, in order.
 pub fn take_all<R: Wait>(rt: &R, take: &mut OutTake, count: u64) -> u64
     ensures { take.new.ring ≡ take.old.ring }
 {
@@ -60,7 +60,7 @@ pub fn take_all<R: Wait>(rt: &R, take: &mut OutTake, count: u64) -> u64
     taken
 }
 
-/// Sends the cargo, again and again where it is handed back.
+/// Sends a message until the queue accepts it.
 pub fn send_again<R: Wait>(rt: &R, put: &mut OutPut, cargo: Cargo)
     ensures { put.new.ring ≡ put.old.ring }
 {
@@ -75,7 +75,7 @@ pub fn send_again<R: Wait>(rt: &R, put: &mut OutPut, cargo: Cargo)
     unreachable!()
 }
 
-/// Takes this many items, and answers how many tell what their seat put with that number.
+/// Takes this many items, and returns how many have the content that their seat put with that number.
 pub fn take_items<R: Wait>(rt: &R, core: &mut CorePort, count: u64) -> u64
     ensures { core.new.lane ≡ core.old.lane }
 {

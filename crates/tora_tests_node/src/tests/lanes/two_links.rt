@@ -1,4 +1,4 @@
-//! A node with two links: four threads over its lanes, and what its ports tell.
+//! A node with two links: four threads over its queues, and the reports of its ports.
 ghost use Rattle.std.specs.Prelude.{◌≡◌, ℕ};
 ghost use Rattle.tora_lane.specs.NodeLanes.{AreLinks};
 ghost use Rattle.tora_lane.specs.Out.{AreEndsOf};
@@ -13,7 +13,7 @@ use std::sync::Wait;
 use std::thread::{Threads, join};
 use tora_lane::*;
 
-/// What the threads of a run do, each all of one thing before the next.
+/// The work of the threads in a run; each does one kind of work before the next.
 #[derive(Clone, Copy)]
 struct Run {
     /// How many items each link puts.
@@ -22,14 +22,13 @@ struct Run {
     commands: u64,
     /// How many items the core takes while the others run.
     takes: u64,
-    /// How many it takes once all have ended.
+    /// How many items the core takes after all others have ended.
     rest: u64,
-    /// How many cargoes the core sends to each link, which takes them.
+    /// How many messages the core sends to each link, which takes them.
     cargoes: u64,
 }
 
-/// The port of a link, its end of the lane from the core, and how many items were put and cargoes taken as they should
-/// be.
+/// The port of a link, its end of the queue from the core, and how many items were put and messages taken as expected.
 #[derive(Drop)]
 struct LinkSide {
     port: InPort,
@@ -38,7 +37,7 @@ struct LinkSide {
     taken: u64,
 }
 
-/// The core's port and its ends of two lanes, and how many items were taken as they should be.
+/// The core's port, its ends of two queues, and how many items were taken as expected.
 #[derive(Drop)]
 struct CoreSide {
     core: CorePort,
@@ -47,7 +46,7 @@ struct CoreSide {
     taken: u64,
 }
 
-/// The thread of a link: all items are put before the first cargo is taken.
+/// The work of a link's thread: it puts all items, and then takes the messages.
 fn run_link<R: Wait>(rt: &R, side: LinkSide, seat: usize, run: Run) -> LinkSide
     ensures { (result.port.lane ≡ side.port.lane) × (result.take.ring ≡ side.take.ring) }
 {
@@ -67,7 +66,7 @@ fn run_link<R: Wait>(rt: &R, side: LinkSide, seat: usize, run: Run) -> LinkSide
     }
 }
 
-/// The thread of the core: all items are taken before the first cargo is sent.
+/// The work of the core's thread: it takes all items, and then sends the messages.
 fn run_core<R: Wait>(rt: &R, side: CoreSide, run: Run) -> CoreSide
     ensures { (result.core.lane ≡ side.core.lane) × (result.first.ring ≡ side.first.ring)
         × (result.second.ring ≡ side.second.ring) }
@@ -112,7 +111,7 @@ fn run_links<R: Threads + Wait + Sync>(
     )
 }
 
-/// Runs the command seat and the core.
+/// Runs the seat of the commands and the core.
 fn run_others<R: Threads + Wait + Sync>(
     rt: &R,
     command: InPort,
@@ -134,7 +133,7 @@ fn run_others<R: Threads + Wait + Sync>(
     )
 }
 
-/// Takes the last link of the lanes off: its port, and both ends of its lane.
+/// Removes the last link: returns its port, and both ends of its queue.
 fn last_link<R: Abort>(
     rt: &R,
     core: &CorePort,
@@ -154,7 +153,7 @@ fn last_link<R: Abort>(
     (port, take, put)
 }
 
-/// The lanes of a node with two links.
+/// The queues of a node with two links.
 fn two_links<R: Wait + Abort>(rt: &R, alloc: Global) -> (CoreSide, LinkSide, LinkSide, InPort)
     ensures ports { IsPortOf result.0.core result.1.port × IsPortOf result.0.core result.2.port
         × IsPortOf result.0.core result.3 }
@@ -194,7 +193,7 @@ fn two_links<R: Wait + Abort>(rt: &R, alloc: Global) -> (CoreSide, LinkSide, Lin
     (core, first, second, command)
 }
 
-/// Sees that a seat has put so many items, and that so many were taken.
+/// Checks that a seat has put this many items, and that all of them were taken.
 fn seat_is_settled<R: Wait + Abort>(
     rt: &R,
     core: &mut CorePort,
@@ -215,7 +214,7 @@ fn seat_is_settled<R: Wait + Abort>(
     same_at(rt, &core.settle(rt, port), &wanted, "the items", &seat);
 }
 
-/// Sees that so many cargoes of a lane were sent and received.
+/// Checks that this many messages of a queue were sent and received.
 fn lane_is_settled(rt: &impl Abort, put: OutPut, take: OutTake, count: u64)
     requires { AreEndsOf put take }
 {
@@ -227,7 +226,7 @@ fn lane_is_settled(rt: &impl Abort, put: OutPut, take: OutTake, count: u64)
     same(rt, &settle_out(put, take), &whole, "the cargoes of a lane");
 }
 
-/// Runs the links, the command seat and the core, each in a thread of its own, and sees that nothing was lost.
+/// Runs the links, the commands and the core, each in a thread of its own, and checks that nothing was lost.
 fn run_all<R: Threads + Wait + Sync + Abort>(rt: &R, alloc: Global, run: Run) {
     let (core, first, second, command) = two_links(rt, alloc);
     let ((first, second), ((command, put), core)) = join(
@@ -251,7 +250,7 @@ fn run_all<R: Threads + Wait + Sync + Abort>(rt: &R, alloc: Global, run: Run) {
     seats_have_ended(rt, &mut port);
 }
 
-/// Each of the three seats puts 1,000 items, and 1,000 cargoes go to each link.
+/// Each of the three seats puts 1,000 items, and 1,000 messages go to each link.
 const ORDER: Run = Run {
     puts: 1000,
     commands: 1000,
@@ -265,7 +264,7 @@ fn lane_order(rt: HostRuntime) {
     run_all(&rt, rt.alloc(), ORDER);
 }
 
-/// The seats put as many items as the lane has room for, and the core takes none until they have ended.
+/// The seats put as many items as the queue holds, and the core takes none until they have ended.
 const FULL: Run = Run {
     puts: 341,
     commands: 342,
@@ -279,7 +278,7 @@ fn full_lane_is_drained(rt: HostRuntime) {
     run_all(&rt, rt.alloc(), FULL);
 }
 
-/// Sees that a port tells that the core has ended.
+/// Checks that a port reports that the core has ended.
 fn core_has_ended<R: Wait + Abort>(rt: &R, alloc: Global) {
     let (lanes, first, second, command) = two_links(rt, alloc);
     let mut port = first.port;

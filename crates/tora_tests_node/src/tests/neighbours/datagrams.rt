@@ -1,4 +1,4 @@
-// Datagrams that no honest peer sends, and what an end makes of them.
+// Datagrams that no honest peer sends, and how an end counts them.
 ghost use Rattle.std.specs.Prelude.{◌≤◌};
 
 use super::*;
@@ -8,8 +8,8 @@ use tora_frame::decode;
 
 const LIFE: Life = Life { own: 5, peer: 9 };
 
-/// The frames of the formats: two HELLOs, a DATA frame with a query, and an ACK; DATA frames with an update and a
-/// clear; and one of version 2 with a query and a clear.
+/// The frames of the document on formats: two HELLOs, a DATA frame with a query, and an ACK; DATA frames with an update
+/// and with a clear; and a DATA frame of version 2 with a query and a clear.
 const VECTORS: [&str; 7] = [
     "01010000000000010000000200000000000000050000000000000000",
     "01010000000000020000000100000000000000090000000000000005",
@@ -24,15 +24,15 @@ const VECTORS: [&str; 7] = [
      0200000001010000000000040103000000000004000000000000000700000003",
 ];
 
-/// What an end of node 1 to node 2, bound to {5, 9} with nothing to tell, makes of a datagram.
+/// How an end of node 1 to node 2, bound to {5, 9} with no event to poll, counts a datagram.
 const HOSTILE: [(&str, Intake); 11] = [
     ("", Intake::Bad(FrameError::Short)),
-    // A HELLO (9,5) and one byte more.
+    // A HELLO (9,5) with one more byte.
     (
         "0101000000000002000000010000000000000009000000000000000500",
         Intake::Bad(FrameError::Long),
     ),
-    // The life 2^62 + 1.
+    // The session number 2^62 + 1.
     (
         "01010000000000020000000140000000000000010000000000000005",
         Intake::Bad(FrameError::Life),
@@ -70,7 +70,7 @@ const HOSTILE: [(&str, Intake); 11] = [
          0101000000000004",
         Intake::Seen(Verdict::Ahead),
     ),
-    // A DATA frame of version 2 with no packet.
+    // A DATA frame of version 2 without a packet.
     (
         "0202003000000002000000010000000000000009000000000000000500000000000000010000000000000000\
          0000000001010000000000040103000000000004000000000000000700000003",
@@ -83,7 +83,7 @@ const HOSTILE: [(&str, Intake); 11] = [
     ),
 ];
 
-/// The bytes of a text of hexadecimal digits, at most 76 bytes, and how many they are.
+/// The bytes of a text of hexadecimal digits, at most 76, and their number.
 fn bytes_of(rt: &impl Abort, text: &str) -> ([u8; 76], usize)
     ensures { result.1 ≤ 76 }
 {
@@ -94,12 +94,12 @@ fn bytes_of(rt: &impl Abort, text: &str) -> ([u8; 76], usize)
     (bytes, size)
 }
 
-/// Sees what an end tells next.
+/// Checks the next event of an end.
 fn event_is(rt: &impl Abort, end: &mut LinkEnd, wanted: Option<LinkEvent>, what: &str) {
     same(rt, &end.poll_event(), &wanted, what);
 }
 
-/// The end of node 1 to node 2, bound to {5, 9}, with nothing to tell.
+/// The end of node 1 to node 2, bound to {5, 9}, with no event to poll.
 fn bound(rt: &impl Abort, alloc: Global) -> LinkEnd {
     let mut end = open_end(rt, alloc, 1, 2, 5);
     let (hello, size) = bytes_of(rt, VECTORS[1]);
@@ -122,7 +122,7 @@ fn bound(rt: &impl Abort, alloc: Global) -> LinkEnd {
     end
 }
 
-/// Sees that one datagram was counted, as this.
+/// Checks that exactly one datagram was counted, as this.
 fn counted_once(rt: &impl Abort, tally: &Tally, intake: Intake) {
     same(rt, &total(tally), &1, "the datagrams");
     let count = match intake {
@@ -132,7 +132,7 @@ fn counted_once(rt: &impl Abort, tally: &Tally, intake: Intake) {
     same(rt, &count, &1, "those of this kind");
 }
 
-/// Takes in one datagram at a bound end. Just one count is then 1.
+/// Passes one datagram to a bound end, and checks that exactly one count is then 1.
 fn take_one(rt: &impl Abort, alloc: Global, datagram: &str, expected: Intake) {
     let mut end = bound(rt, alloc);
     let mut tally = Tally::new();
@@ -148,7 +148,7 @@ fn take_one(rt: &impl Abort, alloc: Global, datagram: &str, expected: Intake) {
     event_is(rt, &mut end, event, datagram);
 }
 
-/// Takes in each datagram of a table at an end of its own.
+/// Passes each datagram of a table to an end of its own.
 fn take_each(rt: &impl Abort, alloc: Global, rows: &[(&str, Intake)]) {
     for (datagram, expected) in rows {
         take_one(rt, alloc, datagram, *expected);
@@ -160,7 +160,7 @@ fn verdicts_of_hostile_frames(rt: HostRuntime) {
     take_each(&rt, rt.alloc(), &HOSTILE);
 }
 
-/// Takes in a DATA frame of the bound life with the query for 4.
+/// Passes a DATA frame of the bound session with the query for 4 to an end.
 fn take_data(rt: &impl Abort, end: &mut LinkEnd, tally: &mut Tally, number: u8, verdict: Verdict) {
     let (mut bytes, size) = bytes_of(
         rt,
@@ -187,7 +187,7 @@ fn busy_end_takes_in_no_more(rt: HostRuntime) {
     same(&rt, &total(&tally), &33, "all datagrams");
 }
 
-/// Takes in each beginning of the vector: each is too short.
+/// Passes each proper prefix of the vector to an end: each is too short.
 fn take_cut(rt: &impl Abort, alloc: Global, vector: &str) {
     let mut end = bound(rt, alloc);
     let mut tally = Tally::new();
@@ -206,12 +206,12 @@ fn take_cut(rt: &impl Abort, alloc: Global, vector: &str) {
     life_stays(rt, &end);
 }
 
-/// Sees that the end is bound as before.
+/// Checks that the end is bound as before.
 fn life_stays(rt: &impl Abort, end: &LinkEnd) {
     same(rt, &end.life(), &Some(LIFE), "the life that is bound");
 }
 
-/// Takes in each beginning of these vectors.
+/// Passes each proper prefix of these vectors to an end.
 fn cut_each(rt: &impl Abort, alloc: Global, vectors: &[&str]) {
     for vector in vectors {
         take_cut(rt, alloc, vector);
@@ -223,12 +223,13 @@ fn vectors_cut_at_every_length(rt: HostRuntime) {
     cut_each(&rt, rt.alloc(), &VECTORS);
 }
 
-/// Sees that the bytes spell a frame just where they were not bad for this reason.
+/// Checks that decoding the bytes fails for the reason for which they were counted as bad, or succeeds if there is
+/// none.
 fn is_read_so(rt: &impl Abort, bytes: &[u8], bad: Option<FrameError>) {
     same(rt, &decode(bytes).err(), &bad, "what the bytes spell");
 }
 
-/// Takes in bytes at a bound end: they are bad just where they spell no frame, and the end then stays as it is.
+/// Passes bytes to a bound end: they are bad exactly if they are not a frame, and then do not change the end.
 fn take_any(rt: &impl Abort, alloc: Global, bytes: &[u8]) {
     let mut end = bound(rt, alloc);
     let mut tally = Tally::new();
@@ -242,7 +243,7 @@ fn take_any(rt: &impl Abort, alloc: Global, bytes: &[u8]) {
     same(rt, &total(&tally), &1, "the datagrams");
 }
 
-/// Takes in the vector with each byte changed to this one.
+/// Passes the vector to an end, with each byte in turn changed to this one.
 fn take_changed(rt: &impl Abort, alloc: Global, vector: &str, byte: u8) {
     let (bytes, size) = bytes_of(rt, vector);
     for place in 0..size {
@@ -252,7 +253,7 @@ fn take_changed(rt: &impl Abort, alloc: Global, vector: &str, byte: u8) {
     }
 }
 
-/// Takes in these vectors with each byte changed to this one.
+/// Passes these vectors to an end, with each byte in turn changed to this one.
 fn change_each(rt: &impl Abort, alloc: Global, vectors: &[&str], byte: u8) {
     for vector in vectors {
         take_changed(rt, alloc, vector, byte);

@@ -1,8 +1,8 @@
-//! Runs over a life file that draws no number.
+//! Runs over a life file from which no number can be drawn.
 use super::runs::run_over;
 use super::*;
 
-/// The fault of a run over this file, which puts nothing.
+/// The fault of a run over this file, in which nothing is put.
 fn fault_of<R: Wait + Abort>(
     rt: &R,
     alloc: Global,
@@ -15,8 +15,8 @@ fn fault_of<R: Wait + Abort>(
     Ok(finished.fault)
 }
 
-/// Sees the fault of a run over the file of each row: the bytes of its disk, the call of the disk that is to fail,
-/// whether a draw before the run has failed by it, and the reason.
+/// Checks the fault of a run over the file of each row: the bytes of its disk, the call of the disk that is armed to
+/// fail, whether a draw before the run used up that failure, and the reason.
 fn each_ends<R: Wait + Abort>(
     rt: &R,
     alloc: Global,

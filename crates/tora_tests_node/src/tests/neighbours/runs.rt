@@ -1,42 +1,42 @@
-//! Runs over memory: a life that is bound, and each way to end.
+//! Runs over memory: a session is bound, and the run ends in each possible way.
 use super::super::sees::same_text;
 use super::*;
 
 const LIFE: Life = Life { own: 1, peer: 9 };
 
-/// A run of the link of node 1 to node 2 over a new life file, with one datagram: a HELLO that binds the first life.
+/// A run of the link of node 1 to node 2 over a new life file, with one datagram: a HELLO that binds the first session.
 struct Run {
-    /// By how many ticks the clock goes on, each time that it is read.
+    /// The ticks by which the clock advances each time it is read.
     step: u64,
-    /// How many calls of the wire pass before one fails, or all do. `None` for a wire without a fuse.
+    /// How many calls of the wire succeed before one fails, or all do. `None` for a wire without a fuse.
     fuse: Option<(u64, FuseMode)>,
-    /// How many cargoes come, each of which cuts the life.
+    /// How many messages arrive, each of which cuts the session.
     cuts: u16,
-    /// How much the hub takes before it ends the run.
+    /// How many items the hub takes before it ends the run.
     room: usize,
-    /// How the run ends.
+    /// The fault with which the run ends.
     fault: Option<LinkFault>,
-    /// How many datagrams were accepted, and how many there were.
+    /// The number of accepted datagrams, and of all.
     tally: Option<(u64, u64)>,
-    /// How much was put.
+    /// The number of items that were put.
     count: usize,
-    /// What was put first, in this order.
+    /// The first items that were put, in order.
     puts: &'static [Told],
 }
 
-/// What the link tells at a tick.
+/// What the link reports at a tick.
 enum Told {
-    /// The life was bound.
+    /// The session was bound.
     Up(u64),
     /// The thread is alive.
     Beat(u64),
-    /// The life was cut.
+    /// The session was cut.
     Cut(u64),
-    /// The other end was silent.
+    /// The peer was silent.
     Silent(u64),
 }
 
-/// What is put of this.
+/// The item for this report.
 fn put_of(told: &Told) -> Put {
     let (now, what) = match told {
         Told::Up(now) => (*now, What::Up(LIFE)),
@@ -47,14 +47,14 @@ fn put_of(told: &Told) -> Put {
     Put { now, what }
 }
 
-/// One datagram, which binds the first life of node 1.
+/// One datagram, which binds the first session of node 1.
 fn one_hello(alloc: Global) -> Result<Vec<Vec<u8>>, AllocError> {
     let mut datagrams = Vec::new(alloc);
     datagrams.push(hello(alloc, 9, 1)?)?;
     Ok(datagrams)
 }
 
-/// Runs the link of node 1 to node 2 with a clock that goes on by so many ticks a turn.
+/// Runs the link of node 1 to node 2, with a clock that advances by a number of ticks at each turn.
 pub fn run_over<R: Wait + Abort, W: Wire>(
     rt: &R,
     alloc: Global,
@@ -72,7 +72,7 @@ pub fn run_over<R: Wait + Abort, W: Wire>(
     run_neighbour(rt, link, &mut clock, hub)
 }
 
-/// What is seen of a run: its fault, what was counted, and what was put.
+/// The result of a run: its fault, what was counted, and what was put.
 #[derive(Drop)]
 struct Seen {
     fault: Option<LinkFault>,
@@ -80,7 +80,7 @@ struct Seen {
     hub: ListHub,
 }
 
-/// Runs the link over a new file and this wire, and tells what is seen of it.
+/// Runs the link over a new file and this wire, and returns the result.
 fn see_over<R: Wait + Abort, W: Wire + Drop>(
     rt: &R,
     alloc: Global,
@@ -97,7 +97,7 @@ fn see_over<R: Wait + Abort, W: Wire + Drop>(
     }
 }
 
-/// What is seen of a run.
+/// The result of a run.
 fn see_run<R: Wait + Abort>(rt: &R, alloc: Global, run: &Run) -> Result<Seen, AllocError> {
     let mut cargoes = Vec::new(alloc);
     for _ in 0..run.cuts {
@@ -115,12 +115,12 @@ fn see_run<R: Wait + Abort>(rt: &R, alloc: Global, run: &Run) -> Result<Seen, Al
     Ok(seen)
 }
 
-/// Sees how a run ended.
+/// Checks the fault with which a run ended.
 fn fault_is(rt: &impl Abort, fault: Option<LinkFault>, wanted: Option<LinkFault>) {
     same(rt, &fault, &wanted, "the fault");
 }
 
-/// Sees that so much was put, and this first.
+/// Checks the number of items that were put, and the first of them.
 fn puts_are(rt: &impl Abort, hub: &ListHub, count: usize, wanted: &[Told]) {
     let kept = hub.kept();
     same(rt, &kept.len(), &count, "how much was put");
@@ -129,13 +129,13 @@ fn puts_are(rt: &impl Abort, hub: &ListHub, count: usize, wanted: &[Told]) {
     }
 }
 
-/// Sees how many datagrams were accepted, and how many there were.
+/// Checks how many datagrams were accepted, and how many there were.
 fn tally_is(rt: &impl Abort, tally: &Tally, wanted: (u64, u64)) {
     let counted = (tally.of_verdict(Verdict::Accepted), total(tally));
     same(rt, &counted, &wanted, "those accepted, and all");
 }
 
-/// Makes a run, and sees what comes of it.
+/// Makes a run, and checks its result.
 fn runs<R: Wait + Abort>(rt: &R, alloc: Global, run: &Run) {
     let seen = there(rt, see_run(rt, alloc, run).ok(), "memory");
     fault_is(rt, seen.fault, run.fault);
@@ -161,8 +161,8 @@ fn a_link_comes_up_and_the_hub_ends_it(rt: HostRuntime) {
     runs(&rt, rt.alloc(), &BOUND);
 }
 
-/// Each turn reads the clock, so that the link goes silent 50 ticks after its one datagram, and a beat comes every ten.
-/// With a tick that serves several turns the fuse ends the run.
+/// Each turn reads the clock, so the link is silent 50 ticks after its one datagram, and a beat is put every ten ticks.
+/// If a tick serves several turns, the fuse ends the run.
 const SILENT: Run = Run {
     step: 1,
     fuse: Some((200, FuseMode::Always)),
@@ -188,7 +188,7 @@ fn each_turn_reads_the_clock(rt: HostRuntime) {
     runs(&rt, rt.alloc(), &SILENT);
 }
 
-/// The first turn takes 256 cuts, before the life is bound; the one of the second turn ends it.
+/// The first turn takes 256 cuts, before the session is bound; the cut of the second turn ends the session.
 const CUT: Run = Run {
     step: 1,
     fuse: None,
@@ -205,7 +205,7 @@ fn a_life_that_is_cut_goes_down(rt: HostRuntime) {
     runs(&rt, rt.alloc(), &CUT);
 }
 
-/// Each turn sends a HELLO of each version and receives once, and all three fail: the 34th turn has the hundredth
+/// Each turn sends a HELLO of each version and receives once, and all three calls fail: the 34th turn has the hundredth
 /// failure, and puts no beat.
 const FAILING: Run = Run {
     step: 10,
@@ -223,8 +223,8 @@ fn a_wire_that_always_fails_ends_the_link(rt: HostRuntime) {
     runs(&rt, rt.alloc(), &FAILING);
 }
 
-/// Three calls of the first turn pass, which binds a life. Of each later turn one call fails at least, until the life
-/// is cut.
+/// Three calls of the first turn succeed, which binds a session. In each later turn at least one call fails, until the
+/// session is cut.
 const BREAKING: Run = Run {
     step: 0,
     fuse: Some((3, FuseMode::Always)),
@@ -257,12 +257,12 @@ fn a_wire_that_fails_once_binds_a_life(rt: HostRuntime) {
     runs(&rt, rt.alloc(), &FAILING_ONCE);
 }
 
-/// Sees what a send answers.
+/// Checks the result of a send.
 fn sends<W: Wire>(rt: &impl Abort, wire: &mut W, byte: u8, wanted: Result<(), WireError>) {
     same_at(rt, &wire.send(&[byte]), &wanted, "the send", &byte);
 }
 
-/// Sees what a receive answers.
+/// Checks the result of a receive.
 fn receives<W: Wire>(
     rt: &impl Abort,
     wire: &mut W,
@@ -297,7 +297,7 @@ const FAULTS: &[(LinkFault, &str)] = &[
     ),
 ];
 
-/// Sees the text of each fault.
+/// Checks the text of each fault.
 fn each_says(rt: &impl Abort, alloc: Global, rows: &[(LinkFault, &str)]) {
     for (fault, text) in rows {
         let printed = there(rt, format!(in alloc; "{fault}").ok(), "memory");
@@ -310,8 +310,8 @@ fn faults_say_what_they_are(rt: HostRuntime) {
     each_says(&rt, rt.alloc(), FAULTS);
 }
 
-// What is made for a run wants memory, and each such call answers where it is refused. Once all of it stands, the run
-// takes none: it ends as it does where memory is ample.
+// A run allocates memory only before it starts, and reports if that fails. After that it ends as it does with ample
+// memory.
 #[test]
 fn want_of_memory_is_answered(rt: HostRuntime) {
     let alloc = rt.alloc();

@@ -1,9 +1,9 @@
-//! A disk of which contracts are told no bytes.
+//! A disk whose bytes are not known to contracts.
 ghost use Rattle.std.specs.Prelude.{◌≤◌};
 
 use tora_life::{Disk, DiskError};
 
-/// A disk of 64 bytes that never fails, and tells contracts no bytes.
+/// A disk of 64 bytes that never fails, and whose bytes are not known to contracts.
 #[derive(Drop)]
 pub struct ByteDisk {
     bytes: [u8; 80],
@@ -12,7 +12,7 @@ pub struct ByteDisk {
 }
 
 impl ByteDisk {
-    /// A disk with so many bytes of zero.
+    /// A disk with a number of zero bytes.
     pub fn of_zeros(length: usize) -> ByteDisk
         requires { length ≤ 80 }
     {
@@ -29,7 +29,7 @@ impl ByteDisk {
         ByteDisk { bytes, length: 64 }
     }
 
-    /// The bytes 32 to 63, eight to a number.
+    /// The bytes 32 to 63 as four numbers, eight bytes each.
     pub fn tag(&self) -> [u64; 4] {
         let mut words = [0; 4];
         for (place, word) in words.iter_mut().enumerate() {

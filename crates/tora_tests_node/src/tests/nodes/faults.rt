@@ -1,7 +1,6 @@
-//! What a node answers where its output, its wires or both fail, what its tallies are, and the tags of its life files.
-//!
-//! Each node is node 1 between nodes 2 and 3, with the destination 4. It is told to end once each of its wires has
-//! settled: it is broken, or all its datagrams have come. The wire to 3 settles first.
+//! The fault of a node whose output, wires or both fail, its tallies, and the tags of its life files.
+//! Each node is node 1 between nodes 2 and 3, with the destination 4. Its commands end once each of its wires is idle
+//! or broken: all datagrams have arrived, or a hundred calls failed. The wire to 3 comes first.
 use super::super::sees::same_text;
 use super::*;
 use devices::{Output, Paper, Settled, Settling, Shown, Tag};
@@ -14,28 +13,28 @@ mod tallies;
 
 /// A node between two neighbours.
 struct Run {
-    /// How many calls of the wires to 2 and to 3 pass before all fail.
+    /// How many calls of the wires to 2 and to 3 succeed before all fail.
     fuses: (u64, u64),
-    /// How its output goes.
+    /// The behaviour of its output.
     output: Output,
-    /// What it is told once its wires have settled.
+    /// Its commands, once all wires are idle or broken.
     commands: &'static [u8],
-    /// How it ends.
+    /// The fault with which it ends.
     fault: Option<NodeError>,
-    /// What it has printed.
+    /// Its output.
     printed: &'static [u8],
 }
 
-/// The calls of a wire that does not break.
+/// The fuse of a wire that does not break.
 const WHOLE: u64 = u64::MAX;
 
-/// The calls of a wire that breaks once a HELLO of each version has gone out, before a datagram was asked for.
+/// The fuse of a wire that breaks after a HELLO of each version was sent, and before the first receive.
 const BROKEN: u64 = 2;
 
-/// A datagram in hexadecimal digits, and how often it comes.
+/// How often a datagram arrives, and its hexadecimal digits.
 type Coming = (u8, &'static str);
 
-/// The datagram that the digits spell, of 64 bytes at most.
+/// The datagram with these digits, of at most 64 bytes.
 fn datagram_of(rt: &impl Abort, alloc: Global, digits: &str) -> Vec<u8> {
     let mut bytes = [0u8; 64];
     let size = (digits.len() / 2).min(64);
@@ -60,7 +59,7 @@ fn datagrams_of(rt: &impl Abort, alloc: Global, rows: &[Coming]) -> Vec<Vec<u8>>
     datagrams
 }
 
-/// A wire over which so many calls pass, on which these datagrams come.
+/// A wire on which these datagrams arrive, and of which this many calls succeed.
 fn wire_of<'a, R: Abort>(
     rt: &'a R,
     alloc: Global,
@@ -80,14 +79,14 @@ fn wire_of<'a, R: Abort>(
     }
 }
 
-/// A list of two.
+/// A list with two items.
 fn list_of_two<T: Drop>(rt: &impl Abort, alloc: Global, first: T, second: T) -> Vec<T> {
     let mut list = list_of(rt, alloc, first);
     sees(rt, list.push(second).is_ok(), "memory for a list of two");
     list
 }
 
-/// Runs node 1 over these wires and disks, with commands that come once both wires have settled.
+/// Runs node 1 over these wires and disks, with commands that arrive once both wires are idle or broken.
 fn run_settled<
     'a,
     R: Threads + Wait + Sync + time::Clock + log::Log + Abort,
@@ -111,7 +110,7 @@ fn run_settled<
     run_over(rt, alloc, config, wires, disks, &mut reader, paper)
 }
 
-/// An output on which nothing is printed.
+/// An output with an empty page.
 fn paper_of(output: Output) -> Paper {
     let page = Page {
         bytes: [0; 640],
@@ -140,7 +139,7 @@ fn fault_of<'a, R: Threads + Wait + Sync + time::Clock + log::Log + Abort>(
     run_settled(rt, alloc, wires, disks, run.commands, settled, paper).err()
 }
 
-/// Makes a run, and sees how it ends and what it prints.
+/// Makes a run, and checks its fault and its output.
 fn ends_so<R: Threads + Wait + Sync + time::Clock + log::Log + Abort>(
     rt: &R,
     alloc: Global,
@@ -165,7 +164,7 @@ fn each_ends_so<R: Threads + Wait + Sync + time::Clock + log::Log + Abort>(
     }
 }
 
-/// Outputs that fail as soon as something is printed.
+/// Outputs that fail at the first output.
 const OUTPUTS: &[Run] = &[
     Run {
         fuses: (WHOLE, WHOLE),
@@ -188,7 +187,7 @@ const OUTPUTS: &[Run] = &[
         fault: Some(NodeError::Output),
         printed: b"refused 5\n",
     },
-    // Nothing is printed of a need that is not refused, nor behind `quit`.
+    // A need that is not refused prints nothing, and nothing is printed after `quit`.
     Run {
         fuses: (WHOLE, WHOLE),
         output: Output::NoWrite,
@@ -203,7 +202,7 @@ fn an_output_that_fails_ends_a_node(rt: HostRuntime) {
     each_ends_so(&rt, rt.alloc(), OUTPUTS);
 }
 
-/// Wires that break. The node goes on until it is told to end, and then answers the fault of the least neighbour that
+/// Wires that break. The node goes on until its commands end, and then returns the fault of the lowest neighbour that
 /// has one.
 const WIRES: &[Run] = &[
     Run {
@@ -220,7 +219,7 @@ const WIRES: &[Run] = &[
         fault: Some(NodeError::Wire(3)),
         printed: b"refused 5\nto 4 height - flag 0 hop -\n",
     },
-    // The wire to 3 has broken before that to 2.
+    // The wire to 3 broke before that to 2.
     Run {
         fuses: (BROKEN, BROKEN),
         output: Output::Whole,
@@ -235,7 +234,7 @@ fn a_broken_wire_is_answered_once_a_node_is_told_to_end(rt: HostRuntime) {
     each_ends_so(&rt, rt.alloc(), WIRES);
 }
 
-/// An output that fails after the wires have broken: the fault of the core is answered.
+/// An output that fails after the wires broke: the node returns the fault of the core.
 const BOTH: &[Run] = &[
     Run {
         fuses: (BROKEN, WHOLE),
@@ -258,7 +257,7 @@ fn the_fault_of_the_core_is_answered_before_those_of_links(rt: HostRuntime) {
     each_ends_so(&rt, rt.alloc(), BOTH);
 }
 
-/// Runs the node over two empty disks, whose tags are shown.
+/// Runs the node over two empty disks, whose tags are read.
 fn run_shown<'a, R: Threads + Wait + Sync + time::Clock + log::Log + Abort>(
     rt: &'a R,
     alloc: Global,
@@ -326,7 +325,7 @@ const ERRORS: &[(NodeError, &str)] = &[
     (NodeError::Output, "the output failed"),
 ];
 
-/// Sees the text of each error.
+/// Checks the text of each error.
 fn each_says(rt: &impl Abort, alloc: Global, rows: &[(NodeError, &str)]) {
     for (error, text) in rows {
         let printed = there(rt, format!(in alloc; "{error}").ok(), "memory");

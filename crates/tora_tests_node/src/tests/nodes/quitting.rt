@@ -1,4 +1,4 @@
-//! A node that ends while its threads wait for sockets.
+//! A node that ends while its threads wait at sockets.
 use super::byte_disk::ByteDisk;
 use super::{Woken, as_many, config_of, list_of, sees, there, woken_pair};
 use std::alloc::Global;
@@ -13,18 +13,18 @@ use std::{thread, time};
 use tora_neighbour::{Clock, NodeClock, Wake};
 use tora_node::run_node;
 
-/// What a node tells of its end.
+/// What a test observes of the end of a node.
 #[derive(Drop)]
 struct Course {
-    /// How often its clock was read.
+    /// How often its clocks were read.
     read: AtomicU64,
-    /// How many of its links were told that the core has ended.
+    /// How many of its links have the signal that the core has ended.
     told: AtomicU64,
-    /// How often its clock was read from then on.
+    /// How often its clocks were read after the first link had that signal.
     read_since: AtomicU64,
 }
 
-/// A clock of a node that counts how often it is read.
+/// A clock that counts its reads.
 #[derive(Clone, Copy)]
 struct CountingClock<'a, C> {
     clock: C,
@@ -43,7 +43,7 @@ impl<C: Clock> Clock for CountingClock<'_, C> {
     }
 }
 
-/// Wakes as the waker inside does, and counts that the core has ended once it was told.
+/// A waker that counts the signal that the core has ended, and passes all calls on.
 #[derive(Drop)]
 struct CountingWaker<'a, K> {
     waker: K,
@@ -61,7 +61,7 @@ impl<K: Wake> Wake for CountingWaker<'_, K> {
     }
 }
 
-/// No commands, whose end comes once the clock was read ten times, after ten seconds at the latest.
+/// Commands without a line, which end after ten reads of the clock, or after ten seconds.
 #[derive(Drop)]
 struct Running<'a, R> {
     rt: &'a R,
@@ -128,7 +128,7 @@ fn run_to_the_end<R: Threads + Wait + Sync + time::Clock + log::Log + Abort>(
     ended.is_ok() && screen.is_some()
 }
 
-/// Each link is told that the core has ended, and its thread takes at most one turn from then on.
+/// Each link gets the signal that the core has ended, and its thread makes at most one more turn.
 #[test]
 fn threads_end_in_one_turn(rt: HostRuntime) {
     let course = Course {

@@ -1,4 +1,4 @@
-//! What the core's thread tells programs.
+//! The output of the core's thread for programs.
 use super::streams::Page;
 use crate::tests::sees::{as_many, same, same_text, sees_at, there};
 use std::alloc::Global;
@@ -11,21 +11,21 @@ use tora_node::{NodeError, run_core};
 use tora_packet::Packet;
 use tora_seat::{CoreSeat, Status, What};
 
-/// The life of the link of node 3 to node 2.
+/// The session of the link of node 3 to node 2.
 const LIFE_TO_2: Life = Life { own: 18, peer: 34 };
 
-/// The life of the link of node 3 to node 4.
+/// The session of the link of node 3 to node 4.
 const LIFE_TO_4: Life = Life { own: 17, peer: 33 };
 
-/// What is put, from tick 5 on, each at the next one, by the seat of this number: 0 and 1 are the links to 2 and 4, 2
-/// the commands.
+/// The first items, each with its seat, put at tick 5 and one tick later each. The seats 0 and 1 are those of the links
+/// to 2 and 4, and 2 is that of the commands.
 const FIRST_ITEMS: [(usize, What); 3] = [
     (2, What::Status(Status::Watch)),
     (1, What::Up(LIFE_TO_4)),
     (0, What::Up(LIFE_TO_2)),
 ];
 
-/// What is put from tick 9 on, once node 2 has asked for a route to 4.
+/// The last items, from tick 9 on, after node 2 has sent its query for 4.
 const LAST_ITEMS: [(usize, What); 4] = [
     (2, What::Need(9)),
     (2, What::Status(Status::Json)),
@@ -33,7 +33,7 @@ const LAST_ITEMS: [(usize, What); 4] = [
     (2, What::Quit),
 ];
 
-/// The same, where the life of the link to 4 is cut and has not fallen silent.
+/// The last items, in which the session of the link to 4 is cut and does not end by silence.
 const CUT_ITEMS: [(usize, What); 4] = [
     (2, What::Need(9)),
     (2, What::Status(Status::Json)),
@@ -41,7 +41,7 @@ const CUT_ITEMS: [(usize, What); 4] = [
     (2, What::Quit),
 ];
 
-/// What is printed for them.
+/// The output for these items.
 const TEXT: &str = "\
 height 4 -
 hop 4 -
@@ -55,7 +55,7 @@ height 4 -
 hop 4 -
 ";
 
-/// Puts an item at a tick, by the seat of this number.
+/// Puts an item at a tick, at the port of this seat.
 fn put_one<R: Wait + Abort>(rt: &R, ports: &mut [InPort], now: u64, seat: usize, what: &What) {
     let is_put = match ports.get_mut(seat) {
         Some(port) => port.put(rt, now, *what).is_ok(),
@@ -64,7 +64,7 @@ fn put_one<R: Wait + Abort>(rt: &R, ports: &mut [InPort], now: u64, seat: usize,
     sees_at(rt, is_put, "an item is put", &now);
 }
 
-/// Puts the items, these as the last ones.
+/// Puts the first items and these last ones.
 fn put_all<R: Wait + Abort>(rt: &R, ports: &mut [InPort], last: &[(usize, What)]) {
     let asks = there(rt, Packet::qry(4).ok(), "a query");
     for (at, (seat, what)) in FIRST_ITEMS.iter().enumerate() {
@@ -76,7 +76,7 @@ fn put_all<R: Wait + Abort>(rt: &R, ports: &mut [InPort], last: &[(usize, What)]
     }
 }
 
-/// Runs the core of node 3 over the items that these lanes have, and sees what it prints.
+/// Runs the core of node 3 over the items in these queues, and checks its output.
 fn is_told<R: Wait + Abort>(
     rt: &R,
     alloc: Global,
@@ -110,7 +110,7 @@ fn is_told<R: Wait + Abort>(
     end.fault
 }
 
-/// Sees what programs are told, these items being the last ones.
+/// Checks the output for programs, with these last items.
 fn is_told_of<R: Wait + Abort>(rt: &R, alloc: Global, last: &[(usize, What)]) {
     if let (Ok(core), Ok(made)) = (Core::new(alloc, 3, &[2, 4], &[4]), lanes(rt, alloc, 2)) {
         match is_told(rt, alloc, core, made, last) {

@@ -1,4 +1,4 @@
-//! What nodes of a test read, print and receive.
+//! The inputs, outputs and wires of the nodes in a test.
 ghost use Rattle.std.specs.Prelude.{◌≤◌};
 
 use std::io::{self, Read, Write};
@@ -7,19 +7,19 @@ use std::time::Duration;
 use std::{thread, time};
 use tora_neighbour::{Wire, WireError};
 
-/// The line of a core that has found its route.
+/// The line of a core that has a route.
 const FOUND: &[u8] = b"to 4 height (0,0,0,1,3) flag 0 hop 4";
 
-/// What the two nodes of a test tell each other of their course.
+/// What the two nodes of a test share.
 #[derive(Drop)]
 pub struct Course {
-    /// 1 once something was printed.
+    /// 1 after something was printed.
     pub printed: AtomicU64,
-    /// 1 once the route was printed.
+    /// 1 after the route was printed.
     pub found: AtomicU64,
 }
 
-/// Where a node prints: it looks for the route.
+/// An output that looks for the route in what a node prints.
 #[derive(Drop)]
 pub struct Screen<'a> {
     pub course: &'a Course,
@@ -39,7 +39,7 @@ impl Write for Screen<'_> {
     }
 }
 
-/// Commands: one at first, and then `show` every 100 ms until the route is found, a hundred times at most.
+/// Commands: a first one, and then `show` every 100 ms until the route is found, at most a hundred times.
 #[derive(Drop)]
 pub struct Asking<'a, R> {
     pub rt: &'a R,
@@ -67,7 +67,7 @@ impl<R: time::Clock> Read for Asking<'_, R> {
     }
 }
 
-/// A wire on which nothing comes, that looks in its first `receive` whether another wire is in its own.
+/// A wire on which nothing arrives. Its first `receive` checks whether another wire is in its own first `receive`.
 #[derive(Drop)]
 pub struct Meeting<'a, R> {
     pub rt: &'a R,
@@ -109,7 +109,7 @@ impl<R: time::Clock> Wire for Meeting<'_, R> {
     }
 }
 
-/// Commands that end once both neighbours have met, after ten seconds at the latest.
+/// Commands that end once both neighbours have met, or after ten seconds.
 #[derive(Drop)]
 pub struct Waiting<'a, R> {
     pub rt: &'a R,
@@ -128,7 +128,7 @@ impl<R: time::Clock> Read for Waiting<'_, R> {
     }
 }
 
-/// Where a node prints: 640 bytes at most.
+/// An output of at most 640 bytes.
 #[derive(Drop)]
 pub struct Page {
     pub bytes: [u8; 640],

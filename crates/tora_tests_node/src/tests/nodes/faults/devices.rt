@@ -1,4 +1,4 @@
-//! The wires, commands, outputs and disks of the nodes whose faults, tallies and files are looked at.
+//! The wires, commands, outputs and disks of the nodes in the tests of faults, tallies and files.
 ghost use Rattle.std.specs.Prelude.{◌≡◌};
 
 use super::super::byte_disk::ByteDisk;
@@ -10,7 +10,7 @@ use std::{thread, time};
 use tora_life::{Disk, DiskError};
 use tora_neighbour::{Wire, WireError};
 
-/// Waits until so many wires have settled, 10 s at most.
+/// Waits until this many wires are idle or broken, at most 10 s.
 fn wait_for<R: time::Clock>(rt: &R, settled: &AtomicU64, count: u64) {
     for _ in 0..10_000 {
         if settled.load(Ordering::SeqCst) >= count {
@@ -20,27 +20,27 @@ fn wait_for<R: time::Clock>(rt: &R, settled: &AtomicU64, count: u64) {
     }
 }
 
-/// A wire around another one, that tells once when it has settled: a hundred of its calls in a row have failed, or no
-/// datagram was there.
+/// A wrapper of a wire that reports once when the wire is idle or broken: no datagram was there, or a hundred of its
+/// calls in a row failed.
 #[derive(Drop)]
 pub struct Settling<'a, R, W: Wire> {
     pub rt: &'a R,
     pub wire: W,
-    /// How many wires have to settle before its calls return.
+    /// How many wires must be idle or broken before its calls return.
     pub after: u64,
-    /// How many wires have settled.
+    /// How many wires are idle or broken.
     pub settled: &'a AtomicU64,
     pub failed: u64,
     pub is_settled: bool,
 }
 
 impl<'a, R: time::Clock, W: Wire> Settling<'a, R, W> {
-    /// Waits for the wires that settle before it.
+    /// Waits for the wires before it.
     fn wait(&self) {
         wait_for(self.rt, self.settled, self.after);
     }
 
-    /// Notes whether a call has failed, and whether it told that no datagram was there.
+    /// Records whether a call failed, and whether it returned no datagram.
     fn note(&mut self, has_failed: bool, is_empty: bool)
         ensures { self.new.wire ≡ self.old.wire }
     {
@@ -89,8 +89,7 @@ impl<R: time::Clock, W: Wire> Wire for Settling<'_, R, W> {
     }
 }
 
-/// Commands that are given once so many wires have settled, and 50 ms later: by then a node that ends by itself has
-/// ended.
+/// Commands that arrive 50 ms after this many wires are idle or broken. A node that ends by itself has ended by then.
 #[derive(Drop)]
 pub struct Settled<'a, R> {
     pub rt: &'a R,
@@ -110,20 +109,20 @@ impl<R: time::Clock> Read for Settled<'_, R> {
     }
 }
 
-/// How an output goes.
+/// The behaviour of an output.
 #[derive(Clone, Copy, Debug)]
 pub enum Output {
-    /// All is written.
+    /// All writes succeed.
     Whole,
-    /// No byte fits.
+    /// Writes write nothing.
     Full,
-    /// A write fails.
+    /// Writes fail.
     NoWrite,
-    /// What is written can't be flushed.
+    /// Writes succeed, and flushes fail.
     NoFlush,
 }
 
-/// Where a node prints: a page, if the output is whole or can't be flushed.
+/// An output that stores what is printed if writes succeed.
 #[derive(Drop)]
 pub struct Paper {
     pub page: Page,
@@ -177,7 +176,7 @@ impl Tag {
     }
 }
 
-/// A disk that shows the bytes 32 to 63 at each sync.
+/// A disk that copies its bytes 32 to 63 to a shared tag at each sync.
 #[derive(Drop)]
 pub struct Shown<'a> {
     pub disk: ByteDisk,

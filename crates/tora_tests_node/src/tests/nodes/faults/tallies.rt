@@ -1,13 +1,13 @@
-//! What the tallies of a node have counted once it has ended.
+//! The tallies of a node after its end.
 use super::*;
 use tora_arq::Verdict;
 use tora_neighbour::Tally;
 
-/// What comes on the wire to 2, whose end has the first life 1 of its own.
+/// The datagrams on the wire to 2; the node's end has the session number 1.
 const COMING: &[Coming] = &[
     // Too short, 1.
     (1, ""),
-    // A HELLO (9,0) and one byte more, 2.
+    // A HELLO (9,0) with one more byte, 2.
     (
         2,
         "0101000000000002000000010000000000000009000000000000000000",
@@ -32,7 +32,7 @@ const COMING: &[Coming] = &[
         6,
         "01010000000000010000000100000000000000090000000000000000",
     ),
-    // The life 0, 7.
+    // The session number 0, 7.
     (
         7,
         "01010000000000020000000100000000000000000000000000000000",
@@ -42,13 +42,13 @@ const COMING: &[Coming] = &[
         8,
         "010300080000000200000001000000000000000900000000000000014000000000000001",
     ),
-    // A DATA frame with a packet of version 2, 9.
+    // A DATA frame whose packet has version 2, 9.
     (
         9,
         "0102001800000002000000010000000000000009000000000000000100000000000000010000000000000000\
          0201000000000004",
     ),
-    // A DATA frame of version 2 with no packet, 10.
+    // A DATA frame of version 2 without a packet, 10.
     (
         10,
         "0202001c00000002000000010000000000000009000000000000000100000000000000010000000000000000\
@@ -59,7 +59,7 @@ const COMING: &[Coming] = &[
         2,
         "01010000000000030000000100000000000000090000000000000000",
     ),
-    // A DATA frame (9,4), before anything was heard: Stale.
+    // A DATA frame (9,4), before any HELLO: Stale.
     (
         6,
         "0102001800000002000000010000000000000009000000000000000400000000000000010000000000000000\
@@ -70,17 +70,17 @@ const COMING: &[Coming] = &[
         1,
         "01010000000000020000000100000000000000090000000000000000",
     ),
-    // A HELLO (8,0), which is below: Stale.
+    // A HELLO (8,0), with a lower session number: Stale.
     (
         1,
         "01010000000000020000000100000000000000080000000000000000",
     ),
-    // A HELLO (9,1), which binds the life: Accepted.
+    // A HELLO (9,1), which binds the session: Accepted.
     (
         1,
         "01010000000000020000000100000000000000090000000000000001",
     ),
-    // The first packet: Accepted once, and Repeated from then on.
+    // The first packet: Accepted once, and then Repeated.
     (
         6,
         "0102001800000002000000010000000000000009000000000000000100000000000000010000000000000000\
@@ -94,7 +94,7 @@ const COMING: &[Coming] = &[
     ),
 ];
 
-/// How often each verdict is wanted. Busy is not among them: a link's thread puts what a datagram has told before it
+/// How often each verdict is expected. Busy cannot occur: a link's thread puts the events of a datagram before it
 /// receives the next one, so 34 places for events are always free.
 const VERDICTS: &[(Verdict, u64)] = &[
     (Verdict::Accepted, 3),
@@ -105,8 +105,8 @@ const VERDICTS: &[(Verdict, u64)] = &[
     (Verdict::Busy, 0),
 ];
 
-/// Runs the node over whole wires, on the one to 2 of which these datagrams come, and on the one to 3 two that are too
-/// short.
+/// Runs the node over wires that do not break. These datagrams arrive on the wire to 2, and two that are too short on
+/// the wire to 3.
 fn run_whole<'a, R: Threads + Wait + Sync + time::Clock + log::Log + Abort>(
     rt: &'a R,
     alloc: Global,
@@ -121,14 +121,14 @@ fn run_whole<'a, R: Threads + Wait + Sync + time::Clock + log::Log + Abort>(
     run_settled(rt, alloc, wires, disks, b"quit\n", settled, &mut paper)
 }
 
-/// Sees how often each verdict was counted.
+/// Checks how often each verdict was counted.
 fn verdicts_are(rt: &impl Abort, tally: &Tally, wanted: &[(Verdict, u64)]) {
     for (verdict, count) in wanted {
         same_at(rt, &tally.of_verdict(*verdict), count, "the count", verdict);
     }
 }
 
-/// Sees that each fault of a frame with a number was counted as often as the number says.
+/// Checks that each fault of a frame was counted as often as its number says.
 fn faults_are_their_numbers(rt: &impl Abort, tally: &Tally) {
     for number in 1..=10u8 {
         let count = tally.of_bad(number);
@@ -141,7 +141,7 @@ fn tally_of(rt: &impl Abort, ended: &Ended, peer: Id) -> Tally {
     there(rt, ended.tally(peer), "the tally of a neighbour")
 }
 
-/// Sees that the node has no tally of this node.
+/// Checks that the node has no tally of a neighbour.
 fn has_none(rt: &impl Abort, ended: &Ended, peer: Id) {
     sees_at(rt, ended.tally(peer).is_none(), "no tally", &peer);
 }
