@@ -1,4 +1,4 @@
-//! The worked configuration, and each way to refuse one.
+//! The worked configuration, and each way in which one is refused.
 use reading::Wanted::{
     Accepted, Erases, NoToml, Peers, Refused, Says, TooMany, UnknownKey, Worked,
 };
@@ -15,7 +15,7 @@ const HEAD: &str = "node = 1\ndests = [4]\nlife_dir = \"n1\"\n";
 
 const LINK: &str = "[[link]]\npeer = 2\nlocal = 4012\nremote = 4021\n";
 
-/// The head of a node with no destination and an empty name of its folder.
+/// The beginning of a configuration with no destination and an empty folder name.
 const BARE: &str = "node = 1\ndests = []\nlife_dir = \"\"\n";
 
 const ACCEPTED_AND_REFUSED: &[(&[&str], Wanted)] = &[
@@ -145,7 +145,7 @@ fn keys_of_a_node(rt: HostRuntime) {
     each_is_read(&rt, rt.alloc(), KEYS_OF_A_NODE);
 }
 
-/// Of the second link.
+/// Keys of the second link.
 const KEYS_OF_A_LINK: &[(&[&str], Wanted)] = &[
     (
         &[HEAD, LINK, "[[link]]\n"],
@@ -238,7 +238,7 @@ fn keys_of_a_link(rt: HostRuntime) {
     each_is_read(&rt, rt.alloc(), KEYS_OF_A_LINK);
 }
 
-/// A key that stands twice is no TOML.
+/// A key that occurs twice is not TOML.
 const REPEATED_AND_UNKNOWN: &[(&[&str], Wanted)] = &[
     (&["node = 1\n", WORKED], NoToml),
     (&["dests = []\n", WORKED], NoToml),
@@ -291,7 +291,7 @@ const MOST_LINKS: &str = "[[link]]\npeer = 2\nlocal = 2\nremote = 1\n\
      [[link]]\npeer = 32\nlocal = 32\nremote = 1\n\
      [[link]]\npeer = 33\nlocal = 33\nremote = 1\n";
 
-/// A node with 64 destinations, whose list is not at its end.
+/// A node with 64 destinations, without the end of their list.
 const MOST_DESTS: &str =
     "node = 1\nlife_dir = \"n1\"\ndests = [1, 2, 3, 4, 5, 6, 7, 8, 9, 10, 11, 12, 13, 14, 15, 16, \
      17, 18, 19, 20, 21, 22, 23, 24, 25, 26, 27, 28, 29, 30, 31, 32, \

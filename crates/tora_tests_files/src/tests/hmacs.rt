@@ -1,9 +1,9 @@
-//! The test vectors of RFC 4231, from its text: section 4.2 to 4.8.
+//! The test vectors of RFC 4231, sections 4.2 to 4.8.
 use super::sees::{same_bytes_at, sees};
 use std::process::Abort;
 use tora_key::{Key, TAG, hmac, is_same};
 
-/// A key, a message, and the first bytes of its HMAC-SHA-256: 32 of them, or 16 where the text has no more.
+/// A key, a message, and the first bytes of its HMAC-SHA-256: 32, or 16 if the RFC has no more.
 type Row = (&'static [u8], &'static [u8], &'static [u8]);
 
 const VECTORS: &[Row] = &[
@@ -107,7 +107,7 @@ fn tags_are_compared_to_the_end(rt: HostRuntime) {
 
 const MESSAGE: &[u8] = b"a datagram";
 
-// A message and its tag come open under the key, and under no cleared one; a cleared key is that of no bytes.
+// A message and its tag open under the key, but not after the key is cleared; a cleared key equals that of no bytes.
 fn cleared_key_opens_nothing(rt: &impl Abort, mut key: Key, room: &mut [u8; 26]) {
     let end = key.seal(MESSAGE, room);
     sees(rt, key.open(&room[..end]).is_some(), "the key opens");

@@ -25,10 +25,10 @@ const SLOT_OF_900: [u8; 16] = [
     0, 0, 0, 0, 0, 0, 0x03, 0x84, 0xff, 0xff, 0xff, 0xff, 0xff, 0xff, 0xfc, 0x7b,
 ];
 
-/// Slots, and their bounds.
+/// Slots, and the bound in each.
 const SLOTS: &[([u8; 16], u64)] = &[(SLOT_OF_16, 16), (SLOT_OF_32, 32), (SLOT_OF_900, 900)];
 
-/// Sees that each slot spells its bound.
+/// Checks the bound in each slot.
 fn each_spells(rt: &impl Abort, rows: &[([u8; 16], u64)]) {
     for (slot, bound) in rows {
         same_at(rt, &slot_bytes(*bound), slot, "the slot", bound);
@@ -41,7 +41,7 @@ fn slots_spell_their_bounds(rt: HostRuntime) {
     each_spells(&rt, SLOTS);
 }
 
-/// In the second and the third row a write is torn behind sixteen draws.
+/// In the second and the third row, a write is torn after sixteen draws.
 const TORN: &[(&str, &[u8], &[Step])] = &[
     ("closed", &[], &[Draws(1, 4), Reopens, Draws(17, 18)]),
     (
@@ -84,7 +84,7 @@ fn drawn_numbers_survive_torn_slots(rt: HostRuntime) {
     each_goes(&rt, TORN);
 }
 
-/// Files of odd bytes, and what is drawn first.
+/// Files with unusual bytes, and the first number drawn.
 const ODD: &[(&str, &[u8], Result<u64, LifeError>)] = &[
     ("no byte", &[], Ok(1)),
     ("15 zeros", &[0; 15], Ok(1)),
@@ -117,7 +117,7 @@ const ODD: &[(&str, &[u8], Result<u64, LifeError>)] = &[
     ),
 ];
 
-/// The last numbers that there are, and none behind them.
+/// The last session numbers, and the error after them.
 const LAST: &[(&str, &[u8], &[Step])] = &[(
     "the last numbers",
     &[

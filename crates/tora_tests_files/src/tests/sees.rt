@@ -1,25 +1,25 @@
-//! What the tests see. Each check is one call of a function of this module, which is proved once: an assertion that
-//! stands in a test is proved there, together with the text that it would print. The line that a failure names is one
-//! of this module, so each call says what was looked at.
+//! The checks of the tests. Each check is a call of a function here, which is proved once. An assertion inside a test
+//! would be proved there, with the text that it prints. A failure names a line of this module, so each call passes a
+//! text that says what it checks.
 use std::fmt::Debug;
 use std::process::Abort;
 
-/// Sees that this is so.
+/// Checks that a condition holds.
 pub fn sees(rt: &impl Abort, is_so: bool, what: &str) {
     assert!(rt; is_so, "{what}");
 }
 
-/// Sees that this is so at one row of a table, or at one turn of a loop.
+/// Checks that a condition holds for one row of a table or one turn of a loop.
 pub fn sees_at<P: Debug>(rt: &impl Abort, is_so: bool, what: &str, place: &P) {
     assert!(rt; is_so, "{what} at {place:?}");
 }
 
-/// Sees that the value that was got is the one that is wanted.
+/// Checks that a value is the wanted one.
 pub fn same<T: PartialEq + Debug>(rt: &impl Abort, got: &T, wanted: &T, what: &str) {
     assert_eq!(rt; *got, *wanted, "{what}");
 }
 
-/// Sees the same at one row of a table, or at one turn of a loop.
+/// Checks a value for one row of a table or one turn of a loop.
 pub fn same_at<T: PartialEq + Debug, P: Debug>(
     rt: &impl Abort,
     got: &T,
@@ -30,22 +30,22 @@ pub fn same_at<T: PartialEq + Debug, P: Debug>(
     assert_eq!(rt; *got, *wanted, "{what} at {place:?}");
 }
 
-/// Sees that a text is the one that is wanted.
+/// Checks that a text is the wanted one.
 pub fn same_text(rt: &impl Abort, got: &str, wanted: &str, what: &str) {
     assert_eq!(rt; got, wanted, "{what}");
 }
 
-/// Sees that these bytes are the ones that are wanted.
+/// Checks that bytes are the wanted ones.
 pub fn same_bytes(rt: &impl Abort, got: &[u8], wanted: &[u8], what: &str) {
     assert_eq!(rt; got, wanted, "{what}");
 }
 
-/// Sees that these bytes are the ones that are wanted, at a row of a table.
+/// Checks bytes for one row of a table.
 pub fn same_bytes_at(rt: &impl Abort, got: &[u8], wanted: &[u8], row: usize) {
     assert_eq!(rt; got, wanted, "row {row}");
 }
 
-/// Ends the test: what was to be refused was not, or the other way round.
+/// Fails the test: something was not refused that should be, or the other way round.
 pub fn ends(rt: &impl Abort, what: &str) -> ! {
     panic!(rt; "{what}")
 }

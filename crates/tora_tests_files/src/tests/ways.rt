@@ -1,12 +1,12 @@
-//! The addresses and the key of a link, and each way to refuse them.
+//! The addresses and the key of a link, and each way in which they are refused.
 use super::sees::same_text;
 use std::alloc::Global;
 use std::net::SocketAddr;
 use std::process::Abort;
 use tora_config::{ConfigError, LinkWay, read_ways};
 
-/// The ends of a link, what else stands in it, and the words for what is read: its peer, its ends and its key file, or
-/// the fault.
+/// The two addresses of a link, its other keys, and the result of reading it as a text: its peer, addresses and key
+/// file, or the fault.
 type Row = (&'static str, &'static str, &'static str, &'static str);
 
 const NO_NUMBER: &str = "`local` of link 1 is no whole number";
@@ -49,7 +49,7 @@ const WAYS: &[Row] = &[
     ("0", "7002", "", "`local` of link 1 is not from 1 to 65535"),
 ];
 
-/// What is read of a link, in words.
+/// The text for the addresses and the key file of a link.
 fn said(rt: &impl Abort, alloc: Global, way: &LinkWay) -> String {
     let (peer, local, remote) = (way.peer, way.local, way.remote);
     let key = match &way.key_file {
@@ -70,7 +70,7 @@ fn words(
     format!(in alloc; "{peer} {local} {remote} {key}").expect(rt, "memory")
 }
 
-/// What a text is read as, in words.
+/// The text for the result of reading a configuration.
 fn read(rt: &impl Abort, alloc: Global, text: &str) -> String {
     match read_ways(alloc, text) {
         Ok(ways) => match ways.as_slice() {

@@ -1,12 +1,11 @@
-//! What the texts of a table are read as: the rows of the tests of the configuration, and the one function that goes
-//! over them.
+//! The wanted result of reading each text of a table, and the function that checks a table.
 use super::super::sees::{same, same_at, same_text, sees_at};
 use std::alloc::Global;
 use std::process::Abort;
 use tora_config::*;
 use tora_core::{CoreError, Erasure};
 
-/// What a text is to be read as.
+/// The wanted result of reading a text.
 pub enum Wanted {
     /// A configuration.
     Accepted,
@@ -14,21 +13,21 @@ pub enum Wanted {
     Worked,
     /// A configuration with links to these peers, in this order.
     Peers(&'static [u32]),
-    /// A configuration of a node that makes this of erased levels.
+    /// A configuration with this treatment of erased levels.
     Erases(Erasure),
-    /// No TOML.
+    /// An error: not TOML.
     NoToml,
-    /// More links or destinations than a core may have.
+    /// An error: more links or destinations than a core can have.
     TooMany,
-    /// No configuration: it has this unknown key.
+    /// An error: this unknown key.
     UnknownKey(&'static str),
-    /// No configuration: the value at this place is refused for this reason.
+    /// An error: the value of this key is refused for this reason.
     Refused(Place, Reason),
-    /// No configuration, which is said in these words.
+    /// An error with this text.
     Says(&'static str),
 }
 
-/// Sees what the text of each row is read as, which is made of these parts.
+/// Checks the result of reading the text of each row; the text consists of these parts.
 pub fn each_is_read(rt: &impl Abort, alloc: Global, rows: &[(&[&str], Wanted)]) {
     for (parts, wanted) in rows {
         let text = joined(rt, alloc, parts);
@@ -39,7 +38,7 @@ pub fn each_is_read(rt: &impl Abort, alloc: Global, rows: &[(&[&str], Wanted)]) 
     }
 }
 
-/// Sees the same of texts that may be refused for want of memory, too.
+/// Checks the result for each text, which may also be that memory ran out.
 pub fn each_is_read_or_wants_memory(rt: &impl Abort, alloc: Global, rows: &[(&str, Wanted)]) {
     for (text, wanted) in rows {
         match read(alloc, text) {
@@ -50,7 +49,7 @@ pub fn each_is_read_or_wants_memory(rt: &impl Abort, alloc: Global, rows: &[(&st
     }
 }
 
-/// Sees the text of a fault.
+/// Checks the text of an error.
 pub fn says(rt: &impl Abort, alloc: Global, fault: &ConfigError, wanted: &str, what: &str) {
     let text = format!(in alloc; "{fault}").expect(rt, "memory");
     same_text(rt, text.as_str(), wanted, what);
@@ -65,12 +64,12 @@ fn joined(rt: &impl Abort, alloc: Global, parts: &[&str]) -> String {
     text
 }
 
-/// What a text is read as; nothing is known of it.
+/// The result of reading a text, of which contracts state nothing.
 fn read(alloc: Global, text: &str) -> Result<NodeConfig, ConfigError> {
     read_config(alloc, text)
 }
 
-/// Sees that a text was to be accepted, as this configuration.
+/// Checks that the wanted result is this configuration.
 fn is_accepted(rt: &impl Abort, config: &NodeConfig, wanted: &Wanted, text: &str) {
     match wanted {
         Wanted::Accepted => {}
@@ -81,7 +80,7 @@ fn is_accepted(rt: &impl Abort, config: &NodeConfig, wanted: &Wanted, text: &str
     }
 }
 
-/// Sees that a text was to be refused, for this fault.
+/// Checks that the wanted result is this error.
 fn is_refused(rt: &impl Abort, alloc: Global, fault: &ConfigError, wanted: &Wanted, text: &str) {
     let is_so = match wanted {
         Wanted::NoToml => matches!(fault, ConfigError::Syntax(_)),
@@ -101,7 +100,7 @@ fn is_refused(rt: &impl Abort, alloc: Global, fault: &ConfigError, wanted: &Want
     sees_at(rt, is_so, "the fault", &(fault, text));
 }
 
-/// The fault is an unknown key of this name.
+/// Whether the error is an unknown key with this name.
 fn has_unknown_key(fault: &ConfigError, wanted: &str) -> bool {
     match fault {
         ConfigError::UnknownKey(key) => key.as_str() == wanted,
@@ -109,7 +108,7 @@ fn has_unknown_key(fault: &ConfigError, wanted: &str) -> bool {
     }
 }
 
-/// The place of the value that is refused, and the reason.
+/// The key whose value is refused, and the reason.
 fn value_in(fault: &ConfigError) -> Option<(Place, Reason)> {
     match fault {
         ConfigError::Value(place, reason) => Some((*place, *reason)),
@@ -117,7 +116,7 @@ fn value_in(fault: &ConfigError) -> Option<(Place, Reason)> {
     }
 }
 
-/// Sees that it is the worked configuration.
+/// Checks that this is the worked configuration.
 fn is_worked(rt: &impl Abort, config: &NodeConfig) {
     same(rt, &config.node, &1, "the node");
     let dests = config.dests.as_slice();
@@ -133,7 +132,7 @@ fn is_worked(rt: &impl Abort, config: &NodeConfig) {
     same(rt, &links, &[link].as_slice(), "the links");
 }
 
-/// Sees the peers of the links.
+/// Checks the peers of the links.
 fn peers_are(rt: &impl Abort, config: &NodeConfig, wanted: &[u32]) {
     same(rt, &config.links.len(), &wanted.len(), "how many links");
     for (at, (link, peer)) in config.links.iter().zip(wanted).enumerate() {

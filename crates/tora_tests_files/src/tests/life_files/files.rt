@@ -23,13 +23,13 @@ fn opened<R: Files<File = File>>(rt: &R) -> Result<LifeFile<FileDisk>, Fail> {
     Ok(LifeFile::open(FileDisk::open(rt, PATH)?, 1, 2)?)
 }
 
-// Makes the folder anew.
+// Makes a new folder.
 fn make_folder<R: Alloc + Files<File = File>>(rt: &R, folder: &str) -> Result<(), Fail> {
     let _ = fs::remove_dir_all(rt, folder);
     Ok(fs::create_dir(rt, folder)?)
 }
 
-// Draws so many numbers, each greater than all before, and answers the last one.
+// Draws this many numbers, each greater than all earlier ones, and returns the last one.
 fn draw_on(rt: &impl Abort, file: &mut LifeFile<FileDisk>, count: u64, greatest: u64) -> u64 {
     let mut greatest = greatest;
     for _ in 0..count {
@@ -44,7 +44,7 @@ fn draw_on(rt: &impl Abort, file: &mut LifeFile<FileDisk>, count: u64, greatest:
     greatest
 }
 
-// Each of these files is let go without a close, as by a process that is killed between two calls.
+// Each of these files is dropped without a close, as if the process were killed between two calls.
 #[test]
 fn drawn_numbers_rise_in_a_real_folder(rt: HostRuntime) -> Result<(), Fail> {
     make_folder(&rt, FOLDER)?;
@@ -62,17 +62,17 @@ fn drawn_numbers_rise_in_a_real_folder(rt: HostRuntime) -> Result<(), Fail> {
     Ok(())
 }
 
-/// A call of a disk, and what it answers.
+/// A call of a disk, and its result.
 enum Call {
-    /// A read at this place into six bytes, which then hold this.
+    /// A read at this offset into six bytes, and the bytes afterwards.
     Reads(usize, Result<usize, DiskError>, [u8; 6]),
-    /// A write at this place.
+    /// A write at this offset.
     Writes(usize, &'static [u8], Result<(), DiskError>),
-    /// A sync, which passes.
+    /// A sync that succeeds.
     Syncs,
 }
 
-/// The calls of a new file, of which 65 bytes are written in the end. The bytes of a read go on into the next.
+/// The calls of a new file, to which up to 65 bytes are written. Each read uses the buffer of the read before it.
 const PLACES: &[Call] = &[
     Call::Reads(0, Ok(0), [1; 6]),
     Call::Writes(0, b"abcd", Ok(())),
@@ -115,7 +115,7 @@ fn a_file_is_read_and_written_at_places(rt: HostRuntime) -> Result<(), Fail> {
     Ok(())
 }
 
-/// Whether a file is opened; it is let go at once.
+/// Whether a file can be opened; it is closed at once.
 fn is_free<R: Files<File = File>>(rt: &R) -> Result<bool, Fail> {
     match FileDisk::open(rt, LOCKED_PATH) {
         Ok(_) => Ok(true),
@@ -124,7 +124,7 @@ fn is_free<R: Files<File = File>>(rt: &R) -> Result<bool, Fail> {
     }
 }
 
-// A file is locked as long as its disk lives, and by nobody behind that.
+// A file is locked as long as its disk exists, and not afterwards.
 #[test]
 fn a_life_file_is_locked_by_its_disk(rt: HostRuntime) -> Result<(), Fail> {
     make_folder(&rt, LOCKED_FOLDER)?;

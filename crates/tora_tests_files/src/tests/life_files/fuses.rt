@@ -4,8 +4,8 @@ use super::steps::{draws, fails, opened, refused};
 use std::process::Abort;
 use tora_life::{DiskCall, FuseDisk, FuseMode, LifeError, MemDisk};
 
-/// How many calls of a new disk pass before all fail, and how many numbers are then drawn. `None` where the file isn't
-/// opened.
+/// How many calls of a new disk succeed before all fail, and how many numbers can then be drawn. `None` if the file
+/// does not open.
 const FUSED: &[(u64, Option<u64>)] = &[
     (0, None),
     (1, None),
@@ -20,20 +20,20 @@ fn fused(k: u64, mode: FuseMode) -> FuseDisk<MemDisk> {
     FuseDisk::new(MemDisk::new(), k, mode)
 }
 
-/// Sees that a disk whose calls fail from this one on gives no file.
+/// Checks that the file does not open on a disk whose calls fail from this one on.
 fn gives_none(rt: &impl Abort, k: u64) {
     let fault = refused(rt, fused(k, FuseMode::Always));
     same_at(rt, &fault.error, &LifeError::Disk, "the fault", &k);
 }
 
-/// Sees that a disk whose calls fail from this one on gives a file, of which so many numbers are drawn.
+/// Checks that the file opens on a disk whose calls fail from this one on, and that this many numbers can be drawn.
 fn gives_some(rt: &impl Abort, k: u64, count: u64) {
     let mut file = opened(rt, fused(k, FuseMode::Always));
     draws(rt, &mut file, 1, count.saturating_add(1), "a draw");
     fails(rt, &mut file, k);
 }
 
-/// Sees what comes of the disk of each row.
+/// Checks the result for the disk of each row.
 fn each_gives(rt: &impl Abort, rows: &[(u64, Option<u64>)]) {
     for (k, drawn) in rows {
         match drawn {
@@ -48,7 +48,7 @@ fn fused_disk_fails_each_call(rt: HostRuntime) {
     each_gives(&rt, FUSED);
 }
 
-// In mode Once the calls after the failed one pass, and one that the disk inside fails is handed on.
+// In mode `Once` the calls after the failed one succeed, and a failure of the wrapped disk is passed on.
 #[test]
 fn one_call_fails(rt: HostRuntime) {
     let fault = refused(&rt, fused(1, FuseMode::Once));

@@ -1,4 +1,4 @@
-//! Over a disk in memory, a life file is a function of its numbers and the state of the disk.
+//! On a disk in memory, the results of a life file are a function of its numbers and the state of the disk.
 ghost use Rattle.std.specs.Prelude.{◌≡◌, ◌≢◌, ◌<◌, ◌≤◌, Ok, Err, IfOk, IfErr};
 ghost use Rattle.tora_life.specs.Numbers.{numbers_after};
 ghost use Rattle.tora_life.specs.InMemory.{open_answer, open_state, draw_answer, draw_state};
@@ -35,7 +35,7 @@ fn draw_in_memory(file: &mut LifeFile<MemDisk>) -> Result<u64, LifeError>
     file.draw()
 }
 
-// A crash, whatever it tears: no number is drawn again, and the file opens unless a call of the disk fails.
+// A crash with any torn write: no number is drawn again, and the file opens unless a call of the disk fails.
 fn restart(
     file: LifeFile<MemDisk>,
     torn: Option<[u8; 16]>,

@@ -1,4 +1,4 @@
-//! Files of version 1, half migrated ones and foreign ones, and a crash at each call of the disk.
+//! Files of version 1, partly migrated ones and files of other owners, with a crash at each call of the disk.
 ghost use Rattle.std.specs.Prelude.{◌≡◌, ◌<◌, ◌≢◌};
 
 use super::super::sees::{ends, same, same_at, same_bytes, sees_at};
@@ -42,7 +42,7 @@ fn file_of(tag: [u8; 32]) -> [u8; 64] {
     file
 }
 
-/// Sees why a file of these bytes is refused, and that it stays as it was.
+/// Checks why a file with these bytes is refused, and that it does not change.
 fn refusal_is(rt: &impl Abort, bytes: &[u8], owner: Owner, wanted: LifeError, what: &str)
     requires me { 0 < owner.node }
     requires peer { 0 < owner.peer }
@@ -61,13 +61,13 @@ fn owner_of(node: u32, peer: u32) -> Owner
     Owner { node, peer }
 }
 
-/// Sees what a tag is read as.
+/// Checks the result of reading a tag.
 fn reads_as(rt: &impl Abort, bytes: &[u8], wanted: Tag, what: &str, place: usize) {
     same_at(rt, &Tag::read(bytes), &wanted, what, &place);
 }
 
-/// The file of these bytes after a crash while it was opened: all calls of the disk failed from this one on, and what
-/// was not synced is zeros.
+/// The file with these bytes after a crash while it was opened: all calls of the disk failed from this one on, and the
+/// bytes that were not synced are zeros.
 fn torn_while_opened(rt: &impl Abort, bytes: &[u8], k: u64) -> LifeFile<MemDisk> {
     let fused = FuseDisk::new(disk_of(rt, bytes), k, FuseMode::Always);
     let mut disk = refused(rt, fused).disk.into_inner();
@@ -114,7 +114,7 @@ fn life_file_is_tagged_and_migrated(rt: HostRuntime) {
     draws(&rt, &mut file, 17, 18, "the draw after the crash");
 }
 
-/// The tag with another byte at this place of it.
+/// The tag with a changed byte at this index.
 fn changed(place: usize) -> [u8; 32]
     requires { place < 32 }
 {
@@ -123,7 +123,7 @@ fn changed(place: usize) -> [u8; 32]
     tag
 }
 
-/// The tag with another byte at this place of its first half, and at the same place of its second half.
+/// The tag with a changed byte at this index of its first half, and at the same index of its second half.
 fn changed_twice(place: usize) -> [u8; 32]
     requires { place < 16 }
 {
@@ -132,8 +132,8 @@ fn changed_twice(place: usize) -> [u8; 32]
     tag
 }
 
-/// Sees why a file with the tag that is complementary in each byte, with another byte at this place, is refused: for
-/// its beginning, or for its numbers.
+/// Checks why a file is refused if a byte of its tag is changed at this index, and the complement with it: for its
+/// beginning, or for its numbers.
 fn tag_is_refused(rt: &impl Abort, place: usize)
     requires { place < 16 }
 {
@@ -166,7 +166,7 @@ fn tags_are_read(rt: HostRuntime) {
     }
 }
 
-/// What version 1 left after so many draws since the file was made (no byte, one slot, or two), and the next number.
+/// The bytes that version 1 left after a number of draws (no byte, one slot, or two), and the next number.
 const VERSION_1: &[(&str, &[u8], Result<u64, LifeError>)] = &[
     ("no byte", &[], Ok(1)),
     ("one slot", &SLOT_OF_16, Ok(17)),
@@ -186,7 +186,7 @@ fn files_of_version_1_go_on_above_their_numbers(rt: HostRuntime) {
     each_goes(&rt, AFTER_A_THIRD_WRITE);
 }
 
-/// The tagged file with another byte in the second half of its tag.
+/// The tagged file with a changed byte in the second half of its tag.
 const HALF_TAGGED: [u8; 64] = [
     0, 0, 0, 0, 0, 0, 0, 0x10, 0xff, 0xff, 0xff, 0xff, 0xff, 0xff, 0xff, 0xef, 0, 0, 0, 0, 0, 0, 0,
     0x20, 0xff, 0xff, 0xff, 0xff, 0xff, 0xff, 0xff, 0xdf, 0x54, 0x4f, 0x52, 0x41, 0x4c, 0x49, 0x46,
@@ -194,7 +194,7 @@ const HALF_TAGGED: [u8; 64] = [
     0xfe, 0xff, 0xff, 0xff, 0xfd,
 ];
 
-/// Sees the first number of the first bytes of a file, and the same where the file is closed and opened again.
+/// Checks the first number drawn from a file with these bytes, and the same after the file is closed and opened again.
 fn goes_on(rt: &impl Abort, bytes: &[u8], wanted: u64) {
     let length = bytes.len();
     let number = first_draw(rt, bytes);
@@ -204,8 +204,8 @@ fn goes_on(rt: &impl Abort, bytes: &[u8], wanted: u64) {
     same_at(rt, &file.draw(), &Ok(wanted), "once reopened", &length);
 }
 
-// A slot that is not wholly there counts as 0, as before, and one that is whole stays. Any bytes behind the slots that
-// are no whole tag are written over.
+// A slot that is not complete counts as 0, as in version 1, and a complete one stays. Bytes after the slots that are
+// not a complete tag are overwritten.
 #[test]
 fn short_files_are_filled_up(rt: HostRuntime) {
     for length in 0..16 {
@@ -220,7 +220,7 @@ fn short_files_are_filled_up(rt: HostRuntime) {
     }
 }
 
-/// Opens the file of a disk and draws 40 numbers, as far as a call of the disk doesn't fail. Answers the disk, and the
+/// Opens the file on a disk and draws up to 40 numbers, until a call of the disk fails. Returns the disk, and the
 /// greatest of the numbers drawn and of `drawn`.
 fn run<D: Disk + Drop>(disk: D, drawn: u64) -> (D, u64) {
     let mut file = match LifeFile::open(disk, 1, 2) {
@@ -237,7 +237,7 @@ fn run<D: Disk + Drop>(disk: D, drawn: u64) -> (D, u64) {
     (file.close(), greatest)
 }
 
-/// The same, with a call armed before the file is opened (`stop` 0) or before a draw.
+/// As `run`, with a call that is armed before the file is opened (`stop` 0) or before a draw.
 fn run_armed(mut disk: MemDisk, stop: u64, call: DiskCall, drawn: u64) -> (MemDisk, u64) {
     if stop == 0 {
         disk.arm(call);
@@ -259,7 +259,7 @@ fn run_armed(mut disk: MemDisk, stop: u64, call: DiskCall, drawn: u64) -> (MemDi
     (file.close(), greatest)
 }
 
-/// The same, where all calls fail from the call `stop` on. Answers the disk inside.
+/// As `run`, on a disk whose calls all fail from the call `stop` on. Returns the wrapped disk.
 fn run_fused(disk: MemDisk, stop: u64, drawn: u64) -> (MemDisk, u64) {
     let (fused, greatest) = run(FuseDisk::new(disk, stop, FuseMode::Always), drawn);
     (fused.into_inner(), greatest)
@@ -285,8 +285,8 @@ const HALF_MIGRATED: [u8; 40] = [
     0x20, 0xff, 0xff, 0xff, 0xff, 0xff, 0xff, 0xff, 0xdf, 0, 0, 0, 0, 0, 0, 0, 0,
 ];
 
-/// Each file that a crash may come over (new, of version 1, half migrated, or with its tag), and the greatest number
-/// that was drawn from it.
+/// Files that a crash may hit (new, of version 1, partly migrated, and tagged), and the greatest number drawn from
+/// each.
 const OLD: &[(&[u8], u64)] = &[
     (&[], 0),
     (&SLOT_OF_16, 16),
@@ -295,12 +295,13 @@ const OLD: &[(&[u8], u64)] = &[
     (&TAGGED, 32),
 ];
 
-/// What a crash leaves of what was not synced.
+/// The bytes that a crash leaves in place of those that were not synced.
 const PATTERNS: &[Option<[u8; 16]>] = &[None, Some([0; 16]), Some(SLOT_OF_32), Some(SLOT_OF_900)];
 
-/// Sees that the next number is above those that were drawn, where the disk fails and then crashes: a call fails before
-/// the file is opened (0) or before the draw with this number, or with no call named all fail from the one with this
-/// number on. With `twice` this call of the disk fails while the file is opened again, and then there is another crash.
+/// Checks that the next number is above those that were drawn, after the disk fails and then crashes. The call of this
+/// kind fails before the file is opened (0) or before the draw with this number; without a kind, all calls fail from
+/// the one with this number on. With `twice`, this call of the disk fails while the file is opened again, and the disk
+/// crashes once more.
 fn goes_on_after(
     rt: &impl Abort,
     (bytes, drawn): &(&[u8], u64),
@@ -323,7 +324,7 @@ fn goes_on_after(
     sees_at(rt, is_above, "above all before", &place);
 }
 
-/// Sees this for each old file, each pattern, and each call of the second opening.
+/// Checks this for each file, each pattern, and each call of the second opening.
 fn each_goes_on_after(rt: &impl Abort, fault: (Option<DiskCall>, u64), twice: &[Option<u64>]) {
     for old in OLD {
         for torn in PATTERNS {
@@ -342,7 +343,7 @@ fn each_crash(rt: HostRuntime) {
     }
 }
 
-// A write that fails may have done a part of its work.
+// A failed write may have written a part of its bytes.
 #[test]
 fn each_failed_call_and_crash(rt: HostRuntime) {
     for call in [DiskCall::Read, DiskCall::Write, DiskCall::Sync] {

@@ -1,4 +1,4 @@
-//! A reader that gives one byte a call, is interrupted, and then fails.
+//! A reader that returns one byte per call, is interrupted, and then fails.
 ghost use Rattle.std.specs.Prelude.{◌≡◌};
 
 use super::super::sees::{ends, same_at, same_bytes, sees_at};
@@ -6,7 +6,8 @@ use std::io::{self, ErrorKind};
 use std::process::Abort;
 use tora_life::{ReadFrom, read_whole};
 
-/// Five bytes, of which each call gives one. Each second call is interrupted, and all fail from one on.
+/// A reader of five bytes that returns one byte per call. Every second call is interrupted, and all calls fail from one
+/// on.
 #[derive(Drop)]
 struct Dripping {
     bytes: [u8; 5],
@@ -47,8 +48,8 @@ fn five_bytes(fails_from: u64) -> Dripping {
     }
 }
 
-/// A read of five bytes: from which call on the reader fails, from which place on and into how many bytes it reads, and
-/// how many come, with what then stands in seven bytes that were 9. `None` where the read fails.
+/// A read of five bytes: the call from which on the reader fails, the offset and the length of the read, how many bytes
+/// it reads, and seven bytes afterwards that were 9. `None` if the read fails.
 const READS: &[(u64, usize, usize, Option<(usize, &[u8])>)] = &[
     (100, 1, 7, Some((4, &[2, 3, 4, 5, 9, 9, 9]))),
     (100, 0, 3, Some((3, &[1, 2, 3, 9, 9, 9, 9]))),
@@ -56,7 +57,7 @@ const READS: &[(u64, usize, usize, Option<(usize, &[u8])>)] = &[
     (4, 0, 3, None),
 ];
 
-/// Sees what each read gives.
+/// Checks the result of each read.
 fn each_reads(rt: &impl Abort, rows: &[(u64, usize, usize, Option<(usize, &[u8])>)]) {
     for (at, (fails_from, place, size, wanted)) in rows.iter().enumerate() {
         let mut buffer = [9u8; 7];

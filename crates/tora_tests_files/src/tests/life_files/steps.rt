@@ -1,25 +1,25 @@
-//! The steps of a test over a life file of node 1 and peer 2, and the functions that go them.
+//! The steps of a test over a life file of node 1 and peer 2, and the functions that make them.
 use super::super::sees::{ends, same_at, same_bytes};
 use std::process::Abort;
 use tora_life::{Disk, DiskCall, LifeError, LifeFile, MemDisk, OpenFault};
 
 /// A step of a test over a file on a disk in memory.
 pub enum Step {
-    /// Draws the numbers from this one on, up to before that one.
+    /// Draws the numbers from the first to below the second.
     Draws(u64, u64),
     /// A draw fails for this reason.
     Fails(LifeError),
-    /// The disk's next call of this kind is to fail.
+    /// Arms the next call of this kind at the disk to fail.
     Arms(DiskCall),
-    /// The file is closed and opened again.
+    /// Closes the file and opens it again.
     Reopens,
-    /// The file is closed, its disk crashes and leaves this, and the file is opened again.
+    /// Closes the file, crashes its disk with these bytes in place of those that were not synced, and opens it again.
     Crashes(Option<[u8; 16]>),
-    /// The file is closed, holds these bytes, and is opened again.
+    /// Closes the file, writes these bytes to the disk, and opens it again.
     Holds(&'static [u8]),
 }
 
-/// Goes the steps of each row, over a file of these bytes.
+/// Makes the steps of each row, over a file with these bytes.
 pub fn each_goes(rt: &impl Abort, rows: &[(&str, &[u8], &[Step])]) {
     for (row, bytes, steps) in rows {
         let mut file = opened(rt, disk_of(rt, bytes));
@@ -29,7 +29,7 @@ pub fn each_goes(rt: &impl Abort, rows: &[(&str, &[u8], &[Step])]) {
     }
 }
 
-/// Goes one step, and answers the file behind it.
+/// Makes one step, and returns the file after it.
 fn goes(
     rt: &impl Abort,
     file: LifeFile<MemDisk>,
@@ -57,7 +57,7 @@ fn goes(
     file
 }
 
-/// Draws the numbers from this one on, up to before that one.
+/// Draws the numbers from the first to below the second.
 pub fn draws<D: Disk + Drop>(
     rt: &impl Abort,
     file: &mut LifeFile<D>,
@@ -70,7 +70,7 @@ pub fn draws<D: Disk + Drop>(
     }
 }
 
-/// Sees that the next draw fails at the disk, and the one after it for that reason.
+/// Checks that the next draw fails with `Disk`, and the one after it with `Failed`.
 pub fn fails<D: Disk + Drop>(rt: &impl Abort, file: &mut LifeFile<D>, k: u64) {
     for error in [LifeError::Disk, LifeError::Failed] {
         same_at(rt, &file.draw(), &Err(error), "a draw that fails", &k);
@@ -82,12 +82,12 @@ pub fn disk_of(rt: &impl Abort, bytes: &[u8]) -> MemDisk {
     MemDisk::of(bytes).expect(rt, "80 bytes at most")
 }
 
-/// Ends the test: a file is not opened.
+/// Fails the test: a file did not open.
 pub fn not_opened(rt: &impl Abort, error: LifeError) -> ! {
     panic!(rt; "not opened: {error:?}")
 }
 
-/// What an opening answers: the file, where it is opened.
+/// The file of an opening that succeeded.
 pub fn file_in<D: Disk + Drop>(
     rt: &impl Abort,
     answer: Result<LifeFile<D>, OpenFault<D>>,
@@ -98,7 +98,7 @@ pub fn file_in<D: Disk + Drop>(
     }
 }
 
-/// What an opening answers: the fault, where the file is not opened.
+/// The fault of an opening that failed.
 pub fn fault_in<D: Disk + Drop>(
     rt: &impl Abort,
     answer: Result<LifeFile<D>, OpenFault<D>>,
@@ -109,17 +109,17 @@ pub fn fault_in<D: Disk + Drop>(
     }
 }
 
-/// The file of this disk, of node 1 and peer 2.
+/// The file of node 1 and peer 2 on this disk.
 pub fn opened<D: Disk + Drop>(rt: &impl Abort, disk: D) -> LifeFile<D> {
     file_in(rt, LifeFile::open(disk, 1, 2))
 }
 
-/// Why this disk has no file of node 1 and peer 2.
+/// Why the file of node 1 and peer 2 on this disk did not open.
 pub fn refused<D: Disk + Drop>(rt: &impl Abort, disk: D) -> OpenFault<D> {
     fault_in(rt, LifeFile::open(disk, 1, 2))
 }
 
-/// The first number that is drawn from a file of these bytes.
+/// The first number that is drawn from a file with these bytes.
 pub fn first_draw(rt: &impl Abort, bytes: &[u8]) -> Result<u64, LifeError> {
     match LifeFile::open(disk_of(rt, bytes), 1, 2) {
         Ok(mut file) => file.draw(),
@@ -127,7 +127,7 @@ pub fn first_draw(rt: &impl Abort, bytes: &[u8]) -> Result<u64, LifeError> {
     }
 }
 
-/// Sees what is drawn first from the file of each row.
+/// Checks the first draw from the file of each row.
 pub fn first_draws(rt: &impl Abort, rows: &[(&str, &[u8], Result<u64, LifeError>)]) {
     for (row, bytes, wanted) in rows {
         same_at(rt, &first_draw(rt, bytes), wanted, "the first draw", row);
