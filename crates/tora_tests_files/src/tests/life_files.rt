@@ -165,7 +165,7 @@ const ERRORS: &[(LifeError, &str)] = &[
     (LifeError::Foreign, "the file is of another node or peer"),
 ];
 
-/// Sees the text of each error.
+/// Checks the text of each error.
 fn each_says(rt: &impl Abort, alloc: Global, rows: &[(LifeError, &str)]) {
     for (error, text) in rows {
         let printed = format!(in alloc; "{error}").expect(rt, "memory");
