@@ -1,4 +1,4 @@
-//! The tests of each crate, each over its public names.
+//! One module of tests for each tested crate.
 mod batches;
 mod carried;
 mod cores;

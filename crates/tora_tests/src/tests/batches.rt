@@ -1,4 +1,4 @@
-//! Frames of version 2: batches, and ends of both versions beside each other.
+//! Frames of version 2: batches, and links between ends of both versions.
 use super::carried::Carried::{Ack, Hello, Queries, Query};
 use super::link_steps::End::{First, Old, Second};
 use super::link_steps::Step::{
@@ -10,8 +10,8 @@ use super::link_turns::ends_do;
 use tora_arq::Verdict::{Accepted, Ahead, Foreign, Repeated};
 use tora_frame::Version;
 
-/// Both ends speak version 2, and each knows it of the other. They are bound at tick 0; nothing is owed and all events
-/// are polled.
+/// Both ends speak version 2, and each knows it of the other. They are bound at tick 0; no HELLO or ACK is owed, and
+/// all events are polled.
 const NEW_LINK: &[(End, Step)] = &[
     (First, Sends(Version::Two, 5, 0, Hello)),
     (Second, Gets(0, Accepted)),
@@ -27,8 +27,7 @@ const NEW_LINK: &[(End, Step)] = &[
     (Second, Tells(Up(REVERSED))),
 ];
 
-/// The end of node 2 speaks version 1, and the frames of version 2 are foreign to it. The ends are bound as in a new
-/// link.
+/// The end of node 2 speaks version 1, and frames of version 2 are foreign to it. The ends are bound as in `NEW_LINK`.
 const LINK_WITH_AN_OLD_PEER: &[(End, Step)] = &[
     (First, Sends(Version::Two, 5, 0, Hello)),
     (Old, Gets(0, Foreign)),
@@ -142,7 +141,7 @@ fn old_peer_gets_a_frame_for_each_packet(rt: HostRuntime) {
     );
 }
 
-/// The batch of sixteen is lost, and that of four is not acknowledged.
+/// The batch of sixteen is lost, and the batch of four is not acknowledged.
 const LOST_BATCH: &[(End, Step)] = &[
     (First, Submits(1, 20)),
     (First, Sends(Version::Two, 5, 9, Queries(1, 16))),
@@ -163,7 +162,7 @@ fn lost_packets_of_a_batch_are_due_together(rt: HostRuntime) {
     ends_do(&rt, rt.alloc(), Version::Two, &[NEW_LINK, LOST_BATCH]);
 }
 
-/// A HELLO of the old end comes at tick 0, and then one of version 2.
+/// A HELLO of version 1 arrives at tick 0, and then one of version 2.
 const HELLOS_OF_BOTH: &[(End, Step)] = &[
     (First, Sends(Version::Two, 5, 0, Hello)),
     (First, Sends(Version::One, 5, 0, Hello)),

@@ -1,4 +1,4 @@
-//! Packets and frames as rows of a table tell them, and the packets and frames that are made of them.
+//! Packets and frames as rows of a table name them, and the functions that make them.
 use super::made::{clear, query_for, query_of, update};
 use super::sees::sees;
 use std::process::Abort;
@@ -11,14 +11,14 @@ use tora_packet::Packet;
 pub enum Parts {
     /// The query for a destination.
     Query(Id),
-    /// The update for 4 of a height.
+    /// The update for 4 with a height.
     Update(u64, Id, u8, i32, Id),
-    /// The clear for 4 of a level.
+    /// The clear for 4 of a reference level.
     Clear(u64, Id),
 }
 
 impl Parts {
-    /// The packet of these parts.
+    /// The packet with these parts.
     pub fn packet(self, rt: &impl Abort) -> Packet {
         match self {
             Parts::Query(destination) => query_for(rt, destination),
@@ -28,22 +28,22 @@ impl Parts {
     }
 }
 
-/// What a frame carries.
+/// The content of a frame.
 #[derive(Clone, Copy)]
 pub enum Carried {
     /// Nothing: the frame is a HELLO.
     Hello,
-    /// The count of packets accepted.
+    /// An ACK with this count of packets accepted.
     Ack(u64),
-    /// The query for a number, as the packet with this number, behind no packet accepted.
+    /// The query for a number, as the packet with this number, with 0 packets accepted.
     Query(u64),
-    /// The queries for these numbers, first to last, as the packets with these numbers, behind no packet accepted.
+    /// The queries for these numbers, first to last, as the packets with these numbers, with 0 packets accepted.
     Queries(u64, u64),
-    /// Packets, the first with this number, behind this count of packets accepted.
+    /// The number of the first packet, the count of packets accepted, and the packets.
     Data(u64, u64, &'static [Parts]),
 }
 
-/// The packets of these parts.
+/// The packets with these parts.
 pub fn packets_of(rt: &impl Abort, parts: &[Parts]) -> Packets {
     let mut packets = Packets::new();
     for one in parts {
@@ -61,12 +61,12 @@ fn queries(rt: &impl Abort, first: u64, last: u64) -> Packets {
     packets
 }
 
-/// Appends a packet, for which there is room.
+/// Appends a packet to a list with room for it.
 fn push(rt: &impl Abort, packets: &mut Packets, packet: Packet) {
     sees(rt, packets.try_push(packet).is_ok(), "room for a packet");
 }
 
-/// The body of a frame that carries this.
+/// The body of a frame with this content.
 pub fn body_of(rt: &impl Abort, carried: Carried) -> Body {
     match carried {
         Carried::Hello => Body::Hello,
@@ -77,7 +77,7 @@ pub fn body_of(rt: &impl Abort, carried: Carried) -> Body {
     }
 }
 
-/// The frame with this header that carries this.
+/// The frame with this header and this content.
 pub fn frame_of(rt: &impl Abort, header: Header, carried: Carried) -> Frame {
     let Header {
         sender,

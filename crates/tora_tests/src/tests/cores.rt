@@ -1,4 +1,4 @@
-//! Worked runs of the rules, cores that are made and refused, and texts.
+//! Worked runs of the rules, cores that are made or refused, and texts.
 use super::made::Numbers::{Counted, These};
 use super::made::{Numbers, core_of, list_of};
 use super::sees::{prints, prints_each, same, same_at, same_text, sees};
@@ -116,11 +116,10 @@ fn made(
     core_of(rt, alloc, me, &neighbours, &destinations)
 }
 
-/// The neighbours and the destinations of node 1, the error that they are answered with, if any, and what the row is
-/// about.
+/// The neighbours and the destinations of node 1, the error for them, if any, and what the row tests.
 type Made = (Numbers, Numbers, Option<CoreError>, &'static str);
 
-/// Makes the core of each row, and sees its error, if any.
+/// Makes the core of each row, and checks its error, if any.
 fn makes(rt: &impl Abort, alloc: Global, rows: &[Made]) {
     for (neighbours, destinations, error, what) in rows {
         let found = made(rt, alloc, 1, *neighbours, *destinations).err();
@@ -128,7 +127,7 @@ fn makes(rt: &impl Abort, alloc: Global, rows: &[Made]) {
     }
 }
 
-/// Lists that are refused, and two that are empty.
+/// Lists that are refused, and two empty ones.
 const FAULTS: &[Made] = &[
     (These(&[2; 33]), These(&[4]), Some(TooMany), "33 neighbours"),
     (
@@ -158,7 +157,7 @@ fn numbers_of_the_errors(rt: HostRuntime) {
     makes(&rt, rt.alloc(), FAULTS);
 }
 
-/// As many neighbours and destinations as there may be, and one more of either.
+/// The greatest numbers of neighbours and destinations, and one more of either.
 const LIMITS: &[Made] = &[
     (Counted(2, 33), These(&[4]), Some(TooMany), "33 neighbours"),
     (
@@ -177,7 +176,7 @@ const LIMITS: &[Made] = &[
     (These(&[2]), Counted(1, 64), None, "64 destinations"),
 ];
 
-/// Sees that a list is that of so many numbers from the first on.
+/// Checks that a list has this many consecutive numbers from the first on.
 fn counts(rt: &impl Abort, list: &[Id], first: Id, count: usize) {
     same(rt, &list.len(), &count, "how many numbers");
     let mut wanted = first;
@@ -187,7 +186,7 @@ fn counts(rt: &impl Abort, list: &[Id], first: Id, count: usize) {
     }
 }
 
-// As many neighbours and destinations as there may be are taken, and one more of either is not.
+// The greatest numbers of neighbours and destinations are accepted, and one more of either is not.
 #[test]
 fn tables_are_taken_up_to_their_limits(rt: HostRuntime) -> Result<(), Fail> {
     makes(&rt, rt.alloc(), LIMITS);
@@ -197,7 +196,7 @@ fn tables_are_taken_up_to_their_limits(rt: HostRuntime) -> Result<(), Fail> {
     Ok(())
 }
 
-/// The text of a core; none where memory is refused.
+/// The text of a core; `None` if memory runs out.
 fn text_of(
     rt: &impl Abort,
     alloc: Global,
@@ -218,7 +217,7 @@ fn text_of(
     }
 }
 
-// With each request for memory refused in turn: a refusal is answered by Memory, and nothing else goes wrong.
+// With each request for memory refused in turn, the only error is `Memory`.
 #[test]
 fn want_of_memory_is_answered(rt: HostRuntime) {
     if let Some(text) = text_of(&rt, rt.alloc(), 3, These(&[2, 4]), These(&[4])) {
@@ -230,12 +229,12 @@ fn want_of_memory_is_answered(rt: HostRuntime) {
     }
 }
 
-/// An input at time 1, which is taken.
+/// Steps an input at time 1, which is accepted.
 fn is_taken(rt: &impl Abort, core: &mut Core, input: Input) {
     same_at(rt, &core.step(input, 1).err(), &None, "the refusal", &input);
 }
 
-// A link that comes up where a route to each of 64 destinations is required sends a packet for each of them.
+// If a link comes up while a route to each of 64 destinations is required, a packet is sent for each of them.
 #[test]
 fn a_list_of_packets_holds_one_for_each_destination(rt: HostRuntime) -> Result<(), Fail> {
     let mut core = made(&rt, rt.alloc(), 1, These(&[70, 71]), Counted(2, 64))?;
@@ -250,8 +249,8 @@ fn a_list_of_packets_holds_one_for_each_destination(rt: HostRuntime) -> Result<(
     Ok(())
 }
 
-// 32 neighbours that are up and 64 destinations, one of them the node itself: each destination has a line for itself
-// and one for each neighbour.
+// 32 neighbours with links that are up and 64 destinations, one of them the node itself: each destination has a line
+// for itself and one for each neighbour.
 #[test]
 fn largest_table_is_shown(rt: HostRuntime) -> Result<(), Fail> {
     let mut core = made(&rt, rt.alloc(), 1, Counted(2, 32), Counted(1, 64))?;
@@ -267,7 +266,7 @@ fn largest_table_is_shown(rt: HostRuntime) -> Result<(), Fail> {
     Ok(())
 }
 
-/// What inputs are printed as.
+/// The text of inputs.
 const PRINTED: &[(Given, &str)] = &[
     (Up(2), "up 2"),
     (Down(2), "down 2"),
@@ -282,7 +281,7 @@ fn inputs_are_printed_in_words(rt: HostRuntime) {
     }
 }
 
-/// What the errors of a core are printed as.
+/// The text of a core's errors.
 const ERRORS: &[(CoreError, &str)] = &[
     (CoreError::Memory, "there is not enough memory"),
     (
@@ -298,7 +297,7 @@ fn errors_of_a_core_are_printed_with_their_cause(rt: HostRuntime) {
     prints_each(&rt, rt.alloc(), ERRORS);
 }
 
-/// What refusals are printed as.
+/// The text of refusals.
 const REFUSALS: &[(StepError, &str)] = &[
     (
         StepError::UnknownNeighbour,

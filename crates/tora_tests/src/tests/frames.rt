@@ -1,4 +1,4 @@
-//! The byte vectors of the formats, and the refused frames.
+//! The byte vectors of the document on formats, and the refused frames.
 mod changed;
 
 use super::carried::{Carried, Parts, frame_of, packets_of};
@@ -13,7 +13,7 @@ use tora_frame::{
 };
 use tora_packet::PacketError;
 
-/// The header of a frame of version 1 from 1 to 2 before a life was heard.
+/// The header of a frame of version 1 from 1 to 2, before a HELLO of the peer.
 const FIRST: Header = Header {
     version: Version::One,
     sender: 1,
@@ -40,7 +40,7 @@ const FROM_TWO: Header = Header {
     heard: 5,
 };
 
-/// The header of a frame of version 2 from 1 to 2 before a life was heard.
+/// The header of a frame of version 2 from 1 to 2, before a HELLO of the peer.
 const NEW_FIRST: Header = Header {
     version: Version::Two,
     ..FIRST
@@ -58,11 +58,11 @@ const NEW_FROM_TWO: Header = Header {
     ..FROM_TWO
 };
 
-/// The query for 4, and the clear for 4 of the level (7,3,1).
+/// The query for 4, and the clear for 4 of the reference level (7,3,1).
 const QUERY_AND_CLEAR: &[Parts] = &[Parts::Query(4), Parts::Clear(7, 3)];
 
-/// The frames of the formats, and more made of the tables of the layouts: in version 1 DATA frames with an update and
-/// with a clear, in version 2 a HELLO, an ACK, and a DATA frame with an update.
+/// The frames of the document on formats, and more frames from its tables: in version 1 DATA frames with an update and
+/// with a clear; in version 2 a HELLO, an ACK, and a DATA frame with an update.
 const VECTORS: &[(Header, Carried, &str)] = &[
     (
         FIRST,
@@ -121,12 +121,12 @@ const BATCH: &str =
     "0202003000000001000000020000000000000005000000000000000900000000000000010000000000000000\
      0200000001010000000000040103000000000004000000000000000700000003";
 
-/// Sees what bytes are read as.
+/// Checks the result of decoding bytes.
 fn reads<P: Debug>(rt: &impl Abort, bytes: &[u8], wanted: &Result<Frame, FrameError>, place: &P) {
     same_at(rt, &decode(bytes), wanted, "the frame", place);
 }
 
-/// Sees that a frame is spelled by these digits.
+/// Checks that these digits are the bytes of a frame.
 fn spells(rt: &impl Abort, alloc: Global, frame: Frame, digits: &str) {
     let bytes = bytes_of(rt, alloc, digits);
     let out = encode(&frame);
@@ -134,7 +134,7 @@ fn spells(rt: &impl Abort, alloc: Global, frame: Frame, digits: &str) {
     reads(rt, &bytes, &Ok(frame), &digits);
 }
 
-/// Sees that a frame is spelled by so many bytes, of which it is read.
+/// Checks the length of a frame's bytes, and that decoding them gives the frame.
 fn reads_back(rt: &impl Abort, frame: Frame, len: usize) {
     let bytes = encode(&frame);
     same(rt, &bytes.len(), &len, "the length");
@@ -152,7 +152,7 @@ fn frame_vectors(rt: HostRuntime) {
     same(&rt, ack.body(), &Body::Ack(1), "the body");
 }
 
-/// Sees that a frame is spelled into a buffer by these digits, and that its packets are read into another.
+/// Checks the bytes that a frame has in a buffer, and that decoding them puts its packets into another buffer.
 fn spells_into(
     rt: &impl Abort,
     alloc: Global,
@@ -183,7 +183,7 @@ fn kept_buffers_hold_one_frame_after_another(rt: HostRuntime) {
     }
 }
 
-/// Sees the number, the count and the packets of a borrowed DATA frame.
+/// Checks the number, the count and the packets of a borrowed DATA frame.
 fn carries(rt: &impl Abort, data: &BorrowedFrame<'_>, packets: &Packets) {
     match data.body() {
         BorrowedBody::Data(1, 0, borrowed) => {
@@ -221,13 +221,13 @@ fn borrowed_frames_are_the_frames_of_the_same_parts(rt: HostRuntime) {
     }
 }
 
-/// Sees that bytes spell no frame, and why.
+/// Checks that bytes are not a frame, and the error.
 fn refuses<P: Debug>(rt: &impl Abort, bytes: &[u8], error: FrameError, number: u8, place: &P) {
     reads(rt, bytes, &Err(error), place);
     same_at(rt, &error.number(), &number, "its number", place);
 }
 
-/// Digits that spell no frame, the error, and its number.
+/// Digits of bytes that are not a frame, the error, and its number.
 const REFUSED: &[(&str, FrameError, u8)] = &[
     ("", FrameError::Short, 1),
     (
@@ -289,7 +289,7 @@ fn refused_frames(rt: HostRuntime) {
     }
 }
 
-/// Which byte of the batch has which value in place of its own, the error, and its number.
+/// The index and the new value of a changed byte of the batch, the error, and its number.
 const FAULTS: &[(usize, u8, FrameError, u8)] = &[
     (44, 0, FrameError::Count, 10),
     (44, 1, FrameError::Packet(PacketError::Long), 9),
@@ -317,7 +317,7 @@ fn batch_frame_vector_and_its_faults(rt: HostRuntime) {
     }
 }
 
-/// A batch of two packets, of which the last would have a number that is too great.
+/// A batch of two packets, of which the last would have too great a number.
 const ONE_PACKET_MORE: &str =
     "0202003000000001000000020000000000000005000000000000000940000000000000000000000000000000\
      0200000001010000000000040103000000000004000000000000000700000003";
@@ -331,7 +331,7 @@ fn last_number_of_a_batch_is_in_its_range(rt: HostRuntime) {
     refuses(&rt, &bytes, FrameError::Count, 10, &"one packet more");
 }
 
-/// As many of the longest packets as a frame carries.
+/// The greatest number of the longest packets in a frame.
 const MOST: &[Parts] = &[Parts::Update(7, 3, 1, -1, 2); MOST_PACKETS];
 
 #[test]

@@ -15,14 +15,14 @@ use tora_arq::Verdict::{Accepted, Ahead, Busy, Foreign, Repeated, Stale};
 use tora_arq::{Life, Reason};
 use tora_frame::Version;
 
-/// Does the steps at the end of node 1.
+/// Makes the steps at the end of node 1.
 pub fn first_does(rt: &impl Abort, alloc: Global, steps: &[Step]) {
     let mut end = first_end(rt, alloc, Version::One);
     does(rt, alloc, &mut end, BOUND);
     does(rt, alloc, &mut end, steps);
 }
 
-/// Node 1's end is bound to the life {5, 9} at tick 0; its HELLO is sent and its event is polled.
+/// Node 1's end is bound to the session {5, 9} at tick 0; its HELLO is sent and its event is polled.
 pub const BOUND: &[Step] = &[
     Hears(9, 5, Hello, Accepted),
     Tells(Up(LIFE)),
@@ -115,7 +115,7 @@ fn packets_are_held_up_to_the_window(rt: HostRuntime) {
     first_does(&rt, rt.alloc(), WINDOW);
 }
 
-/// The packet with the number 2 comes twice, as the query for 7 and for 8.
+/// The packet with the number 2 arrives twice, as the query for 7 and for 8.
 const HELD_FIRST: &[Step] = &[
     Hears(9, 5, Data(2, 0, &[Parts::Query(7)]), Ahead),
     Hears(9, 5, Data(2, 0, &[Parts::Query(8)]), Ahead),
@@ -189,7 +189,7 @@ fn frames_that_no_peer_sends(rt: HostRuntime) {
     first_does(&rt, rt.alloc(), NOT_SENT);
 }
 
-/// The HELLOs are between other nodes, and the update is of another node.
+/// The HELLOs are between other nodes, and the update is from another node.
 const OTHER_NODES: &[Step] = &[
     IsForeign(3, 1),
     IsForeign(2, 3),
@@ -220,7 +220,7 @@ fn busy_end_has_a_place_for_its_down(rt: HostRuntime) {
     first_does(&rt, rt.alloc(), BUSY);
 }
 
-/// In two turns each end sends all its frames to the other.
+/// In each of two turns each end sends all its frames to the other.
 const EXAMPLE: &[(End, Step)] = &[
     (First, Sends(Version::One, 5, 0, Hello)),
     (Second, Gets(0, Accepted)),

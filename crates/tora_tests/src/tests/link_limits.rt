@@ -1,5 +1,5 @@
-//! Link ends of version 1 over time and at their limits: packets once more, silence, a full send queue, want of memory;
-//! and what they print.
+//! Link ends of version 1 over time and at their limits: retransmission, silence, a full send queue, memory that runs
+//! out; and their texts.
 use super::carried::Carried::{Hello, Query};
 use super::link_ends::{BOUND, first_does};
 use super::link_steps::Step::{
@@ -18,7 +18,7 @@ use tora_arq::Verdict::{Accepted, Ahead};
 use tora_arq::{ArqError, Life, LinkEnd, Reason, Times, Verdict};
 use tora_frame::Version;
 
-/// A DATA frame is due every 5 ticks, and before it a HELLO every 10 ticks but the first.
+/// A DATA frame is due every 5 ticks, and before it a HELLO every 10 ticks except at the first.
 const UNANSWERED: &[Step] = &[
     Submits(1, 1),
     Ticks(0),
@@ -97,8 +97,8 @@ fn clock_that_goes_back_counts_as_no_time(rt: HostRuntime) {
     first_does(&rt, rt.alloc(), CLOCK);
 }
 
-/// Steps, and of ticks behind them the first at which a frame is due from each of them on, or the life ends. Of the
-/// times of the program a HELLO follows after 10 ticks, a packet once more after 5.
+/// Steps; and then, for each of some ticks, the first tick from it on at which a frame is due or the session ends. The
+/// times are those of the program: a HELLO after 10 ticks, a retransmission after 5.
 const DUE: &[(&[Step], &[(u64, Option<u64>)])] = &[
     (&[], &[(0, Some(0)), (7, Some(7))]),
     (BOUND, &[(0, Some(10)), (9, Some(10)), (12, Some(12))]),
@@ -136,8 +136,8 @@ fn an_end_is_printed(rt: HostRuntime) -> Result<(), Fail> {
     Ok(())
 }
 
-/// An end that was made takes no memory any more: a life is opened and bound, packets wait until the queue is full, and
-/// the life ends.
+/// An end needs no memory after it was made: a session is opened and bound, packets wait until the queue is full, and
+/// the session ends.
 const LIVES: &[Step] = &[
     Waits(0),
     Opens(5),
@@ -150,7 +150,7 @@ const LIVES: &[Step] = &[
     Tells(Down(LIFE, Reason::Full)),
 ];
 
-/// An end is made and lives, or there is no memory for it.
+/// Makes the steps of `LIVES` at an end, unless memory ran out for it.
 fn lives(rt: &impl Abort, alloc: Global, made: Result<LinkEnd, ArqError>) {
     match made {
         Err(error) => same(rt, &error, &ArqError::Memory, "the error"),
@@ -161,8 +161,8 @@ fn lives(rt: &impl Abort, alloc: Global, made: Result<LinkEnd, ArqError>) {
     }
 }
 
-// With each request for memory refused in turn: a refusal is answered by Memory, and leaves nothing that stops the next
-// end from being made; an end that is made lives without memory.
+// With each request for memory refused in turn, the only error is `Memory`, and a later end can be made. An end that
+// was made needs no memory.
 #[test]
 fn want_of_memory_is_answered(rt: HostRuntime) {
     for _ in 0..2 {

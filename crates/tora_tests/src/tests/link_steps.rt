@@ -1,13 +1,13 @@
-//! The steps of a test at the ends of a link, as rows of a table tell them.
+//! The steps of a test at the ends of a link, as rows of a table.
 use super::carried::Carried;
 use tora_arq::{Life, Reason, Verdict};
 use tora_frame::Version;
 use tora_height::Id;
 
-/// The life of the first end, as most tests bind it.
+/// The session in which most tests bind the first end.
 pub const LIFE: Life = Life { own: 5, peer: 9 };
 
-/// The same life at the second end.
+/// The same session, as the second end writes it.
 pub const REVERSED: Life = Life { own: 9, peer: 5 };
 
 /// An end of a link between the nodes 1 and 2.
@@ -21,66 +21,68 @@ pub enum End {
     Old,
 }
 
-/// What is done at an end of a link, and what is seen of it.
+/// A step at an end of a link: an action, or an observation.
 #[derive(Clone, Copy)]
 pub enum Step {
-    /// Opens the closed end with a number.
+    /// Opens the closed end with a session number.
     Opens(u64),
-    /// From here on the steps stand at this tick; those before the first such step stand at tick 0.
+    /// Sets the tick of the following steps; it is 0 at first.
     At(u64),
-    /// Handles this tick, and from here on the steps stand at it.
+    /// Ticks the end, and sets the tick of the following steps.
     Ticks(u64),
-    /// Takes the frame of version 1 from node 2 to node 1 in a life, that heard a life, with this verdict.
+    /// Passes to the end a frame of version 1 from node 2 to node 1, with the session number of node 2 and the one of
+    /// node 1 that it heard; the verdict is this one.
     Hears(u64, u64, Carried, Verdict),
-    /// Takes a frame for each of the queries with the numbers from this one to that one, all with this verdict.
+    /// Passes to the end a frame for each of the queries with the numbers from the first to the second, all with this
+    /// verdict.
     HearsEach(u64, u64, Verdict),
-    /// Takes a HELLO between two nodes that is foreign: the peer of this end does not send it to this node.
+    /// Passes to the end a HELLO between two nodes, which is foreign.
     IsForeign(Id, Id),
-    /// Takes a frame that was sent, with this verdict; the first that the table sends is 0.
+    /// Passes to the end a frame that the table sent, with this verdict. The first frame is 0.
     Gets(usize, Verdict),
-    /// Takes such a frame as its bytes, of which there are so many, with this verdict.
+    /// Passes to the end the bytes of a frame that the table sent, with this length and this verdict.
     GetsBytes(usize, usize, Verdict),
-    /// Sends the next frame: of this version, in a life, that heard a life.
+    /// Sends the next frame: with this version, the session number of the sender and the one that it heard.
     Sends(Version, u64, u64, Carried),
     /// Sends no further frame.
     SendsNone,
-    /// From here on lends a list for the packets of the frames that are sent.
+    /// From here on lends a buffer for the packets of frames that are sent.
     Lends,
-    /// Sends no further frame, and none at the ticks up to this one, which are handled.
+    /// Sends no further frame, now and at the ticks up to this one, which are handled.
     Rests(u64),
-    /// Submits the queries for the numbers from this one to that one, and all are taken.
+    /// Submits the queries for the numbers from the first to the second, all of which are accepted.
     Submits(u64, u64),
-    /// Submits so many times the query for a number, and all are taken.
+    /// Submits the query for a number this many times, all of which are accepted.
     SubmitsTimes(u64, u64),
-    /// Submits the query for a number in a life, and it is refused.
+    /// Submits the query for a number in a session, which is refused.
     IsRefused(Life, u64, Refusal),
-    /// Tells this event, and no further one.
+    /// The next event is this one, and there is no further one.
     Tells(Told),
-    /// Delivers in a life the queries for the numbers from this one to that one.
+    /// The next events deliver in a session the queries for the numbers from the first to the second.
     Delivers(Life, u64, u64),
-    /// Tells no further event.
+    /// There is no event.
     TellsNone,
-    /// Cuts a life.
+    /// Cuts a session.
     Cuts(Life),
-    /// Is bound to this life, or to none.
+    /// The end is bound to this session, or to none.
     LivesIn(Option<Life>),
-    /// So many packets wait in the send queue.
+    /// The number of packets in the send queue.
     Waits(usize),
 }
 
-/// An event of an end that brings no packet.
+/// An event of an end without a packet.
 #[derive(Clone, Copy)]
 pub enum Told {
-    /// A life was bound.
+    /// A session was bound.
     Up(Life),
-    /// A life ended.
+    /// A session ended.
     Down(Life, Reason),
 }
 
-/// Why a packet is not submitted.
+/// Why a packet is refused.
 #[derive(Clone, Copy)]
 pub enum Refusal {
-    /// The life is not the bound one, and the packet is handed back.
+    /// The session is not the bound one, and the packet is returned.
     WrongLife,
     /// The send queue is full.
     Full,

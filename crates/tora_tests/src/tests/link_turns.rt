@@ -1,4 +1,4 @@
-//! What the steps at the ends of a link do, and what is seen of them.
+//! The functions that make the steps at the ends of a link, and check the observations.
 use super::carried::{Carried, body_of, frame_of};
 use super::link_steps::{End, LIFE, Refusal, Step, Told};
 use super::made::query_of;
@@ -10,23 +10,23 @@ use tora_frame::{Frame, GREATEST_NUMBER, Header, Packets, Version, decode_into, 
 use tora_height::Id;
 use tora_packet::Packet;
 
-/// What the steps of a table share.
+/// The state that the steps of a table share.
 #[derive(Drop)]
 struct Course {
     /// The row of the table, from 1.
     row: u64,
     /// The tick.
     now: u64,
-    /// The frames that were sent, in their order.
+    /// The frames that were sent, in order.
     sent: Vec<Frame>,
-    /// Whether the list below is lent where a frame is sent.
+    /// Whether `packets` is lent to the frames that are sent.
     is_lent: bool,
-    /// The packets of the last frame that was sent so.
+    /// The packets of the last frame that used this list.
     packets: Packets,
 }
 
 impl Course {
-    /// Before the first row.
+    /// The state before the first row.
     fn new(alloc: Global) -> Course {
         Course {
             row: 0,
@@ -37,13 +37,13 @@ impl Course {
         }
     }
 
-    /// The frame that was sent as this one.
+    /// The frame that was sent with this index.
     fn frame(&self, rt: &impl Abort, place: usize) -> &Frame {
         self.sent.get(place).expect(rt, "a frame that was sent")
     }
 }
 
-/// The end of a link of node `me` to `peer` that speaks a version, opened with a number at tick 0.
+/// The end of a link of node `me` to `peer` that speaks this version, opened with a session number at tick 0.
 pub fn open_end(
     rt: &impl Abort,
     alloc: Global,
@@ -84,13 +84,13 @@ fn second_end(rt: &impl Abort, alloc: Global, version: Version) -> LinkEnd {
     open_end(rt, alloc, version, (2, 1), Times::STANDARD, 9)
 }
 
-/// Takes a frame, with this verdict.
+/// Passes a frame to an end, and checks the verdict.
 fn hears(rt: &impl Abort, end: &mut LinkEnd, course: &Course, frame: &Frame, verdict: Verdict) {
     let heard = end.on_frame(frame, course.now);
     same_at(rt, &heard, &verdict, "the verdict", &course.row);
 }
 
-/// Takes a frame of version 1 between these nodes in a life, that heard a life, with this verdict.
+/// Passes a frame of version 1 with these nodes and session numbers to an end, and checks the verdict.
 fn hears_made(
     rt: &impl Abort,
     end: &mut LinkEnd,
@@ -111,7 +111,7 @@ fn hears_made(
     hears(rt, end, course, &frame, verdict);
 }
 
-/// Takes a frame for each of the queries with these numbers, all with this verdict.
+/// Passes a frame for each of the queries with these numbers to an end, and checks the verdicts.
 fn hears_each(
     rt: &impl Abort,
     end: &mut LinkEnd,
@@ -133,7 +133,7 @@ fn hears_each(
     }
 }
 
-/// Takes the frame that was sent as this one as its bytes, with this verdict.
+/// Passes the bytes of the frame that was sent with this index to an end, and checks their length and the verdict.
 fn gets_bytes(
     rt: &impl Abort,
     end: &mut LinkEnd,
@@ -159,7 +159,7 @@ fn due(end: &mut LinkEnd, course: &mut Course) -> Option<Frame> {
     end.poll_transmit(course.now)
 }
 
-/// Sends the next frame, which is this one, and keeps it.
+/// Sends the next frame, checks that it is this one, and stores it.
 fn sends(
     rt: &impl Abort,
     end: &mut LinkEnd,
@@ -176,13 +176,13 @@ fn sends(
     course.sent.push(frame).expect(rt, "memory");
 }
 
-/// Sends no further frame.
+/// Checks that no frame is due.
 fn sends_none(rt: &impl Abort, end: &mut LinkEnd, course: &mut Course) {
     let frame = due(end, course);
     same_at(rt, &frame, &None, "no frame", &course.row);
 }
 
-/// Sends no further frame, and none at the ticks up to this one.
+/// Checks that no frame is due, now and at the ticks up to this one.
 fn rests(rt: &impl Abort, end: &mut LinkEnd, course: &mut Course, last: u64) {
     sends_none(rt, end, course);
     for tick in course.now.saturating_add(1)..=last {
@@ -192,7 +192,7 @@ fn rests(rt: &impl Abort, end: &mut LinkEnd, course: &mut Course, last: u64) {
     }
 }
 
-/// Submits the query for a number in a life, with this answer.
+/// Submits the query for a number in a session, and checks the result.
 fn submits(
     rt: &impl Abort,
     end: &mut LinkEnd,
@@ -209,7 +209,7 @@ fn submits(
     same_at(rt, &answer, &wanted, "the answer", &course.row);
 }
 
-/// The error of a refusal of a packet.
+/// The error for a refusal of a packet.
 pub fn error_of(refusal: Refusal, packet: Packet) -> SubmitError {
     match refusal {
         Refusal::WrongLife => SubmitError::WrongLife(packet),
@@ -218,26 +218,26 @@ pub fn error_of(refusal: Refusal, packet: Packet) -> SubmitError {
     }
 }
 
-/// Submits the queries for these numbers, and all are taken.
+/// Submits the queries for these numbers, and checks that all are accepted.
 fn submits_each(rt: &impl Abort, end: &mut LinkEnd, course: &Course, first: u64, last: u64) {
     for number in first..=last {
         submits(rt, end, course, LIFE, number, None);
     }
 }
 
-/// Submits so many times the query for a number, and all are taken.
+/// Submits the query for a number this many times, and checks that all are accepted.
 fn submits_times(rt: &impl Abort, end: &mut LinkEnd, course: &Course, times: u64, number: u64) {
     for _ in 0..times {
         submits(rt, end, course, LIFE, number, None);
     }
 }
 
-/// Tells this event next, or none.
+/// Checks the next event, or that there is none.
 fn tells(rt: &impl Abort, end: &mut LinkEnd, course: &Course, event: Option<LinkEvent>) {
     same_at(rt, &end.poll_event(), &event, "the event", &course.row);
 }
 
-/// Delivers in a life the queries for these numbers.
+/// Checks that the next events deliver in a session the queries for these numbers.
 fn delivers(
     rt: &impl Abort,
     end: &mut LinkEnd,
@@ -252,7 +252,7 @@ fn delivers(
     }
 }
 
-/// An event that brings no packet.
+/// The event that a row names.
 fn event_of(told: Told) -> LinkEvent {
     match told {
         Told::Up(life) => LinkEvent::Up(life),
@@ -260,7 +260,7 @@ fn event_of(told: Told) -> LinkEvent {
     }
 }
 
-/// Does one step at an end.
+/// Makes one step at an end.
 fn turn(rt: &impl Abort, end: &mut LinkEnd, course: &mut Course, step: &Step) {
     match *step {
         Step::Opens(life) => opens(rt, end, life, course.now),
@@ -302,7 +302,7 @@ fn turn(rt: &impl Abort, end: &mut LinkEnd, course: &mut Course, step: &Step) {
     }
 }
 
-/// Does the steps at one end.
+/// Makes the steps at one end.
 pub fn does(rt: &impl Abort, alloc: Global, end: &mut LinkEnd, steps: &[Step]) {
     let mut course = Course::new(alloc);
     for step in steps {
@@ -319,7 +319,7 @@ struct Ends {
     old: LinkEnd,
 }
 
-/// Does the steps, each at its end.
+/// Makes the steps, each at its end.
 fn each_does(rt: &impl Abort, alloc: Global, ends: &mut Ends, steps: &[(End, Step)]) {
     let mut course = Course::new(alloc);
     for (end, step) in steps {
@@ -333,8 +333,8 @@ fn each_does(rt: &impl Abort, alloc: Global, ends: &mut Ends, steps: &[(End, Ste
     }
 }
 
-/// Does the steps of tables, one table after the other, at the ends of a link: both of a version, and beside them the
-/// old one.
+/// Makes the steps of tables, one table after the other, at the ends of a link: both of this version, and a third one
+/// of version 1.
 pub fn ends_do(rt: &impl Abort, alloc: Global, version: Version, tables: &[&[(End, Step)]]) {
     let mut ends = Ends {
         first: first_end(rt, alloc, version),

@@ -1,4 +1,4 @@
-//! The heights, packets and cores that the tests are made of.
+//! The heights, packets and cores of the tests.
 ghost use Rattle.std.specs.Prelude.{◌≡◌, ◌<◌, true, All};
 
 use std::alloc::{AllocError, Global};
@@ -7,7 +7,7 @@ use tora_core::{Core, CoreError, CoreLimits};
 use tora_height::{Entry, Height, Id};
 use tora_packet::{Clear, Packet, Update};
 
-/// The height of these parts.
+/// The height with these parts.
 pub fn height(rt: &impl Abort, tau: u64, oid: Id, r: u8, delta: i32, id: Id) -> Height {
     Height::new(tau, oid, r, delta, id).expect(rt, "a height")
 }
@@ -17,17 +17,17 @@ pub fn query_for(rt: &impl Abort, destination: Id) -> Packet {
     Packet::qry(destination).expect(rt, "a query")
 }
 
-/// The query for the destination of a number.
+/// The query for the destination with this number.
 pub fn query_of(rt: &impl Abort, number: u64) -> Packet {
     query_for(rt, Id::try_from(number).unwrap_or(Id::MAX))
 }
 
-/// The update for 4 of these parts.
+/// The update for 4 with these parts.
 pub fn update(rt: &impl Abort, tau: u64, oid: Id, r: u8, delta: i32, id: Id) -> Packet {
     Packet::Upd(Update::new(4, height(rt, tau, oid, r, delta, id)).expect(rt, "an update"))
 }
 
-/// The clear for 4 of this level.
+/// The clear for 4 of this reference level.
 pub fn clear(rt: &impl Abort, tau: u64, oid: Id) -> Packet {
     Packet::Clr(Clear::new(4, tau, oid).expect(rt, "a clear"))
 }
@@ -35,13 +35,13 @@ pub fn clear(rt: &impl Abort, tau: u64, oid: Id) -> Packet {
 /// The parts of a height: tau, oid, r, delta and id.
 pub type Parts = (u64, Id, u8, i32, Id);
 
-/// The entry of these parts, or none.
+/// The entry with these parts, or NULL.
 pub fn entry_of(rt: &impl Abort, parts: Option<Parts>) -> Entry {
     let (tau, oid, r, delta, id) = parts?;
     Some(height(rt, tau, oid, r, delta, id))
 }
 
-/// The numbers of neighbours or of destinations: these, or so many from the first on.
+/// The numbers of neighbours or of destinations: listed ones, or a count of consecutive ones from the first on.
 #[derive(Clone, Copy)]
 pub enum Numbers {
     These(&'static [Id]),

@@ -1,16 +1,16 @@
-//! The byte vectors of the formats, and the refused packets.
+//! The byte vectors of the document on formats, and the refused packets.
 use super::carried::Parts;
 use super::sees::{bytes_of, prints, prints_each, same, same_at};
 use std::alloc::Global;
 use std::process::Abort;
 use tora_packet::*;
 
-/// Sees what bytes are read as.
+/// Checks the result of decoding bytes.
 fn reads(rt: &impl Abort, bytes: &[u8], wanted: &Result<Packet, PacketError>, what: &str) {
     same_at(rt, &decode(bytes), wanted, "the packet", &what);
 }
 
-/// Sees that a packet for 4 is spelled by these digits.
+/// Checks that these digits are the bytes of a packet for 4.
 fn spells(rt: &impl Abort, alloc: Global, packet: Packet, digits: &str) {
     let bytes = bytes_of(rt, alloc, digits);
     let out = encode(&packet);
@@ -22,7 +22,7 @@ fn spells(rt: &impl Abort, alloc: Global, packet: Packet, digits: &str) {
     reads(rt, &bytes, &Ok(packet), digits);
 }
 
-/// Sees that of several packets one after another the first is that of these digits, with so many bytes behind it.
+/// Checks that the first of several packets has these digits, with this many bytes after it.
 fn cuts(rt: &impl Abort, alloc: Global, digits: &str, first: &str, behind: usize) {
     let bytes = bytes_of(rt, alloc, digits);
     let wanted = bytes_of(rt, alloc, first);
@@ -82,7 +82,7 @@ fn packet_vectors(rt: HostRuntime) {
     }
 }
 
-/// Digits, those of the first packet, and how many bytes are behind it.
+/// Digits of several packets, those of the first one, and how many bytes follow it.
 const FIRST: &[(&str, &str, usize)] = &[
     ("", "", 0),
     ("01010000000000040103", "0101000000000004", 2),
@@ -103,7 +103,7 @@ fn first_packets_are_cut_off(rt: HostRuntime) {
     }
 }
 
-/// Digits that spell no packet, the error, and its number.
+/// Digits of bytes that are not a packet, the error, and its number.
 const REFUSED: &[(&str, PacketError, u8)] = &[
     ("", PacketError::Short, 1),
     ("02", PacketError::Short, 1),

@@ -1,4 +1,4 @@
-//! The rules as a plain body: nothing is kept beside the rows, and every question goes through them. The tests compare
+//! A plain implementation of the rules, which stores only the rows and searches them for everything. The tests compare
 //! the core with it.
 use std::alloc::{AllocError, Global};
 use tora_core::{Input, StepError};
@@ -11,10 +11,10 @@ mod view;
 /// A reference level: tau, oid and r.
 pub type Level = (u64, u32, u8);
 
-/// A height, compared from left to right: its level, its delta and its id.
+/// A height, compared from left to right: its reference level, its delta and its id.
 pub type Parts = (Level, i64, Id);
 
-/// What is broadcast.
+/// The packet that is broadcast.
 #[derive(Clone, Copy, Debug, PartialEq, Eq)]
 pub enum Told {
     Query(Id),
@@ -22,7 +22,8 @@ pub enum Told {
     Clear(Id, u64, u32),
 }
 
-/// The core of a node: each neighbour with whether its link is up, and the views in ascending order.
+/// The core of a node: each neighbour with whether its link is up, and the views of the destinations in ascending
+/// order.
 #[derive(Drop)]
 pub struct Plain {
     links: Vec<(Id, bool)>,
@@ -45,7 +46,7 @@ fn parts_of(update: &Update) -> Parts {
 }
 
 impl Plain {
-    /// Both lists in ascending order.
+    /// A core with no link up. Both lists are in ascending order.
     pub fn new(
         alloc: Global,
         remembers: bool,
@@ -73,7 +74,7 @@ impl Plain {
         false
     }
 
-    /// Whether the link to a neighbour is up; `None` where it is no neighbour.
+    /// Whether the link to a neighbour is up; `None` if there is no such neighbour.
     fn is_up(&self, k: Id) -> Option<bool> {
         for (neighbour, is_up) in self.links.iter() {
             if *neighbour == k {
@@ -116,7 +117,7 @@ impl Plain {
         }
     }
 
-    /// Takes an input in, and gives what is broadcast.
+    /// Steps an input, and returns what is broadcast.
     pub fn step(
         &mut self,
         alloc: Global,
@@ -140,7 +141,7 @@ impl Plain {
         Ok(Ok(sends))
     }
 
-    /// The text that shows the core.
+    /// The text of the core's table.
     pub fn show(&self, alloc: Global) -> Result<String, AllocError> {
         let mut text = String::new(alloc);
         for view in self.views.iter() {

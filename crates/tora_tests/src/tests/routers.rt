@@ -9,7 +9,7 @@ use tora_arq::{Reason, Times};
 use tora_core::StepError;
 use tora_router::{Change, Config, GREATEST_LIFE, RouterError};
 
-/// Sees that these are the changes that the first router tells, and no more.
+/// Checks that the first router reports exactly these changes.
 fn tells(rt: &impl Abort, pair: &mut Pair, changes: &[Change]) {
     for change in changes {
         same(rt, &pair.one.poll_change(), &Some(*change), "a change");
@@ -27,7 +27,7 @@ fn finds(rt: &impl Abort, pair: &mut Pair) {
     sees(rt, !pair.one.flag(2), "the route is there");
 }
 
-/// They lose it.
+/// The two routers lose the route.
 fn loses(rt: &impl Abort, pair: &mut Pair) {
     sees(rt, pair.one.cut(2, 6), "a neighbour is cut");
     let changes = [Change::LinkDown(2, Reason::Cut), Change::NextHop(2, None)];
@@ -37,7 +37,7 @@ fn loses(rt: &impl Abort, pair: &mut Pair) {
     same(rt, &pair.one.next_life(), &6, "one number was given");
 }
 
-/// Sees for which cause such a router is refused, if it is.
+/// Checks for which reason a router with this configuration is refused, if it is.
 fn refused(
     rt: &impl Abort,
     alloc: Global,

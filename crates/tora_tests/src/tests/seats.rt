@@ -1,4 +1,4 @@
-//! Items served over lanes that fill up.
+//! Items that are served over queues that fill up.
 
 use super::sees::{prints_each, same_at, same_text};
 use std::alloc::Global;
@@ -14,16 +14,16 @@ use tora_seat::{Answer, Cargo, CoreSeat, Item, OutLanes, What};
 mod line;
 mod steps;
 
-/// How many cargoes a lane of the tests holds.
+/// How many messages a queue of the tests holds.
 const ROOM: usize = 256;
 
-/// The life of the link to 2.
+/// The session of the link to 2.
 const FIRST: Life = Life { own: 5, peer: 9 };
 
-/// The life of the link to 3.
+/// The session of the link to 3.
 const SECOND: Life = Life { own: 1, peer: 1 };
 
-/// A cargo that was offered to the lane at a place, and whether it was put.
+/// A message that was offered to the queue at an index, and whether it was put.
 #[derive(Clone, Copy, Debug, PartialEq, Eq)]
 struct Offered {
     place: usize,
@@ -31,7 +31,7 @@ struct Offered {
     put: bool,
 }
 
-/// Two lanes, each with how many cargoes wait in it, and what was offered to them.
+/// Two queues: how many messages wait in each, and what was offered.
 #[derive(Drop)]
 struct TestLanes {
     first: usize,
@@ -40,7 +40,7 @@ struct TestLanes {
 }
 
 impl TestLanes {
-    /// Lanes in which nothing waits.
+    /// Empty queues.
     fn new(alloc: Global) -> TestLanes {
         TestLanes {
             first: 0,
@@ -49,7 +49,7 @@ impl TestLanes {
         }
     }
 
-    /// Puts a cargo into a lane, where there is room.
+    /// Puts a message into a queue, if there is room.
     fn put(&mut self, place: usize) -> bool {
         if place == 0 {
             if self.first >= ROOM {
@@ -93,7 +93,7 @@ const NEEDING: &[Step] = &[
     Counts(5),
 ];
 
-/// The seat of node 1 and its lanes, which need routes, where so many cargoes wait in the first lane.
+/// The seat of node 1 after `NEEDING`, and its queues, the first of which holds this many messages.
 fn needing(rt: &impl Abort, alloc: Global, waiting: usize) -> (CoreSeat, TestLanes) {
     let (mut seat, mut lanes) = made(rt, alloc, &[4, 5, 6, 7, 8]).expect(rt, "memory");
     runs(rt, &mut seat, &mut lanes, NEEDING);
@@ -101,7 +101,7 @@ fn needing(rt: &impl Abort, alloc: Global, waiting: usize) -> (CoreSeat, TestLan
     (seat, lanes)
 }
 
-/// The link to 3 comes up while the lane to 2 fills.
+/// The link to 3 comes up while the queue to 2 fills.
 const HANDED_BACK: &[Step] = &[
     Serves(1, Told::Up(SECOND)),
     Offers(&[
@@ -130,7 +130,7 @@ fn handed_back_packet_cuts_its_life(rt: HostRuntime) {
     runs(&rt, &mut seat, &mut lanes, HANDED_BACK);
 }
 
-/// There is room again in the lane to 2 when the next item is served.
+/// There is room again in the queue to 2 when the next item is served.
 const CUT_ONCE: &[Step] = &[
     Serves(1, Told::Up(SECOND)),
     Counts(8),
@@ -148,7 +148,7 @@ fn pending_cut_is_put_once_there_is_room(rt: HostRuntime) {
     runs(&rt, &mut seat, &mut lanes, CUT_ONCE);
 }
 
-/// How many cargoes were put into the first lane.
+/// How many messages were put into the first queue.
 fn put_first(lanes: &TestLanes) -> usize {
     let mut put = 0usize;
     for offered in lanes.offers.iter() {
@@ -159,7 +159,7 @@ fn put_first(lanes: &TestLanes) -> usize {
     put
 }
 
-/// Sees whether the first link's life is cut, where so many cargoes waited.
+/// Checks whether the session of the first link is cut, if this many messages waited.
 fn is_cut_first(rt: &impl Abort, seat: &CoreSeat, is_cut: bool, waiting: usize) {
     let found = (
         seat.current(0).is_none(),
@@ -184,8 +184,8 @@ fn life_is_cut_where_its_lane_is_short_of_room(rt: HostRuntime) {
     }
 }
 
-/// The cut of the life to 2 is asked for, while that to 3 goes on; a second one, and one of a node that is no
-/// neighbour, do nothing.
+/// The cut of the session to 2 is requested, while the session to 3 goes on. A second request, and one for a node that
+/// is not a neighbour, have no effect.
 const CUT_NOW: &[Step] = &[
     Serves(1, Told::Up(SECOND)),
     Counts(10),
@@ -211,7 +211,7 @@ fn cut_that_is_asked_for_ends_its_life_at_once(rt: HostRuntime) {
     runs(&rt, &mut seat, &mut lanes, CUT_NOW);
 }
 
-/// The same where the lane to 2 is full: the link is down, and the cut is pending until there is room.
+/// The same requests if the queue to 2 is full: the link is down, and the cut is pending until there is room.
 const CUT_LATER: &[Step] = &[
     Serves(2, Told::Cut(2)),
     Offers(&[(0, Given::Cut(FIRST), false)]),
@@ -230,7 +230,7 @@ fn cut_that_is_asked_for_waits_for_room(rt: HostRuntime) {
     runs(&rt, &mut seat, &mut lanes, CUT_LATER);
 }
 
-/// A packet of the current life, and one of another.
+/// A packet of the current session, and one of another session.
 const STEPPED: &[Step] = &[
     Serves(0, Told::Packet(FIRST, 4)),
     Steps(Some((2, FIRST, 4))),
@@ -245,7 +245,7 @@ fn packet_of_the_current_life_is_handed_to_the_core(rt: HostRuntime) {
     runs(&rt, &mut seat, &mut lanes, STEPPED);
 }
 
-/// What a seat serves without memory.
+/// The steps that a seat serves without memory.
 const SERVED: &[Step] = &[
     Serves(0, Told::Up(FIRST)),
     Hands(&[Handed::Up(2)]),
@@ -257,7 +257,7 @@ const SERVED: &[Step] = &[
     Lives(0, Some(SECOND)),
 ];
 
-// With each request for memory refused in turn: there is no seat, or one that serves without memory.
+// With each request for memory refused in turn, there is no seat, or one that serves without memory.
 #[test]
 fn want_of_memory_is_answered(rt: HostRuntime) {
     if let Some((mut seat, mut lanes)) = made(&rt, rt.alloc(), &[4]) {
@@ -265,7 +265,7 @@ fn want_of_memory_is_answered(rt: HostRuntime) {
     }
 }
 
-/// What answers are printed as.
+/// The text of answers.
 const ANSWERS: &[(Answer, &str)] = &[
     (Answer::Nothing, "nothing"),
     (

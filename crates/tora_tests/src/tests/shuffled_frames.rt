@@ -8,14 +8,14 @@ use std::process::Abort;
 use tora_arq::{LinkEnd, LinkEvent, Times};
 use tora_frame::{Frame, Version};
 
-/// Numbers that a fixed seed gives.
+/// A generator of numbers with a fixed seed.
 #[derive(Drop)]
 struct Dice {
     seed: u64,
 }
 
 impl Dice {
-    /// A number below `sides`, or 0 where there are no sides.
+    /// A number below `sides`, or 0 if `sides` is 0.
     fn roll(&mut self, sides: u64) -> u64 {
         self.seed = self
             .seed
@@ -25,7 +25,7 @@ impl Dice {
     }
 }
 
-/// Times under which no loss ends a life.
+/// Times with which no loss ends a session.
 const PATIENT: Times = Times {
     hello: 10,
     silent: 1_000_000,
@@ -33,7 +33,7 @@ const PATIENT: Times = Times {
     tries: 1_000_000,
 };
 
-/// Two ends, and the frames on the way, to either of them.
+/// Two ends, and the frames in flight to each.
 #[derive(Drop)]
 struct Network {
     one: LinkEnd,
@@ -43,7 +43,7 @@ struct Network {
 }
 
 impl Network {
-    /// Two ends, of which the second speaks a version and the first version 2.
+    /// Two ends; the first speaks version 2, and the second this version.
     fn new(rt: &impl Abort, alloc: Global, second: Version) -> Network {
         Network {
             one: open_end(rt, alloc, Version::Two, (1, 2), PATIENT, 5),
@@ -53,7 +53,7 @@ impl Network {
         }
     }
 
-    /// Puts the first frame due at one end on the way, where there is room: one of eight is lost.
+    /// Puts the first due frame of one end in flight, if there is room. One of eight is lost.
     fn transmit(&mut self, rt: &impl Abort, is_first: bool, now: u64) {
         if self.frames.len() >= 64 {
             return;
@@ -70,7 +70,7 @@ impl Network {
         }
     }
 
-    /// Hands a frame on the way to its end, any of them: one of eight stays on the way, and comes again.
+    /// Delivers one of the frames in flight, in any order. One of eight stays in flight, and arrives again.
     fn hand(&mut self, now: u64) -> bool {
         let place = self.dice.roll(self.frames.len() as u64) as usize;
         let Some(frame) = self.frames.get(place) else {
@@ -88,7 +88,7 @@ impl Network {
     }
 }
 
-/// Submits the next packet at an end, where it is bound and few wait.
+/// Submits the next packet at an end, if it is bound and few packets wait.
 fn submit_next(rt: &impl Abort, end: &mut LinkEnd, submitted: u64) -> u64 {
     let Some(life) = end.life() else {
         return submitted;
@@ -102,7 +102,7 @@ fn submit_next(rt: &impl Abort, end: &mut LinkEnd, submitted: u64) -> u64 {
     next
 }
 
-/// Polls the events of an end: after `Up` come the packets in order, each once.
+/// Polls the events of an end, and checks that after `Up` the packets come in order, each once.
 fn count_delivered(rt: &impl Abort, end: &mut LinkEnd, delivered: u64) -> u64 {
     let mut delivered = delivered;
     for _ in 0..64 {
@@ -119,7 +119,7 @@ fn count_delivered(rt: &impl Abort, end: &mut LinkEnd, delivered: u64) -> u64 {
     delivered
 }
 
-/// Sees that 10,000 frames bring the packets out once and in order.
+/// Checks that 10,000 frames deliver the packets once each and in order.
 fn packets_come_out(rt: &impl Abort, mut network: Network) {
     let mut sent = 0;
     let mut came = 0;

@@ -31,7 +31,7 @@ fn row(rt: &impl Abort, alloc: Global) -> Sim {
     first_world(rt, alloc, ROW, &[3])
 }
 
-/// What is read of nodes 1, 2 and 3 in a row at their start.
+/// The state of nodes 1, 2 and 3 in a row at the start.
 const FIRST: &[Step] = &[
     Clock(0),
     Datagrams(0),
@@ -56,10 +56,10 @@ fn first_world_is_read(rt: HostRuntime) -> Result<(), Fail> {
     Ok(())
 }
 
-/// The first life of a link.
+/// The first session of a link.
 const LIFE: Life = Life { own: 1, peer: 1 };
 
-/// Nothing is sent or taken over a link, or where there is none.
+/// Nothing was sent or stepped over a link that was never up, nor between nodes without a link.
 const NOTHING_SENT: &[Step] = &[
     Sent(1, 2, LIFE, &[]),
     Taken(2, 1, LIFE, &[]),
@@ -90,7 +90,8 @@ fn sent_datagram_is_read(rt: HostRuntime) {
     runs(&rt, rt.alloc(), &mut sim, SENDING);
 }
 
-/// Which events may be possible, by the places of their nodes and ends. At the place of another nothing is known.
+/// Which events may be possible, by the indexes of their nodes and ends. At the index of another node or end the answer
+/// is true.
 const PLACES: &[Step] = &[
     Does(Event::Open(2, 3)),
     Does(Event::Need(2, 3)),
@@ -111,7 +112,7 @@ fn places_tell_what_is_impossible(rt: HostRuntime) {
     runs(&rt, rt.alloc(), &mut sim, PLACES);
 }
 
-/// The events by which the link of nodes 1 and 2 comes up.
+/// The events after which the link of nodes 1 and 2 is up.
 const MEETING: &[Event] = &[
     Event::Need(1, 2),
     Event::CoreTurn(1),
@@ -129,7 +130,7 @@ const MEETING: &[Event] = &[
     Event::CoreTurn(1),
 ];
 
-/// The events by which an update of node 1 for the destination 2 is stepped by node 2; the datagram of the update is
+/// The events after which node 2 has stepped an update of node 1 for the destination 2. The datagram of the update is
 /// delivered twice.
 const UPDATING: &[Event] = &[
     Event::Pull(1, 2),
@@ -140,10 +141,10 @@ const UPDATING: &[Event] = &[
     Event::CoreTurn(2),
 ];
 
-/// A life that the link of nodes 1 and 2 never had.
+/// A session that the link of nodes 1 and 2 never had.
 const OTHER: Life = Life { own: 1, peer: 2 };
 
-/// What is read of nodes 1 and 2 after their meeting and the update.
+/// The state of nodes 1 and 2 after their meeting and the update.
 const UPDATED: &[Step] = &[
     Datagrams(4),
     Datagram(2, Some((2, 1))),
@@ -158,7 +159,7 @@ const UPDATED: &[Step] = &[
     Taken(1, 2, LIFE, &[]),
 ];
 
-/// Events happen, each of which is possible.
+/// Makes events happen, and checks that each is possible.
 fn happen(rt: &impl Abort, sim: &mut Sim, events: &[Event]) {
     same(rt, &sim.run(events), &Ok(()), "the events");
 }
@@ -171,7 +172,7 @@ fn sent_and_taken_packets_are_read(rt: HostRuntime) {
     runs(&rt, rt.alloc(), &mut sim, UPDATED);
 }
 
-/// The end of node 1 sends its first HELLO, and no cargo waits.
+/// The end of node 1 sends its first HELLO, and no message waits.
 const DOCUMENTED: &[Step] = &[
     Does(Event::Open(1, 2)),
     Does(Event::Transmit(1, 2)),
@@ -186,8 +187,8 @@ fn example_of_the_documentation(rt: HostRuntime) {
     runs(&rt, rt.alloc(), &mut sim, DOCUMENTED);
 }
 
-/// The link of nodes 1 and 2 comes up, where node 2 speaks version 1 alone: node 1 says HELLO in both versions until it
-/// has heard.
+/// The link of nodes 1 and 2 comes up, if node 2 speaks only version 1: node 1 sends each HELLO in both versions until
+/// it has heard node 2.
 const MIXED: &[Step] = &[
     Does(Event::Open(1, 2)),
     Does(Event::Open(2, 1)),
@@ -217,12 +218,12 @@ fn old_node_is_met(rt: HostRuntime) {
 /// The link ends of nodes 1 to 4 in a row.
 const ENDS: &[(Id, Id)] = &[(1, 2), (2, 1), (2, 3), (3, 2), (3, 4), (4, 3)];
 
-/// Lets an event happen where it is possible; whether it was.
+/// Makes an event happen if it is possible, and returns whether it was.
 fn tries(sim: &mut Sim, event: Event) -> bool {
     sim.step(&event).is_ok()
 }
 
-/// Lets happen once, at each end, what is possible there, and hands over each datagram at once.
+/// Makes the possible events happen once at each end, and delivers each datagram at once.
 pub fn pass(sim: &mut Sim) {
     for end in ENDS {
         let (n, k) = *end;
@@ -237,7 +238,7 @@ pub fn pass(sim: &mut Sim) {
     }
 }
 
-/// What is read of nodes 1 to 4 in a row once their entries are exact, and after node 2 is made anew.
+/// The state of nodes 1 to 4 in a row once their entries are exact, and after a restart of node 2.
 const WALKS: &[Step] = &[
     Exact(4, true),
     Walk(1, 4, Some(&[1, 2, 3, 4])),
@@ -269,7 +270,7 @@ pub const TIMES: Times = Times {
     tries: 2,
 };
 
-/// A HELLO in either version, and the next ones two ticks later.
+/// A HELLO in both versions, and the next ones two ticks later.
 const HELLOS: &[Step] = &[
     Does(Event::Open(1, 2)),
     Does(Event::Transmit(1, 2)),

@@ -1,4 +1,4 @@
-//! Cores that are made and refused within limits, and one of as many neighbours as any may have.
+//! Cores that are made or refused within limits, and one with the greatest number of neighbours.
 use super::super::made::Numbers::{Counted, These};
 use super::super::made::{Numbers, core_within, list_of};
 use super::super::sees::{same, sees};
@@ -35,17 +35,17 @@ const SMALL: CoreLimits = CoreLimits {
     destinations: 1,
 };
 
-/// Limits above the greatest.
+/// Limits above the greatest ones.
 const ABOVE: CoreLimits = CoreLimits {
     neighbours: 1000,
     destinations: 1000,
 };
 
-/// Limits, the neighbours and the destinations of node 1, and the error that they are answered with, if any.
+/// Limits, the neighbours and the destinations of node 1, and the error for them, if any.
 type Row = (CoreLimits, Numbers, Numbers, Option<CoreError>);
 
-/// As many neighbours and destinations as limits allow, one less and one more. What is above the greatest stands for
-/// the greatest.
+/// The numbers of neighbours and destinations that limits allow, one fewer and one more. A limit above the greatest one
+/// means the greatest one.
 const LIMITS: &[Row] = &[
     (SMALL, Counted(2, 1), These(&[]), None),
     (SMALL, Counted(2, 2), These(&[4]), None),
@@ -98,7 +98,7 @@ fn cores_are_taken_up_to_the_limits_that_are_asked(rt: HostRuntime) {
     }
 }
 
-// 255 neighbours come up, one of them the destination; another asks for the route to it, and has the answer; the others
+// 255 neighbours come up, one of them the destination. Another one asks for the route and gets the answer. All others
 // go down.
 #[test]
 fn core_of_255_neighbours_finds_a_route(rt: HostRuntime) -> Result<(), Fail> {

@@ -1,4 +1,4 @@
-//! A core beside the plain body of the rules, at inputs that are drawn.
+//! A core compared with the plain implementation of the rules, on random inputs.
 ghost use Rattle.std.specs.Prelude.{◌≤◌};
 
 use super::super::plain_core::{Plain, Told, told_by};
@@ -34,8 +34,8 @@ impl Random {
     }
 }
 
-/// A packet of neighbour `k` for a destination, sometimes with the height of another node, and often at a level of time
-/// 7, so that levels come again.
+/// A packet of neighbour `k` for a destination, sometimes with the height of another node, and often at a reference
+/// level of time 7, so that levels occur again.
 fn any_packet(random: &mut Random, now: u64, k: Id, d: Id) -> Option<Packet> {
     let tau = if random.up_to(1) == 0 {
         7
@@ -60,7 +60,7 @@ fn any_packet(random: &mut Random, now: u64, k: Id, d: Id) -> Option<Packet> {
     }
 }
 
-/// An input, refused or not: neighbour 9 and destination 20 are not known.
+/// An input, refused or not: neighbour 9 and destination 20 do not exist.
 fn any_input(random: &mut Random, now: u64) -> Option<Input> {
     let k = 1 + random.up_to(8);
     let d = 5 + random.up_to(15);
@@ -72,7 +72,7 @@ fn any_input(random: &mut Random, now: u64) -> Option<Input> {
     }
 }
 
-/// The packets of both bodies are the same, at an input.
+/// Checks that both implementations broadcast the same packets at an input.
 fn same_sends(rt: &impl Abort, sends: &Sends, told: &[Told], input: &Input) {
     same_at(rt, &sends.len(), &told.len(), "how many packets", input);
     for (packet, told) in sends.iter().zip(told.iter()) {
@@ -80,7 +80,7 @@ fn same_sends(rt: &impl Abort, sends: &Sends, told: &[Told], input: &Input) {
     }
 }
 
-/// Both bodies take an input, and answer the same.
+/// Steps an input in both implementations, and checks that the results are the same.
 fn same_step(
     rt: &impl Abort,
     alloc: Global,
@@ -103,14 +103,14 @@ fn same_step(
     }
 }
 
-/// Both bodies show the same.
+/// Checks that both implementations print the same table.
 fn same_tables(rt: &impl Abort, alloc: Global, core: &Core, plain: &Plain, turn: u32) {
     let shown = core.show(alloc).expect(rt, "memory");
     let other = plain.show(alloc).expect(rt, "memory");
     same_at(rt, &shown.as_str(), &other.as_str(), "the tables", &turn);
 }
 
-/// Both bodies answer alike at ten thousand inputs.
+/// Checks that both implementations agree on ten thousand inputs.
 fn answer_alike(rt: &impl Abort, alloc: Global, erasure: Erasure) {
     let neighbours = [1, 2, 3, 4, 5, 6, 7, 8];
     let destinations = [5, 6, 7, 8, 9, 10, 11, 12, 13, 14, 15, 16, 17, 18, 19, 100];

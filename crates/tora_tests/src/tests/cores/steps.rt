@@ -1,4 +1,4 @@
-//! Worked runs of cores as tables of steps, and what takes them.
+//! Worked runs of cores as tables of steps, and the functions that make them.
 use super::super::made::{Parts, clear, core_of, entry_of, query_for, update};
 use super::super::sees::same_at;
 use std::alloc::Global;
@@ -18,7 +18,7 @@ pub enum Sent {
     Clr(u64, Id),
 }
 
-/// What comes in: a link, a need, or a packet of a neighbour.
+/// An input: a link, a need, or a packet of a neighbour.
 #[derive(Clone, Copy, Debug)]
 pub enum Given {
     Up(Id),
@@ -27,18 +27,18 @@ pub enum Given {
     From(Id, Sent),
 }
 
-/// A step of a run: what a node does at a tick, or what it has then.
+/// A step of a run: an action of a node at a tick, or an observation.
 #[derive(Clone, Copy, Debug)]
 pub enum Step {
-    /// It takes an input, and broadcasts just these packets.
+    /// The node accepts an input, and broadcasts exactly these packets.
     Takes(Id, u64, Given, &'static [Sent]),
-    /// It refuses an input, with this number.
+    /// The node refuses an input, with this number.
     Refuses(Id, u64, Given, u8),
-    /// It has this height for 4, or none.
+    /// The node has this height for 4, or NULL.
     Has(Id, Option<Parts>),
-    /// It has this next hop to 4, or none.
+    /// The node has this next hop to 4, or none.
     Goes(Id, Option<Id>),
-    /// It shows this text.
+    /// The node's table prints this text.
     Shows(Id, &'static str),
 }
 
@@ -61,7 +61,7 @@ pub fn input_of(rt: &impl Abort, given: Given) -> Input {
     }
 }
 
-/// A core takes an input in, refuses it with this number or takes it, and sends just these packets.
+/// Steps an input at a core, and checks the number of its refusal, or the packets that are sent.
 fn steps(
     rt: &impl Abort,
     core: &mut Core,
@@ -87,7 +87,7 @@ fn core_in<'a>(rt: &impl Abort, cores: &'a mut [Core], node: Id) -> &'a mut Core
     found.expect(rt, "a node")
 }
 
-/// A node does what a step says.
+/// Makes one step of a table.
 fn does(rt: &impl Abort, alloc: Global, cores: &mut [Core], row: &Step) {
     match *row {
         Step::Takes(node, now, given, sent) => {
@@ -130,7 +130,7 @@ fn does(rt: &impl Abort, alloc: Global, cores: &mut [Core], row: &Step) {
     }
 }
 
-/// The cores of nodes, with no link up.
+/// The cores of these nodes, with no link up.
 fn cores_of(rt: &impl Abort, alloc: Global, nodes: &[Node]) -> Vec<Core> {
     let mut cores = Vec::new(alloc);
     for (me, neighbours, destinations) in nodes {
@@ -140,7 +140,7 @@ fn cores_of(rt: &impl Abort, alloc: Global, nodes: &[Node]) -> Vec<Core> {
     cores
 }
 
-/// The cores of nodes do what the steps of each table say, one after the other.
+/// Makes the steps of each table, one table after the other.
 pub fn runs(rt: &impl Abort, alloc: Global, nodes: &[Node], tables: &[&[Step]]) {
     let mut cores = cores_of(rt, alloc, nodes);
     for table in tables {

@@ -1,4 +1,4 @@
-//! The steps of the worked runs: inputs, and what the rules make of them.
+//! The steps of the worked runs: inputs, and the effects that the rules prescribe.
 use super::steps::Given::{Down, From, Need, Up};
 use super::steps::Sent::{Clr, Qry, Upd};
 use super::steps::Step::{Goes, Has, Refuses, Shows, Takes};
@@ -47,7 +47,7 @@ pub const JOINED: &[Step] = &[
     Goes(4, None),
 ];
 
-/// Nodes 3 and 4 lose their link: the new level of 3 is propagated, reflected, and sent back.
+/// Nodes 3 and 4 lose their link. The new reference level of 3 is propagated, reflected, and sent back.
 pub const PARTING: &[Step] = &[
     Takes(4, 7, Down(3), &[]),
     Takes(3, 7, Down(4), &[Upd(7, 3, 0, 0, 3)]),
@@ -58,7 +58,7 @@ pub const PARTING: &[Step] = &[
     Takes(1, 7, From(2, Upd(7, 3, 1, -1, 2)), &[]),
 ];
 
-/// Node 3 detects the partition, and the line erases the level.
+/// Node 3 detects the partition, and the line erases the reference level.
 pub const ERASING: &[Step] = &[
     Takes(3, 7, From(2, Upd(7, 3, 1, -1, 2)), &[Clr(7, 3)]),
     Takes(2, 7, From(3, Clr(7, 3)), &[Clr(7, 3)]),
@@ -92,16 +92,16 @@ pub const FOREIGN_REFLECTION: &[Step] = &[
     Takes(2, 8, From(3, Upd(7, 9, 1, -1, 3)), &[Upd(8, 2, 0, 0, 2)]),
 ];
 
-/// Node 2 has a level of its own.
+/// Node 2 has defined a reference level.
 pub const NEW_LEVEL: &[Step] = &[Has(2, Some((8, 2, 0, 0, 2)))];
 
-/// The foreign level is cleared where node 1 has told of a height at another level.
+/// The foreign level is cleared while node 1 has a height at another level.
 pub const CLEARED_BESIDE_ANOTHER: &[Step] = &[
     Takes(2, 9, From(1, Upd(9, 1, 0, 0, 1)), &[]),
     Takes(2, 9, From(3, Clr(7, 9)), &[Upd(10, 2, 0, 0, 2)]),
 ];
 
-/// The foreign level is cleared where no other entry is left.
+/// The foreign level is cleared while there is no other entry.
 pub const CLEARED_ALONE: &[Step] = &[Takes(2, 9, From(3, Clr(7, 9)), &[]), Has(2, None)];
 
 /// Node 3 between 2 and 4.
@@ -114,13 +114,13 @@ pub const ANSWERING: &[Step] = &[
     Takes(3, 2, From(2, Qry(4)), &[Upd(0, 0, 0, 1, 3)]),
 ];
 
-/// The level that node 3 defines is above that of node 2, whose clock is ahead.
+/// Node 3 defines a level above that of node 2, whose clock is ahead.
 pub const CLOCK_BEHIND: &[Step] = &[
     Takes(3, 3, From(2, Upd(7, 9, 0, 0, 2)), &[]),
     Takes(3, 3, Down(4), &[Upd(8, 3, 0, 0, 3)]),
 ];
 
-/// Node 2 is told, and asks twice: before its link goes down and after it.
+/// Node 2 sends an update, and asks twice: before its link goes down and after it.
 pub const TOLD: &[Step] = &[
     Takes(3, 3, From(2, Upd(0, 0, 0, 2, 2)), &[]),
     Takes(3, 4, From(2, Qry(4)), &[]),
@@ -129,7 +129,7 @@ pub const TOLD: &[Step] = &[
     Takes(3, 6, From(2, Qry(4)), &[Upd(0, 0, 0, 1, 3)]),
 ];
 
-/// The text of node 3 below 2 and above 4.
+/// The table of node 3, which is below 2 and above 4.
 const BETWEEN: &str = "to 4 height (0,0,0,1,3) flag 0 hop 4
 via 2 (0,0,0,2,2) up
 via 4 (0,0,0,0,4) down
@@ -147,7 +147,7 @@ pub const HOP: &[Step] = &[Goes(3, Some(4))];
 /// Node 4 beside 3.
 pub const DESTINATION: &[Node] = &[(4, &[3], &[4])];
 
-/// The destination keeps no entries.
+/// The destination stores no entries.
 pub const OWN_TEXT: &[Step] = &[
     Takes(4, 1, Up(3), &[]),
     Takes(4, 3, From(3, Upd(0, 0, 0, 1, 3)), &[]),
@@ -157,7 +157,7 @@ pub const OWN_TEXT: &[Step] = &[
 /// Node 2 beside 3.
 pub const LEAF: &[Node] = &[(2, &[3], &[4])];
 
-/// Node 3 tells of a height with the greatest delta, above which there is none.
+/// Node 3 sends a height with the greatest delta, above which there is none.
 pub const GREATEST_DELTA: &[Step] = &[
     Takes(2, 1, Up(3), &[]),
     Takes(2, 2, Need(4), &[Qry(4)]),
@@ -186,7 +186,7 @@ pub const REFUSALS: &[Step] = &[
 /// Node 3 between 2 and 4, with the destinations 5 and 4.
 pub const TWO_DESTINATIONS: &[Node] = &[(3, &[2, 4], &[5, 4])];
 
-/// A link comes up where a route to each is required.
+/// A link comes up while a route to each destination is required.
 pub const TWO_PACKETS: &[Step] = &[
     Takes(3, 1, Up(2), &[]),
     Takes(3, 1, Need(5), &[Qry(5)]),
@@ -197,7 +197,7 @@ pub const TWO_PACKETS: &[Step] = &[
 /// Node 2 between 1, 3 and 5.
 pub const FORK: &[Node] = &[(2, &[1, 3, 5], &[4])];
 
-/// Two entries are at the greatest level, and the least of their deltas counts.
+/// Two entries are at the greatest level, and the lowest of their deltas counts.
 pub const LEAST_DELTA: &[Step] = &[
     Takes(2, 1, Up(1), &[]),
     Takes(2, 1, Up(3), &[]),

@@ -1,4 +1,4 @@
-//! Frames that were cut or changed, and a plain reading of frames that they are compared with.
+//! Frames that are cut or changed, compared with a plain decoder.
 ghost use Rattle.std.specs.Prelude.{◌≤◌, length};
 
 use super::super::sees::{bytes_of, same, same_at};
@@ -8,7 +8,7 @@ use std::process::Abort;
 use tora_frame::{FrameError, decode, encode};
 use tora_packet::PacketError;
 
-/// The number in `count` bytes from `from` on, the highest first; a byte that isn't there is 0.
+/// The number in `count` bytes from `from` on, the highest byte first. A missing byte counts as 0.
 fn plain_number(bytes: &[u8], from: usize, count: usize) -> u64 {
     let mut number = 0u64;
     for at in from..from.saturating_add(count) {
@@ -18,7 +18,7 @@ fn plain_number(bytes: &[u8], from: usize, count: usize) -> u64 {
     number
 }
 
-/// Whether the header is followed by its payload, or the number of the fault.
+/// The number of the fault in the layout (header and length), if there is one.
 fn plain_layout(bytes: &[u8]) -> Option<u8> {
     if bytes.len() < 28 {
         return Some(1);
@@ -44,7 +44,7 @@ fn plain_layout(bytes: &[u8]) -> Option<u8> {
     }
 }
 
-/// Whether the fields are in their ranges, or the number of the fault.
+/// The number of the fault in the ranges of the fields, if there is one.
 fn plain_fields(bytes: &[u8]) -> Option<u8> {
     let most = 1u64 << 62;
     let kind = plain_number(bytes, 1, 1);
@@ -66,7 +66,7 @@ fn plain_fields(bytes: &[u8]) -> Option<u8> {
     }
 }
 
-/// Whether there are as many packets as a frame of version 2 may have, or the number of the fault.
+/// The number of the fault in the number of packets in a frame of version 2, if there is one.
 fn plain_count(bytes: &[u8], first: u64) -> Option<u8> {
     let many = plain_number(bytes, 44, 1);
     let is_zero = plain_number(bytes, 45, 3) == 0;
@@ -76,7 +76,7 @@ fn plain_count(bytes: &[u8], first: u64) -> Option<u8> {
     None
 }
 
-/// How many bytes the first packet of `bytes` is given: all, or as many as its kind has where there are more.
+/// The length of the first packet in `bytes`: that of its kind, but at most all bytes.
 fn plain_cut(bytes: &[u8]) -> usize
     ensures { result ≤ length bytes.now }
 {
@@ -89,7 +89,7 @@ fn plain_cut(bytes: &[u8]) -> usize
     kind.min(bytes.len())
 }
 
-/// Why the packets of a frame are refused.
+/// Why the packets of a frame are refused, if they are.
 fn plain_packets(bytes: &[u8]) -> Option<PacketError> {
     if plain_number(bytes, 0, 1) == 1 {
         return tora_packet::decode(bytes.get(44..).unwrap_or(&[])).err();
@@ -109,7 +109,7 @@ fn plain_packets(bytes: &[u8]) -> Option<PacketError> {
     }
 }
 
-/// The frame's answer to any bytes: that of the plain reading, and a frame is spelled as the bytes.
+/// Checks that decoding any bytes agrees with the plain decoder, and that a decoded frame has these bytes.
 fn check(rt: &impl Abort, bytes: &[u8]) {
     let fault = plain_layout(bytes).or(plain_fields(bytes));
     match (fault, decode(bytes)) {
@@ -125,14 +125,14 @@ fn check(rt: &impl Abort, bytes: &[u8]) {
     }
 }
 
-/// Looks at the bytes cut at each place.
+/// Checks each prefix of the bytes.
 fn check_cut(rt: &impl Abort, bytes: &[u8]) {
     for end in 0..=bytes.len() {
         check(rt, &bytes[..end]);
     }
 }
 
-/// Looks at the bytes with each of them changed to each of some values.
+/// Checks the bytes with each of them changed to each of some values.
 fn check_changed(rt: &impl Abort, bytes: &mut [u8]) {
     for index in 0..bytes.len() {
         let old = bytes[index];

@@ -1,11 +1,11 @@
-//! What the plain body knows of one destination, and the rules over it.
+//! The state of the plain implementation for one destination, and the rules on it.
 use super::{Level, Parts, Told, parts_of};
 use std::alloc::{AllocError, Global};
 use tora_core::Input;
 use tora_height::{GREATEST_DELTA, GREATEST_TAU, Id};
 use tora_packet::Packet;
 
-/// What is known of one neighbour; nothing where its link is down.
+/// The state for one neighbour; empty while its link is down.
 #[derive(Clone, Copy)]
 struct PlainRow {
     neighbour: Id,
@@ -14,7 +14,7 @@ struct PlainRow {
     told: bool,
 }
 
-/// What is known of one destination, with a row for each neighbour in ascending order.
+/// The state for one destination, with a row for each neighbour in ascending order.
 #[derive(Drop)]
 pub struct PlainView {
     me: Id,
@@ -23,7 +23,7 @@ pub struct PlainView {
     flag: bool,
     rows: Vec<PlainRow>,
     last: u64,
-    /// Whether erased levels are remembered, and the one that was erased last.
+    /// Whether erased levels are remembered, and the last one that was erased.
     remembers: bool,
     erased: Option<Level>,
 }
@@ -33,7 +33,7 @@ fn zero(destination: Id) -> Parts {
     ((0, 0, 0), 0, destination)
 }
 
-/// A height, where its parts are in range.
+/// The height with these parts, if they are in range.
 fn fit(level: Level, delta: i64, id: Id) -> Option<Parts> {
     let most = i64::from(GREATEST_DELTA);
     if level.0 <= GREATEST_TAU && delta <= most && delta >= -most {
@@ -74,7 +74,7 @@ impl PlainView {
         greatest
     }
 
-    /// Whether an entry is below the own height.
+    /// Whether an entry is below the node's height.
     fn is_below(&self, entry: Parts) -> bool {
         match self.height {
             None => true,
@@ -82,7 +82,7 @@ impl PlainView {
         }
     }
 
-    /// The neighbour with the lowest entry, where that is below the own height.
+    /// The neighbour with the lowest entry, if that is below the node's height.
     fn next_hop(&self) -> Option<Id> {
         let low = self.least()?;
         if self.is_below(low) {
@@ -109,7 +109,7 @@ impl PlainView {
         Some(Told::Update(self.destination, height))
     }
 
-    /// Takes a height, where its parts are in range, and tells it.
+    /// Takes the height with these parts, or NULL if they are out of range, and returns its broadcast.
     fn take(&mut self, level: Level, delta: i64) -> Option<Told> {
         self.height = fit(level, delta, self.me);
         self.tell()
@@ -163,7 +163,7 @@ impl PlainView {
         self.define(now)
     }
 
-    /// Erases the own height, and each entry but that of the destination.
+    /// Erases the node's height, and each entry except that of the destination.
     fn erase(&mut self, tau: u64, oid: u32) -> Option<Told> {
         self.height = None;
         self.erased = Some((tau, oid, 1));
@@ -175,7 +175,7 @@ impl PlainView {
         Some(Told::Clear(self.destination, tau, oid))
     }
 
-    /// Puts in what is known of a neighbour.
+    /// Sets the state for a neighbour.
     fn put(&mut self, k: Id, is_up: bool, entry: Option<Parts>, told: bool) {
         for row in self.rows.iter_mut() {
             if row.neighbour == k {
@@ -301,7 +301,7 @@ impl PlainView {
         self.after_loss(now)
     }
 
-    /// Takes an input in, and gives what is broadcast.
+    /// Steps an input, and returns what is broadcast.
     pub fn step(&mut self, input: &Input, now: u64) -> Option<Told> {
         match input {
             Input::LinkUp(k) => self.link_up(*k),

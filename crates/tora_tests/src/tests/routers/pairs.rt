@@ -1,4 +1,4 @@
-//! Two routers, and the array over which their datagrams go.
+//! Two routers, and the array that holds their datagrams.
 use crate::tests::sees::sees;
 use std::alloc::Global;
 use std::process::Abort;
@@ -7,7 +7,7 @@ use tora_core::{CoreLimits, Erasure};
 use tora_frame::LONGEST_FRAME;
 use tora_router::{Config, Router, RouterError};
 
-/// What node 1 is to be.
+/// The configuration of node 1.
 pub const CONFIG_OF_ONE: Config = Config {
     me: 1,
     times: Times::STANDARD,
@@ -15,7 +15,7 @@ pub const CONFIG_OF_ONE: Config = Config {
     limits: CoreLimits::STANDARD,
 };
 
-/// What node 2 is to be.
+/// The configuration of node 2.
 const CONFIG_OF_TWO: Config = Config {
     me: 2,
     times: Times::STANDARD,
@@ -30,14 +30,14 @@ pub struct Pair {
     pub two: Router,
 }
 
-/// The pair, whose life numbers begin with 5 and 9.
+/// The pair, with session numbers that begin at 5 and 9.
 pub fn made(alloc: Global) -> Result<Pair, RouterError> {
     let one = Router::new(alloc, &CONFIG_OF_ONE, &[2], &[2], 5)?;
     let two = Router::new(alloc, &CONFIG_OF_TWO, &[1], &[2], 9)?;
     Ok(Pair { one, two })
 }
 
-/// Why such a router is not made, if it isn't.
+/// Why a router with this configuration is refused, if it is.
 pub fn refusal(
     alloc: Global,
     config: &Config,
@@ -51,7 +51,7 @@ pub fn refusal(
     }
 }
 
-/// One datagram goes from a router to the other, if one is due.
+/// Sends the first due datagram of a router to the other one. Returns false if none is due.
 fn passes(rt: &impl Abort, from: &mut Router, to: &mut Router, me: u32, now: u64) -> bool {
     let mut room = [0u8; LONGEST_FRAME];
     let Some((_, length)) = from.poll_datagram(now, &mut room) else {
@@ -67,7 +67,7 @@ fn passes(rt: &impl Abort, from: &mut Router, to: &mut Router, me: u32, now: u64
 }
 
 impl Pair {
-    /// The ticks from one to another, the last one left out, with all datagrams that are due.
+    /// Runs the ticks from `first` to below `behind`, with all datagrams that are due.
     pub fn runs(&mut self, rt: &impl Abort, first: u64, behind: u64) {
         for now in first..behind {
             self.one.on_tick(now);

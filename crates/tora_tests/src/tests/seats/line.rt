@@ -1,5 +1,4 @@
-//! The line of four nodes, 1 - 2 - 3 - 4, by items that are made by hand: what one seat offers is handed to the next
-//! one.
+//! The line of four nodes, 1 - 2 - 3 - 4, with items made by the test: what one seat offers is passed to the next one.
 use super::super::made::{Parts, core_of, entry_of};
 use super::super::sees::{same, same_at, sees};
 use super::TestLanes;
@@ -10,10 +9,10 @@ use tora_arq::{Life, Reason};
 use tora_height::Id;
 use tora_seat::{Answer, Cargo, CoreSeat, Item, What};
 
-/// The life of every link, as both ends write it.
+/// The session of every link, as both ends write it.
 const LIFE: Life = Life { own: 1, peer: 1 };
 
-/// A node of the line, with the cargoes that its seat has offered and that were not handed on.
+/// A node of the line, with the messages that its seat has offered and that were not passed on yet.
 #[derive(Drop)]
 struct Node {
     me: Id,
@@ -31,7 +30,7 @@ impl Node {
         })
     }
 
-    /// The place of a neighbour.
+    /// The index of a neighbour.
     fn place(&self, rt: &impl Abort, k: Id) -> usize {
         let mut place = 0usize;
         for n in self.seat.core().neighbours() {
@@ -44,7 +43,7 @@ impl Node {
         place
     }
 
-    /// Serves what a seat tells; nothing is refused.
+    /// Serves an item of a seat, and checks that its answer is `Nothing`.
     fn serves(&mut self, rt: &impl Abort, seat: usize, now: u64, what: What) {
         assert!(rt; self.seat.core().neighbours().len() <= 2);
         let item = Item {
@@ -63,13 +62,13 @@ impl Node {
         );
     }
 
-    /// Serves what the link to a neighbour tells.
+    /// Serves an item of the link to a neighbour.
     fn hears(&mut self, rt: &impl Abort, from: Id, now: u64, what: What) {
         let place = self.place(rt, from);
         self.serves(rt, place, now, what);
     }
 
-    /// The first cargo that was offered and not handed on, and the neighbour that it is for.
+    /// The first message that was offered and not passed on, and the neighbour that it is for.
     fn gives(&mut self, rt: &impl Abort) -> Option<(Id, Cargo)> {
         if self.lanes.offers.is_empty() {
             return None;
@@ -80,7 +79,7 @@ impl Node {
     }
 }
 
-/// Hands on every cargo until none is left.
+/// Passes on messages until none is left.
 fn hands_on(rt: &impl Abort, line: &mut [Node], now: u64) {
     for _ in 0..100 {
         for i in 0..line.len() {
@@ -103,7 +102,7 @@ fn hands_on(rt: &impl Abort, line: &mut [Node], now: u64) {
     }
 }
 
-/// The four nodes, with every link up, and the route to 4 that node 1 has asked for.
+/// The four nodes, with every link up, after node 1 has found a route to 4.
 fn joined(rt: &impl Abort, alloc: Global) -> Result<[Node; 4], Fail> {
     let mut line = [
         Node::new(rt, alloc, 1, &[2])?,
@@ -121,7 +120,7 @@ fn joined(rt: &impl Abort, alloc: Global) -> Result<[Node; 4], Fail> {
     Ok(line)
 }
 
-/// Sees the height of a node, and its next hop.
+/// Checks the height and the next hop of a node.
 fn has(rt: &impl Abort, node: &Node, parts: Option<Parts>, hop: Option<Id>) {
     let core = node.seat.core();
     let wanted = Some(entry_of(rt, parts));
@@ -135,7 +134,7 @@ fn has(rt: &impl Abort, node: &Node, parts: Option<Parts>, hop: Option<Id>) {
     );
 }
 
-/// Sees the height of each node, and its next hop.
+/// Checks the height and the next hop of each node.
 fn have(rt: &impl Abort, line: &[Node], rows: &[(Option<Parts>, Option<Id>)]) {
     same(rt, &line.len(), &rows.len(), "how many nodes");
     for (node, (parts, hop)) in line.iter().zip(rows.iter()) {
@@ -165,7 +164,8 @@ const PARTED: &[(Option<Parts>, Option<Id>)] = &[
     (Some((0, 0, 0, 0, 4)), None),
 ];
 
-// Node 3 loses its link to 4: it defines a level, 2 propagates it, 1 reflects it, 3 detects the partition and clears.
+// Node 3 loses its link to 4: it defines a level, 2 propagates it, 1 reflects it, and 3 detects the partition and
+// clears.
 #[test]
 fn line_of_four_detects_a_partition(rt: HostRuntime) -> Result<(), Fail> {
     let mut line = joined(&rt, rt.alloc())?;

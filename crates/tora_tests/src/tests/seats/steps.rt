@@ -1,4 +1,4 @@
-//! What a seat serves and what it makes of that, as tables of steps, and what takes them.
+//! Items that a seat serves and their effects, as tables of steps, and the functions that make them.
 use super::super::made::{core_of, query_for};
 use super::super::sees::same_at;
 use super::{Offered, TestLanes};
@@ -9,7 +9,7 @@ use tora_core::Input;
 use tora_height::Id;
 use tora_seat::{Answer, Cargo, CoreSeat, Item, Stepped, What};
 
-/// What an item tells; a packet is the query for a destination.
+/// The content of an item; a packet is the query for a destination.
 #[derive(Clone, Copy, Debug)]
 pub enum Told {
     Up(Life),
@@ -19,7 +19,7 @@ pub enum Told {
     Cut(Id),
 }
 
-/// A cargo; a packet is the query for a destination.
+/// A message; a packet is the query for a destination.
 #[derive(Clone, Copy, Debug)]
 pub enum Given {
     Packet(Life, Id),
@@ -38,34 +38,35 @@ pub enum Handed {
 /// A step of a run.
 #[derive(Clone, Copy, Debug)]
 pub enum Step {
-    /// An item of a seat is served, and nothing is to be said.
+    /// An item of a seat is served, and its answer is `Nothing`.
     Serves(usize, Told),
-    /// Just these cargoes were offered since the last step that looked, each with its place and whether it was put.
+    /// Exactly these messages were offered since the last check, each with the index of its queue and whether it was
+    /// put.
     Offers(&'static [(usize, Given, bool)]),
-    /// So many cargoes were offered since the last step that looked.
+    /// This many messages were offered since the last check.
     Counts(usize),
-    /// From here on so many cargoes wait in the first lane.
+    /// Sets how many messages wait in the first queue.
     Fills(usize),
-    /// So many cargoes wait in the first lane.
+    /// The number of messages that wait in the first queue.
     Waits(usize),
-    /// The inputs that were handed to the core at the last item.
+    /// The inputs that were passed to the core at the last item.
     Hands(&'static [Handed]),
-    /// The query that the core took at the last item: its sender, its life and its destination.
+    /// The query that the core stepped at the last item: its sender, its session and its destination.
     Steps(Option<(Id, Life, Id)>),
-    /// The current life of the link at a place.
+    /// The current session of the link at an index.
     Lives(usize, Option<Life>),
-    /// The life at a place that is still to be cut.
+    /// The session at an index whose cut is pending.
     Cuts(usize, Option<Life>),
 }
 
-/// The seat of node 1 between 2 and 3, and its lanes; none where memory is refused.
+/// The seat of node 1 between 2 and 3, and its queues; `None` if memory runs out.
 pub fn made(rt: &impl Abort, alloc: Global, destinations: &[Id]) -> Option<(CoreSeat, TestLanes)> {
     let core = core_of(rt, alloc, 1, &[2, 3], destinations).ok()?;
     let seat = CoreSeat::new(alloc, core).ok()?;
     Some((seat, TestLanes::new(alloc)))
 }
 
-/// Serves what a seat tells, and sees that nothing is to be said.
+/// Serves an item of a seat, and checks that its answer is `Nothing`.
 fn serves(rt: &impl Abort, seat: &mut CoreSeat, lanes: &mut TestLanes, at: usize, told: Told) {
     let what = match told {
         Told::Up(life) => What::Up(life),
@@ -85,7 +86,7 @@ fn serves(rt: &impl Abort, seat: &mut CoreSeat, lanes: &mut TestLanes, at: usize
     same_at(rt, &answer, &Answer::Nothing, "the answer", &item);
 }
 
-/// Sees that just these cargoes were offered.
+/// Checks that exactly these messages were offered.
 fn offers(rt: &impl Abort, lanes: &TestLanes, rows: &[(usize, Given, bool)], row: &Step) {
     same_at(
         rt,
@@ -108,7 +109,7 @@ fn offers(rt: &impl Abort, lanes: &TestLanes, rows: &[(usize, Given, bool)], row
     }
 }
 
-/// Sees the inputs that were handed to the core at the last item.
+/// Checks the inputs that were passed to the core at the last item.
 fn hands(rt: &impl Abort, seat: &CoreSeat, rows: &[Handed], row: &Step) {
     same_at(
         rt,
@@ -128,7 +129,7 @@ fn hands(rt: &impl Abort, seat: &CoreSeat, rows: &[Handed], row: &Step) {
     }
 }
 
-/// Sees the packet that the core took at the last item.
+/// Checks the packet that the core stepped at the last item.
 fn steps(rt: &impl Abort, seat: &CoreSeat, stepped: Option<(Id, Life, Id)>, row: &Step) {
     let wanted = match stepped {
         None => None,
@@ -141,7 +142,7 @@ fn steps(rt: &impl Abort, seat: &CoreSeat, stepped: Option<(Id, Life, Id)>, row:
     same_at(rt, &seat.stepped(), &wanted, "what was stepped", row);
 }
 
-/// A seat does what a step says.
+/// Makes one step of a table.
 fn does(rt: &impl Abort, seat: &mut CoreSeat, lanes: &mut TestLanes, row: &Step) {
     match *row {
         Step::Serves(at, told) => serves(rt, seat, lanes, at, told),
@@ -162,7 +163,7 @@ fn does(rt: &impl Abort, seat: &mut CoreSeat, lanes: &mut TestLanes, row: &Step)
     }
 }
 
-/// A seat does what the steps of a table say, one after the other.
+/// Makes the steps of a table, in order.
 pub fn runs(rt: &impl Abort, seat: &mut CoreSeat, lanes: &mut TestLanes, rows: &[Step]) {
     for row in rows {
         does(rt, seat, lanes, row);

@@ -1,4 +1,4 @@
-//! What nodes of a topology make of erased levels.
+//! How the nodes of a topology treat erased levels.
 use super::super::sees::same_at;
 use super::topologies::topology_of;
 use std::process::Abort;
@@ -7,7 +7,7 @@ use tora_core::Erasure::{Plain, Remembered};
 use tora_height::Id;
 use tora_sim::{SimError, Topology};
 
-/// What a node chooses and the answer, and what nodes 1 to 3 make of erased levels then.
+/// A node's choice and the result, and then how nodes 1 to 3 treat erased levels.
 type Row = (Id, Erasure, Result<(), SimError>, [Erasure; 3]);
 
 fn chooses(rt: &impl Abort, topology: &mut Topology, rows: &[Row]) {
@@ -34,7 +34,7 @@ fn chooses(rt: &impl Abort, topology: &mut Topology, rows: &[Row]) {
 
 #[test]
 fn nodes_choose_what_they_make_of_erased_levels(rt: HostRuntime) {
-    // Node 4 is none, and the last choice of a node holds.
+    // There is no node 4, and the last choice of a node counts.
     let choices: [Row; 5] = [
         (4, Remembered, Err(SimError::NoNode), [Plain, Plain, Plain]),
         (2, Remembered, Ok(()), [Plain, Remembered, Plain]),

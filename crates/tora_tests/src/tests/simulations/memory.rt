@@ -1,5 +1,5 @@
-//! What stands where memory is refused: for a topology, for a first world, and at an event. Each test takes that answer
-//! or the other, so that it passes whichever call for memory is refused.
+//! The state after memory runs out: for a topology, for a first world, and at an event. Each test accepts that error or
+//! success, so it passes whichever request for memory is refused.
 use super::super::sees::{same, sees};
 use super::steps::Step::{Clock, Datagrams, Route};
 use super::steps::{Step, runs};
@@ -11,7 +11,7 @@ use tora_core::CoreError;
 use tora_height::Id;
 use tora_sim::{Event, Limits, Sim, SimError, Topology};
 
-/// A topology; `None` where memory is refused.
+/// A topology; `None` if memory runs out.
 fn made_or_refused(
     rt: &impl Abort,
     alloc: Global,
@@ -27,7 +27,7 @@ fn made_or_refused(
     }
 }
 
-/// Where memory is refused for a topology, that is answered. A fault is told without memory.
+/// If memory runs out for a topology, that is the error. Another fault is reported without memory.
 #[test]
 fn want_of_memory_for_a_topology(rt: HostRuntime) {
     let alloc = rt.alloc();
@@ -38,7 +38,7 @@ fn want_of_memory_for_a_topology(rt: HostRuntime) {
     refused(&rt, alloc, &links, &[1], Some(CoreError::Repeated), 0);
 }
 
-/// What is read of the first world of nodes 1, 2 and 3 in a row, with the destination 3.
+/// The first world of nodes 1, 2 and 3 in a row, with the destination 3.
 const FIRST: &[Step] = &[
     Clock(0),
     Datagrams(0),
@@ -46,7 +46,7 @@ const FIRST: &[Step] = &[
     Route(1, 3, Some(None), None),
 ];
 
-/// Sees the first world of nodes 1, 2 and 3 in a row, or that memory was refused for it.
+/// Checks the first world of nodes 1, 2 and 3 in a row, or that memory ran out for it.
 fn sees_first(rt: &impl Abort, alloc: Global, found: Result<Sim, SimError>) {
     match found {
         Err(error) => same(rt, &error, &SimError::Memory, "the error"),
@@ -62,7 +62,7 @@ fn sees_first(rt: &impl Abort, alloc: Global, found: Result<Sim, SimError>) {
     }
 }
 
-/// Where memory is refused for a first world, that is answered, and the topology is as it was.
+/// If memory runs out for a first world, that is the error, and the topology does not change.
 #[test]
 fn want_of_memory_for_a_first_world(rt: HostRuntime) {
     let alloc = rt.alloc();
@@ -76,7 +76,7 @@ fn want_of_memory_for_a_first_world(rt: HostRuntime) {
     same(&rt, &topology.olds(), &[1].as_slice(), "the old nodes");
 }
 
-/// Lets one event happen; answers whether there was memory for it.
+/// Makes one event happen. Returns false if memory runs out.
 fn happens(rt: &impl Abort, sim: &mut Sim, event: &Event) -> bool {
     match sim.step(event) {
         Ok(()) => true,
@@ -87,7 +87,7 @@ fn happens(rt: &impl Abort, sim: &mut Sim, event: &Event) -> bool {
     }
 }
 
-/// The world of nodes 1 and 2 after these events, each of which is possible; `None` where memory is refused.
+/// The world of nodes 1 and 2 after these events, each of which is possible; `None` if memory runs out.
 fn world_after(rt: &impl Abort, alloc: Global, events: &[Event]) -> Option<Sim> {
     let topology = made_or_refused(rt, alloc, &[(1, 2)], &[2])?;
     let Ok(mut sim) = Sim::new(alloc, &topology) else {
@@ -101,7 +101,7 @@ fn world_after(rt: &impl Abort, alloc: Global, events: &[Event]) -> Option<Sim> 
     Some(sim)
 }
 
-/// Whether two worlds tell the same of their clocks, and of the ways of as many datagrams.
+/// Whether two worlds have the same clock, and as many datagrams between the same nodes.
 fn are_datagrams_same(one: &Sim, other: &Sim) -> bool {
     let mut are_same = one.clock() == other.clock() && one.datagrams() == other.datagrams();
     for i in 0..10 {
@@ -110,7 +110,7 @@ fn are_datagrams_same(one: &Sim, other: &Sim) -> bool {
     are_same
 }
 
-/// Whether two worlds tell the same of a node and its core.
+/// Whether two worlds agree on a node and its core.
 fn is_node_same(one: &Sim, other: &Sim, n: Id) -> bool {
     one.height(n, 2) == other.height(n, 2)
         && one.next_hop(n, 2) == other.next_hop(n, 2)
@@ -118,13 +118,13 @@ fn is_node_same(one: &Sim, other: &Sim, n: Id) -> bool {
         && one.inputs(n).len() == other.inputs(n).len()
 }
 
-/// Whether two worlds tell the same of what was sent and taken at a link end in the first life of the link.
+/// Whether two worlds agree on how many packets were sent and stepped at a link end in the first session of the link.
 fn is_lane_same(one: &Sim, other: &Sim, n: Id, k: Id) -> bool {
     one.sent_count(n, k, LIFE) == other.sent_count(n, k, LIFE)
         && one.taken_count(n, k, LIFE) == other.taken_count(n, k, LIFE)
 }
 
-/// Whether the same may happen in two worlds at the link end that stands at a place.
+/// Whether the same events are possible in two worlds at the link end with this index.
 fn is_end_same(one: &Sim, other: &Sim, place: usize, n: Id, k: Id) -> bool {
     let events = [
         Event::Open(n, k),
@@ -139,7 +139,7 @@ fn is_end_same(one: &Sim, other: &Sim, place: usize, n: Id, k: Id) -> bool {
     is_same
 }
 
-/// Whether what is read of two worlds of nodes 1 and 2 is the same.
+/// Whether two worlds of nodes 1 and 2 agree in all that the test reads.
 fn are_same(one: &Sim, other: &Sim) -> bool {
     are_datagrams_same(one, other)
         && is_node_same(one, other, 1)
@@ -148,7 +148,7 @@ fn are_same(one: &Sim, other: &Sim) -> bool {
         && is_end_same(one, other, 1, 2, 1)
 }
 
-/// Whether a world keeps more after an event.
+/// Whether an event can need memory.
 fn takes_memory(event: &Event) -> bool {
     match event {
         Event::Need(_, _) => true,
@@ -164,9 +164,8 @@ fn takes_memory(event: &Event) -> bool {
     }
 }
 
-/// Sees that a run of events, each of which is possible behind those before them, leaves the world after all of them;
-/// or, where memory was refused at one, the world after those before that one, in which the events from it on then
-/// happen.
+/// Checks that a run of possible events leads to the same world as the events one by one. If memory ran out at one
+/// event, the world must be that before this event, and this event and those after it can then happen.
 fn sees_run(rt: &impl Abort, alloc: Global, before: &[Event], events: &[Event]) {
     let Some(mut sim) = world_after(rt, alloc, before) else {
         return;
@@ -198,13 +197,13 @@ fn sees_run(rt: &impl Abort, alloc: Global, before: &[Event], events: &[Event]) 
     );
 }
 
-/// Where memory is refused for a first link, its packets and its meeting.
+/// Memory runs out at the events of a first link: its meeting, and its packets.
 #[test]
 fn want_of_memory_at_a_meeting(rt: HostRuntime) {
     sees_run(&rt, rt.alloc(), &[], MEETING);
 }
 
-/// The events by which an update goes over the link, its sender restarts, and the receiver hears of that.
+/// The events after which an update went over the link, its sender restarted, and the receiver heard of that.
 const RESTARTING: &[Event] = &[
     Event::Pull(1, 2),
     Event::Transmit(1, 2),
@@ -228,7 +227,7 @@ fn want_of_memory_at_a_restart(rt: HostRuntime) {
     sees_run(&rt, rt.alloc(), MEETING, RESTARTING);
 }
 
-/// The topology of a line of 200 nodes, with the destination 200; `None` where memory is refused.
+/// The topology of a line of 200 nodes, with the destination 200; `None` if memory runs out.
 fn wide_or_refused(rt: &impl Abort, alloc: Global) -> Option<Topology> {
     let Ok(links) = links_of(alloc, Links::Chain(200)) else {
         return None;
@@ -242,7 +241,7 @@ fn wide_or_refused(rt: &impl Abort, alloc: Global) -> Option<Topology> {
     }
 }
 
-/// The events by which the link of nodes 199 and 200 comes up, the last of the line.
+/// The events after which the last link of the line is up, that of nodes 199 and 200.
 const LAST_MEETING: &[Event] = &[
     Event::Need(199, 200),
     Event::CoreTurn(199),
@@ -260,7 +259,7 @@ const LAST_MEETING: &[Event] = &[
     Event::CoreTurn(199),
 ];
 
-/// What is read of the line of 200 nodes then.
+/// The state of the line of 200 nodes then.
 const LAST_MET: &[Step] = &[
     Clock(0),
     Datagrams(3),
@@ -269,7 +268,7 @@ const LAST_MET: &[Step] = &[
     Route(200, 200, Some(Some((0, 0, 0, 0, 200))), None),
 ];
 
-/// Lets an event happen, once more where memory was refused for it.
+/// Makes an event happen, at the second attempt if memory ran out at the first.
 fn happens_at_last(rt: &impl Abort, sim: &mut Sim, event: &Event) {
     if !happens(rt, sim, event) {
         let has_memory = happens(rt, sim, event);
@@ -277,7 +276,7 @@ fn happens_at_last(rt: &impl Abort, sim: &mut Sim, event: &Event) {
     }
 }
 
-/// Sees that the last two nodes of the line meet in its first world, or that memory was refused for it.
+/// Checks that the last two nodes of the line meet in its first world, or that memory ran out for it.
 fn sees_last_meet(rt: &impl Abort, alloc: Global, found: Result<Sim, SimError>) {
     match found {
         Err(error) => same(rt, &error, &SimError::Memory, "the error"),
@@ -290,8 +289,8 @@ fn sees_last_meet(rt: &impl Abort, alloc: Global, found: Result<Sim, SimError>) 
     }
 }
 
-/// Where memory is refused for a world of 200 nodes, or at an event in it, that is answered; the event may happen then,
-/// and leaves what it leaves where memory is not refused.
+/// If memory runs out for a world of 200 nodes, or at an event in it, that is the error. The event can then happen,
+/// with the same effect as without the error.
 #[test]
 fn want_of_memory_in_a_world_of_200_nodes(rt: HostRuntime) {
     let alloc = rt.alloc();
@@ -300,8 +299,8 @@ fn want_of_memory_in_a_world_of_200_nodes(rt: HostRuntime) {
     }
 }
 
-/// The events by which five queries go over one link at once: more than stand in a lane and in a link end that have no
-/// lists, so that both take theirs, and so does the link end that takes the frame in.
+/// The events after which five queries went over one link at once. A queue and a link end that store messages inline
+/// have room for fewer, so both allocate their lists, and so does the link end that receives the frame.
 const ASKING: &[Event] = &[
     Event::Open(1, 2),
     Event::Open(2, 1),
@@ -344,7 +343,7 @@ const ASKING: &[Event] = &[
     Event::CoreTurn(2),
 ];
 
-/// Sees that all of them are taken, where each event happens at last.
+/// Checks that all queries arrive, if each event happens at last.
 fn sees_asked(rt: &impl Abort, found: Result<Sim, SimError>) {
     match found {
         Err(error) => same(rt, &error, &SimError::Memory, "the error"),
@@ -359,8 +358,8 @@ fn sees_asked(rt: &impl Abort, found: Result<Sim, SimError>) {
     }
 }
 
-/// Where memory is refused for the lists of a lane or a link end, that is answered, and nothing is lost: the event may
-/// happen then.
+/// If memory runs out for the lists of a queue or a link end, that is the error, and nothing is lost: the event can
+/// then happen.
 #[test]
 fn want_of_memory_for_lists(rt: HostRuntime) {
     let alloc = rt.alloc();

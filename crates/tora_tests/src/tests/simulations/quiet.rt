@@ -1,4 +1,4 @@
-//! Until which tick nothing is to be done.
+//! The tick before which nothing is to be done.
 use super::steps::Step::{Cannot, Does, HandsOver, HasEnds, NextDue, Quiet, Settles, Tells};
 use super::steps::{Step, first_world, runs};
 use super::topologies::topology_of;
@@ -7,7 +7,7 @@ use std::alloc::Global;
 use std::process::Abort;
 use tora_sim::{Event, Sim};
 
-/// Two ends that have to be opened.
+/// Two ends that are closed.
 const CLOSED: &[Step] = &[
     Quiet(false),
     Settles,
@@ -20,7 +20,7 @@ const CLOSED: &[Step] = &[
     NextDue(3, 3),
 ];
 
-/// Two bound ends that have said HELLO, two ticks before the next one.
+/// Two bound ends that have sent their HELLOs, two ticks before the next ones.
 const BOUND: &[Step] = &[
     Quiet(false),
     Settles,
@@ -59,7 +59,8 @@ const BOUND: &[Step] = &[
     NextDue(0, 2),
 ];
 
-/// A need makes node 1 send an update once the link is up: it waits in the lane, and then for an acknowledgement.
+/// A need makes node 1 send an update once the link is up: the update waits in the queue, and then for an
+/// acknowledgement.
 const WAITING: &[Step] = &[
     Does(Event::Need(1, 2)),
     Does(Event::CoreTurn(1)),
@@ -78,7 +79,7 @@ const WAITING: &[Step] = &[
     Quiet(false),
 ];
 
-/// The ends of a link whose HELLOs stay away for three ticks are closed then, and each tells so.
+/// The sessions of a link end after three ticks without a HELLO, and each end has an event.
 const SILENT: &[Step] = &[
     Settles,
     Quiet(true),
@@ -96,7 +97,7 @@ const SILENT: &[Step] = &[
     Does(Event::Open(1, 2)),
 ];
 
-/// A world of one link does what the steps say first, and what they say then, once its ends are bound.
+/// Makes the first steps in a world of one link, and the others once its ends are bound.
 fn bound(rt: &impl Abort, alloc: Global, first: &[Step], then: &[Step]) {
     let topology = topology_of(rt, alloc, &[(1, 2)], &[2]);
     let mut sim = Sim::with_times(alloc, &topology, TIMES).expect(rt, "a simulator");

@@ -1,4 +1,4 @@
-//! Worlds at rest, and worlds that fail each clause of it alone.
+//! Worlds at rest, and worlds that violate each condition of rest alone.
 use super::steps::Step::{Does, HandsOver, Rests, Tells};
 use super::steps::{Step, first_world, runs};
 use tora_sim::Event;
@@ -16,7 +16,7 @@ const MEETING: &[Step] = &[
     Rests(true),
 ];
 
-/// Node 1 asks for a route, node 2 acknowledges its query, and asks as well.
+/// Node 1 asks for a route, and node 2 acknowledges its query and asks as well.
 const ASKING: &[Step] = &[
     Does(Event::Need(1, 3)),
     Rests(false), // an item waits for the core of node 1
@@ -46,7 +46,7 @@ fn each_clause_of_rest_is_looked_at(rt: HostRuntime) {
     runs(&rt, rt.alloc(), &mut sim, ASKING);
 }
 
-/// Both nodes are made anew, one after the other.
+/// Both nodes restart, one after the other.
 const RESTARTING: &[Step] = &[
     Does(Event::Restart(1, None)),
     Rests(false),

@@ -1,4 +1,4 @@
-//! Runs of a simulated world as tables of steps, and what takes them.
+//! Runs of a simulated world as tables of steps, and the functions that make them.
 use super::super::made::{Parts, entry_of};
 use super::super::sees::same_at;
 use super::topologies::topology_of;
@@ -9,18 +9,18 @@ use tora_height::Id;
 use tora_packet::{Packet, Update};
 use tora_sim::{Event, Sim, SimError};
 
-/// A step of a run: what happens, or what is read of the world then.
+/// A step of a run: an action, or an observation of the world.
 #[derive(Clone, Copy, Debug)]
 pub enum Step {
     /// An event happens.
     Does(Event),
     /// An event is not possible.
     Cannot(Event),
-    /// The frame that is due from the first node to the second is sent and delivered.
+    /// The due frame of the first node to the second is sent and delivered.
     HandsOver(Id, Id),
-    /// The core of a node is told what its link end to the second node has to tell.
+    /// The core of a node serves the events of its link end to the second node.
     Tells(Id, Id),
-    /// Whether an event may be possible, by the place of its node or end.
+    /// Whether an event may be possible, by the index of its node or end.
     MayHappen(usize, Event, bool),
     /// The clock.
     Clock(u64),
@@ -28,11 +28,12 @@ pub enum Step {
     Datagrams(u64),
     /// The sender and the receiver of a datagram, if there is one.
     Datagram(u64, Option<(Id, Id)>),
-    /// The height of a node for a destination, if there are both, and the next hop.
+    /// The height of a node for a destination, if both exist, and its next hop.
     Route(Id, Id, Option<Option<Parts>>, Option<Id>),
-    /// The heights, for 2, of the updates that the first node sent the second in a life, as the first writes it.
+    /// The heights, for 2, of the updates that the first node sent to the second in a session, as the first writes it.
     Sent(Id, Id, Life, &'static [Parts]),
-    /// The heights, for 2, of the updates that the first node took of the second in a life, as the first writes it.
+    /// The heights, for 2, of the updates of the second node that the first one stepped in a session, as the first
+    /// writes it.
     Taken(Id, Id, Life, &'static [Parts]),
     /// Whether the entries for a destination are exact.
     Exact(Id, bool),
@@ -42,13 +43,13 @@ pub enum Step {
     NoNode(Id, Id),
     /// Whether the world is at rest.
     Rests(bool),
-    /// It is looked for the tick before which nothing is to be done.
+    /// `settle` is called.
     Settles,
     /// Whether it is known that nothing is to be done.
     Quiet(bool),
     /// Whether these are the link ends, in their order.
     HasEnds(&'static [(Id, Id)], bool),
-    /// The first place from one on at which a link end may have something to do.
+    /// The index from which a search for an end that may have something to do begins, and the index that it finds.
     NextDue(usize, usize),
 }
 
@@ -58,12 +59,12 @@ pub fn first_world(rt: &impl Abort, alloc: Global, links: &[(Id, Id)], destinati
     Sim::new(alloc, &topology).expect(rt, "a simulator")
 }
 
-/// Makes an event happen that is possible.
+/// Makes an event happen, and checks that it is possible.
 fn happens(rt: &impl Abort, sim: &mut Sim, event: Event, row: &Step) {
     same_at(rt, &sim.step(&event), &Ok(()), "the answer", row);
 }
 
-/// Sees that packets are the updates of these heights for 2.
+/// Checks that packets are the updates with these heights for 2.
 fn are_updates(rt: &impl Abort, packets: &[Packet], heights: &[Parts], row: &Step) {
     same_at(rt, &packets.len(), &heights.len(), "how many packets", row);
     for (packet, parts) in packets.iter().zip(heights.iter()) {
@@ -73,7 +74,7 @@ fn are_updates(rt: &impl Abort, packets: &[Packet], heights: &[Parts], row: &Ste
     }
 }
 
-/// Sees the walk of a node to a destination.
+/// Checks the walk of a node to a destination.
 fn walks(
     rt: &impl Abort,
     alloc: Global,
@@ -90,7 +91,7 @@ fn walks(
     }
 }
 
-/// What a step reads of the world is so.
+/// Checks the observation of a step.
 fn reads(rt: &impl Abort, alloc: Global, sim: &Sim, row: &Step) {
     match *row {
         Step::MayHappen(place, event, may) => {
@@ -136,7 +137,7 @@ fn reads(rt: &impl Abort, alloc: Global, sim: &Sim, row: &Step) {
     }
 }
 
-/// The world does what a step says.
+/// Makes one step of a table.
 fn does(rt: &impl Abort, alloc: Global, sim: &mut Sim, row: &Step) {
     match *row {
         Step::Does(event) => happens(rt, sim, event, row),
@@ -158,7 +159,7 @@ fn does(rt: &impl Abort, alloc: Global, sim: &mut Sim, row: &Step) {
     }
 }
 
-/// The world does what the steps of a table say, one after the other.
+/// Makes the steps of a table, in order.
 pub fn runs(rt: &impl Abort, alloc: Global, sim: &mut Sim, rows: &[Step]) {
     for row in rows {
         does(rt, alloc, sim, row);

@@ -1,4 +1,4 @@
-//! Topologies that are made and refused, as tables.
+//! Topologies that are made or refused, as tables.
 ghost use Rattle.std.specs.Prelude.{◌≡◌, ◌<◌, true};
 ghost use Rattle.std.specs.List.{All};
 ghost use Rattle.tora_world.specs.Topology.{Link};
@@ -26,7 +26,7 @@ fn are_links(links: &[(Id, Id)]) -> bool
     true
 }
 
-/// A topology of numbers that are not 0.
+/// A topology with numbers that are not 0.
 pub fn made(
     rt: &impl Abort,
     alloc: Global,
@@ -39,7 +39,7 @@ pub fn made(
     Topology::new(alloc, links, destinations)
 }
 
-/// A topology of numbers that are not 0, within these limits.
+/// A topology with numbers that are not 0, within these limits.
 pub fn made_within(
     rt: &impl Abort,
     alloc: Global,
@@ -53,8 +53,8 @@ pub fn made_within(
     Topology::with_limits(alloc, limits, links, destinations)
 }
 
-/// Links: these, those from each of so many nodes to the next, those from node 1 to so many others with these behind
-/// them, or the same so often.
+/// Links: listed ones; a chain of this many nodes; a star of node 1 with this many others, and more links after them;
+/// or one link this many times.
 #[derive(Clone, Copy)]
 pub enum Links {
     Listed(&'static [(Id, Id)]),
@@ -90,7 +90,7 @@ pub fn links_of(alloc: Global, links: Links) -> Result<Vec<(Id, Id)>, AllocError
     Ok(list)
 }
 
-/// Sees that a topology is refused for this cause, or is made.
+/// Checks that a topology is refused for this reason, or is made.
 pub fn refused(
     rt: &impl Abort,
     alloc: Global,
@@ -105,10 +105,10 @@ pub fn refused(
     same_at(rt, &error, &cause, "the error", &row);
 }
 
-/// The links and the destinations of a topology, and the cause for which it is refused, if any.
+/// The links and the destinations of a topology, and the reason for its refusal, if any.
 type Row = (Links, Numbers, Option<CoreError>);
 
-/// Sees of each row that it is refused for its cause, or is made.
+/// Checks of each row that it is refused for its reason, or is made.
 fn refuses(rt: &impl Abort, alloc: Global, rows: &[Row]) {
     for (i, (links, destinations, cause)) in rows.iter().enumerate() {
         let links = links_of(alloc, *links).expect(rt, "memory");
@@ -117,7 +117,7 @@ fn refuses(rt: &impl Abort, alloc: Global, rows: &[Row]) {
     }
 }
 
-/// As many nodes, links of a node and destinations as there may be, one less and one more of each.
+/// The greatest numbers of nodes, links of a node and destinations, one fewer and one more of each.
 const LIMITS: &[Row] = &[
     (Links::Chain(63), These(&[1]), None),
     (Links::Chain(64), These(&[1]), None),
@@ -142,25 +142,25 @@ const SMALL: Limits = Limits {
     nodes: 3,
 };
 
-/// Limits above the greatest.
+/// Limits above the greatest ones.
 const ABOVE: Limits = Limits {
     neighbours: 1000,
     destinations: 1000,
     nodes: 10000,
 };
 
-/// Limits, and a topology that they let in or refuse.
+/// Limits, and a topology that they allow or refuse.
 type RowWithin = (Limits, Row);
 
-/// As many nodes, links of a node and destinations as limits allow, one less and one more of each. What is above the
-/// greatest stands for the greatest.
+/// The numbers of nodes, links of a node and destinations that limits allow, one fewer and one more of each. A limit
+/// above the greatest one means the greatest one.
 const LIMITS_ASKED: &[RowWithin] = &[
     (SMALL, (Links::Chain(2), These(&[]), None)),
     (SMALL, (Links::Chain(3), These(&[1]), None)),
     (SMALL, (Links::Chain(4), These(&[1]), Some(TooMany))),
     (SMALL, (Links::Chain(3), These(&[1, 2]), Some(TooMany))),
     (SMALL, (Links::Star(3, &[]), These(&[1]), Some(TooMany))),
-    // Numbers that end in the same ten bits are counted together, and then one by one.
+    // Two neighbours whose numbers have the same low ten bits.
     (
         SMALL,
         (Links::Listed(&[(1025, 1), (1, 2049)]), These(&[1]), None),
@@ -272,7 +272,7 @@ fn repeats_and_own_links_are_refused(rt: HostRuntime) {
     refuses(&rt, rt.alloc(), REPEATS);
 }
 
-/// Topologies with more than one cause.
+/// Topologies with more than one reason for a refusal.
 const CAUSES: &[Row] = &[
     (
         Links::Star(33, &[(1, 1), (1, 1)]),
@@ -304,7 +304,7 @@ fn long_list_is_refused_soon(rt: HostRuntime) {
     refuses(&rt, rt.alloc(), LONG);
 }
 
-/// Sees the lists of a topology.
+/// Checks the lists of a topology.
 pub fn keeps(rt: &impl Abort, topology: &Topology, links: &[(Id, Id)], destinations: &[Id]) {
     same(rt, &topology.links(), &links, "the links");
     same(
@@ -315,7 +315,7 @@ pub fn keeps(rt: &impl Abort, topology: &Topology, links: &[(Id, Id)], destinati
     );
 }
 
-/// A topology that is made.
+/// A topology that is accepted.
 pub fn topology_of(
     rt: &impl Abort,
     alloc: Global,
@@ -333,7 +333,8 @@ fn topology_keeps_its_lists(rt: HostRuntime) {
     same(&rt, &empty.links().len(), &0, "no links");
 }
 
-/// Makes nodes of a topology speak version 1 alone, one after the other; sees each answer, and the old nodes behind it.
+/// Makes nodes of a topology speak only version 1, one after the other, and checks each result and the list of such
+/// nodes.
 pub fn ages(rt: &impl Abort, topology: &mut Topology, rows: &[(Id, Result<(), SimError>, &[Id])]) {
     for (n, answer, olds) in rows {
         same_at(rt, &topology.set_old(*n), answer, "the answer for node", n);
@@ -341,7 +342,7 @@ pub fn ages(rt: &impl Abort, topology: &mut Topology, rows: &[(Id, Result<(), Si
     }
 }
 
-/// Node 4 is none; nodes 3 and 1 become old, and 3 once more.
+/// There is no node 4; nodes 3 and 1 are set to version 1, and 3 once more.
 const OLD_NODES: &[(Id, Result<(), SimError>, &[Id])] = &[
     (4, Err(SimError::NoNode), &[]),
     (3, Ok(()), &[3]),
