@@ -7,7 +7,7 @@ use Rattle.tora_cargoes.specs.declared.near_cargoes.TheConstants.{NEAR}
 -- cargoes in order, inline or in a list
 pub record CargoesView : Type 0 where
   pub items : List Cargo  -- in the order in which they were put
-  pub places : ℕ  -- for how many their list has memory; 0 where they have none
+  pub places : ℕ  -- the capacity of their list; 0 if there is no list
 
 -- the cargoes are in the list, or else the first `count` inline cells
 abbrev pub cargoes_in : Bool → ℕ → List Cargo → List Cargo → ℕ → CargoesView
@@ -19,8 +19,8 @@ cargoes_in wide count cells list capacity = record {
 
 pub record LaneView : Type 0 where
   pub put : List Cargo  -- all cargoes that were ever put into the lane
-  pub pulled : ℕ  -- how many of them are no longer in it
-  pub room : ℕ  -- for how many cargoes there is memory in its list; 0 where it has none
+  pub pulled : ℕ  -- how many of them have left the lane
+  pub room : ℕ  -- for how many cargoes that were ever put there is memory; 0 if the lane has no list
 
 abbrev pub room_in : ℕ → ℕ → ℕ
 room_in past places = if places == 0 then 0 else past + places

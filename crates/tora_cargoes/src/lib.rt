@@ -7,11 +7,11 @@
 //!
 //! ```rust
 //! let mut spares = Spares::new(alloc);
-//! spares.make_whole(1)?; // a list for the lane to one neighbour
+//! spares.make_whole(1)?; // a list for one neighbour's lane
 //! let mut lane = Lane::new(alloc);
-//! lane.put(Cargo::Cut(life), &mut spares, 0); // the list of place 0 is taken where the lane has no place left
+//! lane.put(Cargo::Cut(life), &mut spares, 0); // the list 0 is taken only if the inline places are full
 //! assert_eq!(rt; lane.take(), Cargo::Cut(life));
-//! lane.make_room()?; // what left the lane is kept in less
+//! lane.make_room()?; // compresses what has left the lane
 //! ```
 #![tactic(auto)]
 

@@ -42,7 +42,7 @@ pub use ways::{LinkWay, read_ways};
 pub struct LinkConfig {
     /// The neighbour, not 0.
     pub peer: Id,
-    /// The own port, 1 to 65535.
+    /// The node's port, 1 to 65535.
     pub local: u16,
     /// The neighbour's port, 1 to 65535.
     pub remote: u16,
@@ -55,7 +55,7 @@ pub struct NodeConfig {
     pub node: Id,
     /// The destinations of its table, each once and not 0, in the order of the text.
     pub dests: Vec<Id>,
-    /// The folder of its life files, as it is given.
+    /// The folder of the node's life files, as written.
     pub life_dir: String,
     /// How the node treats erased levels.
     pub erasure: Erasure,

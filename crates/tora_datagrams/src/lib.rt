@@ -6,7 +6,7 @@
 //!
 //! ```rust
 //! let mut datagrams = Datagrams::new(alloc);
-//! datagrams.reserve(0)?; // for one more of the first link end
+//! datagrams.reserve(0)?; // room for one more datagram of the first link end
 //! datagrams.push_hello(0, 1, &header); // its HELLO, to the second end
 //! assert_eq!(rt; datagrams.way(0), Some((header.sender, header.receiver)));
 //! ```

@@ -1,8 +1,8 @@
--- What a struct with one pointer is for the machine that owns what `owned` says: one word, null or the pointer to a
+-- A struct with one pointer, which owns what `owned` says, as the machine sees it: one word, null or the pointer to a
 -- block.
---     open_handle      a value of it is null and holds nothing, or points to the block of what it holds
---     close_null       null makes one that holds nothing
---     close_block      a block makes one that holds what lies there
+--     open_handle      a value is null and holds nothing, or it is the pointer to the block of the value that it holds
+--     close_null       null makes a value that holds nothing
+--     close_block      the pointer to a block makes a value that holds the value in the block
 use Rattle.std.proofs.Common.{◌≡◌, ℕ, List, [], ◌∷◌, ◌++◌, refl, subst}
 use seplogic.Ra.Ura.{Ura}
 use mir.Raw.{raw as bare}

@@ -1,7 +1,7 @@
--- What a `RawBox` is for the machine: two words, the pointer into a block and the allocator's.
+-- A `RawBox` as the machine sees it: two words, the pointer to a block and the word of the allocator.
 --     typed          the two words have their types
---     open_parts     a value of it lies in a block, and owns what the box owns
---     close_parts    and back
+--     open_parts     the value is in a block, and the parts own what the box owns
+--     close_parts    the converse of open_parts
 use Rattle.std.proofs.Common.{◌≡◌, ℕ, List, [], ◌∷◌, ◌++◌, refl, subst}
 use mathlib.Core.Bool.{◌&&◌, true}
 use lib.Dec.{T}

@@ -19,10 +19,10 @@ without_tags (Some key) datagrams = filter_map (let_in key) datagrams
 
 pub record LinkView (W : Type 0) : Type 0 where
   pub wire : W
-  pub key : Option (List ℕ)  -- the block of the key, where the link has one
-  pub told : Bool  -- whether each datagram to be sent had room for its tag
+  pub key : Option (List ℕ)  -- the block of the key, if the link has one
+  pub told : Bool  -- whether there was room for the tag of every datagram that was to be sent
   pub unauthenticated : ℕ
-  pub failures : ℕ  -- of its calls, where it has a key
+  pub failures : ℕ  -- failed calls; with a key only
 
 -- the wire of a link over this one, with the block of a key or without one
 abbrev pub over : {W : Type 0} → W → Option (List ℕ) → LinkView W

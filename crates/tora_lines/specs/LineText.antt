@@ -19,8 +19,10 @@ pub record TakesReply {S : Type 0} (reply : S × List ℕ) (state : S) (old new 
 
 pub record Rules (S : Type 0) : Type 0 where
   pub start : S  -- the state before the first line
-  pub reply : S → List ℕ → Option (S × List ℕ)  -- the state that a line of 4,096 bytes at most leaves, and what is printed for it; None for a fault
-  pub at_end : S → ℕ → Option ℕ  -- where the input ends before this line, the number of the line that is a fault, if one is
+  -- the state after a line of at most 4,096 bytes, and its output; None if the line is a fault
+  pub reply : S → List ℕ → Option (S × List ℕ)
+  -- if the input ends before the line with this number: the number of the line that is a fault, if that is one
+  pub at_end : S → ℕ → Option ℕ
 
 -- the reply to a line of any length
 unfoldable pub reply : {S : Type 0} → Rules S → S → List ℕ → Option (S × List ℕ)

@@ -7,7 +7,7 @@
 //!
 //! ```rust
 //! let ended = read_lines(alloc, state, &mut reader, &mut writer)?;
-//! let ended = flushed(&mut writer, Ok(ended))?; // `Ended::Whole`, or `Ended::Fault(N)` where line N is the first fault
+//! let ended = flushed(&mut writer, Ok(ended))?; // `Ended::Whole`, or `Ended::Fault(N)` if line N is the first fault
 //! ```
 #![tactic(auto)]
 

@@ -6,7 +6,8 @@ use Rattle.tora_neighbour.specs.declared.ending.Ending.{Ending}
 use Rattle.tora_neighbour.specs.declared.ending.Ending.TheVariants.{NoNumber, Broken, Refused}
 use Rattle.tora_neighbour.specs.declared.wire.WireError.{WireError}
 
--- the calls of the turns before the last: in each the sends, and then one receive, which gives what came in (`came_of`)
+-- the calls of the turns before the last: in each turn the sends, and then one receive, whose result and buffer are the
+-- datagram that came in (`came_of`)
 abbrev pub AreWireCalls : {W : Type 0} → (W → List ℕ → Result (Unit {0}) WireError → W → Type 0)
     → (W → Result (Option ℕ) WireError → List ℕ → W → Type 0) → W → List Turn → W → Type 0
 AreWireCalls send receive wire [] after = after ≡ wire

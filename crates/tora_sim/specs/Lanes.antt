@@ -10,8 +10,8 @@ use Rattle.tora_sim.specs.Unready.{IsOutside}
 
 pub record LanesView : Type 0 where
   pub links : List LinkView  -- the ends of all links
-  pub first : ℕ  -- the place of the node's first one
-  pub count : ℕ  -- of its neighbours
+  pub first : ℕ  -- the index of the node's first end
+  pub count : ℕ  -- the number of the node's neighbours
 
 abbrev pub lanes_of : List LinkView → ℕ → ℕ → LanesView
 lanes_of links first count = record { links = links; first = first; count = count }

@@ -18,15 +18,15 @@ use Rattle.tora_world.specs.World.{open_with}
 pub record LinkView : Type 0 where
   pub node : ℕ
   pub peer : ℕ
-  pub seat : ℕ  -- the place of the peer among the node's neighbours
-  pub settings : Settings  -- of the link end
+  pub seat : ℕ  -- the index of the peer among the node's neighbours
+  pub settings : Settings
   pub state : EndState
   pub file : LifeDisk
   pub put : List Cargo  -- all cargoes that were ever put into the lane to the peer
-  pub pulled : ℕ  -- how many of them are no longer in the lane
-  pub room : ℕ  -- for how many cargoes there is memory
+  pub pulled : ℕ  -- how many of them have left the lane
+  pub room : ℕ  -- for how many cargoes that were ever put there is memory; 0 if the lane has no list
   pub steps : List Parcel  -- the packets of the peer that the node's core ever stepped
-  pub step_room : ℕ  -- for how many of them there is memory
+  pub step_room : ℕ  -- for how many of these packets there is memory
 
 abbrev pub link_of : ℕ → ℕ → ℕ → LinkEndView → LifeDisk → List Cargo → ℕ → ℕ → List Cargo → ℕ → LinkView
 link_of node peer seat end file put pulled room steps step_room = record {

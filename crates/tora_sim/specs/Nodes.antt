@@ -16,12 +16,12 @@ pub record ItemList (A : Type 0) : Type 0 where
 
 pub record NodeView : Type 0 where
   pub node : ℕ
-  pub first : ℕ  -- the place of its first link end among all link ends
-  pub count : ℕ  -- of its neighbours
-  pub seat : SeatView  -- its core's
-  pub inputs : List (Input × ℕ)  -- those that its core accepted since the node's last restart
-  pub items : List Item  -- the lane into the core
-  pub counts : List ℕ  -- how many items each seat has put: those of the neighbours, and that of the commands
+  pub first : ℕ  -- the index of its first link end among all link ends
+  pub count : ℕ  -- the number of its neighbours
+  pub seat : SeatView  -- the seat of its core
+  pub inputs : List (Input × ℕ)  -- the inputs that its core accepted since the node's last restart, with their ticks
+  pub items : List Item  -- the queue into the core
+  pub counts : List ℕ  -- how many items each seat has put: first the neighbours' seats, then that of the commands
   pub sending : Sending
   pub receive : Bool
 

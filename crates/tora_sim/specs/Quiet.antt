@@ -49,7 +49,7 @@ IsStillIf until link = 0 < until → IsStill until link
 abbrev pub is_idle : NodeView → Bool
 is_idle node = length node.items == 0
 
--- until its deadline, each link end whose deadline has not come is still; a deadline that has come gives no information
+-- each link end whose deadline has not come is still until then; a deadline that has come gives no information
 pub record AreStillEach (clock : ℕ) (stills : List ℕ) (links : List LinkView) : Type 0 where
   pub as_many : length stills ≡ length links
   pub still : (at : ℕ) (link : LinkView) → clock < slice_index stills at → slice_get links at ≡ Some link

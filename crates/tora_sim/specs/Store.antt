@@ -127,7 +127,7 @@ EachOf {A} P xs = (i : ℕ) (x : A) → slice_get xs i ≡ Some x → P x
 
 pub record IsNodeOf (t : Topology) (node : NodeView) : Type 0 where
   pub count : node.count ≡ length (neighbours_of t node.node)
-  pub seats : length node.counts ≡ suc node.count  -- one for each neighbour, and that of the commands
+  pub seats : length node.counts ≡ suc node.count  -- one for each neighbour, and one for the commands
   pub me : node.seat.core.me ≡ node.node
   pub erasure : node.seat.core.erasure ≡ erasure_at t node.node
   pub neighbours : node.seat.core.neighbours ≡ neighbours_of t node.node

@@ -32,7 +32,7 @@ pub struct Topology {
     destinations: Vec<Id>,
     /// The nodes whose link ends speak only version 1 of frames.
     olds: ArrayVec<Id, GREATEST_NODES>,
-    /// How nodes treat erased levels, without a choice of their own.
+    /// How a node without a choice of its own treats erased levels.
     erasure: Erasure,
     /// The choices of single nodes; the last choice for a node counts.
     choices: Vec<(Id, Erasure)>,

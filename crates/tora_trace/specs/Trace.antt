@@ -10,8 +10,8 @@ use Rattle.tora_core.specs.declared.errors.CoreError.{CoreError}
 use Rattle.tora_trace.specs.Copies.{CopyState, Told, copy_refusal, first_copy, copy_restarted, restart_records}
 
 pub record TraceState : Type 0 where
-  pub copies : List CopyState  -- of each node's core
-  pub counts : FrameCounts  -- of the datagrams since the last record of them
+  pub copies : List CopyState  -- a copy of each node's core
+  pub counts : FrameCounts  -- the counts of datagrams since the last record of them
   pub text : List ℕ  -- the records that the caller has not taken yet
 
 -- ---- datagrams

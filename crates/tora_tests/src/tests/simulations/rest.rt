@@ -21,20 +21,20 @@ const ASKING: &[Step] = &[
     Does(Event::Need(1, 3)),
     Rests(false), // an item waits for the core of node 1
     Does(Event::CoreTurn(1)),
-    Rests(false), // a cargo waits in its lane to node 2
+    Rests(false), // a message waits in the queue from node 1 to node 2
     Does(Event::Pull(1, 2)),
     Rests(false), // the query is submitted and not acknowledged
     HandsOver(1, 2),
     HandsOver(2, 1),
     Rests(false), // an event waits in the link end of node 2
     Does(Event::Pump(2, 1)),
-    Rests(false), // an item waits for its core
+    Rests(false), // an item waits for the core of node 2
     Does(Event::CoreTurn(2)),
     Does(Event::Pull(2, 1)),
     HandsOver(2, 1),
     HandsOver(1, 2),
     Tells(1, 2),
-    Rests(true), // node 2 has asked as well, and nobody answers
+    Rests(true), // node 2 has asked, too, and no node answers
     Does(Event::Deliver(1)),
     Rests(true), // an old datagram changes nothing
 ];
@@ -51,7 +51,7 @@ const RESTARTING: &[Step] = &[
     Does(Event::Restart(1, None)),
     Rests(false),
     Does(Event::Restart(2, None)),
-    Rests(true), // it is up at neither
+    Rests(true), // the link is up at neither core
 ];
 
 #[test]
