@@ -20,7 +20,7 @@ pub record KeptItems : Type 0 where
   pub items : List KeptCargo
   pub places : ℕ
 
--- the origin that was found, or one of no link
+-- the origin that was found, or a placeholder if there is none
 abbrev pub origin_in : Option Origin → Origin
 origin_in None = record { life = record { own = 0; peer = 0 }; id = 0 }
 origin_in (Some origin) = origin
@@ -28,7 +28,7 @@ origin_in (Some origin) = origin
 abbrev pub origin_at : List Origin → ℕ → Origin
 origin_at origins number = origin_in (slice_get origins number)
 
--- the uncompressed cargo that was found, or one of no link
+-- the uncompressed cargo that was found, or a placeholder if there is none
 abbrev pub apart_in : Option Cargo → Cargo
 apart_in None = Gives.Cut (record { own = 0; peer = 0 })
 apart_in (Some cargo) = cargo

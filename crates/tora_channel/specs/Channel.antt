@@ -20,7 +20,7 @@ abbrev pub word : ChaCha → ℕ → ℕ
 word g zero = (next_word 4 g).0
 word g (suc k) = word (next_word 4 g).1 k
 
--- the channel over which every datagram arrives at once and once
+-- the channel over which every datagram arrives exactly once, without delay
 abbrev pub clear : Channel
 clear = record { seed = 0; loss = 0; repeat = 0; least = 0; most = 0 }
 

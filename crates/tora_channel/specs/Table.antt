@@ -27,7 +27,7 @@ over table channel = record { base = channel; lines = lines_of table }
 abbrev pub alone : Channel → Channels
 alone channel = record { base = channel; lines = [] }
 
--- the channel over which every datagram arrives at once and once
+-- the channel over which every datagram arrives exactly once, without delay
 abbrev pub clear : Channels
 clear = alone Base.clear
 

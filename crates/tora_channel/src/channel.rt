@@ -64,7 +64,7 @@ fn is_among(word: u32, share: u32) -> bool
 }
 
 impl Channel {
-    /// The channel over which every datagram arrives at once and once.
+    /// The channel over which every datagram arrives exactly once, without delay.
     pub const CLEAR: Channel = Channel {
         seed: 0,
         loss: 0,

@@ -94,7 +94,8 @@ fn word(text: &[u8]) -> Result<(&[u8], &[u8]), LineCause>
 /// A line `T A B PARTS`.
 ///
 /// # Errors
-/// The first of these that is wrong: a word is missing, T, A, B, PARTS, that A is B.
+/// The first of these, from left to right: `Words` for a missing word, `Round` for T, `Node` for A and B, `Parts`; and
+/// last `OwnLink` if A is B.
 #[tactic(auto, unfolding(crate::specs::TableText::channel_line_of))]
 pub fn channel_line(text: &[u8]) -> Result<ChannelLine, LineCause>
     ensures { result_ok result ≡ channel_line_of text.now }

@@ -1,4 +1,4 @@
--- What std parses is the address that a text writes.
+-- The address in a text is the one that the standard library parses.
 use Rattle.std.proofs.Common.{◌≡◌, ◌∙◌, refl, sym, arith, subst, ℕ, List, [], ◌∷◌, length, append-nil, Some, None, Result, Ok, Err, ne_eqb}
 use Rattle.std.specs.Result.{result_ok}
 use Rattle.std.specs.declared.net.ipv4_addr.Ipv4Addr.{Ipv4Addr}

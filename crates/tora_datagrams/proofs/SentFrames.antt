@@ -23,7 +23,7 @@ stays_at [] ys n h = absurd (omega (arith, h))
 stays_at (x ∷ xs) ys zero h = refl
 stays_at (x ∷ xs) ys (suc n) h = stays_at xs ys n (omega (arith, h))
 
--- one frame for each place
+-- there are as many frames as indexes
 pub as_many : (frames : List FrameParts) (places : List ℕ) → AreWithin frames places → length (sent_frames frames places) ≡ length places
 as_many frames [] h = refl
 as_many frames (place ∷ places) h =
