@@ -36,7 +36,8 @@ cleared_key (Some key) = Some (replicate 64 0)
 abbrev pub cleared : {W : Type 0} → LinkView W → LinkView W
 cleared f = record f { key = cleared_key f.key }
 
--- whether contracts know the datagrams: without a key, if they know those of the wire inside
+-- whether contracts know the datagrams: they know those of the wire inside and, with a key, there was room for every
+-- tag
 abbrev pub tells_with : Option (List ℕ) → Bool → Bool → Bool
 tells_with None told tells = tells
 tells_with (Some key) told tells = told && tells

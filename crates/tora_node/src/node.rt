@@ -172,9 +172,10 @@ fn settled<Wr: Drop>(
 /// without a waker, the thread is not woken. No contract states that a thread is woken.
 ///
 /// # Errors
-/// Before the threads: `Lane` if there are no neighbours or more than there can be queues for; `Memory`, also if a
-/// thread cannot be started; `Life` with the neighbour if its life file does not open. After the threads have ended:
-/// the fault of the core (`Memory`, `Output`), otherwise that of the lowest neighbour (`Life`, `Wire`).
+/// Without a thread: `Lane` if there are no neighbours or more than there can be queues for, and `Life` with the
+/// neighbour if its life file does not open. `Memory` may come at any point, also if a thread cannot be started. After
+/// all threads have ended: the fault of the core (`Memory`, `Output`), otherwise that of the lowest neighbour (`Life`,
+/// `Wire`).
 pub fn run_node<
     R: Threads + Wait + Log + Sync,
     D: Disk + Send + Drop,
