@@ -56,8 +56,8 @@ impl Spare {
 
 /// The pool of a node: an empty list for each neighbour. A lane that needs a list takes that of its neighbour. The lane
 /// returns the list when it is shortened, and frees it when it is empty before a turn of the core. Missing lists are
-/// allocated before the next turn, so serving an item needs no memory, and only lanes that once held many cargoes have a
-/// list.
+/// allocated before the next turn, so serving an item needs no memory, and only lanes that once held many cargoes have
+/// a list.
 #[derive(Drop)]
 pub struct Spares {
     lists: Vec<Spare>,

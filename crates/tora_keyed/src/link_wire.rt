@@ -73,7 +73,7 @@ impl<'a, W: Wire, C: Clock, L: Log> LinkWire<'a, W, C, L> {
     }
 
     /// Closes a link with a key: logs how many datagrams were not authentic, and overwrites the key and the buffer with
-    /// zeros. Without a key nothing happens.
+    /// zeros. From then on the block of the key is zeros. Without a key nothing happens.
     pub fn close(&mut self)
         ensures { self.new ≡ cleared self.old }
     {
