@@ -4,7 +4,7 @@ use Rattle.std.proofs.lemmas.Bool.{cases_Bool}
 use Rattle.std.proofs.lemmas.Bool.Decides.{nat_tests}
 use Rattle.tora_seat.specs.declared.cargo.Cargo.{Cargo}
 use Rattle.tora_seat.specs.declared.TheConstants.{MOST_CARGOES}
-use Rattle.tora_cargoes.specs.declared.near_cargoes.TheConstants.{NEAR}
+use Rattle.tora_cargoes.specs.declared.inline_cargoes.TheConstants.{INLINE_CARGOES}
 use Rattle.tora_cargoes.specs.Lane.{CargoesView, lane_of, has_place_in, room_in, IsWhole, Fits}
 use Rattle.tora_cargoes.proofs.LaneLists.{drop_behind}
 
@@ -17,9 +17,9 @@ room_cases past places = go (cases_Bool (nat_eq places 0))
     go (inr f) = inr (grind (arith, nat_tests, f), ap (λ (b : Bool). if b then 0 else past + places) f)
 
 -- there is a place for one more cargo, inline or in the list
-pub push_fits : (past : List Cargo) (cargoes : CargoesView) (taken : ℕ) (spares : List ℕ) (spare : ℕ) → Fits (length past + taken) (room_in (length past) cargoes.places) spares spare → has_place_in (lane_of past cargoes taken) ≡ true
-    → ((cargoes.places ≡ 0) × IsWhole spares spare) ⊎ (length cargoes.items < cargoes.places)
-push_fits past cargoes taken spares spare fits free = go (room_cases (length past) cargoes.places) fits
+pub push_fits : (past : List Cargo) (cargoes : CargoesView) (taken : ℕ) (pool : List ℕ) (spare : ℕ) → Fits (length past + taken) (room_in (length past) cargoes.places) pool spare → has_place_in (lane_of past cargoes taken) ≡ true
+    → ((cargoes.places ≡ 0) × IsWhole pool spare) ⊎ (length cargoes.items < cargoes.places)
+push_fits past cargoes taken pool spare fits free = go (room_cases (length past) cargoes.places) fits
   where
     few : length cargoes.items - taken < MOST_CARGOES
     few =
@@ -27,21 +27,21 @@ push_fits past cargoes taken spares spare fits free = go (room_cases (length pas
         let many = length-drop taken cargoes.items in
         grind (arith, nat_tests, waiting, many)
 
-    go : ((cargoes.places ≡ 0) × (room_in (length past) cargoes.places ≡ 0)) ⊎ ((0 < cargoes.places) × (room_in (length past) cargoes.places ≡ length past + cargoes.places)) → Fits (length past + taken) (room_in (length past) cargoes.places) spares spare
-        → ((cargoes.places ≡ 0) × IsWhole spares spare) ⊎ (length cargoes.items < cargoes.places)
-    go (inl none) (inl near) = inl (none.0, near.1)
+    go : ((cargoes.places ≡ 0) × (room_in (length past) cargoes.places ≡ 0)) ⊎ ((0 < cargoes.places) × (room_in (length past) cargoes.places ≡ length past + cargoes.places)) → Fits (length past + taken) (room_in (length past) cargoes.places) pool spare
+        → ((cargoes.places ≡ 0) × IsWhole pool spare) ⊎ (length cargoes.items < cargoes.places)
+    go (inl none) (inl inline_items) = inl (none.0, inline_items.1)
     go (inl none) (inr wide) = let is = none.1 in absurd (omega (arith, is, wide))
-    go (inr some) (inl near) = let a = some.0 in let b = some.1 in let n = near.0 in absurd (omega (arith, a, b, n))
+    go (inr some) (inl inline_items) = let a = some.0 in let b = some.1 in let n = inline_items.0 in absurd (omega (arith, a, b, n))
     go (inr some) (inr wide) = let is = some.1 in let f = few in inr (omega (arith, is, wide, f))
 
 -- after that cargo the lane still fits
-pub still_fits : (past : List Cargo) (cargoes after : CargoesView) (taken : ℕ) (spares spares' : List ℕ) (spare : ℕ) → ((after.places ≡ cargoes.places) × (spares' ≡ spares)) ⊎ ((length cargoes.items ≤ NEAR) × (MOST_CARGOES + NEAR ≤ after.places)) → taken ≤ length cargoes.items
-    → Fits (length past + taken) (room_in (length past) cargoes.places) spares spare → Fits (length past + taken) (room_in (length past) after.places) spares' spare
-still_fits past cargoes after taken spares spares' spare (inl same) within fits =
-    subst (λ (n : ℕ). Fits (length past + taken) (room_in (length past) n) spares' spare) (sym same.0) (subst (λ (xs : List ℕ). Fits (length past + taken) (room_in (length past) cargoes.places) xs spare) (sym same.1) fits)
-still_fits past cargoes after taken spares spares' spare (inr wider) within fits = go (room_cases (length past) after.places)
+pub still_fits : (past : List Cargo) (cargoes after : CargoesView) (taken : ℕ) (pool pool' : List ℕ) (spare : ℕ) → ((after.places ≡ cargoes.places) × (pool' ≡ pool)) ⊎ ((length cargoes.items ≤ INLINE_CARGOES) × (MOST_CARGOES + INLINE_CARGOES ≤ after.places)) → taken ≤ length cargoes.items
+    → Fits (length past + taken) (room_in (length past) cargoes.places) pool spare → Fits (length past + taken) (room_in (length past) after.places) pool' spare
+still_fits past cargoes after taken pool pool' spare (inl same) within fits =
+    subst (λ (n : ℕ). Fits (length past + taken) (room_in (length past) n) pool' spare) (sym same.0) (subst (λ (xs : List ℕ). Fits (length past + taken) (room_in (length past) cargoes.places) xs spare) (sym same.1) fits)
+still_fits past cargoes after taken pool pool' spare (inr wider) within fits = go (room_cases (length past) after.places)
   where
-    go : ((after.places ≡ 0) × (room_in (length past) after.places ≡ 0)) ⊎ ((0 < after.places) × (room_in (length past) after.places ≡ length past + after.places)) → Fits (length past + taken) (room_in (length past) after.places) spares' spare
+    go : ((after.places ≡ 0) × (room_in (length past) after.places ≡ 0)) ⊎ ((0 < after.places) × (room_in (length past) after.places ≡ length past + after.places)) → Fits (length past + taken) (room_in (length past) after.places) pool' spare
     go (inl none) = let n = none.0 in let many = wider.1 in absurd (omega (arith, n, many))
     go (inr some) = let is = some.1 in let few = wider.0 in let many = wider.1 in inr (omega (arith, is, few, many, within))
 

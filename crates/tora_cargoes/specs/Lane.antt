@@ -2,7 +2,7 @@
 use Rattle.std.specs.Prelude.{◌≡◌, ◌==◌, ◌<◌, ◌≤◌, ◌⊎◌, ℕ, ◌+◌, List, ◌++◌, length, nat_lt, Bool, drop, take, slice_index, if◌then◌else◌}
 use Rattle.tora_seat.specs.declared.cargo.Cargo.{Cargo}
 use Rattle.tora_seat.specs.declared.TheConstants.{MOST_CARGOES}
-use Rattle.tora_cargoes.specs.declared.near_cargoes.TheConstants.{NEAR}
+use Rattle.tora_cargoes.specs.declared.inline_cargoes.TheConstants.{INLINE_CARGOES}
 
 -- cargoes in order, inline or in a list
 pub record CargoesView : Type 0 where
@@ -40,11 +40,11 @@ has_place_in lane = nat_lt (length (drop lane.pulled lane.put)) MOST_CARGOES
 -- the list at this index of a pool, which is given by its capacities, has memory for all cargoes that a lane holds, and
 -- for the inline ones
 abbrev pub IsWhole : List ℕ → ℕ → Type 0
-IsWhole spares place = MOST_CARGOES + NEAR ≤ slice_index spares place
+IsWhole pool place = MOST_CARGOES + INLINE_CARGOES ≤ slice_index pool place
 
 -- the first `count` lists of the pool are whole
 abbrev pub AreWhole : List ℕ → ℕ → Type 0
-AreWhole spares count = (place : ℕ) → place < count → IsWhole spares place
+AreWhole pool count = (place : ℕ) → place < count → IsWhole pool place
 
 -- the lists other than that at the index `place` have the same capacities
 abbrev pub AreOthersAsWhole : List ℕ → List ℕ → ℕ → Type 0
@@ -53,4 +53,4 @@ AreOthersAsWhole before after place =
 
 -- a lane has memory for all that it can hold, or it has no list, and the list at this index of the pool is whole
 abbrev pub Fits : ℕ → ℕ → List ℕ → ℕ → Type 0
-Fits pulled room spares place = ((room ≡ 0) × IsWhole spares place) ⊎ (pulled + MOST_CARGOES ≤ room)
+Fits pulled room pool place = ((room ≡ 0) × IsWhole pool place) ⊎ (pulled + MOST_CARGOES ≤ room)

@@ -1,14 +1,14 @@
 //! A list of compressed cargoes, the last few of which are stored inline.
 ghost use Rattle.std.specs.Prelude.{◌≡◌, ◌<◌, ◌≤◌, ◌+◌, ◌^◌, ◌++◌, ◌∷◌, [], length, take, slice_get, slice_set};
 ghost use Rattle.std.specs.Prelude.{vec_len, vec_capacity, OnOk};
-ghost use Rattle.tora_cargoes.specs.declared.kept_list.TheConstants.{NEAR_KEPT};
+ghost use Rattle.tora_cargoes.specs.declared.kept_list.TheConstants.{INLINE_KEPT};
 
 use crate::kept_cargoes::KeptCargo;
 use std::alloc::{AllocError, Global};
 use std::marker::Model;
 
 /// The number of inline places.
-pub const NEAR_KEPT: usize = 4;
+pub const INLINE_KEPT: usize = 4;
 
 /// The least number of places by which a short list grows.
 const FIRST_LISTED: usize = 12;
@@ -25,32 +25,32 @@ const MOST_LISTED: usize = 0x4000_0000_0000_0000;
 pub struct KeptList {
     /// The number of inline cargoes.
     count: usize,
-    near: [KeptCargo; NEAR_KEPT],
+    inline_items: [KeptCargo; INLINE_KEPT],
     list: Vec<KeptCargo>,
 }
 
 /// The least number of places by which a list of `count` cargoes grows. A short list doubles, so that it moves less
 /// often.
 fn more_of(count: usize) -> usize
-    ensures { NEAR_KEPT ≤ result }
+    ensures { INLINE_KEPT ≤ result }
 {
     if count < LONG_LIST {
         count.max(FIRST_LISTED)
     } else {
-        NEAR_KEPT
+        INLINE_KEPT
     }
 }
 
 impl Model for KeptList {
     ghost use Rattle.std.specs.Prelude.{◌≡◌, ◌<◌, ◌≤◌, ◌+◌, ◌++◌, ◌-◌, length, take};
-    ghost use Rattle.tora_cargoes.specs.declared.kept_list.TheConstants.{NEAR_KEPT, MOST_LISTED};
+    ghost use Rattle.tora_cargoes.specs.declared.kept_list.TheConstants.{INLINE_KEPT, MOST_LISTED};
     ghost use Rattle.tora_cargoes.specs.KeptCargoes.{KeptItems};
 
     ghost Value = { KeptItems };
 
-    ghost view = { λ l. record { items = l.list.items ++ take l.count l.near; places = NEAR_KEPT - l.count } };
+    ghost view = { λ l. record { items = l.list.items ++ take l.count l.inline_items; places = INLINE_KEPT - l.count } };
 
-    ghost invariant = { λ l. (l.count ≤ NEAR_KEPT) × (length l.near ≡ NEAR_KEPT) × (length l.list.items < MOST_LISTED + NEAR_KEPT) };
+    ghost invariant = { λ l. (l.count ≤ INLINE_KEPT) × (length l.inline_items ≡ INLINE_KEPT) × (length l.list.items < MOST_LISTED + INLINE_KEPT) };
 }
 
 impl KeptList {
@@ -61,7 +61,7 @@ impl KeptList {
         KeptList {
             list: Vec::new(alloc),
             count: 0,
-            near: [KeptCargo::Cut(0); NEAR_KEPT],
+            inline_items: [KeptCargo::Cut(0); INLINE_KEPT],
         }
     }
 
@@ -83,7 +83,7 @@ impl KeptList {
         ensures items { self.new.items ≡ self.old.items }
         ensures room { OnOk result (0 < self.new.places) }
     {
-        if self.count < NEAR_KEPT {
+        if self.count < INLINE_KEPT {
             return Ok(());
         }
         self.put_away()
@@ -103,7 +103,7 @@ impl KeptList {
             return Err(AllocError);
         }
         self.list.reserve(more_of(self.list.len()))?;
-        append_all(&mut self.list, &self.near);
+        append_all(&mut self.list, &self.inline_items);
         self.count = 0;
         Ok(())
     }
@@ -114,7 +114,7 @@ impl KeptList {
         requires { 0 < self.old.places }
         ensures { self.new.items ≡ self.old.items ++ kept ∷ [] }
     {
-        set_near(&mut self.near, self.count, kept);
+        set_inline(&mut self.inline_items, self.count, kept);
         self.count += 1;
     }
 
@@ -126,33 +126,33 @@ impl KeptList {
         if place < first {
             return self.list.get(place).copied();
         }
-        near_at(&self.near, self.count, place - first)
+        inline_at(&self.inline_items, self.count, place - first)
     }
 }
 
 /// Writes a cargo to an inline place.
 #[inline(always)]
-fn set_near(near: &mut [KeptCargo; NEAR_KEPT], at: usize, kept: KeptCargo)
-    requires { at < NEAR_KEPT }
-    ensures { near.new ≡ slice_set near.old at kept }
+fn set_inline(inline_items: &mut [KeptCargo; INLINE_KEPT], at: usize, kept: KeptCargo)
+    requires { at < INLINE_KEPT }
+    ensures { inline_items.new ≡ slice_set inline_items.old at kept }
 {
-    near[at] = kept;
+    inline_items[at] = kept;
 }
 
 /// The inline cargo at an index, if it is below `count`.
-fn near_at(near: &[KeptCargo; NEAR_KEPT], count: usize, at: usize) -> Option<KeptCargo>
-    requires { count ≤ NEAR_KEPT }
-    ensures { result ≡ slice_get (take count near.now) at }
+fn inline_at(inline_items: &[KeptCargo; INLINE_KEPT], count: usize, at: usize) -> Option<KeptCargo>
+    requires { count ≤ INLINE_KEPT }
+    ensures { result ≡ slice_get (take count inline_items.now) at }
 {
-    near[..count].get(at).copied()
+    inline_items[..count].get(at).copied()
 }
 
 /// Appends all inline cargoes to a list.
-fn append_all(list: &mut Vec<KeptCargo>, near: &[KeptCargo; NEAR_KEPT])
-    requires { vec_len list.old + NEAR_KEPT ≤ vec_capacity list.old }
-    ensures { list.new.items ≡ list.old.items ++ near.now }
+fn append_all(list: &mut Vec<KeptCargo>, inline_items: &[KeptCargo; INLINE_KEPT])
+    requires { vec_len list.old + INLINE_KEPT ≤ vec_capacity list.old }
+    ensures { list.new.items ≡ list.old.items ++ inline_items.now }
 {
-    for at in 0..NEAR_KEPT {
-        list.push_reserved(near[at]);
+    for at in 0..INLINE_KEPT {
+        list.push_reserved(inline_items[at]);
     }
 }

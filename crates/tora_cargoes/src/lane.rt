@@ -5,10 +5,10 @@ ghost use Rattle.tora_seat.specs.declared.TheConstants.{MOST_CARGOES};
 ghost use Rattle.tora_world.specs.Lists.{packets_of, parcels_in};
 ghost use Rattle.tora_cargoes.specs.Lane.{AreOthersAsWhole, Fits, has_place_in};
 
+use crate::inline_cargoes::InlineCargoes;
 use crate::kept_cargoes::KeptCargoes;
-use crate::near_cargoes::NearCargoes;
 use crate::packets::{count_kept, count_put, list_kept, list_put};
-use crate::spares::Spares;
+use crate::pool::Pool;
 use std::alloc::{AllocError, Global};
 use std::marker::Model;
 use tora_arq::Life;
@@ -24,7 +24,7 @@ pub struct Lane {
     /// How many of `cargoes` have left the lane.
     taken: usize,
     /// The last cargoes that were put; those that have left the lane come first.
-    cargoes: NearCargoes,
+    cargoes: InlineCargoes,
     /// The cargoes before `cargoes`, all of which have left the lane.
     past: KeptCargoes,
 }
@@ -48,7 +48,7 @@ impl Lane {
     {
         Lane {
             past: KeptCargoes::new(alloc),
-            cargoes: NearCargoes::new(alloc),
+            cargoes: InlineCargoes::new(alloc),
             taken: 0,
         }
     }
@@ -108,28 +108,28 @@ impl Lane {
     }
 
     /// If the list has more than four times the memory that its cargoes need, moves them to a list of the right size,
-    /// and returns the old list to the pool `spares` at the index `spare`. Nothing changes if the list is empty or
+    /// and returns the old list to the pool `pool` at the index `spare`. Nothing changes if the list is empty or
     /// memory runs out.
     #[inline(always)]
-    pub fn shorten(&mut self, spares: &mut Spares, spare: usize)
+    pub fn shorten(&mut self, pool: &mut Pool, spare: usize)
         ensures put { self.new.put ≡ self.old.put }
         ensures pulled { self.new.pulled ≡ self.old.pulled }
     {
-        self.cargoes.shorten(spares, spare);
+        self.cargoes.shorten(pool, spare);
     }
 
     /// Puts a cargo at the back. The lane must not be full. It must have room in its list, or no list and a list in the
-    /// pool `spares` at the index `spare`, which it takes when its inline places are full.
+    /// pool `pool` at the index `spare`, which it takes when its inline places are full.
     #[inline(always)]
-    pub fn put(&mut self, cargo: Cargo, spares: &mut Spares, spare: usize)
-        requires room { Fits self.old.pulled self.old.room spares.old spare }
+    pub fn put(&mut self, cargo: Cargo, pool: &mut Pool, spare: usize)
+        requires room { Fits self.old.pulled self.old.room pool.old spare }
         requires place { has_place_in self.old ≡ true }
         ensures put { self.new.put ≡ self.old.put ++ cargo ∷ [] }
         ensures pulled { self.new.pulled ≡ self.old.pulled }
-        ensures room { Fits self.new.pulled self.new.room spares.new spare }
-        ensures others { AreOthersAsWhole spares.old spares.new spare }
+        ensures room { Fits self.new.pulled self.new.room pool.new spare }
+        ensures others { AreOthersAsWhole pool.old pool.new spare }
     {
-        self.cargoes.push(&cargo, spares, spare);
+        self.cargoes.push(&cargo, pool, spare);
     }
 
     /// How many packets of a session were ever put.
@@ -159,11 +159,11 @@ impl Lane {
 /// Memory ran out.
 fn keep_taken(
     past: &mut KeptCargoes,
-    cargoes: &mut NearCargoes,
+    cargoes: &mut InlineCargoes,
     taken: &mut usize,
 ) -> Result<(), AllocError>
     requires { taken.old ≤ length cargoes.old.items }
-    ensures near { cargoes.old.places ≡ 0 → cargoes.new.places ≡ 0 }
+    ensures inline_items { cargoes.old.places ≡ 0 → cargoes.new.places ≡ 0 }
     ensures all { past.new.items ++ cargoes.new.items ≡ past.old.items ++ cargoes.old.items }
     ensures pulled { length past.new.items + taken.new ≡ length past.old.items + taken.old }
     ensures within { taken.new ≤ length cargoes.new.items }

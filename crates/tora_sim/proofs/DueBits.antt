@@ -6,7 +6,7 @@ use Rattle.std.specs.Simd.Lanes.{Each1, chunk, mask_l}
 use Rattle.std.proofs.lemmas.Bool.{leb-false}
 use Rattle.std.proofs.lemmas.Bool.Decides.{nat_tests}
 use Rattle.std.proofs.lemmas.Simd.{chunk-fits, length-chunk, none_from_empty_mask, run_in_chunk_fails, trailing_mask_l}
-use Rattle.tora_sim.specs.Stills.{due_bits, short}
+use Rattle.tora_sim.specs.Deadlines.{due_bits, short}
 
 later_tick : (now tick : ℕ) → nat_le tick now ≡ false → now < tick
 later_tick now tick e = leb-false tick now e

@@ -66,8 +66,8 @@ module _ (change : LinkView → LinkView) (before links : List LinkView) (first 
   pub was : slice_get before (first + place) ≡ Some x
   was =
       let old = item_at before (first + place) (omega (arith, lt, within)) in
-      let still = h.rest (first + place) old.0 (λ j less e. absurd (omega (arith, less, e))) old.1 in
-      old.1 ∙ ap Some (same_item old.0 x (sym still ∙ there))
+      let idle = h.rest (first + place) old.0 (λ j less e. absurd (omega (arith, less, e))) old.1 in
+      old.1 ∙ ap Some (same_item old.0 x (sym idle ∙ there))
 
   pub one_changed : (y : LinkView) → y ≡ change x → AreChanged change before (set links (first + place) y) first (place + 1)
   one_changed y e = record {

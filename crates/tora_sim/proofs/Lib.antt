@@ -39,8 +39,8 @@ pub mod Walking
 pub mod NodeReads
 pub mod Resting
 pub mod Quiets
-pub mod StillEnds
-pub mod StillBlocks
+pub mod IdleEnds
+pub mod IdleBlocks
 pub mod DueBits
 pub mod ReadyEnds
 pub mod UnreadyEnds

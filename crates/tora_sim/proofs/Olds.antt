@@ -6,8 +6,8 @@ use Rattle.tora_core.specs.Numbers.{has_number}
 use Rattle.tora_sim.specs.Topologies.{others}
 
 -- a number of a list is in the longer list
-still : (m n : ℕ) (olds : List ℕ) → has_number m olds ≡ true → has_number m (olds ++ n ∷ []) ≡ true
-still m n olds h = list_any-append (λ x. x == m) olds (n ∷ []) ∙ ap (λ b. b || has_number m (n ∷ [])) h
+idle : (m n : ℕ) (olds : List ℕ) → has_number m olds ≡ true → has_number m (olds ++ n ∷ []) ≡ true
+idle m n olds h = list_any-append (λ x. x == m) olds (n ∷ []) ∙ ap (λ b. b || has_number m (n ∷ [])) h
 
 -- the appended number is in the list
 among : (n : ℕ) (olds : List ℕ) → has_number n olds ≡ false → has_number n (olds ++ n ∷ []) ≡ true
@@ -26,7 +26,7 @@ front false false x y m h le = omega arith
 more_olds : (n : ℕ) (olds nodes : List ℕ) → length (others (olds ++ n ∷ []) nodes) ≤ length (others olds nodes)
 more_olds n olds [] = omega arith
 more_olds n olds (m ∷ nodes) =
-    front (has_number m olds) (has_number m (olds ++ n ∷ [])) (others olds nodes) (others (olds ++ n ∷ []) nodes) m (still m n olds) (more_olds n olds nodes)
+    front (has_number m olds) (has_number m (olds ++ n ∷ [])) (others olds nodes) (others (olds ++ n ∷ []) nodes) m (idle m n olds) (more_olds n olds nodes)
 
 front_fewer : (a b : Bool) (x y : List ℕ) (m : ℕ) → (a ≡ true → b ≡ true) → suc (length y) ≤ length x → suc (length (cond b y (m ∷ y))) ≤ length (cond a x (m ∷ x))
 front_fewer true true x y m h le = le
@@ -49,7 +49,7 @@ fewer n olds (m ∷ nodes) there new =
     front_here (has_number m olds) (has_number m (olds ++ n ∷ [])) (others olds nodes) (others (olds ++ n ∷ []) nodes) m
     (subst (λ x. has_number x olds ≡ false) is new) (subst (λ x. has_number x (olds ++ n ∷ []) ≡ true) is (among n olds new)) (more_olds n olds nodes))
     (λ (further : (m == n) ≡ false).
-    front_fewer (has_number m olds) (has_number m (olds ++ n ∷ [])) (others olds nodes) (others (olds ++ n ∷ []) nodes) m (still m n olds)
+    front_fewer (has_number m olds) (has_number m (olds ++ n ∷ [])) (others olds nodes) (others (olds ++ n ∷ []) nodes) m (idle m n olds)
     (fewer n olds nodes (ap (λ b. b || has_number n nodes) (sym further) ∙ there) new))
     (cases_Bool (m == n))
 

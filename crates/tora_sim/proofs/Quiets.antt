@@ -16,7 +16,7 @@ use Rattle.tora_world.specs.World.{World, settings, is_empty, has_room, unless_p
 use Rattle.tora_sim.specs.Keyed.{IsFirst}
 use Rattle.tora_sim.specs.Links.{LinkView, is_at, key_of, ticked, with_state}
 use Rattle.tora_sim.specs.Nodes.{NodeView, is_of}
-use Rattle.tora_sim.specs.Quiet.{IsQuiet, IsQuietEnd, IsStill, is_idle}
+use Rattle.tora_sim.specs.Quiet.{IsQuiet, IsQuietEnd, IsIdleUntil, is_idle}
 use Rattle.tora_sim.specs.Readers.{ends_in}
 use Rattle.tora_sim.specs.Store.{state_of, world_of, IsStore, EachOf, node_at, link_at}
 use Rattle.tora_sim.proofs.Keys.{read_first, read_first_node}
@@ -28,7 +28,7 @@ use Rattle.tora_sim.proofs.Possibles.{IsImpossible, is_impossible, no_event, rea
 use Rattle.tora_sim.proofs.Stores.{is_found}
 
 -- an end that is still until a tick is still until an earlier one
-pub earlier : (until before : ℕ) (link : LinkView) → before ≤ until → IsStill until link → IsStill before link
+pub earlier : (until before : ℕ) (link : LinkView) → before ≤ until → IsIdleUntil until link → IsIdleUntil before link
 earlier until before link le h = record {
   opened = h.opened;
   lane = h.lane;
@@ -45,8 +45,8 @@ set_same (z ∷ links) (suc i) x y lt read e = ap (λ (ws : List LinkView). z �
 
 -- ---- a tick
 
-pub still_tick : (until now : ℕ) (link : LinkView) → now < until → IsStill until link → ticked now link ≡ link
-still_tick until now link lt h = ap (with_state link) (h.ticks now lt)
+pub idle_tick : (until now : ℕ) (link : LinkView) → now < until → IsIdleUntil until link → ticked now link ≡ link
+idle_tick until now link lt h = ap (with_state link) (h.ticks now lt)
 
 -- ---- turns
 
@@ -68,16 +68,16 @@ module _ (t : Topology) (times : Times) (clock : ℕ) (nodes : List NodeView) (l
   abbrev w : World
   w = world_of (state_of t times clock nodes links ds)
 
-  at_ends : (event : Event) (n k until : ℕ) → EachOf (IsStill until) links → (is_link t n k ≡ false → IsImpossible w event) →
-      ((x : LinkView) (place : ℕ) → IsFirst (is_at n k) links place → x ≡ slice_index_or links place x → IsStill until x → IsImpossible w event) → IsImpossible w event
-  at_ends event n k until still away here = go (link_at links n k) refl
+  at_ends : (event : Event) (n k until : ℕ) → EachOf (IsIdleUntil until) links → (is_link t n k ≡ false → IsImpossible w event) →
+      ((x : LinkView) (place : ℕ) → IsFirst (is_at n k) links place → x ≡ slice_index_or links place x → IsIdleUntil until x → IsImpossible w event) → IsImpossible w event
+  at_ends event n k until idle away here = go (link_at links n k) refl
     where
       go : (o : Option LinkView) → link_at links n k ≡ o → IsImpossible w event
       go None e = away (h.links n k ∙ ap is_some e)
       go (Some x) e =
           let f = is_found (is_at n k) links x e in
           let read = read_of links f.place x f.there in
-          here x f.place (read_first n k links f.place x h.rising_links (slice_get_within links f.place x f.there) read f.passes) read (still f.place x f.there)
+          here x f.place (read_first n k links f.place x h.rising_links (slice_get_within links f.place x f.there) read f.passes) read (idle f.place x f.there)
 
   pub at_nodes : (n : ℕ) → list_all is_idle nodes ≡ true → IsImpossible w (CoreTurn n)
   at_nodes n idle = go (node_at nodes n) refl
@@ -89,19 +89,19 @@ module _ (t : Topology) (times : Times) (clock : ℕ) (nodes : List NodeView) (l
           let read = read_of nodes f.place x f.there in
           is_impossible w (CoreTurn n) (turn_refused t times clock nodes links ds h n f.place x (read_first_node n nodes f.place x h.rising_nodes (slice_get_within nodes f.place x f.there) read f.passes) read (idle_at nodes f.place x idle f.there))
 
-  pub quiet_now : (until : ℕ) → clock < until → list_all is_idle nodes ≡ true → EachOf (IsStill until) links → IsQuiet w
-  quiet_now until lt idle still =
+  pub quiet_now : (until : ℕ) → clock < until → list_all is_idle nodes ≡ true → EachOf (IsIdleUntil until) links → IsQuiet w
+  quiet_now until lt idle idle =
       record {
         cores = λ n. at_nodes n idle;
-        opens = λ n k. at_ends (Open n k) n k until still (λ e. no_link w n k (is_closed (w.ends n k)) e) (λ x place first read s. is_impossible w (Open n k) (open_refused t times clock nodes links ds h n k place x first read s.opened));
-        pulls = λ n k. at_ends (Pull n k) n k until still (λ e. no_link w n k (not (is_empty (w.cargoes n k))) e) (λ x place first read s. is_impossible w (Pull n k) (pull_refused t times clock nodes links ds h n k place x first read (ltb-false x.pulled (length x.put) s.lane)));
-        sends = λ n k. at_ends (Transmit n k) n k until still (λ e. no_link w n k (is_some (frame_due (settings w n k) (w.ends n k) clock)) e) (λ x place first read s. is_impossible w (Transmit n k) (transmit_refused t times clock nodes links ds h n k place x first read (s.frames clock lt)));
-        pumps = λ n k. at_ends (Pump n k) n k until still (λ e. no_link w n k (not (is_empty (w.ends n k).events) && has_room w n) e) (λ x place first read s. is_impossible w (Pump n k) (pump_without t times clock nodes links ds h n k place x first read (no_event (first_event x.state) s.events)));
+        opens = λ n k. at_ends (Open n k) n k until idle (λ e. no_link w n k (is_closed (w.ends n k)) e) (λ x place first read s. is_impossible w (Open n k) (open_refused t times clock nodes links ds h n k place x first read s.opened));
+        pulls = λ n k. at_ends (Pull n k) n k until idle (λ e. no_link w n k (not (is_empty (w.cargoes n k))) e) (λ x place first read s. is_impossible w (Pull n k) (pull_refused t times clock nodes links ds h n k place x first read (ltb-false x.pulled (length x.put) s.lane)));
+        sends = λ n k. at_ends (Transmit n k) n k until idle (λ e. no_link w n k (is_some (frame_due (settings w n k) (w.ends n k) clock)) e) (λ x place first read s. is_impossible w (Transmit n k) (transmit_refused t times clock nodes links ds h n k place x first read (s.frames clock lt)));
+        pumps = λ n k. at_ends (Pump n k) n k until idle (λ e. no_link w n k (not (is_empty (w.ends n k).events) && has_room w n) e) (λ x place first read s. is_impossible w (Pump n k) (pump_without t times clock nodes links ds h n k place x first read (no_event (first_event x.state) s.events)));
       }
 
   -- nothing is to be done at the end with this key
-  pub quiet_at : (at : ℕ) (end : ℕ × ℕ) → slice_get (ends_in t) at ≡ Some end → ((link : LinkView) → slice_get links at ≡ Some link → IsStill (clock + 1) link) → IsQuietEnd w end.0 end.1
-  quiet_at at end there still = go (slice_get links at) refl (sym (slice_get-map key_of links at) ∙ ap (λ (keys : List (ℕ × ℕ)). slice_get keys at) h.keys ∙ there)
+  pub quiet_at : (at : ℕ) (end : ℕ × ℕ) → slice_get (ends_in t) at ≡ Some end → ((link : LinkView) → slice_get links at ≡ Some link → IsIdleUntil (clock + 1) link) → IsQuietEnd w end.0 end.1
+  quiet_at at end there idle = go (slice_get links at) refl (sym (slice_get-map key_of links at) ∙ ap (λ (keys : List (ℕ × ℕ)). slice_get keys at) h.keys ∙ there)
     where
       go : (o : Option LinkView) → slice_get links at ≡ o → option_map key_of o ≡ Some end → IsQuietEnd w end.0 end.1
       go None read e = absurd (let none : None ≡ Some end = e in cc)
@@ -112,7 +112,7 @@ module _ (t : Topology) (times : Times) (clock : ℕ) (nodes : List NodeView) (l
           let k : x.peer ≡ end.1 = ap (λ (p : ℕ × ℕ). p.1) same in
           let value = read_of links at x read in
           let first = read_first end.0 end.1 links at x h.rising_links (slice_get_within links at x read) value (both n k) in
-          let s = still x read in
+          let s = idle x read in
           record {
             opens = is_impossible w (Open end.0 end.1) (open_refused t times clock nodes links ds h end.0 end.1 at x first value s.opened);
             pulls = is_impossible w (Pull end.0 end.1) (pull_refused t times clock nodes links ds h end.0 end.1 at x first value (ltb-false x.pulled (length x.put) s.lane));

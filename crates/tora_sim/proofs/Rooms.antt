@@ -6,7 +6,7 @@ use Rattle.std.proofs.lemmas.Option.{same_Some, slice_get_read}
 use Rattle.std.specs.Prelude.{slice_index_or}
 use Rattle.tora_seat.specs.declared.cargo.Cargo.{Cargo}
 use Rattle.tora_seat.specs.declared.TheConstants.{MOST_CARGOES}
-use Rattle.tora_cargoes.specs.declared.near_cargoes.TheConstants.{NEAR}
+use Rattle.tora_cargoes.specs.declared.inline_cargoes.TheConstants.{INLINE_CARGOES}
 use Rattle.tora_sim.specs.declared.unready.Unready.{Unready}
 use Rattle.tora_sim.specs.Links.{LinkView}
 use Rattle.tora_sim.specs.Unready.{IsOutside}
@@ -48,18 +48,18 @@ more_room before links after first place h e room others = record { same = e ∙
 -- ---- an offer
 
 -- a lane with memory, or without a list
-pub fits_room : (pulled room : ℕ) (spares : List ℕ) (place : ℕ) → Fits pulled room spares place → (room ≡ 0) ⊎ (pulled + MOST_CARGOES ≤ room)
-fits_room pulled room spares place (inl near) = inl near.0
-fits_room pulled room spares place (inr wide) = inr wide
+pub fits_room : (pulled room : ℕ) (pool : List ℕ) (place : ℕ) → Fits pulled room pool place → (room ≡ 0) ⊎ (pulled + MOST_CARGOES ≤ room)
+fits_room pulled room pool place (inl near) = inl near.0
+fits_room pulled room pool place (inr wide) = inr wide
 
 -- another list of the pool has its capacity still
-fits_still : (pulled room : ℕ) (spares after : List ℕ) (place other : ℕ) → (other ≡ place → ⊥) → AreOthersAsWhole spares after place → Fits pulled room spares other → Fits pulled room after other
-fits_still pulled room spares after place other away others (inl near) = inl (near.0, subst (λ (n : ℕ). MOST_CARGOES + NEAR ≤ n) (sym (others other away)) near.1)
-fits_still pulled room spares after place other away others (inr wide) = inr wide
+fits_still : (pulled room : ℕ) (pool after : List ℕ) (place other : ℕ) → (other ≡ place → ⊥) → AreOthersAsWhole pool after place → Fits pulled room pool other → Fits pulled room after other
+fits_still pulled room pool after place other away others (inl near) = inl (near.0, subst (λ (n : ℕ). MOST_CARGOES + INLINE_CARGOES ≤ n) (sym (others other away)) near.1)
+fits_still pulled room pool after place other away others (inr wide) = inr wide
 
 -- the ends fit, if they have memory or no list, and the pool has a whole list for each
-pub all_fit : (links : List LinkView) (first count : ℕ) (spares : List ℕ) → HaveRoom links first count → AreWhole spares count → AreFitting links first count spares
-all_fit links first count spares room whole place link lt there = elim (room place link lt there).cargoes [ inl near ↦ inl (near, whole place lt) | inr wide ↦ inr wide ]
+pub all_fit : (links : List LinkView) (first count : ℕ) (pool : List ℕ) → HaveRoom links first count → AreWhole pool count → AreFitting links first count pool
+all_fit links first count pool room whole place link lt there = elim (room place link lt there).cargoes [ inl near ↦ inl (near, whole place lt) | inr wide ↦ inr wide ]
 
 module _ (links : List LinkView) (first count place : ℕ) (range : Unready) (ready : AreReady (lanes_of links first count) range) (lt : place < count) (x : LinkView) (read : x ≡ slice_index_or links (first + place) x) where
   pub within : first + place < length links
@@ -68,7 +68,7 @@ module _ (links : List LinkView) (first count place : ℕ) (range : Unready) (re
   pub there : slice_get links (first + place) ≡ Some x
   there = slice_get_read links (length links) (first + place) x refl within read
 
-  module _ (spares after : List ℕ) (y : LinkView) (cargo : Cargo) (put : Bool) (lane : bare y ≡ bare (after_offer_at x cargo put)) (step : y.step_room ≡ x.step_room) (fits : Fits y.pulled y.room after place) where
+  module _ (pool after : List ℕ) (y : LinkView) (cargo : Cargo) (put : Bool) (lane : bare y ≡ bare (after_offer_at x cargo put)) (step : y.step_room ≡ x.step_room) (fits : Fits y.pulled y.room after place) where
     offered_room : HasRoom y
     offered_room = record {
       cargoes = fits_room y.pulled y.room after place fits;
@@ -85,7 +85,7 @@ module _ (links : List LinkView) (first count place : ℕ) (range : Unready) (re
       ready = ready_but links first count place range range' y wider here ready.ready;
     }
 
-    pub still_fitting : AreOthersAsWhole spares after place → AreFitting links first count spares → AreFitting (set links (first + place) y) first count after
+    pub still_fitting : AreOthersAsWhole pool after place → AreFitting links first count pool → AreFitting (set links (first + place) y) first count after
     still_fitting others h j link less at = go (cases_eq j place)
       where
         go : (j ≡ place) ⊎ (j ≡ place → ⊥) → Fits link.pulled link.room after j
@@ -93,7 +93,7 @@ module _ (links : List LinkView) (first count place : ℕ) (range : Unready) (re
             let is : y ≡ link = same_Some y link (sym (set_same links (first + place) y within) ∙ ap (λ (m : ℕ). slice_get (set links (first + place) y) (first + m)) (sym q) ∙ at) in
             subst (λ (z : LinkView). Fits z.pulled z.room after j) is (subst (λ (m : ℕ). Fits y.pulled y.room after m) (sym q) fits)
         go (inr away) =
-            fits_still link.pulled link.room spares after place j away others
+            fits_still link.pulled link.room pool after place j away others
             (h j link less (sym (set_other links (first + place) (first + j) y (λ (q : first + j ≡ first + place). away (omega (arith, q)))) ∙ at))
 
     pub did : put ≡ has_place x → DidOffer (lanes_of (bare_between first count links) first count) place cargo put (lanes_of (bare_between first count (set links (first + place) y)) first count)

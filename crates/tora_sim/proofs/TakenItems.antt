@@ -22,7 +22,7 @@ use Rattle.tora_sim.specs.Links.{LinkView}
 use Rattle.tora_sim.specs.Nodes.{NodeView, is_of}
 use Rattle.tora_sim.specs.Steps.{IsDone, IsRefused, StopsWith, Happened, Repeats, repeats}
 use Rattle.tora_sim.specs.Store.{SimState, IsStore, state_of, world_of}
-use Rattle.tora_sim.specs.Quiet.{AreStillBut}
+use Rattle.tora_sim.specs.Quiet.{AreDeadlinesBut}
 use Rattle.tora_sim.specs.Taking.{AreTaken, Takes}
 use Rattle.tora_sim.specs.Turns.{IsNoted, Turns}
 use Rattle.tora_sim.specs.Unready.{IsOutside}
@@ -33,7 +33,7 @@ use Rattle.tora_sim.proofs.Rooms.{same_length}
 use Rattle.tora_sim.proofs.SameLinks.{same_alike, store_same}
 use Rattle.tora_sim.proofs.SameNodes.{no_node}
 use Rattle.tora_sim.proofs.Sendings.{Onward, begins, again, refused, starved_of, no_more, other_cause, still_first}
-use Rattle.tora_sim.proofs.StillEnds as Still
+use Rattle.tora_sim.proofs.IdleEnds as Idle
 use Rattle.tora_sim.proofs.Turning.{turn_refused, turn_starved, between_does, between_store}
 use Rattle.tora_sim.proofs.UnreadyEnds.{turned_place}
 
@@ -111,7 +111,7 @@ none_taken x links range seat many ready = record {
   ready = ready.ready;
   room = λ place link lt off there. ready.room place link lt there;
   others = λ at away. refl;
-  still = λ clock stills h. Still.all_but clock stills links x.first x.count h;
+  idle = λ clock deadlines h. Idle.all_but clock deadlines links x.first x.count h;
 }
 
 module _ (x0 x : NodeView) (links0 links links1 : List LinkView) (range : Unready) (seat : ℕ) (h : AreTaken x0 links0 x links range seat) (alike : AreAlike links links1) (others : AreOthersKept links links1 x.first x.count) where
@@ -131,7 +131,7 @@ module _ (x0 x : NodeView) (links0 links links1 : List LinkView) (range : Unread
     ready = subst (λ (m : ℕ). AreReadyOutside links1 m x0.count range) h.first (subst (λ (m : ℕ). AreReadyOutside links1 x.first m range) h.count ready);
     room = subst (λ (m : ℕ). HaveRoomBut links1 m x0.count seat) h.first (subst (λ (m : ℕ). HaveRoomBut links1 x.first m seat) h.count room);
     others = others_on;
-    still = λ clock stills each. Still.alike_but clock stills links links1 x0.first x0.count alike (h.still clock stills each);
+    idle = λ clock deadlines each. Idle.alike_but clock deadlines links links1 x0.first x0.count alike (h.idle clock deadlines each);
   }
 
   module _ (y : NodeView) (links2 : List LinkView) (r : Result (Unit {0}) SimError) (d : Turns x (bare_between x.first x.count links1) r y (bare_between x.first x.count links2)) where
@@ -163,13 +163,13 @@ module _ (x0 x : NodeView) (links0 links links1 : List LinkView) (range : Unread
           ready = subst (λ (m : ℕ). AreReadyOutside links2 m x0.count after) h.first (subst (λ (m : ℕ). AreReadyOutside links2 x.first m after) h.count ready);
           room = subst (λ (m : ℕ). HaveRoomBut links2 m x0.count but) h.first (subst (λ (m : ℕ). HaveRoomBut links2 x.first m but) h.count room);
           others = λ at away. kept at (λ place lt q. let f = h.first in let n = h.count in away place (omega (arith, lt, n)) (omega (arith, q, f))) ∙ others_on at away;
-          still = λ clock stills each.
-              subst (λ (m : ℕ). AreStillBut clock stills links2 m x0.count) h.first
-              (subst (λ (m : ℕ). AreStillBut clock stills links2 x.first m) h.count
-              (Still.turned_still clock stills x y links1 links2 r d
-              (subst (λ (m : ℕ). AreStillBut clock stills links1 m x.count) (sym h.first)
-              (subst (λ (m : ℕ). AreStillBut clock stills links1 x0.first m) (sym h.count)
-              (Still.alike_but clock stills links links1 x0.first x0.count alike (h.still clock stills each))))));
+          idle = λ clock deadlines each.
+              subst (λ (m : ℕ). AreDeadlinesBut clock deadlines links2 m x0.count) h.first
+              (subst (λ (m : ℕ). AreDeadlinesBut clock deadlines links2 x.first m) h.count
+              (Idle.turned_idle clock deadlines x y links1 links2 r d
+              (subst (λ (m : ℕ). AreDeadlinesBut clock deadlines links1 m x.count) (sym h.first)
+              (subst (λ (m : ℕ). AreDeadlinesBut clock deadlines links1 x0.first m) (sym h.count)
+              (Idle.alike_but clock deadlines links links1 x0.first x0.count alike (h.idle clock deadlines each))))));
         }
 
 -- ---- the events of a call of `turn_all`

@@ -3,11 +3,11 @@ use Rattle.std.proofs.Common.{◌≡◌, ℕ, zero, suc, ◌+◌, ◌-◌, ◌<�
 use Rattle.std.specs.Prelude.{slice_index, slice_index_or}
 use Rattle.std.proofs.lemmas.Option.{none-some, same_Some, slice_get_read, slice_get_within}
 use Rattle.tora_sim.specs.Links.{LinkView, ticked, AreChanged}
-use Rattle.tora_sim.specs.Quiet.{IsStill, AreStillEach, AreStillFrom}
-use Rattle.tora_sim.specs.Stills.{AreLater}
+use Rattle.tora_sim.specs.Quiet.{IsIdleUntil, AreDeadlines, AreDeadlinesFrom}
+use Rattle.tora_sim.specs.Deadlines.{AreLater}
 use Rattle.tora_sim.proofs.FreshEnds.{item_at, was, one_changed}
 use Rattle.tora_sim.proofs.NodeEnds.{by_places}
-use Rattle.tora_sim.proofs.Quiets.{set_same, still_tick}
+use Rattle.tora_sim.proofs.Quiets.{set_same, idle_tick}
 use Rattle.tora_datagrams.proofs.EachItem.{before_or_not}
 
 read_of : (xs : List LinkView) (i : ℕ) (x : LinkView) → slice_get xs i ≡ Some x → x ≡ slice_index_or xs i x
@@ -16,9 +16,9 @@ read_of (y ∷ xs) zero x e = sym (same_Some y x e)
 read_of (y ∷ xs) (suc i) x e = read_of xs i x e
 
 -- an end that the tick does not change
-pub still_same : (now place until : ℕ) (links : List LinkView) (link : LinkView) → slice_get links place ≡ Some link → now < until → IsStill until link → links ≡ set links place (ticked now link)
-still_same now place until links link there lt h =
-    sym (set_same links place link (ticked now link) (slice_get_within links place link there) (read_of links place link there) (still_tick until now link lt h))
+pub idle_same : (now place until : ℕ) (links : List LinkView) (link : LinkView) → slice_get links place ≡ Some link → now < until → IsIdleUntil until link → links ≡ set links place (ticked now link)
+idle_same now place until links link there lt h =
+    sym (set_same links place link (ticked now link) (slice_get_within links place link there) (read_of links place link there) (idle_tick until now link lt h))
 
 -- an end that is ticked
 pub ticked_at : (now place : ℕ) (links : List LinkView) (x new link : LinkView) → place < length links → x ≡ slice_index_or links place x → new ≡ ticked now x → slice_get links place ≡ Some link → set links place new ≡ set links place (ticked now link)
@@ -28,8 +28,8 @@ ticked_at now place links x new link within read e there =
 
 module _ (now first place count : ℕ) (before links : List LinkView) (h : AreChanged (ticked now) before links first place) (lt : place < count) (within : first + count ≤ length before) where
   -- an end that was not ticked yet is as still as before
-  pub known_still : (stills : List ℕ) → AreStillFrom first now stills before → (link : LinkView) → now < slice_index stills (first + place) → slice_get links (first + place) ≡ Some link → IsStill (slice_index stills (first + place)) link
-  known_still stills s link less there = s (first + place) link (omega arith) less (was (ticked now) before links first place count h lt within link (read_of links (first + place) link there))
+  pub known_idle : (deadlines : List ℕ) → AreDeadlinesFrom first now deadlines before → (link : LinkView) → now < slice_index deadlines (first + place) → slice_get links (first + place) ≡ Some link → IsIdleUntil (slice_index deadlines (first + place)) link
+  known_idle deadlines s link less there = s (first + place) link (omega arith) less (was (ticked now) before links first place count h lt within link (read_of links (first + place) link there))
 
   -- one more end
   pub one_ticked : (after : List LinkView) → ((link : LinkView) → slice_get links (first + place) ≡ Some link → after ≡ set links (first + place) (ticked now link)) → AreChanged (ticked now) before after first (place + 1)
@@ -42,13 +42,13 @@ module _ (now first place count : ℕ) (before links : List LinkView) (h : AreCh
 -- ---- blocks
 
 -- ends whose deadlines have not come
-pub block_same : (now first count : ℕ) (stills : List ℕ) (links : List LinkView) → length stills ≡ length links → AreStillFrom first now stills links → AreLater now first (first + count) stills → AreChanged (ticked now) links links first count
-block_same now first count stills links many s later = record {
+pub block_same : (now first count : ℕ) (deadlines : List ℕ) (links : List LinkView) → length deadlines ≡ length links → AreDeadlinesFrom first now deadlines links → AreLater now first (first + count) deadlines → AreChanged (ticked now) links links first count
+block_same now first count deadlines links many s later = record {
   as_many = refl;
   done = λ place link lt there.
       let within = slice_get_within links (first + place) link there in
-      let less : now < slice_index stills (first + place) = later (first + place) (omega arith) (omega (arith, lt)) (omega (arith, within, many)) in
-      there ∙ ap Some (sym (still_tick (slice_index stills (first + place)) now link less (s (first + place) link (omega arith) less there)));
+      let less : now < slice_index deadlines (first + place) = later (first + place) (omega arith) (omega (arith, lt)) (omega (arith, within, many)) in
+      there ∙ ap Some (sym (idle_tick (slice_index deadlines (first + place)) now link less (s (first + place) link (omega arith) less there)));
   rest = λ i link away there. there;
 }
 
@@ -61,14 +61,14 @@ whole_block now first count before links e h = record {
 }
 
 -- the ends after those that were ticked are as still as before
-pub still_behind : (now first : ℕ) (stills : List ℕ) (before links : List LinkView) → AreStillEach now stills before → AreChanged (ticked now) before links 0 first → AreStillFrom first now stills links
-still_behind now first stills before links s h at link from less there =
+pub idle_behind : (now first : ℕ) (deadlines : List ℕ) (before links : List LinkView) → AreDeadlines now deadlines before → AreChanged (ticked now) before links 0 first → AreDeadlinesFrom first now deadlines links
+idle_behind now first deadlines before links s h at link from less there =
     let within = slice_get_within links at link there in
     let as_many = h.as_many in
     let old = item_at before at (omega (arith, within, as_many)) in
     let away : (place : ℕ) → place < first → at ≡ 0 + place → ⊥ = λ place lt q. omega (arith, lt, q, from) in
     let same : old.0 ≡ link = same_Some old.0 link (sym (h.rest at old.0 away old.1) ∙ there) in
-    subst (λ (z : LinkView). IsStill (slice_index stills at) z) same (s.still at old.0 less old.1)
+    subst (λ (z : LinkView). IsIdleUntil (slice_index deadlines at) z) same (s.idle at old.0 less old.1)
 
 -- the ends of one more block
 pub more_ticked : (now first count many : ℕ) (before between links : List LinkView) → first + count ≡ many → AreChanged (ticked now) before between 0 first → AreChanged (ticked now) between links first count → AreChanged (ticked now) before links 0 many

@@ -6,17 +6,17 @@ use Rattle.tora_world.specs.Topology.{Topology}
 use Rattle.tora_sim.specs.Lanes.{AreReadyEach}
 use Rattle.tora_sim.specs.Links.{LinkView}
 use Rattle.tora_sim.specs.Nodes.{NodeView}
-use Rattle.tora_sim.specs.Quiet.{AreStillEach}
+use Rattle.tora_sim.specs.Quiet.{AreDeadlines}
 use Rattle.tora_sim.specs.Readers.{ends_in}
 use Rattle.tora_sim.specs.Store.{IsStore, state_of}
 
 -- the invariant of a simulated world
 abbrev pub IsSim : Topology → Times → ℕ → List NodeView → List LinkView → List FrameParts → List (ℕ × ℕ) → List ℕ → List Bool → Type 0
-IsSim t times clock nodes links ds keys stills ready = IsStore (state_of t times clock nodes links ds) × AreStillEach clock stills links × (keys ≡ ends_in t) × AreReadyEach ready links
+IsSim t times clock nodes links ds keys deadlines ready = IsStore (state_of t times clock nodes links ds) × AreDeadlines clock deadlines links × (keys ≡ ends_in t) × AreReadyEach ready links
 
-module _ (t : Topology) (times : Times) (clock : ℕ) (nodes : List NodeView) (links : List LinkView) (ds : List FrameParts) (keys : List (ℕ × ℕ)) (stills : List ℕ) (ready : List Bool) (h : IsSim t times clock nodes links ds keys stills ready) where
-  pub links_stay : (xs : List LinkView) → xs ≡ links → IsSim t times clock nodes xs ds keys stills ready
-  links_stay xs same = subst (λ (ys : List LinkView). IsSim t times clock nodes ys ds keys stills ready) (sym same) h
+module _ (t : Topology) (times : Times) (clock : ℕ) (nodes : List NodeView) (links : List LinkView) (ds : List FrameParts) (keys : List (ℕ × ℕ)) (deadlines : List ℕ) (ready : List Bool) (h : IsSim t times clock nodes links ds keys deadlines ready) where
+  pub links_stay : (xs : List LinkView) → xs ≡ links → IsSim t times clock nodes xs ds keys deadlines ready
+  links_stay xs same = subst (λ (ys : List LinkView). IsSim t times clock nodes ys ds keys deadlines ready) (sym same) h
 
-  pub datagrams_stay : (gs : List FrameParts) → gs ≡ ds → IsSim t times clock nodes links gs keys stills ready
-  datagrams_stay gs same = subst (λ (fs : List FrameParts). IsSim t times clock nodes links fs keys stills ready) (sym same) h
+  pub datagrams_stay : (gs : List FrameParts) → gs ≡ ds → IsSim t times clock nodes links gs keys deadlines ready
+  datagrams_stay gs same = subst (λ (fs : List FrameParts). IsSim t times clock nodes links fs keys deadlines ready) (sym same) h

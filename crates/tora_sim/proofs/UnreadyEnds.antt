@@ -161,23 +161,23 @@ served_leaves x y v lanes item stepped links first count f n s w e at away =
 -- ---- facts after a turn
 
 -- no cargo waits at an end of the node outside the range
-pub forgotten_of_node : (links : List LinkView) (before stills : List ℕ) (first count : ℕ) (range : Unready) → AreReadyOutside links first count range → AreForgottenWhere links before stills (first + range.from) (range.behind - range.from)
-    → AreForgottenWhere links before stills first count
-forgotten_of_node links before stills first count range h f = record {
+pub forgotten_of_node : (links : List LinkView) (before deadlines : List ℕ) (first count : ℕ) (range : Unready) → AreReadyOutside links first count range → AreForgottenWhere links before deadlines (first + range.from) (range.behind - range.from)
+    → AreForgottenWhere links before deadlines first count
+forgotten_of_node links before deadlines first count range h f = record {
   as_many = f.as_many;
   here = λ place link lt there waits. go place link lt there waits (before_or_not place range.from) (before_or_not place range.behind);
   others = f.others;
 }
   where
-    off : (place : ℕ) (link : LinkView) → place < count → slice_get links (first + place) ≡ Some link → has_cargo link ≡ true → IsOutside range place → slice_index stills (first + place) ≡ 0
+    off : (place : ℕ) (link : LinkView) → place < count → slice_get links (first + place) ≡ Some link → has_cargo link ≡ true → IsOutside range place → slice_index deadlines (first + place) ≡ 0
     off place link lt there waits out = absurd (true≢false (sym waits ∙ (h place link lt out there).lane))
 
-    go : (place : ℕ) (link : LinkView) → place < count → slice_get links (first + place) ≡ Some link → has_cargo link ≡ true → (place < range.from) ⊎ (range.from ≤ place) → (place < range.behind) ⊎ (range.behind ≤ place) → slice_index stills (first + place) ≡ 0
+    go : (place : ℕ) (link : LinkView) → place < count → slice_get links (first + place) ≡ Some link → has_cargo link ≡ true → (place < range.from) ⊎ (range.from ≤ place) → (place < range.behind) ⊎ (range.behind ≤ place) → slice_index deadlines (first + place) ≡ 0
     go place link lt there waits (inl less) r = off place link lt there waits (λ le less'. omega (arith, less, le))
     go place link lt there waits (inr more) (inr behind) = off place link lt there waits (λ le less'. omega (arith, behind, less'))
     go place link lt there waits (inr more) (inl less) =
         let same : first + range.from + (place - range.from) ≡ first + place = omega (arith, more) in
-        ap (slice_index stills) (sym same) ∙ f.here (place - range.from) link (omega (arith, more, less)) (ap (slice_get links) same ∙ there) waits
+        ap (slice_index deadlines) (sym same) ∙ f.here (place - range.from) link (omega (arith, more, less)) (ap (slice_get links) same ∙ there) waits
 
 -- the marked ends are ready: those of the node outside the range, and those of other nodes that were marked before
 pub ready_after : (before links : List LinkView) (was marks : List Bool) (first count seat but : ℕ) (range : Unready) → ((place : ℕ) → place < count → place ≡ seat → first + place ≡ but) → HaveRoomBut links first count seat → range.behind ≤ count → length links ≡ length before → AreOthersKept before links first count → AreReadyOutside links first count range

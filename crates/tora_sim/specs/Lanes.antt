@@ -82,8 +82,8 @@ pub record AreReady (lanes : LanesView) (range : Unready) : Type 0 where
 
 -- each of the `count` ends from the index `first` on has a list with room, or the pool has a whole list for it
 abbrev pub AreFitting : List LinkView → ℕ → ℕ → List ℕ → Type 0
-AreFitting links first count spares = (place : ℕ) (link : LinkView) → place < count
-    → slice_get links (first + place) ≡ Some link → Fits link.pulled link.room spares place
+AreFitting links first count pool = (place : ℕ) (link : LinkView) → place < count
+    → slice_get links (first + place) ≡ Some link → Fits link.pulled link.room pool place
 
 -- a link end without its memory
 abbrev pub bare : LinkView → LinkView

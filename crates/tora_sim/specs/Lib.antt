@@ -18,6 +18,6 @@ pub mod Turns
 pub mod Restarts
 pub mod Resting
 pub mod Quiet
-pub mod Stills
+pub mod Deadlines
 pub mod Taking
 pub mod SteadyLinks

@@ -25,7 +25,7 @@ pub record IsQuietEnd (w : World) (n k : ℕ) : Type 0 where
 
 -- the end is open and has no event, no cargo waits for it, and before the tick `until` no frame is due and no tick
 -- changes it
-pub record IsStillEnd (until : ℕ) (settings : Settings) (state : EndState) (waits : Bool) : Type 0 where
+pub record IsIdleEnd (until : ℕ) (settings : Settings) (state : EndState) (waits : Bool) : Type 0 where
   pub opened : is_closed state ≡ false
   pub lane : waits ≡ false
   pub events : is_some (first_event state) ≡ false
@@ -38,50 +38,50 @@ pub record MayOnlySend (link : LinkView) : Type 0 where
   pub lane : has_cargo link ≡ false
   pub events : is_some (first_event link.state) ≡ false
 
-abbrev pub IsStill : ℕ → LinkView → Type 0
-IsStill until link = IsStillEnd until link.settings link.state (has_cargo link)
+abbrev pub IsIdleUntil : ℕ → LinkView → Type 0
+IsIdleUntil until link = IsIdleEnd until link.settings link.state (has_cargo link)
 
--- `IsStill` for a deadline other than 0
-abbrev pub IsStillIf : ℕ → LinkView → Type 0
-IsStillIf until link = 0 < until → IsStill until link
+-- `IsIdleUntil` for a deadline other than 0
+abbrev pub IsDeadline : ℕ → LinkView → Type 0
+IsDeadline until link = 0 < until → IsIdleUntil until link
 
 -- no item waits for the core of a node
 abbrev pub is_idle : NodeView → Bool
 is_idle node = length node.items == 0
 
 -- each link end whose deadline has not come is still until then; a deadline that has come gives no information
-pub record AreStillEach (clock : ℕ) (stills : List ℕ) (links : List LinkView) : Type 0 where
-  pub as_many : length stills ≡ length links
-  pub still : (at : ℕ) (link : LinkView) → clock < slice_index stills at → slice_get links at ≡ Some link
-      → IsStill (slice_index stills at) link
+pub record AreDeadlines (clock : ℕ) (deadlines : List ℕ) (links : List LinkView) : Type 0 where
+  pub as_many : length deadlines ≡ length links
+  pub idle : (at : ℕ) (link : LinkView) → clock < slice_index deadlines at → slice_get links at ≡ Some link
+      → IsIdleUntil (slice_index deadlines at) link
 
--- `AreStillEach` for the link ends from an index on
-abbrev pub AreStillFrom : ℕ → ℕ → List ℕ → List LinkView → Type 0
-AreStillFrom from clock stills links = (at : ℕ) (link : LinkView) → from ≤ at → clock < slice_index stills at
-    → slice_get links at ≡ Some link → IsStill (slice_index stills at) link
+-- `AreDeadlines` for the link ends from an index on
+abbrev pub AreDeadlinesFrom : ℕ → ℕ → List ℕ → List LinkView → Type 0
+AreDeadlinesFrom from clock deadlines links = (at : ℕ) (link : LinkView) → from ≤ at → clock < slice_index deadlines at
+    → slice_get links at ≡ Some link → IsIdleUntil (slice_index deadlines at) link
 
 -- the deadlines of the `count` ends from the index `first` on are 0; each other one is unchanged, or 0
-pub record AreForgotten (before stills : List ℕ) (first count : ℕ) : Type 0 where
-  pub as_many : length stills ≡ length before
-  pub here : (place : ℕ) → place < count → slice_index stills (first + place) ≡ 0
-  pub others : (at : ℕ) → (slice_index stills at ≡ 0) ⊎ (slice_index stills at ≡ slice_index before at)
+pub record AreForgotten (before deadlines : List ℕ) (first count : ℕ) : Type 0 where
+  pub as_many : length deadlines ≡ length before
+  pub here : (place : ℕ) → place < count → slice_index deadlines (first + place) ≡ 0
+  pub others : (at : ℕ) → (slice_index deadlines at ≡ 0) ⊎ (slice_index deadlines at ≡ slice_index before at)
 
 -- the deadline of the link end at an index is 0, or no cargo waits in its lane; the other deadlines are unchanged
 abbrev pub IsForgottenWhere : List LinkView → List ℕ → List ℕ → ℕ → Type 0
-IsForgottenWhere links before stills at = (stills ≡ slice_set before at 0)
-    ⊎ ((stills ≡ before) × ((link : LinkView) → slice_get links at ≡ Some link → has_cargo link ≡ false))
+IsForgottenWhere links before deadlines at = (deadlines ≡ slice_set before at 0)
+    ⊎ ((deadlines ≡ before) × ((link : LinkView) → slice_get links at ≡ Some link → has_cargo link ≡ false))
 
 -- of the `count` ends from the index `first` on, those with a waiting cargo have the deadline 0; each other deadline is
 -- unchanged, or 0
-pub record AreForgottenWhere (links : List LinkView) (before stills : List ℕ) (first count : ℕ) : Type 0 where
-  pub as_many : length stills ≡ length before
+pub record AreForgottenWhere (links : List LinkView) (before deadlines : List ℕ) (first count : ℕ) : Type 0 where
+  pub as_many : length deadlines ≡ length before
   pub here : (place : ℕ) (link : LinkView) → place < count → slice_get links (first + place) ≡ Some link
-      → has_cargo link ≡ true → slice_index stills (first + place) ≡ 0
-  pub others : (at : ℕ) → (slice_index stills at ≡ 0) ⊎ (slice_index stills at ≡ slice_index before at)
+      → has_cargo link ≡ true → slice_index deadlines (first + place) ≡ 0
+  pub others : (at : ℕ) → (slice_index deadlines at ≡ 0) ⊎ (slice_index deadlines at ≡ slice_index before at)
 
--- `AreStillEach`, except for those of the `count` ends from the index `first` on with a waiting cargo
-pub record AreStillBut (clock : ℕ) (stills : List ℕ) (links : List LinkView) (first count : ℕ) : Type 0 where
-  pub as_many : length stills ≡ length links
-  pub still : (at : ℕ) (link : LinkView) → clock < slice_index stills at → slice_get links at ≡ Some link
+-- `AreDeadlines`, except for those of the `count` ends from the index `first` on with a waiting cargo
+pub record AreDeadlinesBut (clock : ℕ) (deadlines : List ℕ) (links : List LinkView) (first count : ℕ) : Type 0 where
+  pub as_many : length deadlines ≡ length links
+  pub idle : (at : ℕ) (link : LinkView) → clock < slice_index deadlines at → slice_get links at ≡ Some link
       → ((place : ℕ) → place < count → at ≡ first + place → has_cargo link ≡ false)
-      → IsStill (slice_index stills at) link
+      → IsIdleUntil (slice_index deadlines at) link

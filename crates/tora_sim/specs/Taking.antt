@@ -11,7 +11,7 @@ use Rattle.tora_sim.specs.Keyed.{IsFirst}
 use Rattle.tora_sim.specs.Lanes.{AreOthersKept, AreReadyOutside, HaveRoomBut}
 use Rattle.tora_sim.specs.Links.{LinkView}
 use Rattle.tora_sim.specs.Nodes.{NodeView, is_of}
-use Rattle.tora_sim.specs.Quiet.{AreStillEach, AreStillBut}
+use Rattle.tora_sim.specs.Quiet.{AreDeadlines, AreDeadlinesBut}
 use Rattle.tora_sim.specs.Steps.{Happened, StopsWith, repeats}
 use Rattle.tora_sim.specs.Store.{SimState, IsStore, state_of, world_of}
 
@@ -28,8 +28,8 @@ pub record AreTaken (x : NodeView) (links : List LinkView) (y : NodeView) (after
   pub ready : AreReadyOutside after x.first x.count unready
   pub room : HaveRoomBut after x.first x.count seat
   pub others : AreOthersKept links after x.first x.count
-  pub still : (clock : ℕ) (stills : List ℕ) → AreStillEach clock stills links
-      → AreStillBut clock stills after x.first x.count
+  pub idle : (clock : ℕ) (deadlines : List ℕ) → AreDeadlines clock deadlines links
+      → AreDeadlinesBut clock deadlines after x.first x.count
 
 -- the core of node `n` took its items until none waited, at most `most`, or until memory ran out for one
 pub record Takes (before after : SimState) (n most : ℕ) (result : Result Bool SimError) : Type 0 where

@@ -6,10 +6,10 @@ ghost use Rattle.tora_sim.specs.Links.{with_state};
 ghost use Rattle.tora_sim.specs.Cuts.{after_cut_at};
 ghost use Rattle.tora_sim.specs.Store.{world_of};
 
+use crate::deadlines::forget;
 use crate::end_keys::place;
 use crate::links::{LinkParts, cut_bound};
 use crate::sim::Sim;
-use crate::stills::forget;
 use tora_arq::lives_are_bound_once;
 use tora_height::Id;
 
@@ -31,7 +31,7 @@ impl Sim {
         ensures { world_of self.new ≡ after_cut_at (world_of self.old) n k }
     {
         if let Some(at) = place(&self.links, &self.keys, n, k) {
-            forget(&mut self.stills, at, 1);
+            forget(&mut self.deadlines, at, 1);
             self.links[at].cut_bound();
         }
     }

@@ -7,11 +7,11 @@ ghost use Rattle.tora_frame.specs.declared.parts.Body.TheVariants.{Hello};
 ghost use Rattle.tora_sim.specs.Store.{numbered, world_of};
 
 use crate::SimError;
+use crate::deadlines::{set_deadline, short};
 use crate::end_keys::place_near;
 use crate::nodes::node_near;
 use crate::places::home_at;
 use crate::sim::Sim;
-use crate::stills::{keep_still, short};
 use std::alloc::AllocError;
 use tora_datagrams::Datagrams;
 use tora_frame::{BorrowedFrame, Header};
@@ -57,7 +57,7 @@ impl Sim {
         let Some(until) = self.links[at].receive_hello_and_look(&header, self.clock) else {
             return false;
         };
-        keep_still(&mut self.stills, at, short(until));
+        set_deadline(&mut self.deadlines, at, short(until));
         true
     }
 
@@ -91,7 +91,7 @@ impl Sim {
         let Some(until) = self.links[at].receive_and_look(&frame, self.clock) else {
             return Err(SimError::Memory);
         };
-        keep_still(&mut self.stills, at, short(until));
+        set_deadline(&mut self.deadlines, at, short(until));
         Ok(())
     }
 

@@ -3,14 +3,14 @@ ghost use Rattle.std.specs.Prelude.{◌≡◌, ◌+◌, ◌*◌, ◌<◌, ◌≤
 ghost use Rattle.std.specs.Prelude.{slice_index};
 ghost use Rattle.tora_sim.specs.Quiet.{IsQuietEnd};
 ghost use Rattle.tora_sim.specs.Readers.{ends_in};
-ghost use Rattle.tora_sim.specs.Stills.{AreLater};
+ghost use Rattle.tora_sim.specs.Deadlines.{AreLater};
 ghost use Rattle.tora_sim.specs.Store.{world_of};
 
-use crate::sim::Sim;
-use crate::stills::{
-    BLOCK, Stills, block_count, block_of, dues_of, end_count, ends_of, is_still_block, next_block,
-    still_at,
+use crate::deadlines::{
+    BLOCK, Deadlines, block_count, block_of, deadline_at, dues_of, end_count, ends_of,
+    is_idle_block, next_block,
 };
+use crate::sim::Sim;
 use tora_height::Id;
 
 impl Sim {
@@ -31,7 +31,7 @@ impl Sim {
         ensures passed { (at : ℕ) (end : ℕ × ℕ) → place ≤ at → at < result
             → slice_get (ends_in self.now.topology) at ≡ Some end → IsQuietEnd (world_of self.now) end.0 end.1 }
     {
-        next_due(&self.stills, self.clock, place)
+        next_due(&self.deadlines, self.clock, place)
     }
 }
 
@@ -71,71 +71,71 @@ fn nodes_apart(n: Id, k: Id) -> Id
 
 /// The first index from `place` on whose deadline has come. In most passes it is `place` itself or one of the next 16.
 #[inline(always)]
-pub fn next_due(stills: &Stills, now: u64, place: usize) -> usize
+pub fn next_due(deadlines: &Deadlines, now: u64, place: usize) -> usize
     ensures onward { place ≤ result }
-    ensures passed { (at : ℕ) → place ≤ at → at < result → now < slice_index stills.now at }
+    ensures passed { (at : ℕ) → place ≤ at → at < result → now < slice_index deadlines.now at }
 {
-    let many = end_count(stills);
+    let many = end_count(deadlines);
     if place >= many {
         return place;
     }
-    if still_at(stills, place) <= now {
+    if deadline_at(deadlines, place) <= now {
         return place;
     }
     if many - place < BLOCK {
-        return due_within(stills, now, place, many).unwrap_or(many);
+        return due_within(deadlines, now, place, many).unwrap_or(many);
     }
-    if let Some(at) = due_of_sixteen(stills, now, place) {
+    if let Some(at) = due_of_sixteen(deadlines, now, place) {
         return at;
     }
-    due_from(stills, now, place + BLOCK)
+    due_from(deadlines, now, place + BLOCK)
 }
 
 /// The index of the first end that may be due, skipping the blocks whose deadlines have not come.
-fn due_from(stills: &Stills, now: u64, place: usize) -> usize
+fn due_from(deadlines: &Deadlines, now: u64, place: usize) -> usize
     ensures onward { place ≤ result }
-    ensures passed { (at : ℕ) → place ≤ at → at < result → now < slice_index stills.now at }
+    ensures passed { (at : ℕ) → place ≤ at → at < result → now < slice_index deadlines.now at }
 {
-    let mut block = next_block(stills, block_of(place), now);
-    while block < block_count(stills) {
-        if let Some(at) = due_in_block(stills, block, now, place) {
+    let mut block = next_block(deadlines, block_of(place), now);
+    while block < block_count(deadlines) {
+        if let Some(at) = due_in_block(deadlines, block, now, place) {
             return at;
         }
-        block = next_block(stills, block + 1, now);
+        block = next_block(deadlines, block + 1, now);
     }
-    place.max(end_count(stills))
+    place.max(end_count(deadlines))
 }
 
 /// The first index from `place` on, within a block, whose deadline has come.
 #[inline(always)]
-fn due_in_block(stills: &Stills, block: usize, now: u64, place: usize) -> Option<usize>
-    requires { 16 * block < length stills.now }
-    ensures none { IfNone result (AreLater now (max place (16 * block)) (16 * block + 16) stills.now) }
+fn due_in_block(deadlines: &Deadlines, block: usize, now: u64, place: usize) -> Option<usize>
+    requires { 16 * block < length deadlines.now }
+    ensures none { IfNone result (AreLater now (max place (16 * block)) (16 * block + 16) deadlines.now) }
     ensures onward { IfSome result (λ at. place ≤ at) }
-    ensures within { IfSome result (λ at. at < length stills.now) }
-    ensures passed { IfSome result (λ at. AreLater now (max place (16 * block)) at stills.now) }
+    ensures within { IfSome result (λ at. at < length deadlines.now) }
+    ensures passed { IfSome result (λ at. AreLater now (max place (16 * block)) at deadlines.now) }
 {
-    if is_still_block(stills, block, now) {
+    if is_idle_block(deadlines, block, now) {
         return None;
     }
-    let (first, count) = ends_of(stills, block);
+    let (first, count) = ends_of(deadlines, block);
     if place <= first && count == BLOCK {
-        return due_of_sixteen(stills, now, first);
+        return due_of_sixteen(deadlines, now, first);
     }
-    due_within(stills, now, place.max(first), first + count)
+    due_within(deadlines, now, place.max(first), first + count)
 }
 
 /// The first of the 16 indexes from `from` on whose deadline has come. All are compared at once.
 #[inline(always)]
-fn due_of_sixteen(stills: &Stills, now: u64, from: usize) -> Option<usize>
-    requires { from + 16 ≤ length stills.now }
-    ensures none { IfNone result (AreLater now from (from + 16) stills.now) }
+fn due_of_sixteen(deadlines: &Deadlines, now: u64, from: usize) -> Option<usize>
+    requires { from + 16 ≤ length deadlines.now }
+    ensures none { IfNone result (AreLater now from (from + 16) deadlines.now) }
     ensures onward { IfSome result (λ at. from ≤ at) }
     ensures within { IfSome result (λ at. at < from + 16) }
-    ensures passed { IfSome result (λ at. AreLater now from at stills.now) }
+    ensures passed { IfSome result (λ at. AreLater now from at deadlines.now) }
 {
-    let _many = end_count(stills);
-    let dues = dues_of(stills, from, now);
+    let _many = end_count(deadlines);
+    let dues = dues_of(deadlines, from, now);
     if dues == 0 {
         None
     } else {
@@ -144,15 +144,15 @@ fn due_of_sixteen(stills: &Stills, now: u64, from: usize) -> Option<usize>
 }
 
 /// The first index from `from` to below `to` whose deadline has come.
-fn due_within(stills: &Stills, now: u64, from: usize, to: usize) -> Option<usize>
-    requires { to ≤ length stills.now }
-    ensures none { IfNone result (AreLater now from to stills.now) }
+fn due_within(deadlines: &Deadlines, now: u64, from: usize, to: usize) -> Option<usize>
+    requires { to ≤ length deadlines.now }
+    ensures none { IfNone result (AreLater now from to deadlines.now) }
     ensures onward { IfSome result (λ at. from ≤ at) }
     ensures within { IfSome result (λ at. at < to) }
-    ensures passed { IfSome result (λ at. AreLater now from at stills.now) }
+    ensures passed { IfSome result (λ at. AreLater now from at deadlines.now) }
 {
     for at in from..to {
-        if still_at(stills, at) <= now {
+        if deadline_at(deadlines, at) <= now {
             return Some(at);
         }
     }

@@ -1,8 +1,8 @@
 //! Which of sixteen deadlines have come, by one comparison of all of them.
 ghost use Rattle.std.specs.Prelude.{◌≡◌, ◌+◌, ◌≤◌, length};
-ghost use Rattle.tora_sim.specs.Stills.{due_bits};
+ghost use Rattle.tora_sim.specs.Deadlines.{due_bits};
 
-use crate::stills::short;
+use crate::deadlines::short;
 use std::simd::prelude::*;
 
 /// A bit for each of the 16 ticks from the index `first` on, the lowest for the first: it is set if the tick has come.

@@ -10,6 +10,7 @@ ghost use Rattle.tora_sim.specs.Topologies.{IsTopology};
 ghost use Rattle.tora_sim.specs.Firsts.{IsFirstEnd, AreAdded, IsMade};
 
 use crate::SimError;
+use crate::deadlines::no_deadlines;
 use crate::end_keys::keys_of;
 use crate::files::{apart, open};
 use crate::link_slot::LinkSlot;
@@ -19,11 +20,10 @@ use crate::places::places_of;
 use crate::queue::Queue;
 use crate::ready::none_ready;
 use crate::sim::Sim;
-use crate::stills::no_stills;
 use crate::topology::Topology;
 use std::alloc::Global;
 use tora_arq::{Times, standard_times};
-use tora_cargoes::{KeptCargoes, Lane, Spares};
+use tora_cargoes::{KeptCargoes, Lane, Pool};
 use tora_core::{Core, CoreLimits, numbers_are_put_in_order, numbers_come_and_go};
 use tora_datagrams::Datagrams;
 use tora_frame::Version;
@@ -70,7 +70,7 @@ impl Sim {
             add_node(alloc, &own, times, *n, &mut nodes, &mut links)?;
         }
         let count = links.len();
-        let stills = no_stills(alloc, count)?;
+        let deadlines = no_deadlines(alloc, count)?;
         let ready = none_ready(alloc, count)?;
         let keys = keys_of(alloc, &links)?;
         let places = places_of(alloc, &keys, &nodes)?;
@@ -83,9 +83,9 @@ impl Sim {
             keys,
             places,
             datagrams: Datagrams::new(alloc),
-            stills,
+            deadlines,
             ready,
-            spares: Spares::new(alloc),
+            pool: Pool::new(alloc),
         })
     }
 }

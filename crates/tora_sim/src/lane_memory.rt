@@ -40,7 +40,7 @@ impl Sim {
         requires ends { first + count ≤ length self.old.links }
         ensures { world_of self.new ≡ world_of self.old }
     {
-        if self.spares.was_taken() {
+        if self.pool.was_taken() {
             self.shorten_now(home, first, count);
         }
     }
@@ -55,6 +55,6 @@ impl Sim {
         if self.nodes[home].waiting() > 0 {
             return;
         }
-        shorten(&mut self.links, &self.ready, &mut self.spares, first, count);
+        shorten(&mut self.links, &self.ready, &mut self.pool, first, count);
     }
 }

@@ -12,7 +12,7 @@ use crate::link_slot::LinkSlot;
 use crate::ready::{is_ready, set_ready};
 use crate::unready::Unready;
 use std::marker::Model;
-use tora_cargoes::Spares;
+use tora_cargoes::Pool;
 use tora_seat::{Cargo, OutLanes, Stepped};
 
 /// The lanes of one node, among all link ends: the node's ends are adjacent, in the order of its neighbours. The lanes
@@ -24,7 +24,7 @@ pub struct NodeLanes {
     count: usize,
     /// The ends that may not be ready.
     unready: Unready,
-    spares: Spares,
+    pool: Pool,
 }
 
 impl Model for NodeLanes {
@@ -35,7 +35,7 @@ impl Model for NodeLanes {
     ghost view = { λ l. lanes_of (bare_between l.first l.count l.links.items) l.first l.count };
 
     ghost invariant = { λ l. AreReady (lanes_of l.links.items l.first l.count) l.unready
-        × AreFitting l.links.items l.first l.count l.spares };
+        × AreFitting l.links.items l.first l.count l.pool };
 }
 
 impl OutLanes for NodeLanes {
@@ -48,7 +48,7 @@ impl OutLanes for NodeLanes {
     fn offer(&mut self, place: usize, cargo: Cargo) -> bool {
         self.unready = self.unready.with_place(place);
         let at = self.first + place;
-        self.links[at].offer(cargo, &mut self.spares, place)
+        self.links[at].offer(cargo, &mut self.pool, place)
     }
 }
 
@@ -60,10 +60,10 @@ impl NodeLanes {
         first: usize,
         count: usize,
         unready: Unready,
-        spares: Spares,
+        pool: Pool,
     ) -> NodeLanes
         requires ready { AreReady (lanes_of links.items first count) unready }
-        requires whole { AreWhole spares count }
+        requires whole { AreWhole pool count }
         ensures { result ≡ lanes_of (bare_between first count links.items) first count }
     {
         NodeLanes {
@@ -71,19 +71,19 @@ impl NodeLanes {
             first,
             count,
             unready,
-            spares,
+            pool,
         }
     }
 
     /// Returns the ends. If a packet was stepped, it is recorded at the node's end with the index `place`. All ends of
-    /// the node outside `unready` are ready afterwards. The pool of lists goes into `spares`.
+    /// the node outside `unready` are ready afterwards. The pool of lists goes into `pool`.
     #[inline(always)]
     pub fn into_links(
         self,
         place: usize,
         stepped: Option<Stepped>,
         unready: &mut Unready,
-        spares: &mut Spares,
+        pool: &mut Pool,
     ) -> Vec<LinkSlot>
         requires { MatchOption stepped ⊤ (λ _. place < self.count) }
         ensures noted { IsNoted self place stepped (bare_between self.first self.count result.items) }
@@ -95,9 +95,9 @@ impl NodeLanes {
             first,
             count: _,
             unready: range,
-            spares: lists,
+            pool: lists,
         } = self;
-        *spares = lists;
+        *pool = lists;
         let Some(step) = stepped else {
             *unready = range;
             return links;
@@ -130,7 +130,7 @@ fn note(links: &mut Vec<LinkSlot>, at: usize, step: &Stepped)
 pub fn make_room(
     links: &mut Vec<LinkSlot>,
     ready: &mut Vec<bool>,
-    spares: &mut Spares,
+    pool: &mut Pool,
     first: usize,
     count: usize,
 ) -> Result<(), SimError>
@@ -139,10 +139,10 @@ pub fn make_room(
     ensures same { AreAlike links.old.items links.new.items }
     ensures room { OnOk result (HaveRoom links.new.items first count) }
     ensures marks { AreReadyEach ready.new.items links.new.items }
-    ensures whole { OnOk result (AreWhole spares.new count) }
+    ensures whole { OnOk result (AreWhole pool.new count) }
     ensures memory { IfErr result (λ e. e ≡ SimError.Memory) }
 {
-    if spares.make_whole(count).is_err() {
+    if pool.make_whole(count).is_err() {
         return Err(SimError::Memory);
     }
     for place in 0..count {
@@ -183,7 +183,7 @@ pub fn make_room_at(
 pub fn shorten(
     links: &mut Vec<LinkSlot>,
     ready: &Vec<bool>,
-    spares: &mut Spares,
+    pool: &mut Pool,
     first: usize,
     count: usize,
 )
@@ -192,10 +192,10 @@ pub fn shorten(
     ensures same { AreAlike links.old.items links.new.items }
     ensures marks { AreReadyEach ready.now.items links.new.items }
 {
-    spares.forget_taken();
+    pool.forget_taken();
     for place in 0..count {
         let at = first + place;
-        shorten_at(links, ready, spares, at, place);
+        shorten_at(links, ready, pool, at, place);
     }
 }
 
@@ -204,7 +204,7 @@ pub fn shorten(
 fn shorten_at(
     links: &mut Vec<LinkSlot>,
     ready: &Vec<bool>,
-    spares: &mut Spares,
+    pool: &mut Pool,
     at: usize,
     spare: usize,
 )
@@ -216,5 +216,5 @@ fn shorten_at(
     if is_ready(ready, at) {
         return;
     }
-    links[at].shorten(spares, spare);
+    links[at].shorten(pool, spare);
 }

@@ -15,6 +15,7 @@
 #![tactic(auto)]
 
 mod cuts;
+mod deadlines;
 mod delivering;
 mod due;
 mod due_bits;
@@ -46,7 +47,6 @@ mod rest;
 mod restarts;
 mod sending;
 mod sim;
-mod stills;
 mod taking;
 mod ticking;
 mod topology;

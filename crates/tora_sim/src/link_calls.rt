@@ -15,7 +15,7 @@ use crate::SimError;
 use crate::link_slot::{LinkSlot, keep, wake};
 use std::alloc::{AllocError, Global};
 use tora_arq::{GrowingEnd, Life, LinkEvent};
-use tora_cargoes::Spares;
+use tora_cargoes::Pool;
 use tora_height::Id;
 use tora_life::DiskCall;
 use tora_packet::Packet;
@@ -128,26 +128,26 @@ impl LinkSlot {
 
     /// Shortens a long list of the lane, if a cargo waits. The long list goes to the pool at the index `spare`.
     #[inline(always)]
-    pub fn shorten(&mut self, spares: &mut Spares, spare: usize)
+    pub fn shorten(&mut self, pool: &mut Pool, spare: usize)
         ensures { bare self.new ≡ bare self.old }
     {
         if self.has_cargo() {
-            self.parts.shorten(spares, spare);
+            self.parts.shorten(pool, spare);
         }
     }
 
     /// Puts a cargo at the back of the lane, unless the lane is full, and returns whether it did. If the lane needs a
     /// list, it takes that of the pool at the index `spare`.
-    pub fn offer(&mut self, cargo: Cargo, spares: &mut Spares, spare: usize) -> bool
-        requires { Fits self.old.pulled self.old.room spares.old spare }
+    pub fn offer(&mut self, cargo: Cargo, pool: &mut Pool, spare: usize) -> bool
+        requires { Fits self.old.pulled self.old.room pool.old spare }
         ensures put { result ≡ has_place self.old }
         ensures lane { bare self.new ≡ bare (after_offer_at self.old cargo result) }
         ensures step { self.new.step_room ≡ self.old.step_room }
-        ensures room { Fits self.new.pulled self.new.room spares.new spare }
-        ensures others { AreOthersAsWhole spares.old spares.new spare }
+        ensures room { Fits self.new.pulled self.new.room pool.new spare }
+        ensures others { AreOthersAsWhole pool.old pool.new spare }
     {
         wake(&mut self.steady, &mut *self.parts);
-        self.parts.offer(cargo, spares, spare)
+        self.parts.offer(cargo, pool, spare)
     }
 
     /// A fresh end of the same link.

@@ -5,7 +5,7 @@ ghost use Rattle.tora_frame.specs.FrameParts.{IsHeader, frame_of};
 ghost use Rattle.tora_frame.specs.declared.parts.Body.{Body};
 ghost use Rattle.tora_sim.specs.Links.{with_state};
 ghost use Rattle.tora_sim.specs.Pairs.{IsPairSent};
-ghost use Rattle.tora_sim.specs.Quiet.{IsStillIf};
+ghost use Rattle.tora_sim.specs.Quiet.{IsDeadline};
 ghost use Rattle.tora_sim.specs.SteadyLinks.{IsKept, is_none, shown};
 
 use crate::links::LinkParts;
@@ -152,7 +152,7 @@ impl LinkSlot {
         far_end: u32,
     ) -> Option<u64>
         ensures sent { IfSome result (λ _. IsPairSent self.old now self.new datagrams.old.items datagrams.new.items) }
-        ensures still { IfSome result (λ until. IsStillIf until self.new) }
+        ensures idle { IfSome result (λ until. IsDeadline until self.new) }
         ensures same { IfNone result (self.new ≡ self.old) }
         ensures datagrams { IfNone result (datagrams.new ≡ datagrams.old) }
     {
@@ -176,7 +176,7 @@ impl LinkSlot {
         self.steady.said = behind.said;
         self.steady.heard = behind.heard;
         self.steady.owes_old_hello = behind.owes_old_hello;
-        Some(self.steady.still_until())
+        Some(self.steady.deadline())
     }
 
     /// Handles a frame, and returns the tick before which the end then has nothing to do; 0 if it has something to do
@@ -185,7 +185,7 @@ impl LinkSlot {
     pub fn receive_and_look(&mut self, frame: &BorrowedFrame<'_>, now: u64) -> Option<u64>
         ensures state { IfSome result (λ _. self.new ≡ with_state self.old
             (after_frame self.old.settings self.old.state frame.now now)) }
-        ensures still { IfSome result (λ until. IsStillIf until self.new) }
+        ensures idle { IfSome result (λ until. IsDeadline until self.new) }
         ensures none { IfNone result (self.new ≡ self.old) }
     {
         wake(&mut self.steady, &mut *self.parts);
@@ -203,7 +203,7 @@ impl LinkSlot {
         requires { IsHeader header.now }
         ensures state { IfSome result (λ _. self.new ≡ with_state self.old
             (after_frame self.old.settings self.old.state (frame_of header.now Body.Hello) now)) }
-        ensures still { IfSome result (λ until. IsStillIf until self.new) }
+        ensures idle { IfSome result (λ until. IsDeadline until self.new) }
         ensures none { IfNone result (self.new ≡ self.old) }
     {
         if let Some(until) = self.hear(header, now) {
@@ -219,7 +219,7 @@ impl LinkSlot {
     fn hear(&mut self, header: &Header, now: u64) -> Option<u64>
         ensures state { IfSome result (λ _. self.new ≡ with_state self.old
             (after_frame self.old.settings self.old.state (frame_of header.now Body.Hello) now)) }
-        ensures still { IfSome result (λ until. IsStillIf until self.new) }
+        ensures idle { IfSome result (λ until. IsDeadline until self.new) }
         ensures none { IfNone result (self.new ≡ self.old) }
     {
         if self.steady.is_none() {
@@ -228,7 +228,7 @@ impl LinkSlot {
         if !self.steady.on_hello(header, now) {
             return None;
         }
-        Some(self.steady.still_until())
+        Some(self.steady.deadline())
     }
 
     /// `receive_hello_and_look` for an end that is not idle, or for a HELLO that says something new.
@@ -237,7 +237,7 @@ impl LinkSlot {
         requires { IsHeader header }
         ensures state { IfSome result (λ _. self.new ≡ with_state self.old
             (after_frame self.old.settings self.old.state (frame_of header Body.Hello) now)) }
-        ensures still { IfSome result (λ until. IsStillIf until self.new) }
+        ensures idle { IfSome result (λ until. IsDeadline until self.new) }
         ensures none { IfNone result (self.new ≡ self.old) }
     {
         wake(&mut self.steady, &mut *self.parts);
@@ -279,12 +279,12 @@ impl LinkSlot {
 
     /// The tick before which the end has nothing to do; 0 if it has something to do at once.
     #[inline(always)]
-    pub fn still_until(&self) -> u64
-        ensures { IsStillIf result self.now }
+    pub fn deadline(&self) -> u64
+        ensures { IsDeadline result self.now }
     {
         if self.steady.is_none() {
-            return self.parts.still_until();
+            return self.parts.deadline();
         }
-        self.steady.still_until()
+        self.steady.deadline()
     }
 }

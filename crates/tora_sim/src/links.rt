@@ -22,7 +22,7 @@ use std::alloc::Global;
 use std::marker::Model;
 use std::mem;
 use tora_arq::{ArqError, GrowingEnd, Life, LinkEvent, Steady, Times, lives_are_bound_once};
-use tora_cargoes::{KeptCargoes, Lane, Spares};
+use tora_cargoes::{KeptCargoes, Lane, Pool};
 use tora_frame::{BorrowedFrame, Header, Packets, Version};
 use tora_height::Id;
 use tora_life::{DiskCall, MemDisk, Owner};
@@ -111,7 +111,7 @@ impl LinkParts {
             ≡ false }
         ensures ticks { (tick : ℕ) → tick < result → after_tick self.now.settings self.now.state tick ≡ self.now.state }
     {
-        self.end.still_until()
+        self.end.deadline()
     }
 
     /// Ticks the end.
@@ -258,27 +258,27 @@ impl LinkParts {
 
     /// Shortens a long list of the lane, as `Lane::shorten` does. The long list goes to the pool at the index `spare`.
     #[inline(always)]
-    pub fn shorten(&mut self, spares: &mut Spares, spare: usize)
+    pub fn shorten(&mut self, pool: &mut Pool, spare: usize)
         ensures { bare self.new ≡ bare self.old }
     {
-        self.lane.shorten(spares, spare);
+        self.lane.shorten(pool, spare);
     }
 
     /// Puts a cargo at the back of the lane, unless the lane is full, and returns whether it did. If the lane needs a
     /// list, it takes that of the pool at the index `spare`.
     #[inline(always)]
-    pub fn offer(&mut self, cargo: Cargo, spares: &mut Spares, spare: usize) -> bool
-        requires { Fits self.old.pulled self.old.room spares.old spare }
+    pub fn offer(&mut self, cargo: Cargo, pool: &mut Pool, spare: usize) -> bool
+        requires { Fits self.old.pulled self.old.room pool.old spare }
         ensures put { result ≡ has_place self.old }
         ensures lane { bare self.new ≡ bare (after_offer_at self.old cargo result) }
         ensures step { self.new.step_room ≡ self.old.step_room }
-        ensures room { Fits self.new.pulled self.new.room spares.new spare }
-        ensures others { AreOthersAsWhole spares.old spares.new spare }
+        ensures room { Fits self.new.pulled self.new.room pool.new spare }
+        ensures others { AreOthersAsWhole pool.old pool.new spare }
     {
         if !self.lane.has_place() {
             return false;
         }
-        self.lane.put(cargo, spares, spare);
+        self.lane.put(cargo, pool, spare);
         true
     }
 

@@ -5,11 +5,11 @@ ghost use Rattle.tora_sim.specs.Store.{call_of};
 ghost use Rattle.tora_sim.specs.Keyed.{IsFirst};
 ghost use Rattle.tora_sim.specs.Steps.{Does};
 
+use crate::deadlines::forget;
 use crate::links::arm;
 use crate::nodes::{Sending, place as node_place};
 use crate::restarts::{new_ends, restart_ends};
 use crate::sim::Sim;
-use crate::stills::forget;
 use crate::{Call, SimError};
 use tora_height::Id;
 use tora_life::DiskCall;
@@ -65,7 +65,7 @@ impl Sim {
         let Ok(mut ends) = new_ends(alloc, &self.links, first, count) else {
             return Err(SimError::Memory);
         };
-        forget(&mut self.stills, first, count);
+        forget(&mut self.deadlines, first, count);
         restart_ends(&mut self.links, first, &mut ends, torn);
         self.nodes[home].restart(seat);
         Ok(())

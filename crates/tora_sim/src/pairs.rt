@@ -8,10 +8,10 @@ ghost use Rattle.tora_sim.specs.Sending.{IsOver};
 ghost use Rattle.tora_sim.specs.Steps.{AllAreDone};
 ghost use Rattle.tora_sim.specs.Store.{world_of};
 
+use crate::deadlines::{set_deadline, short};
 use crate::nodes::Sending;
 use crate::places::far_end_at;
 use crate::sim::Sim;
-use crate::stills::{keep_still, short};
 use tora_arq::data_frames_are_what_was_submitted;
 use tora_height::Id;
 
@@ -60,7 +60,7 @@ impl Sim {
         if self.clock >= until {
             return Some(false);
         }
-        keep_still(&mut self.stills, at, short(until));
+        set_deadline(&mut self.deadlines, at, short(until));
         Some(true)
     }
 }

@@ -6,10 +6,10 @@ ghost use Rattle.tora_sim.specs.Store.{world_of};
 ghost use Rattle.tora_world.specs.World.{refusal_of};
 ghost use Rattle.tora_world.specs.declared.event.Event.TheVariants.{CoreTurn};
 
+use crate::deadlines::deadline;
 use crate::looks::look_at_ends;
 use crate::nodes::NodeSlot;
 use crate::sim::Sim;
-use crate::stills::still_until;
 
 impl Sim {
     /// Whether it is known that nothing is to be done: no core has an item to take, and no link end can be opened, take
@@ -17,7 +17,7 @@ impl Sim {
     pub fn is_quiet(&self) -> bool
         ensures { result ≡ true → IsQuiet (world_of self.now) }
     {
-        let until = still_until(&self.stills, self.clock);
+        let until = deadline(&self.deadlines, self.clock);
         if self.clock >= until {
             return false;
         }
@@ -36,7 +36,7 @@ impl Sim {
     pub fn settle(&mut self)
         ensures { self.new ≡ self.old }
     {
-        look_at_ends(&self.links, &mut self.stills, self.clock);
+        look_at_ends(&self.links, &mut self.deadlines, self.clock);
     }
 }
 

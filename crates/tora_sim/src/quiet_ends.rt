@@ -4,7 +4,7 @@ ghost use Rattle.tora_arq.specs.LinkEnd.{after_frame};
 ghost use Rattle.tora_frame.specs.FrameParts.{IsHeader, frame_of};
 ghost use Rattle.tora_frame.specs.declared.parts.Body.{Body};
 ghost use Rattle.tora_sim.specs.Links.{with_state};
-ghost use Rattle.tora_sim.specs.Quiet.{IsStillIf, MayOnlySend};
+ghost use Rattle.tora_sim.specs.Quiet.{IsDeadline, MayOnlySend};
 
 use crate::links::LinkParts;
 use tora_frame::{BorrowedFrame, Header};
@@ -27,8 +27,8 @@ impl LinkParts {
 
     /// The tick before which the end has nothing to do; 0 if it has something to do at once.
     #[inline(always)]
-    pub fn still_until(&self) -> u64
-        ensures { IsStillIf result self.now }
+    pub fn deadline(&self) -> u64
+        ensures { IsDeadline result self.now }
     {
         if self.is_busy() {
             return 0;
@@ -36,18 +36,18 @@ impl LinkParts {
         self.quiet_end_until()
     }
 
-    /// Handles a frame, and returns `still_until` of the new state. `None` if memory runs out; nothing changes then.
+    /// Handles a frame, and returns `deadline` of the new state. `None` if memory runs out; nothing changes then.
     #[inline(always)]
     pub fn receive_and_look(&mut self, frame: &BorrowedFrame<'_>, now: u64) -> Option<u64>
         ensures state { IfSome result (λ _. self.new ≡ with_state self.old
             (after_frame self.old.settings self.old.state frame.now now)) }
-        ensures still { IfSome result (λ until. IsStillIf until self.new) }
+        ensures idle { IfSome result (λ until. IsDeadline until self.new) }
         ensures none { IfNone result (self.new ≡ self.old) }
     {
         if !self.receive(frame, now) {
             return None;
         }
-        Some(self.still_until())
+        Some(self.deadline())
     }
 
     /// Handles a HELLO, given by its header, as `receive_and_look` does.
@@ -56,12 +56,12 @@ impl LinkParts {
         requires { IsHeader header.now }
         ensures state { IfSome result (λ _. self.new ≡ with_state self.old
             (after_frame self.old.settings self.old.state (frame_of header.now Body.Hello) now)) }
-        ensures still { IfSome result (λ until. IsStillIf until self.new) }
+        ensures idle { IfSome result (λ until. IsDeadline until self.new) }
         ensures none { IfNone result (self.new ≡ self.old) }
     {
         if !self.receive_hello(header, now) {
             return None;
         }
-        Some(self.still_until())
+        Some(self.deadline())
     }
 }

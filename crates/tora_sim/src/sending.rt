@@ -13,11 +13,11 @@ ghost use Rattle.tora_world.specs.World.{with_datagram};
 ghost use Rattle.tora_datagrams.specs.Datagrams.{HasRoom};
 
 use crate::SimError;
+use crate::deadlines::{set_deadline, short};
 use crate::end_keys::{place, place_near};
 use crate::nodes::{NodeSlot, Sending, node_near};
 use crate::places::{far_end_at, home_at};
 use crate::sim::Sim;
-use crate::stills::{keep_still, short};
 use std::alloc::AllocError;
 use tora_arq::{calls_keep_an_end, data_frames_are_what_was_submitted};
 use tora_datagrams::Datagrams;
@@ -114,11 +114,11 @@ impl Sim {
         if !sent {
             return false;
         }
-        let until = self.links[at].still_until();
+        let until = self.links[at].deadline();
         if self.clock >= until {
             return false;
         }
-        keep_still(&mut self.stills, at, short(until));
+        set_deadline(&mut self.deadlines, at, short(until));
         true
     }
 

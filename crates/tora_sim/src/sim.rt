@@ -2,16 +2,16 @@
 ghost use Rattle.tora_world.specs.declared.event.Event.TheVariants.{Tick};
 ghost use Rattle.tora_sim.specs.Steps.{Does, Runs};
 
+use crate::deadlines::Deadlines;
 use crate::link_slot::LinkSlot;
 use crate::nodes::NodeSlot;
 use crate::places::Places;
-use crate::stills::Stills;
 use crate::ticking::tick;
 use crate::topology::Topology;
 use crate::{Event, SimError};
 use std::marker::Model;
 use tora_arq::Times;
-use tora_cargoes::Spares;
+use tora_cargoes::Pool;
 use tora_datagrams::Datagrams;
 use tora_height::Id;
 
@@ -30,19 +30,19 @@ pub struct Sim {
     pub(crate) datagrams: Datagrams,
     /// The deadline of each link end: before this tick it has nothing to do. A deadline that has come gives no
     /// information.
-    pub(crate) stills: Stills,
+    pub(crate) deadlines: Deadlines,
     /// Marks of the ends that are ready: the lane is empty, and the end has memory for all that one item of its node
     /// can put.
     pub(crate) ready: Vec<bool>,
     /// A pool of lists for lanes that are longer than their inline places.
-    pub(crate) spares: Spares,
+    pub(crate) pool: Pool,
 }
 
 impl Model for Sim {
     ghost use Rattle.std.specs.Prelude.{◌≡◌};
     ghost use Rattle.tora_sim.specs.Store.{SimState, IsStore, state_of};
     ghost use Rattle.tora_sim.specs.Lanes.{AreReadyEach};
-    ghost use Rattle.tora_sim.specs.Quiet.{AreStillEach};
+    ghost use Rattle.tora_sim.specs.Quiet.{AreDeadlines};
     ghost use Rattle.tora_sim.specs.Readers.{ends_in};
 
     ghost Value = { SimState };
@@ -50,7 +50,7 @@ impl Model for Sim {
     ghost view = { λ s. state_of s.topology s.times s.clock s.nodes.items s.links.items s.datagrams.items };
 
     ghost invariant = { λ s. IsStore (state_of s.topology s.times s.clock s.nodes.items s.links.items s.datagrams.items)
-        × AreStillEach s.clock s.stills s.links.items × (s.keys.items ≡ ends_in s.topology)
+        × AreDeadlines s.clock s.deadlines s.links.items × (s.keys.items ≡ ends_in s.topology)
         × AreReadyEach s.ready.items s.links.items };
 }
 
@@ -62,7 +62,7 @@ impl Sim {
         let Some(now) = self.clock.checked_add(1) else {
             return Err(SimError::Memory);
         };
-        tick(&mut self.links, &self.stills, now);
+        tick(&mut self.links, &self.deadlines, now);
         self.clock = now;
         Ok(())
     }

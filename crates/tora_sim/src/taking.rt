@@ -9,7 +9,7 @@ use crate::lanes::make_room;
 use crate::nodes::node_near;
 use crate::sim::Sim;
 use crate::turns::{forget_waiting, take_items};
-use crate::unready::still_unready;
+use crate::unready::unready_range;
 use std::alloc::AllocError;
 use tora_core::Sends;
 use tora_height::Id;
@@ -48,7 +48,7 @@ impl Sim {
         if make_room(
             &mut self.links,
             &mut self.ready,
-            &mut self.spares,
+            &mut self.pool,
             first,
             count,
         )
@@ -56,7 +56,7 @@ impl Sim {
         {
             return Err(AllocError);
         }
-        let before = still_unready(&self.ready, first, count);
+        let before = unready_range(&self.ready, first, count);
         let mut unready = before;
         let mut seat = count;
         let mut sends = Sends::new();
@@ -65,7 +65,7 @@ impl Sim {
             &mut self.links,
             &mut unready,
             &mut seat,
-            &mut self.spares,
+            &mut self.pool,
             &mut sends,
             most,
         );
@@ -75,7 +75,7 @@ impl Sim {
         forget_waiting(
             &self.links,
             &mut self.ready,
-            &mut self.stills,
+            &mut self.deadlines,
             start,
             after.behind - after.from,
             first.saturating_add(seat),

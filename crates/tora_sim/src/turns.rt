@@ -9,14 +9,14 @@ ghost use Rattle.tora_sim.specs.Turns.{Turns};
 ghost use Rattle.tora_sim.specs.Unready.{AreRemarked, IsRemarked};
 
 use crate::SimError;
+use crate::deadlines::{Deadlines, set_deadline};
 use crate::lanes::NodeLanes;
 use crate::link_slot::LinkSlot;
 use crate::nodes::NodeSlot;
 use crate::ready::set_ready;
-use crate::stills::{Stills, keep_still};
 use crate::unready::Unready;
 use std::mem;
-use tora_cargoes::Spares;
+use tora_cargoes::Pool;
 use tora_core::Sends;
 use tora_seat::offers_are_their_own_answers;
 
@@ -31,10 +31,10 @@ pub fn turn(
     links: &mut Vec<LinkSlot>,
     unready: &mut Unready,
     seat: &mut usize,
-    spares: &mut Spares,
+    pool: &mut Pool,
     sends: &mut Sends,
 ) -> Result<(), SimError>
-    requires whole { AreWhole spares.old node.old.count }
+    requires whole { AreWhole pool.old node.old.count }
     requires room { AreReady (lanes_of links.old.items node.old.first node.old.count) unready.old }
     requires waits { 0 < length node.old.items }
     requires neighbours { length node.old.seat.core.neighbours ≡ node.old.count }
@@ -46,18 +46,18 @@ pub fn turn(
 {
     let alloc = *links.allocator();
     let ends = mem::replace(links, Vec::new(alloc));
-    let lists = mem::replace(spares, Spares::new(alloc));
+    let lists = mem::replace(pool, Pool::new(alloc));
     let mut lanes = NodeLanes::new(ends, node.first(), node.count(), *unready, lists);
     match node.serve(sends, &mut lanes) {
         Ok(item) => {
             offers_are_their_own_answers();
             *seat = item.seat;
-            *links = lanes.into_links(item.seat, node.stepped(), unready, spares);
+            *links = lanes.into_links(item.seat, node.stepped(), unready, pool);
             Ok(())
         }
         Err(error) => {
             *seat = 0;
-            *links = lanes.into_links(0, None, unready, spares);
+            *links = lanes.into_links(0, None, unready, pool);
             Err(error)
         }
     }
@@ -70,7 +70,7 @@ pub fn turn(
 /// `Memory`. The ends do not change.
 fn make_room_again(
     links: &mut Vec<LinkSlot>,
-    spares: &mut Spares,
+    pool: &mut Pool,
     first: usize,
     count: usize,
     unready: Unready,
@@ -84,10 +84,10 @@ fn make_room_again(
     ensures but { HaveRoomBut links.new.items first count seat }
     ensures room { OnOk result (HaveRoom links.new.items first count) }
     ensures others { AreOthersKept links.old.items links.new.items first count }
-    ensures whole { OnOk result (AreWhole spares.new count) }
+    ensures whole { OnOk result (AreWhole pool.new count) }
     ensures memory { IfErr result (λ e. e ≡ SimError.Memory) }
 {
-    if spares.make_whole(count).is_err() {
+    if pool.make_whole(count).is_err() {
         return Err(SimError::Memory);
     }
     if seat >= count {
@@ -111,7 +111,7 @@ pub fn take_items(
     links: &mut Vec<LinkSlot>,
     unready: &mut Unready,
     seat: &mut usize,
-    spares: &mut Spares,
+    pool: &mut Pool,
     sends: &mut Sends,
     most: u64,
 ) -> Result<bool, SimError>
@@ -126,11 +126,11 @@ pub fn take_items(
             return Ok(some);
         }
         let (first, count) = (node.first(), node.count());
-        match make_room_again(links, spares, first, count, *unready, *seat) {
+        match make_room_again(links, pool, first, count, *unready, *seat) {
             Ok(()) => {}
             Err(error) => return Err(error),
         }
-        match turn(node, links, unready, seat, spares, sends) {
+        match turn(node, links, unready, seat, pool, sends) {
             Ok(()) => some = true,
             Err(error) => return Err(error),
         }
@@ -144,20 +144,20 @@ pub fn take_items(
 pub fn forget_waiting(
     links: &Vec<LinkSlot>,
     ready: &mut Vec<bool>,
-    stills: &mut Stills,
+    deadlines: &mut Deadlines,
     first: usize,
     count: usize,
     but: usize,
 )
     requires within { first + count ≤ length links.now.items }
     requires ready { length ready.old.items ≡ length links.now.items }
-    requires stills { length stills.old ≡ length links.now.items }
+    requires deadlines { length deadlines.old ≡ length links.now.items }
     ensures ready { AreRemarked links.now.items but ready.old.items ready.new.items first count }
-    ensures stills { AreForgottenWhere links.now.items stills.old stills.new first count }
+    ensures deadlines { AreForgottenWhere links.now.items deadlines.old deadlines.new first count }
 {
     for place in 0..count {
         let at = first + place;
-        forget_if_waiting(links, ready, stills, at, but);
+        forget_if_waiting(links, ready, deadlines, at, but);
     }
 }
 
@@ -166,21 +166,21 @@ pub fn forget_waiting(
 fn forget_if_waiting(
     links: &Vec<LinkSlot>,
     ready: &mut Vec<bool>,
-    stills: &mut Stills,
+    deadlines: &mut Deadlines,
     at: usize,
     but: usize,
 )
     requires within { at < length links.now.items }
     requires ready { at < length ready.old.items }
-    requires stills { at < length stills.old }
+    requires deadlines { at < length deadlines.old }
     ensures ready { IsRemarked links.now.items but ready.old.items ready.new.items at }
-    ensures stills { IsForgottenWhere links.now.items stills.old stills.new at }
+    ensures deadlines { IsForgottenWhere links.now.items deadlines.old deadlines.new at }
 {
     remark(links, ready, at, but);
     if !links[at].has_cargo() {
         return;
     }
-    keep_still(stills, at, 0);
+    set_deadline(deadlines, at, 0);
 }
 
 /// Marks the link end at an index as ready if its lane is empty and the index is not `but`.

@@ -70,7 +70,7 @@ impl Unready {
 }
 
 /// A range that includes each unmarked end, of the `count` ends of a node from the index `first` on.
-pub fn still_unready(ready: &Vec<bool>, first: usize, count: usize) -> Unready
+pub fn unready_range(ready: &Vec<bool>, first: usize, count: usize) -> Unready
     requires { first + count ≤ length ready.now.items }
     ensures { (place : ℕ) → place < count → IsOutside result place
         → slice_get ready.now.items (first + place) ≡ Some true }

@@ -2,7 +2,7 @@ use Rattle.std.proofs.Common.{◌<◌, ◌^◌, ℕ, nat_le, map, sym, ap, ◌�
 use Rattle.std.specs.Simd.Lanes.{chunk, mask_l}
 use Rattle.std.proofs.lemmas.List.{length-map}
 use Rattle.std.proofs.lemmas.Simd.{bitmask_splat, length-chunk, mask_l-lt}
-use Rattle.tora_sim.specs.Stills.{due_bits}
+use Rattle.tora_sim.specs.Deadlines.{due_bits}
 use Rattle.tora_sim.proofs.DueBits.{bits_by_short}
 use Rattle.tora_sim.proofs.due_bits.due_bits.Goals as goal
 

@@ -1,7 +1,7 @@
 use Rattle.std.proofs.Common.{◌≡◌, ◌+◌, ◌*◌, ◌≤◌, length, arith}
 use Rattle.tora_sim.specs.Links.{ticked}
 use Rattle.tora_sim.proofs.FreshEnds.{none_changed}
-use Rattle.tora_sim.proofs.TickEnds.{still_behind, more_ticked, all_ticked}
+use Rattle.tora_sim.proofs.TickEnds.{idle_behind, more_ticked, all_ticked}
 use Rattle.tora_sim.proofs.ticking.tick.Goals as goal
 
 pub loop-block-init : goal.loop-block-init
@@ -16,10 +16,10 @@ tick_block-requires-clause-many c =
     let same = c.loop-block.invariant.as_many in
     omega (arith, as_many, same)
 
-pub tick_block-requires-clause-still : goal.tick_block-requires-clause-still
-tick_block-requires-clause-still c =
+pub tick_block-requires-clause-idle : goal.tick_block-requires-clause-idle
+tick_block-requires-clause-idle c =
     let block = c.loop-block.block in
-    still_behind c.args.now (16 * block) c.args.stills.now c.args.links.now.items c.loop-block.links.items c.requires c.loop-block.invariant
+    idle_behind c.args.now (16 * block) c.args.deadlines.now c.args.links.now.items c.loop-block.links.items c.requires c.loop-block.invariant
 
 pub loop-block-preserved : goal.loop-block-preserved
 loop-block-preserved c =

@@ -1,6 +1,6 @@
 use Rattle.std.proofs.Common.{false, not, true≢false, sym}
 use Rattle.tora_arq.proofs.SteadyLemmas.{not_true}
-use Rattle.tora_sim.proofs.StillEnds.{none_waits}
+use Rattle.tora_sim.proofs.IdleEnds.{none_waits}
 use Rattle.tora_sim.proofs.turns.remark.Goals as goal
 
 pub returns-then-at-but : goal.returns-then-at-but

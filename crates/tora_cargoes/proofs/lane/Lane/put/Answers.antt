@@ -7,8 +7,8 @@ use Rattle.tora_cargoes.proofs.lane.Lane.put.Goals as goal
 pub push-requires : goal.push-requires
 push-requires c =
     let l = c.self.inside in
-    push_fits l.past.items l.cargoes l.taken c.args.spares.now c.args.spare
-    (subst (λ (v : LaneView). Fits v.pulled v.room c.args.spares.now c.args.spare) (sym c.self.view_is) c.requires.room)
+    push_fits l.past.items l.cargoes l.taken c.args.pool.now c.args.spare
+    (subst (λ (v : LaneView). Fits v.pulled v.room c.args.pool.now c.args.spare) (sym c.self.view_is) c.requires.room)
     (ap has_place_in c.self.view_is ∙ c.requires.place)
 
 pub returns-clause-put : goal.returns-clause-put
@@ -19,5 +19,5 @@ returns-clause-put c =
 pub returns-clause-room : goal.returns-clause-room
 returns-clause-room c =
     let l = c.self.inside in
-    still_fits l.past.items l.cargoes c.push.new.self l.taken c.args.spares.now c.push.new.spares c.args.spare c.push.ensures.places c.self.invariant
-    (subst (λ (v : LaneView). Fits v.pulled v.room c.args.spares.now c.args.spare) (sym c.self.view_is) c.requires.room)
+    still_fits l.past.items l.cargoes c.push.new.self l.taken c.args.pool.now c.push.new.pool c.args.spare c.push.ensures.places c.self.invariant
+    (subst (λ (v : LaneView). Fits v.pulled v.room c.args.pool.now c.args.spare) (sym c.self.view_is) c.requires.room)

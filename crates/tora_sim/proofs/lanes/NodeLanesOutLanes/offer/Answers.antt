@@ -19,9 +19,9 @@ pub invariant_of-self : goal.invariant_of-self
 invariant_of-self c =
     let s = c.self.inside in
     let lt : c.args.place < s.count = subst (λ (v : LanesView). c.args.place < v.count) (sym c.self.view_is) c.requires in (
-      still_ready s.links.items s.first s.count c.args.place s.unready c.self.invariant.0 lt c.index_mut.result.now c.index_mut.ensures.value s.spares c.offer.new.spares c.offer.new.self c.args.cargo c.offer.result c.offer.ensures.lane c.offer.ensures.step c.offer.ensures.room
+      still_ready s.links.items s.first s.count c.args.place s.unready c.self.invariant.0 lt c.index_mut.result.now c.index_mut.ensures.value s.pool c.offer.new.pool c.offer.new.self c.args.cargo c.offer.result c.offer.ensures.lane c.offer.ensures.step c.offer.ensures.room
           c.with_place-self-inside.result c.with_place-self-inside.ensures.before c.with_place-self-inside.ensures.place,
-      still_fitting s.links.items s.first s.count c.args.place s.unready c.self.invariant.0 lt c.index_mut.result.now c.index_mut.ensures.value s.spares c.offer.new.spares c.offer.new.self c.args.cargo c.offer.result c.offer.ensures.lane c.offer.ensures.step c.offer.ensures.room
+      still_fitting s.links.items s.first s.count c.args.place s.unready c.self.invariant.0 lt c.index_mut.result.now c.index_mut.ensures.value s.pool c.offer.new.pool c.offer.new.self c.args.cargo c.offer.result c.offer.ensures.lane c.offer.ensures.step c.offer.ensures.room
           c.offer.ensures.others c.self.invariant.1,
     )
 
@@ -30,4 +30,4 @@ returns-clause-offered c =
     let s = c.self.inside in
     let lt : c.args.place < s.count = subst (λ (v : LanesView). c.args.place < v.count) (sym c.self.view_is) c.requires in
     subst (λ (before : LanesView). DidOffer before c.args.place c.args.cargo c.offer.result (lanes_of (bare_between s.first s.count (slice_set s.links.items (s.first + c.args.place) c.offer.new.self)) s.first s.count)) c.self.view_is
-    (did s.links.items s.first s.count c.args.place s.unready c.self.invariant.0 lt c.index_mut.result.now c.index_mut.ensures.value s.spares c.offer.new.spares c.offer.new.self c.args.cargo c.offer.result c.offer.ensures.lane c.offer.ensures.step c.offer.ensures.room c.offer.ensures.put)
+    (did s.links.items s.first s.count c.args.place s.unready c.self.invariant.0 lt c.index_mut.result.now c.index_mut.ensures.value s.pool c.offer.new.pool c.offer.new.self c.args.cargo c.offer.result c.offer.ensures.lane c.offer.ensures.step c.offer.ensures.room c.offer.ensures.put)

@@ -4,14 +4,14 @@ use Rattle.tora_world.specs.declared.event.Event.TheVariants.{Arm}
 use Rattle.tora_sim.specs.Keyed.{IsFirst}
 use Rattle.tora_sim.specs.Lanes.{IsReady}
 use Rattle.tora_sim.specs.Links.{LinkView, AreChanged, after_arm}
-use Rattle.tora_sim.specs.Quiet.{IsStill}
+use Rattle.tora_sim.specs.Quiet.{IsIdleUntil}
 use Rattle.tora_sim.specs.Nodes.{NodeView, is_of}
 use Rattle.tora_sim.specs.Store.{SimState, state_of, world_of, call_of}
 use Rattle.tora_sim.specs.Steps.{IsDone}
 use Rattle.tora_sim.proofs.Opens.{same_read}
 use Rattle.tora_sim.proofs.Arms.{armed_of, files_done, files_store, noded_at}
 use Rattle.tora_sim.proofs.NodeEnds.{ends_within, changed_is}
-use Rattle.tora_sim.proofs.StillEnds.{mapped_still}
+use Rattle.tora_sim.proofs.IdleEnds.{mapped_idle}
 use Rattle.tora_sim.proofs.ReadyEnds.{mapped_ready}
 use Rattle.tora_sim.proofs.sim.Sim.arm_files.Goals as goal
 
@@ -40,8 +40,8 @@ pub invariant_of-self : goal.invariant_of-self
 invariant_of-self c =
     let s = c.self.inside in (
       files_store s.topology s.times s.clock s.nodes.items s.links.items s.datagrams.items c.self.invariant.0 c.args.n c.args.call c.arm.new.links.items (armed c),
-      mapped_still s.clock s.stills s.links.items c.arm.new.links.items (armed_of c.args.n c.args.call) (armed c)
-          (λ until x h. cond_both (nat_eq x.node c.args.n) (after_arm x c.args.call) x (λ (z : LinkView). IsStill until z) (λ _. h) (λ _. h)) c.self.invariant.1,
+      mapped_idle s.clock s.deadlines s.links.items c.arm.new.links.items (armed_of c.args.n c.args.call) (armed c)
+          (λ until x h. cond_both (nat_eq x.node c.args.n) (after_arm x c.args.call) x (λ (z : LinkView). IsIdleUntil until z) (λ _. h) (λ _. h)) c.self.invariant.1,
       c.self.invariant.2,
       mapped_ready s.ready.items s.links.items c.arm.new.links.items (armed_of c.args.n c.args.call) (armed c)
           (λ x h. cond_both (nat_eq x.node c.args.n) (after_arm x c.args.call) x (λ (z : LinkView). IsReady z) (λ _. h) (λ _. h)) c.self.invariant.3,

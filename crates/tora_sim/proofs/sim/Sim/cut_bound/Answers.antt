@@ -3,7 +3,7 @@ use Rattle.std.specs.Prelude.{slice_set}
 use Rattle.tora_sim.specs.Cuts.{after_cut_at}
 use Rattle.tora_sim.specs.Store.{SimState, state_of, world_of}
 use Rattle.tora_sim.proofs.Opens.{cut_done, cut_store}
-use Rattle.tora_sim.proofs.StillEnds.{unknown_still, one_forgotten, forgotten_still}
+use Rattle.tora_sim.proofs.IdleEnds.{unknown_idle, one_forgotten, forgotten_idle}
 use Rattle.tora_sim.proofs.ReadyEnds.{kept_as}
 use Rattle.tora_sim.proofs.sim.Sim.cut_bound.Goals as goal
 
@@ -18,8 +18,8 @@ invariant_of-self c =
     let s = c.self.inside in (
       cut_store s.topology s.times s.clock s.nodes.items s.links.items s.datagrams.items c.self.invariant.0 c.args.n c.args.k c.in-Some.at c.index_mut.result.now c.in-Some.ensures.first c.index_mut.ensures.value
           c.cut_bound.new.self c.cut_bound.ensures,
-      unknown_still s.clock c.forget.new.stills s.links.items c.in-Some.at c.cut_bound.new.self (one_forgotten s.stills c.forget.new.stills c.in-Some.at c.forget.ensures)
-          (forgotten_still s.clock s.stills c.forget.new.stills s.links.items c.in-Some.at 1 c.forget.ensures c.self.invariant.1),
+      unknown_idle s.clock c.forget.new.deadlines s.links.items c.in-Some.at c.cut_bound.new.self (one_forgotten s.deadlines c.forget.new.deadlines c.in-Some.at c.forget.ensures)
+          (forgotten_idle s.clock s.deadlines c.forget.new.deadlines s.links.items c.in-Some.at 1 c.forget.ensures c.self.invariant.1),
       c.self.invariant.2,
       kept_as s.ready.items s.links.items c.in-Some.at c.index_mut.result.now c.cut_bound.new.self _ c.in-Some.ensures.first.within c.index_mut.ensures.value c.cut_bound.ensures (λ h. h) c.self.invariant.3,
     )

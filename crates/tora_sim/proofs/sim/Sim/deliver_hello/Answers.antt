@@ -10,8 +10,8 @@ use Rattle.tora_sim.specs.Store.{SimState, state_of, world_of}
 use Rattle.tora_sim.specs.Steps.{IsDone}
 use Rattle.tora_sim.proofs.Quiets.{set_same}
 use Rattle.tora_sim.proofs.Receives.{received_done, received_store}
-use Rattle.tora_sim.specs.Quiet.{IsStillIf}
-use Rattle.tora_sim.proofs.StillEnds.{found_still, short_still}
+use Rattle.tora_sim.specs.Quiet.{IsDeadline}
+use Rattle.tora_sim.proofs.IdleEnds.{found_idle, short_idle}
 use Rattle.tora_sim.proofs.ReadyEnds.{kept_as}
 use Rattle.tora_sim.proofs.Unchanged.{links_stay}
 use Rattle.tora_sim.proofs.sim.Sim.deliver_hello.Goals as goal
@@ -19,8 +19,8 @@ use Rattle.tora_sim.proofs.sim.Sim.deliver_hello.Goals as goal
 pub place_near-requires-clause-keys : goal.place_near-requires-clause-keys
 place_near-requires-clause-keys c = c.self.invariant.2 ∙ sym c.self.invariant.0.keys
 
-pub keep_still-requires : goal.keep_still-requires
-keep_still-requires c = omega (arith, c.in-Some-place_near.ensures.first.within, c.self.invariant.1.as_many)
+pub set_deadline-requires : goal.set_deadline-requires
+set_deadline-requires c = omega (arith, c.in-Some-place_near.ensures.first.within, c.self.invariant.1.as_many)
 
 -- ---- memory ran out
 
@@ -31,7 +31,7 @@ module _ (c : goal.In_default-receive_hello_and_look) where
 pub invariant_of-self : goal.invariant_of-self
 invariant_of-self c =
     let s = c.self.inside in
-    links_stay s.topology s.times s.clock s.nodes.items s.links.items s.datagrams.items s.keys.items s.stills s.ready.items c.self.invariant (slice_set s.links.items c.in-Some-place_near.at c.receive_hello_and_look.new.self) (stays c)
+    links_stay s.topology s.times s.clock s.nodes.items s.links.items s.datagrams.items s.keys.items s.deadlines s.ready.items c.self.invariant (slice_set s.links.items c.in-Some-place_near.at c.receive_hello_and_look.new.self) (stays c)
 
 pub returns-in_default-receive_hello_and_look-clause-same : goal.returns-in_default-receive_hello_and_look-clause-same
 returns-in_default-receive_hello_and_look-clause-same c _ =
@@ -47,8 +47,8 @@ invariant_of-self-2 c =
     let end_first : IsFirst (is_at c.in-Some.header.receiver c.in-Some.header.sender) s.links.items c.in-Some-place_near.at = c.in-Some-place_near.ensures.first in (
       received_store s.topology s.times s.clock s.nodes.items s.links.items s.datagrams.items c.self.invariant.0 c.args.i (frame_of c.in-Some.header Hello) c.in-Some.ensures.hello
           c.in-Some-node_near.home c.index.result.now home_first c.index.ensures c.in-Some-place_near.at c.index_mut.result.now end_first c.index_mut.ensures.value c.receive_hello_and_look.new.self c.in-Some-receive_hello_and_look.ensures.state,
-      found_still s.clock s.stills c.keep_still.new.stills s.links.items c.in-Some-place_near.at c.short.result c.receive_hello_and_look.new.self c.in-Some-place_near.ensures.first.within c.keep_still.ensures
-          (subst (λ (n : ℕ). IsStillIf n c.receive_hello_and_look.new.self) (sym c.short.ensures) (short_still c.in-Some-receive_hello_and_look.until c.receive_hello_and_look.new.self c.in-Some-receive_hello_and_look.ensures.still)) c.self.invariant.1,
+      found_idle s.clock s.deadlines c.set_deadline.new.deadlines s.links.items c.in-Some-place_near.at c.short.result c.receive_hello_and_look.new.self c.in-Some-place_near.ensures.first.within c.set_deadline.ensures
+          (subst (λ (n : ℕ). IsDeadline n c.receive_hello_and_look.new.self) (sym c.short.ensures) (short_idle c.in-Some-receive_hello_and_look.until c.receive_hello_and_look.new.self c.in-Some-receive_hello_and_look.ensures.idle)) c.self.invariant.1,
       c.self.invariant.2,
       kept_as s.ready.items s.links.items c.in-Some-place_near.at c.index_mut.result.now c.receive_hello_and_look.new.self _ c.in-Some-place_near.ensures.first.within c.index_mut.ensures.value c.in-Some-receive_hello_and_look.ensures.state (λ h. h) c.self.invariant.3,
     )

@@ -1,7 +1,7 @@
 use Rattle.std.proofs.Common.{ap, ◌∙◌, arith}
 use Rattle.tora_sim.specs.Store.{SimState, world_of}
 use Rattle.tora_sim.proofs.SameLinks.{same_alike, store_same, world_alike}
-use Rattle.tora_sim.proofs.StillEnds.{alike_still}
+use Rattle.tora_sim.proofs.IdleEnds.{alike_idle}
 use Rattle.tora_sim.proofs.sim.Sim.make_ready_again.Goals as goal
 
 pub invariant_of-self : goal.invariant_of-self
@@ -10,7 +10,7 @@ invariant_of-self c =
     let links = c.make_room_at-made.new.links.items in
     let alike = c.make_room_at-made.ensures.same in (
       store_same s.topology s.times s.clock s.nodes.items s.links.items links s.datagrams.items (same_alike s.links.items links alike) c.self.invariant.0,
-      alike_still s.clock s.stills s.links.items links alike c.self.invariant.1,
+      alike_idle s.clock s.deadlines s.links.items links alike c.self.invariant.1,
       c.self.invariant.2,
       c.make_room_at-made.ensures.marks,
     )

@@ -8,7 +8,7 @@ use Rattle.tora_sim.specs.Store.{SimState, state_of, world_of}
 use Rattle.tora_sim.specs.Steps.{IsDone, IsRefused}
 use Rattle.std.specs.Prelude.{slice_set}
 use Rattle.tora_sim.proofs.Opens.{open_refused, open_done, open_store, same_read}
-use Rattle.tora_sim.proofs.StillEnds.{possible_still}
+use Rattle.tora_sim.proofs.IdleEnds.{possible_idle}
 use Rattle.tora_sim.proofs.ReadyEnds.{kept_as}
 use Rattle.tora_sim.proofs.sim.Sim.open.Goals as goal
 
@@ -27,7 +27,7 @@ invariant_of-self c =
     let s = c.self.inside in (
       open_store s.topology s.times s.clock s.nodes.items s.links.items s.datagrams.items c.self.invariant.0 c.args.n c.args.k c.in-Some.at c.index_mut.result.now c.in-Some.ensures.first c.index_mut.ensures.value
           c.open.new.self c.open.ensures,
-      possible_still s.clock s.stills s.links.items c.in-Some.at c.index_mut.result.now c.open.new.self c.in-Some.ensures.first.within c.index_mut.ensures.value
+      possible_idle s.clock s.deadlines s.links.items c.in-Some.at c.index_mut.result.now c.open.new.self c.in-Some.ensures.first.within c.index_mut.ensures.value
           (λ until lt h. both_ways (is_closed c.index_mut.result.now.state) h.opened (ap (λ (x : LinkView). is_closed x.state) (same_read s.links.items c.in-Some.at c.index_mut.result.now c.index.result.now c.in-Some.ensures.first.within c.index_mut.ensures.value c.index.ensures)
           ∙ sym c.is_closed.ensures ∙ c.if-not-is_closed.false)) c.self.invariant.1,
       c.self.invariant.2,

@@ -10,7 +10,7 @@ use Rattle.tora_sim.specs.Store.{SimState, state_of, world_of}
 use Rattle.tora_sim.specs.Steps.{IsDone, IsRefused}
 use Rattle.tora_sim.proofs.Opens.{pull_refused, pull_done, pull_store, same_read}
 use Rattle.tora_sim.proofs.Quiets.{set_same}
-use Rattle.tora_sim.proofs.StillEnds.{possible_still}
+use Rattle.tora_sim.proofs.IdleEnds.{possible_idle}
 use Rattle.tora_sim.proofs.ReadyEnds.{kept_ready}
 use Rattle.tora_sim.proofs.Unchanged.{links_stay}
 use Rattle.tora_sim.proofs.sim.Sim.pull.Goals as goal
@@ -37,7 +37,7 @@ module _ (c : goal.Then-not-pull) where
 pub invariant_of-self : goal.invariant_of-self
 invariant_of-self c =
     let s = c.self.inside in
-    links_stay s.topology s.times s.clock s.nodes.items s.links.items s.datagrams.items s.keys.items s.stills s.ready.items c.self.invariant (slice_set s.links.items c.in-Some.at c.pull.new.self) (stays c)
+    links_stay s.topology s.times s.clock s.nodes.items s.links.items s.datagrams.items s.keys.items s.deadlines s.ready.items c.self.invariant (slice_set s.links.items c.in-Some.at c.pull.new.self) (stays c)
 
 pub returns-then-not-pull : goal.returns-then-not-pull
 returns-then-not-pull c =
@@ -59,7 +59,7 @@ invariant_of-self-2 c =
     let s = c.self.inside in (
       pull_store s.topology s.times s.clock s.nodes.items s.links.items s.datagrams.items c.self.invariant.0 c.args.n c.args.k c.in-Some.at c.index_mut.result.now c.in-Some.ensures.first c.index_mut.ensures.value
           c.pull.new.self (waits c.index.result.now c.index_mut.result.now (same_read c.self.inside.links.items c.in-Some.at c.index.result.now c.index_mut.result.now c.in-Some.ensures.first.within c.index.ensures c.index_mut.ensures.value) (sym c.has_cargo.ensures ∙ c.if-not-has_cargo.false)) (c.pull.ensures.pulled c.if-not-pull.false),
-      possible_still s.clock s.stills s.links.items c.in-Some.at c.index_mut.result.now c.pull.new.self c.in-Some.ensures.first.within c.index_mut.ensures.value
+      possible_idle s.clock s.deadlines s.links.items c.in-Some.at c.index_mut.result.now c.pull.new.self c.in-Some.ensures.first.within c.index_mut.ensures.value
           (λ until lt h. both_ways (nat_lt c.index_mut.result.now.pulled (length c.index_mut.result.now.put)) h.lane (lt-ltb c.index_mut.result.now.pulled (length c.index_mut.result.now.put) (waits c.index.result.now c.index_mut.result.now (same_read c.self.inside.links.items c.in-Some.at c.index.result.now c.index_mut.result.now c.in-Some.ensures.first.within c.index.ensures c.index_mut.ensures.value) (sym c.has_cargo.ensures ∙ c.if-not-has_cargo.false)))) c.self.invariant.1,
       c.self.invariant.2,
       kept_ready s.ready.items s.links.items c.in-Some.at c.index_mut.result.now c.pull.new.self c.in-Some.ensures.first.within c.index_mut.ensures.value

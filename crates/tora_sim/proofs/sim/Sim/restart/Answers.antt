@@ -12,7 +12,7 @@ use Rattle.tora_sim.specs.Links.{AreChanged}
 use Rattle.tora_sim.proofs.Opens.{same_read}
 use Rattle.tora_sim.proofs.Turning.{ends_within}
 use Rattle.tora_sim.proofs.Restarting.{restart_starved, restart_done, restart_store}
-use Rattle.tora_sim.proofs.StillEnds.{forgotten_still, changed_still}
+use Rattle.tora_sim.proofs.IdleEnds.{forgotten_idle, changed_idle}
 use Rattle.tora_sim.proofs.ReadyEnds.{changed_ready, restarted_ready}
 use Rattle.tora_sim.proofs.sim.Sim.restart.Goals as goal
 
@@ -76,9 +76,9 @@ invariant_of-self c =
     let s = c.self.inside in (
       restart_store s.topology s.times s.clock s.nodes.items s.links.items s.datagrams.items c.self.invariant.0 c.args.n c.in-Some.home (x c) c.in-Some.ensures.first c.index_mut.ensures.value c.args.torn (core_kept c)
           c.in-Ok.seat c.restart.new.self c.restart_ends.new.links.items (made c) c.restart.ensures (ends c),
-      changed_still s.clock c.forget.new.stills s.links.items c.restart_ends.new.links.items (restarted c.args.torn) c.first-first.result (length c.in-Ok-new_ends.ends.items)
+      changed_idle s.clock c.forget.new.deadlines s.links.items c.restart_ends.new.links.items (restarted c.args.torn) c.first-first.result (length c.in-Ok-new_ends.ends.items)
           (λ place lt. let many = c.in-Ok-new_ends.ensures.as_many in c.forget.ensures.here place (omega (arith, lt, many))) c.restart_ends.ensures
-          (forgotten_still s.clock s.stills c.forget.new.stills s.links.items c.first-first.result c.count-count.result c.forget.ensures c.self.invariant.1),
+          (forgotten_idle s.clock s.deadlines c.forget.new.deadlines s.links.items c.first-first.result c.count-count.result c.forget.ensures c.self.invariant.1),
       c.self.invariant.2,
       changed_ready s.ready.items s.links.items c.restart_ends.new.links.items (restarted c.args.torn) c.first-first.result (length c.in-Ok-new_ends.ends.items) (restarted_ready c.args.torn) c.restart_ends.ensures c.self.invariant.3,
     )

@@ -1,7 +1,7 @@
 use Rattle.std.proofs.Common.{ap, ◌∙◌, arith}
 use Rattle.tora_sim.specs.Store.{SimState, world_of}
 use Rattle.tora_sim.proofs.SameLinks.{same_alike, store_same, world_alike}
-use Rattle.tora_sim.proofs.StillEnds.{alike_still}
+use Rattle.tora_sim.proofs.IdleEnds.{alike_idle}
 use Rattle.tora_sim.proofs.sim.Sim.shorten_now.Goals as goal
 
 pub shorten-requires-clause-marks : goal.shorten-requires-clause-marks
@@ -13,7 +13,7 @@ invariant_of-self c =
     let links = c.shorten.new.links.items in
     let alike = c.shorten.ensures.same in (
       store_same s.topology s.times s.clock s.nodes.items s.links.items links s.datagrams.items (same_alike s.links.items links alike) c.self.invariant.0,
-      alike_still s.clock s.stills s.links.items links alike c.self.invariant.1,
+      alike_idle s.clock s.deadlines s.links.items links alike c.self.invariant.1,
       c.self.invariant.2,
       c.shorten.ensures.marks,
     )

@@ -9,13 +9,13 @@ use Rattle.tora_world.specs.World.{with_datagram}
 use Rattle.tora_sim.specs.Lanes.{AreReadyEach}
 use Rattle.tora_sim.specs.Links.{LinkView, with_state}
 use Rattle.tora_sim.specs.Nodes.{sending_of}
-use Rattle.tora_sim.specs.Quiet.{AreStillEach}
+use Rattle.tora_sim.specs.Quiet.{AreDeadlines}
 use Rattle.tora_sim.specs.Store.{SimState, IsStore, state_of, world_of}
 use Rattle.tora_sim.specs.Steps.{IsDone, IsRefused}
 use Rattle.tora_sim.proofs.Quiets.{set_same}
 use Rattle.tora_sim.proofs.Sendings.{end_of, node_of, still_end, still_node}
 use Rattle.tora_sim.proofs.Sends.{transmit_refused, transmit_starved, transmit_done, transmit_store}
-use Rattle.tora_sim.proofs.StillEnds.{possible_still}
+use Rattle.tora_sim.proofs.IdleEnds.{possible_idle}
 use Rattle.tora_sim.proofs.ReadyEnds.{kept_as}
 use Rattle.tora_sim.proofs.sim.Sim.transmit_at.Goals as goal
 
@@ -65,7 +65,7 @@ invariant_of-self-in_default c =
     let s = c.self.inside in (
       subst (λ (ds : List FrameParts). IsStore (state_of s.topology s.times s.clock s.nodes.items (slice_set s.links.items c.args.at c.send.new.self) ds)) (sym c.reserve.ensures.items)
           (subst (λ (xs : List LinkView). IsStore (state_of s.topology s.times s.clock s.nodes.items xs s.datagrams.items)) (sym (same c)) c.self.invariant.0),
-      subst (λ (xs : List LinkView). AreStillEach s.clock s.stills xs) (sym (same c)) c.self.invariant.1,
+      subst (λ (xs : List LinkView). AreDeadlines s.clock s.deadlines xs) (sym (same c)) c.self.invariant.1,
       c.self.invariant.2,
       subst (λ (xs : List LinkView). AreReadyEach s.ready.items xs) (sym (same c)) c.self.invariant.3,
     )
@@ -94,7 +94,7 @@ invariant_of-self-2 c =
       transmit_store s.topology s.times s.clock s.nodes.items s.links.items s.datagrams.items c.self.invariant.0 c.args._n c.args._k c.args.at c.index_mut.result.now (end_of c.args._n c.args._k c.args.at c.self.view_is c.requires.end) c.index_mut.ensures.value
           c.args.home c.index_mut-2.result.now (node_of c.args._n c.args.home c.self.view_is c.requires.node) c.index_mut-2.ensures.value c.in-Some.frame (due c)
           c.data_frames_are_what_was_submitted.ensures.frame c.send.new.self c.note_sent.new.node c.note_sent.new.datagrams.items c.in-Some.ensures.state c.note_sent.ensures.node (all c),
-      possible_still s.clock s.stills s.links.items c.args.at c.index_mut.result.now c.send.new.self (end_of c.args._n c.args._k c.args.at c.self.view_is c.requires.end).within c.index_mut.ensures.value
+      possible_idle s.clock s.deadlines s.links.items c.args.at c.index_mut.result.now c.send.new.self (end_of c.args._n c.args._k c.args.at c.self.view_is c.requires.end).within c.index_mut.ensures.value
           (λ until lt h. both_ways (is_some (frame_due c.index_mut.result.now.settings c.index_mut.result.now.state s.clock)) (h.frames s.clock lt) (ap is_some (due c))) c.self.invariant.1,
       c.self.invariant.2,
       kept_as s.ready.items s.links.items c.args.at c.index_mut.result.now c.send.new.self _ (end_of c.args._n c.args._k c.args.at c.self.view_is c.requires.end).within c.index_mut.ensures.value c.in-Some.ensures.state (λ h. h) c.self.invariant.3,

@@ -14,7 +14,7 @@ use Rattle.tora_sim.specs.Steps.{IsDone}
 use Rattle.tora_sim.proofs.Quiets.{set_same}
 use Rattle.tora_sim.proofs.Sendings.{end_of, node_of, still_end, still_node}
 use Rattle.tora_sim.proofs.Sends.{transmit_done, transmit_store}
-use Rattle.tora_sim.proofs.StillEnds.{possible_still}
+use Rattle.tora_sim.proofs.IdleEnds.{possible_idle}
 use Rattle.tora_sim.proofs.ReadyEnds.{kept_as}
 use Rattle.tora_sim.proofs.Unchanged.{datagrams_stay, links_stay}
 use Rattle.tora_sim.proofs.sim.Sim.transmit_hello.Goals as goal
@@ -24,7 +24,7 @@ use Rattle.tora_sim.proofs.sim.Sim.transmit_hello.Goals as goal
 pub invariant_of-self : goal.invariant_of-self
 invariant_of-self c =
     let s = c.self.inside in
-    datagrams_stay s.topology s.times s.clock s.nodes.items s.links.items s.datagrams.items s.keys.items s.stills s.ready.items c.self.invariant c.reserve.new.self.items c.reserve.ensures.items
+    datagrams_stay s.topology s.times s.clock s.nodes.items s.links.items s.datagrams.items s.keys.items s.deadlines s.ready.items c.self.invariant c.reserve.new.self.items c.reserve.ensures.items
 
 pub returns-then-is_err-clause-same : goal.returns-then-is_err-clause-same
 returns-then-is_err-clause-same c told =
@@ -46,8 +46,8 @@ pub invariant_of-self-in_default : goal.invariant_of-self-in_default
 invariant_of-self-in_default c =
     let s = c.self.inside in
     let links = slice_set s.links.items c.args.at c.send_hello.new.self in
-    datagrams_stay s.topology s.times s.clock s.nodes.items links s.datagrams.items s.keys.items s.stills s.ready.items
-    (links_stay s.topology s.times s.clock s.nodes.items s.links.items s.datagrams.items s.keys.items s.stills s.ready.items c.self.invariant links (stays c)) c.reserve.new.self.items c.reserve.ensures.items
+    datagrams_stay s.topology s.times s.clock s.nodes.items links s.datagrams.items s.keys.items s.deadlines s.ready.items
+    (links_stay s.topology s.times s.clock s.nodes.items s.links.items s.datagrams.items s.keys.items s.deadlines s.ready.items c.self.invariant links (stays c)) c.reserve.new.self.items c.reserve.ensures.items
 
 pub returns-in_default-clause-same : goal.returns-in_default-clause-same
 returns-in_default-clause-same c told =
@@ -77,7 +77,7 @@ invariant_of-self-2 c =
       transmit_store s.topology s.times s.clock s.nodes.items s.links.items s.datagrams.items c.self.invariant.0 c.args._n c.args._k c.args.at c.index_mut.result.now (end_of c.args._n c.args._k c.args.at c.self.view_is c.requires.end) c.index_mut.ensures.value
           c.args.home c.index_mut-2.result.now (node_of c.args._n c.args.home c.self.view_is c.requires.node) c.index_mut-2.ensures.value (frame_of c.in-Some.header Hello) (due c)
           c.data_frames_are_what_was_submitted.ensures.frame c.send_hello.new.self c.note_hello.new.node c.note_hello.new.datagrams.items c.in-Some.ensures.state c.note_hello.ensures.node (all c),
-      possible_still s.clock s.stills s.links.items c.args.at c.index_mut.result.now c.send_hello.new.self (end_of c.args._n c.args._k c.args.at c.self.view_is c.requires.end).within c.index_mut.ensures.value
+      possible_idle s.clock s.deadlines s.links.items c.args.at c.index_mut.result.now c.send_hello.new.self (end_of c.args._n c.args._k c.args.at c.self.view_is c.requires.end).within c.index_mut.ensures.value
           (λ until lt h. both_ways (is_some (frame_due c.index_mut.result.now.settings c.index_mut.result.now.state s.clock)) (h.frames s.clock lt) (ap is_some (due c))) c.self.invariant.1,
       c.self.invariant.2,
       kept_as s.ready.items s.links.items c.args.at c.index_mut.result.now c.send_hello.new.self _ (end_of c.args._n c.args._k c.args.at c.self.view_is c.requires.end).within c.index_mut.ensures.value c.in-Some.ensures.state (λ h. h) c.self.invariant.3,

@@ -10,10 +10,10 @@ use Rattle.tora_sim.proofs.PairSends.{pair_done, pair_store}
 use Rattle.tora_sim.proofs.Quiets.{set_same}
 use Rattle.tora_sim.proofs.ReadyEnds.{kept_as}
 use Rattle.tora_sim.proofs.Sendings.{end_of, node_of}
-use Rattle.tora_sim.proofs.StillEnds.{found_still, possible_still, short_still}
+use Rattle.tora_sim.proofs.IdleEnds.{found_idle, possible_idle, short_idle}
 use Rattle.tora_sim.proofs.Possibles.{is_impossible}
 use Rattle.tora_sim.proofs.Sends.{transmit_refused}
-use Rattle.tora_sim.specs.Quiet.{IsStillIf}
+use Rattle.tora_sim.specs.Quiet.{IsDeadline}
 use Rattle.std.proofs.lemmas.List.{get_or-set_same}
 use Rattle.tora_sim.proofs.Unchanged.{datagrams_stay, links_stay}
 use Rattle.tora_sim.proofs.sim.Sim.transmit_pair.Goals as goal
@@ -25,8 +25,8 @@ invariant_of-self c =
     let s = c.self.inside in
     let links = slice_set s.links.items c.args.at c.send_pair.new.self in
     let stays = set_same s.links.items c.args.at c.index_mut.result.now c.send_pair.new.self (end_of c.args._n c.args._k c.args.at c.self.view_is c.requires.end).within c.index_mut.ensures.value c.in_default.ensures.same in
-    datagrams_stay s.topology s.times s.clock s.nodes.items links s.datagrams.items s.keys.items s.stills s.ready.items
-    (links_stay s.topology s.times s.clock s.nodes.items s.links.items s.datagrams.items s.keys.items s.stills s.ready.items c.self.invariant links stays) c.send_pair.new.datagrams.items
+    datagrams_stay s.topology s.times s.clock s.nodes.items links s.datagrams.items s.keys.items s.deadlines s.ready.items
+    (links_stay s.topology s.times s.clock s.nodes.items s.links.items s.datagrams.items s.keys.items s.deadlines s.ready.items c.self.invariant links stays) c.send_pair.new.datagrams.items
     (ap (λ (d : DatagramList). d.items) c.in_default.ensures.datagrams)
 
 -- ---- both frames were sent, and more may be due
@@ -41,7 +41,7 @@ invariant_of-self-then-self-until c =
     let read = c.index_mut.ensures.value in (
       pair_store s.topology s.times s.clock s.nodes.items s.links.items s.datagrams.items c.self.invariant.0 c.args._n c.args._k c.args.at x end read c.args.home c.index-2.result.now (node_of c.args._n c.args.home c.self.view_is c.requires.node) c.index-2.ensures
           (sym c.sending.ensures ∙ c.in-Goes.is) c.data_frames_are_what_was_submitted.ensures.frame new c.send_pair.new.datagrams.items sent,
-      possible_still s.clock s.stills s.links.items c.args.at x new end.within read (λ until lt h. both_ways (is_some (frame_due x.settings x.state s.clock)) (h.frames s.clock lt) (ap is_some sent.due)) c.self.invariant.1,
+      possible_idle s.clock s.deadlines s.links.items c.args.at x new end.within read (λ until lt h. both_ways (is_some (frame_due x.settings x.state s.clock)) (h.frames s.clock lt) (ap is_some sent.due)) c.self.invariant.1,
       c.self.invariant.2,
       kept_as s.ready.items s.links.items c.args.at x new _ end.within read sent.state (λ h. h) c.self.invariant.3,
     )
@@ -67,7 +67,7 @@ invariant_of-self-2 c =
     let read = c.index_mut.ensures.value in (
       pair_store s.topology s.times s.clock s.nodes.items s.links.items s.datagrams.items c.self.invariant.0 c.args._n c.args._k c.args.at x end read c.args.home c.index-2.result.now (node_of c.args._n c.args.home c.self.view_is c.requires.node) c.index-2.ensures
           (sym c.sending.ensures ∙ c.in-Goes.is) c.data_frames_are_what_was_submitted.ensures.frame new c.send_pair.new.datagrams.items sent,
-      found_still s.clock s.stills c.keep_still.new.stills s.links.items c.args.at c.short.result new end.within c.keep_still.ensures (subst (λ (n : ℕ). IsStillIf n new) (sym c.short.ensures) (short_still c.in-Some.until new c.in-Some.ensures.still)) c.self.invariant.1,
+      found_idle s.clock s.deadlines c.set_deadline.new.deadlines s.links.items c.args.at c.short.result new end.within c.set_deadline.ensures (subst (λ (n : ℕ). IsDeadline n new) (sym c.short.ensures) (short_idle c.in-Some.until new c.in-Some.ensures.idle)) c.self.invariant.1,
       c.self.invariant.2,
       kept_as s.ready.items s.links.items c.args.at x new _ end.within read sent.state (λ h. h) c.self.invariant.3,
     )
@@ -90,4 +90,4 @@ returns-clause-over c told n k first =
     (sym c.sending.ensures ∙ c.in-Goes.is) c.data_frames_are_what_was_submitted.ensures.frame new c.send_pair.new.datagrams.items c.in-Some.ensures.sent in
     is_impossible _ (Transmit n k)
     (transmit_refused s.topology s.times s.clock s.nodes.items (slice_set s.links.items c.args.at new) c.send_pair.new.datagrams.items store n k c.args.at new first (sym (get_or-set_same s.links.items c.args.at new new end.within))
-    ((c.in-Some.ensures.still (omega (arith, c.if-self-until.false))).frames s.clock c.if-self-until.false))
+    ((c.in-Some.ensures.idle (omega (arith, c.if-self-until.false))).frames s.clock c.if-self-until.false))

@@ -4,7 +4,7 @@ use Rattle.tora_world.specs.declared.event.Event.TheVariants.{CoreTurn}
 use Rattle.tora_world.specs.declared.sim_error.SimError.TheVariants as Refused
 use Rattle.tora_sim.specs.Lanes.{AreReadyOutside}
 use Rattle.tora_sim.specs.Nodes.{NodeView}
-use Rattle.tora_sim.specs.Quiet.{AreForgottenWhere, AreStillBut}
+use Rattle.tora_sim.specs.Quiet.{AreForgottenWhere, AreDeadlinesBut}
 use Rattle.tora_sim.specs.Unready.{AreRemarked}
 use Rattle.tora_sim.specs.Store.{SimState, IsStore, state_of, world_of}
 use Rattle.tora_sim.specs.Steps.{IsRefused}
@@ -13,7 +13,7 @@ use Rattle.tora_sim.proofs.SameLinks.{same_alike, store_same, world_alike}
 use Rattle.tora_sim.proofs.Sendings.{node_of, none_at_all, other_cause}
 use Rattle.tora_sim.proofs.TakenItems.{none_asked, starved_at_once, taken_between}
 use Rattle.tora_sim.proofs.Turning.{turn_refused, turn_starved, ends_within, as_many}
-use Rattle.tora_sim.proofs.StillEnds.{alike_still, where_forgotten}
+use Rattle.tora_sim.proofs.IdleEnds.{alike_idle, where_forgotten}
 use Rattle.tora_sim.proofs.Rooms.{same_length}
 use Rattle.tora_sim.proofs.UnreadyEnds.{ok_room, before_turn, forgotten_of_node, ready_after}
 use Rattle.tora_sim.proofs.sim.Sim.turn_from.Goals as goal
@@ -47,7 +47,7 @@ pub invariant_of-self : goal.invariant_of-self
 invariant_of-self c =
     let s = c.self.inside in (
       store_same s.topology s.times s.clock s.nodes.items s.links.items c.make_room.new.links.items s.datagrams.items (same_alike s.links.items c.make_room.new.links.items c.make_room.ensures.same) c.self.invariant.0,
-      alike_still s.clock s.stills s.links.items c.make_room.new.links.items c.make_room.ensures.same c.self.invariant.1,
+      alike_idle s.clock s.deadlines s.links.items c.make_room.new.links.items c.make_room.ensures.same c.self.invariant.1,
       c.self.invariant.2,
       c.make_room.ensures.marks,
     )
@@ -71,8 +71,8 @@ overflow_add-start c =
     c.count-count.ensures ∙ ap (λ (x : NodeView). x.count) (same_read s.nodes.items c.args.home c.index-3.result.now c.index.result.now (node_of c.args._n c.args.home c.self.view_is c.requires).within c.index-3.ensures c.index.ensures) in
     omega (arith, within, first, count, c.within-after.ensures.ordered, c.within-after.ensures.within, s.links.small, s.links.ok)
 
-pub still_unready-before-requires : goal.still_unready-before-requires
-still_unready-before-requires c =
+pub unready_range-before-requires : goal.unready_range-before-requires
+unready_range-before-requires c =
     let s = c.self.inside in
     let within = ends_within s.topology s.times s.clock s.nodes.items s.links.items s.datagrams.items c.self.invariant.0 c.args._n c.args.home c.index.result.now (node_of c.args._n c.args.home c.self.view_is c.requires) c.index.ensures in
     let first : c.first-first.result ≡ c.index.result.now.first =
@@ -93,7 +93,7 @@ take_items-taken-requires-clause-room c =
     c.count-count.ensures ∙ ap (λ (x : NodeView). x.count) (same_read s.nodes.items c.args.home c.index-3.result.now node (node_of c.args._n c.args.home c.self.view_is c.requires).within c.index-3.ensures c.index_mut.ensures.value) in
     let within = ends_within s.topology s.times s.clock s.nodes.items s.links.items s.datagrams.items c.self.invariant.0 c.args._n c.args.home node (node_of c.args._n c.args.home c.self.view_is c.requires) c.index_mut.ensures.value in
     let many = same_length s.links.items c.make_room.new.links.items c.make_room.ensures.same in
-    before_turn c.make_room.new.ready.items c.make_room.new.links.items c.still_unready-before.result c.first-first.result c.count-count.result node.first node.count first count (omega (arith, within, many)) c.still_unready-before.ensures
+    before_turn c.make_room.new.ready.items c.make_room.new.links.items c.unready_range-before.result c.first-first.result c.count-count.result node.first node.count first count (omega (arith, within, many)) c.unready_range-before.ensures
     c.make_room.ensures.marks (ok_room c.make_room.result (sym c.is_err.ensures.value ∙ c.if-is_err.false) c.make_room.ensures.room)
 
 pub take_items-taken-requires-clause-neighbours : goal.take_items-taken-requires-clause-neighbours
@@ -109,11 +109,11 @@ forget_waiting-requires-clause-within c =
     c.first-first.ensures ∙ ap (λ (x : NodeView). x.first) (same_read s.nodes.items c.args.home c.index-2.result.now node (node_of c.args._n c.args.home c.self.view_is c.requires).within c.index-2.ensures c.index_mut.ensures.value) in
     let count : c.count-count.result ≡ node.count =
     c.count-count.ensures ∙ ap (λ (x : NodeView). x.count) (same_read s.nodes.items c.args.home c.index-3.result.now node (node_of c.args._n c.args.home c.self.view_is c.requires).within c.index-3.ensures c.index_mut.ensures.value) in
-    let still : AreStillBut s.clock s.stills c.take_items-taken.new.links.items node.first node.count =
-    c.take_items-taken.ensures.taken.still s.clock s.stills (alike_still s.clock s.stills s.links.items c.make_room.new.links.items c.make_room.ensures.same c.self.invariant.1) in
+    let idle : AreDeadlinesBut s.clock s.deadlines c.take_items-taken.new.links.items node.first node.count =
+    c.take_items-taken.ensures.taken.idle s.clock s.deadlines (alike_idle s.clock s.deadlines s.links.items c.make_room.new.links.items c.make_room.ensures.same c.self.invariant.1) in
     let within = ends_within s.topology s.times s.clock s.nodes.items s.links.items s.datagrams.items c.self.invariant.0 c.args._n c.args.home node (node_of c.args._n c.args.home c.self.view_is c.requires) c.index_mut.ensures.value in
     let before = c.self.invariant.1.as_many in
-    let many = still.as_many in
+    let many = idle.as_many in
     omega (arith, within, first, count, before, many, c.within-after.ensures.ordered, c.within-after.ensures.within)
 
 pub forget_waiting-requires-clause-ready : goal.forget_waiting-requires-clause-ready
@@ -124,25 +124,25 @@ forget_waiting-requires-clause-ready c =
     c.first-first.ensures ∙ ap (λ (x : NodeView). x.first) (same_read s.nodes.items c.args.home c.index-2.result.now node (node_of c.args._n c.args.home c.self.view_is c.requires).within c.index-2.ensures c.index_mut.ensures.value) in
     let count : c.count-count.result ≡ node.count =
     c.count-count.ensures ∙ ap (λ (x : NodeView). x.count) (same_read s.nodes.items c.args.home c.index-3.result.now node (node_of c.args._n c.args.home c.self.view_is c.requires).within c.index-3.ensures c.index_mut.ensures.value) in
-    let still : AreStillBut s.clock s.stills c.take_items-taken.new.links.items node.first node.count =
-    c.take_items-taken.ensures.taken.still s.clock s.stills (alike_still s.clock s.stills s.links.items c.make_room.new.links.items c.make_room.ensures.same c.self.invariant.1) in
+    let idle : AreDeadlinesBut s.clock s.deadlines c.take_items-taken.new.links.items node.first node.count =
+    c.take_items-taken.ensures.taken.idle s.clock s.deadlines (alike_idle s.clock s.deadlines s.links.items c.make_room.new.links.items c.make_room.ensures.same c.self.invariant.1) in
     let before = c.self.invariant.1.as_many in
-    let many = still.as_many in
+    let many = idle.as_many in
     let roomy = same_length s.links.items c.make_room.new.links.items c.make_room.ensures.same in
     let marks = c.make_room.ensures.marks.as_many in
     omega (arith, before, many, roomy, marks)
 
-pub forget_waiting-requires-clause-stills : goal.forget_waiting-requires-clause-stills
-forget_waiting-requires-clause-stills c =
+pub forget_waiting-requires-clause-deadlines : goal.forget_waiting-requires-clause-deadlines
+forget_waiting-requires-clause-deadlines c =
     let s = c.self.inside in
     let node = c.index_mut.result.now in
     let first : c.first-first.result ≡ node.first =
     c.first-first.ensures ∙ ap (λ (x : NodeView). x.first) (same_read s.nodes.items c.args.home c.index-2.result.now node (node_of c.args._n c.args.home c.self.view_is c.requires).within c.index-2.ensures c.index_mut.ensures.value) in
     let count : c.count-count.result ≡ node.count =
     c.count-count.ensures ∙ ap (λ (x : NodeView). x.count) (same_read s.nodes.items c.args.home c.index-3.result.now node (node_of c.args._n c.args.home c.self.view_is c.requires).within c.index-3.ensures c.index_mut.ensures.value) in
-    let still : AreStillBut s.clock s.stills c.take_items-taken.new.links.items node.first node.count =
-    c.take_items-taken.ensures.taken.still s.clock s.stills (alike_still s.clock s.stills s.links.items c.make_room.new.links.items c.make_room.ensures.same c.self.invariant.1) in
-    still.as_many
+    let idle : AreDeadlinesBut s.clock s.deadlines c.take_items-taken.new.links.items node.first node.count =
+    c.take_items-taken.ensures.taken.idle s.clock s.deadlines (alike_idle s.clock s.deadlines s.links.items c.make_room.new.links.items c.make_room.ensures.same c.self.invariant.1) in
+    idle.as_many
 
 pub shorten_lanes-requires-clause-ends : goal.shorten_lanes-requires-clause-ends
 shorten_lanes-requires-clause-ends c =
@@ -152,11 +152,11 @@ shorten_lanes-requires-clause-ends c =
     c.first-first.ensures ∙ ap (λ (x : NodeView). x.first) (same_read s.nodes.items c.args.home c.index-2.result.now node (node_of c.args._n c.args.home c.self.view_is c.requires).within c.index-2.ensures c.index_mut.ensures.value) in
     let count : c.count-count.result ≡ node.count =
     c.count-count.ensures ∙ ap (λ (x : NodeView). x.count) (same_read s.nodes.items c.args.home c.index-3.result.now node (node_of c.args._n c.args.home c.self.view_is c.requires).within c.index-3.ensures c.index_mut.ensures.value) in
-    let still : AreStillBut s.clock s.stills c.take_items-taken.new.links.items node.first node.count =
-    c.take_items-taken.ensures.taken.still s.clock s.stills (alike_still s.clock s.stills s.links.items c.make_room.new.links.items c.make_room.ensures.same c.self.invariant.1) in
+    let idle : AreDeadlinesBut s.clock s.deadlines c.take_items-taken.new.links.items node.first node.count =
+    c.take_items-taken.ensures.taken.idle s.clock s.deadlines (alike_idle s.clock s.deadlines s.links.items c.make_room.new.links.items c.make_room.ensures.same c.self.invariant.1) in
     let within = ends_within s.topology s.times s.clock s.nodes.items s.links.items s.datagrams.items c.self.invariant.0 c.args._n c.args.home node (node_of c.args._n c.args.home c.self.view_is c.requires) c.index_mut.ensures.value in
     let before = c.self.invariant.1.as_many in
-    let many = still.as_many in
+    let many = idle.as_many in
     omega (arith, within, first, count, before, many, c.within-after.ensures.ordered, c.within-after.ensures.within)
 
 pub invariant_of-self-2 : goal.invariant_of-self-2
@@ -169,8 +169,8 @@ invariant_of-self-2 c =
     c.count-count.ensures ∙ ap (λ (x : NodeView). x.count) (same_read s.nodes.items c.args.home c.index-3.result.now node (node_of c.args._n c.args.home c.self.view_is c.requires).within c.index-3.ensures c.index_mut.ensures.value) in
     let within = ends_within s.topology s.times s.clock s.nodes.items s.links.items s.datagrams.items c.self.invariant.0 c.args._n c.args.home node (node_of c.args._n c.args.home c.self.view_is c.requires) c.index_mut.ensures.value in
     let many = same_length s.links.items c.make_room.new.links.items c.make_room.ensures.same in
-    let still : AreStillBut s.clock s.stills c.take_items-taken.new.links.items node.first node.count =
-    c.take_items-taken.ensures.taken.still s.clock s.stills (alike_still s.clock s.stills s.links.items c.make_room.new.links.items c.make_room.ensures.same c.self.invariant.1) in
+    let idle : AreDeadlinesBut s.clock s.deadlines c.take_items-taken.new.links.items node.first node.count =
+    c.take_items-taken.ensures.taken.idle s.clock s.deadlines (alike_idle s.clock s.deadlines s.links.items c.make_room.new.links.items c.make_room.ensures.same c.self.invariant.1) in
     let links = c.take_items-taken.new.links.items in
     let range = c.within-after.result in
     let inside : (place : ℕ) → place < node.count → place < c.count-count.result = λ place lt. omega (arith, lt, count) in
@@ -180,14 +180,14 @@ invariant_of-self-2 c =
     let seat = c.take_items-taken.new.seat in
     let seated : (place : ℕ) → place < node.count → place ≡ seat → node.first + place ≡ but = λ place lt q. omega (arith, lt, q, within, many, first, c.saturating_add.ensures, s.links.small, s.links.ok) in
     let remarked = subst (λ (m : ℕ). AreRemarked links but c.make_room.new.ready.items c.forget_waiting.new.ready.items (m + range.from) (range.behind - range.from)) first c.forget_waiting.ensures.ready in
-    let stills = subst (λ (m : ℕ). AreForgottenWhere links s.stills c.forget_waiting.new.stills (m + range.from) (range.behind - range.from)) first c.forget_waiting.ensures.stills in
+    let deadlines = subst (λ (m : ℕ). AreForgottenWhere links s.deadlines c.forget_waiting.new.deadlines (m + range.from) (range.behind - range.from)) first c.forget_waiting.ensures.deadlines in
     let before = c.self.invariant.1.as_many in
-    let after = still.as_many in
+    let after = idle.as_many in
     let same : length links ≡ length c.make_room.new.links.items = omega (arith, before, after, many) in (
       (c.take_items-taken.ensures.items s.topology s.times s.clock s.nodes.items s.datagrams.items c.args._n c.args.home
           (store_same s.topology s.times s.clock s.nodes.items s.links.items c.make_room.new.links.items s.datagrams.items (same_alike s.links.items c.make_room.new.links.items c.make_room.ensures.same) c.self.invariant.0)
           (node_of c.args._n c.args.home c.self.view_is c.requires) c.index_mut.ensures.value).store,
-      where_forgotten s.clock s.stills c.forget_waiting.new.stills links node.first node.count (forgotten_of_node links s.stills c.forget_waiting.new.stills node.first node.count range out stills) still,
+      where_forgotten s.clock s.deadlines c.forget_waiting.new.deadlines links node.first node.count (forgotten_of_node links s.deadlines c.forget_waiting.new.deadlines node.first node.count range out deadlines) idle,
       c.self.invariant.2,
       ready_after c.make_room.new.links.items links c.make_room.new.ready.items c.forget_waiting.new.ready.items node.first node.count seat but range seated c.take_items-taken.ensures.taken.room small same c.take_items-taken.ensures.taken.others out remarked c.make_room.ensures.marks,
     )

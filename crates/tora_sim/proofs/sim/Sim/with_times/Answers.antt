@@ -8,7 +8,7 @@ use Rattle.tora_sim.specs.Firsts.{AreMade, IsMade}
 use Rattle.tora_sim.specs.Links.{key_of}
 use Rattle.tora_sim.proofs.Peers.{positive-node}
 use Rattle.tora_sim.proofs.FirstStore.{is-store, is-first}
-use Rattle.tora_sim.proofs.StillEnds.{none_known}
+use Rattle.tora_sim.proofs.IdleEnds.{none_known}
 use Rattle.tora_sim.proofs.ReadyEnds.{none_known_ready}
 use Rattle.tora_sim.proofs.sim.Sim.with_times.Goals as goal
 
@@ -38,7 +38,7 @@ invariant_of-result c =
     let many : c.len-count.result ≡ length c.loop-n.links.items = omega (arith, c.len-count.ensures) in
     let store = is-store c.numbers_are_put_in_order.ensures.order c.numbers_come_and_go.ensures.in_order c.in-Ok.own c.args.times c.nodes-named.ensures.kept c.loop-n.nodes.items c.loop-n.links.items (made c) in (
       subst (λ (ds : List FrameParts). IsStore (state_of c.in-Ok.own c.args.times 0 c.loop-n.nodes.items c.loop-n.links.items ds)) (sym c.new.ensures) store,
-      none_known 0 c.len-count.result c.in_ok-stills.stills c.loop-n.links.items c.in_ok-stills.ensures many,
+      none_known 0 c.len-count.result c.in_ok-deadlines.deadlines c.loop-n.links.items c.in_ok-deadlines.ensures many,
       c.in_ok-keys.ensures ∙ ap (map key_of) c.deref.ensures.value ∙ store.keys,
       none_known_ready c.len-count.result c.in_ok-ready.ready.items c.loop-n.links.items c.in_ok-ready.ensures many,
     )
