@@ -9,7 +9,7 @@ pub struct Item {
     pub seat: usize,
     /// Its number among the items of its seat, from 1 on.
     pub number: u64,
-    /// The tick of 100 ms at which it was put into the lane.
+    /// The tick of 100 ms at which it was put into the queue.
     pub now: u64,
     /// The content of the item.
     pub what: What,
