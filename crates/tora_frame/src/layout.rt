@@ -28,8 +28,8 @@ pub(crate) const PACKET_OFFSET: usize = HEADER_LENGTH + PACKET_HEAD;
 /// The bytes of a DATA frame of version 2 before its packets.
 pub(crate) const BATCH_OFFSET: usize = HEADER_LENGTH + BATCH_HEAD;
 
-/// The least payload of a DATA frame of version 2 in bytes: with one packet, the shortest.
+/// The shortest payload of a DATA frame of version 2 in bytes: with one packet of the shortest kind.
 pub(crate) const SHORTEST_BATCH: usize = BATCH_HEAD + SHORTEST_PACKET;
 
-/// The greatest payload of a DATA frame of version 2 in bytes: with `MOST_PACKETS` packets of the longest kind.
+/// The longest payload of a DATA frame of version 2 in bytes: with `MOST_PACKETS` packets of the longest kind.
 pub(crate) const LONGEST_BATCH: usize = BATCH_HEAD + MOST_PACKETS * LONGEST_PACKET;
