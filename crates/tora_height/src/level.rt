@@ -14,7 +14,7 @@ pub struct Level {
     pub r: u8,
 }
 
-/// A reference level as `tau,oid,r`.
+/// Writes a reference level as `tau,oid,r`.
 impl fmt::Display for Level {
     ghost use Rattle.std.specs.Prelude.{Some};
     ghost use Rattle.tora_height.specs.HeightText.{written_level};
