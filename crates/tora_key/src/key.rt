@@ -108,7 +108,7 @@ fn block_with(bytes: &[u8]) -> [u8; BLOCK]
     block
 }
 
-// The digest of the bytes that a hasher has taken, followed by a message.
+// The digest of the bytes that a hasher has taken and of the message after them.
 fn digest_behind(hasher: &Sha256, message: &[u8]) -> [u8; 32]
     ensures { (front : List ℕ) → Holds256 hasher.now front → result ≡ sha256 (front ++ message.now) }
 {
@@ -135,7 +135,7 @@ pub fn hmac(key: &[u8], message: &[u8]) -> [u8; 32]
     Key::new(key).hmac(message)
 }
 
-/// Whether two tags are the same. It reads all bytes of both, whatever the first difference.
+/// Whether two tags are equal. It reads all bytes of both, wherever the first difference is.
 pub fn is_same(a: &[u8], b: &[u8]) -> bool
     requires a { length a.now ≡ 16 }
     requires b { length b.now ≡ 16 }
