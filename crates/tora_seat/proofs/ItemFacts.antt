@@ -25,9 +25,8 @@ put_at f k a = ap (λ b. if b then a else f k) (eq-eqb k k refl)
 pub put_off : {A : Type 0} (f : ℕ → A) (j : ℕ) (a : A) (k : ℕ) → nat_eq j k ≡ false → put_one f j a k ≡ f k
 put_off f j a k off = ap (λ b. if b then a else f k) (turned j k off)
 
--- a session is current: it is the one served, the queue returned nothing, and the packets put and those still to send
--- are all that was broadcast; or none is: the queue returned nothing and the link is not up, or the session served is
--- cut
+-- a session is current: it is the one served, and all that was broadcast is put or still to send; or none is: either
+-- nothing was returned and the link is not up, or the session served is cut
 abbrev pub Stands : Option Life → List Packet → Option Life → Bool → List Packet → List Packet → Bool → Bool → Option Life → Type 0
 Stands served ps pending up put all back down None = ((back ≡ false) × (up ≡ false) × (put ≡ all)) ⊎ ((back ≡ true) × (pending ≡ served) × Begins put all × (up ≡ false → down ≡ true))
 Stands served ps pending up put all back down (Some l) = (served ≡ Some l) × (back ≡ false) × (up ≡ true) × (put ++ ps ≡ all)
