@@ -1,4 +1,4 @@
--- How often an event can be repeated with no other event in between.
+-- How often an event can be repeated without another event in between.
 use Rattle.std.specs.Prelude.{◌≡◌, ◌⊎◌, ℕ, zero, suc, true, is_some}
 use Rattle.tora_world.specs.declared.event.Event.{Event}
 use Rattle.tora_world.specs.World.{World, refusal_of, world_after}
