@@ -52,7 +52,7 @@ one_life ph a b p q = cc
 one_number : (ph : Phase) (a b : ℕ) → ph ≡ Unbound a → ph ≡ Unbound b → a ≡ b
 one_number ph a b p q = cc
 
--- ---- lives
+-- ---- sessions
 
 module _ (Is : ℕ → Packet → Type 0) (s : Settings) (call : LinkCall) (e e' : EndState) where
   pub step-fixed : Step Is s call e e' → (life : Life) → e.phase ≡ Bound life → StaysOrCloses life e'.phase
@@ -180,7 +180,7 @@ module _ (Is : ℕ → Packet → Type 0) (s : Settings) (call : LinkCall) (e e'
   step-between (binds l i v p g) = between_from (Unbound l.own) (Bound l) i g.phase (Up l ∷ map (Deliver l) g.packets) (g.packets, refl)
   step-between (goes_on l i v p g) = between_from (Bound l) (Bound l) i (g.phase ∙ i) (map (Deliver l) g.packets) (refl, g.packets, refl)
 
--- ---- the packets of one life
+-- ---- the packets of one session
 
 pub packets_delivered-map : (life : Life) (packets : List Packet) → packets_delivered life (map (Deliver life) packets) ≡ packets
 packets_delivered-map life [] = refl
@@ -345,7 +345,7 @@ call-sends s e PollEvent f q = absurd (cc)
 call-sends s e (Transmit now) f q = (transmit_sends s now e).frame f q
 call-sends s e (Cut life) f q = absurd (cc)
 
--- ---- packets submitted, and lives cut
+-- ---- packets submitted, and sessions cut
 
 -- the result and the state after `submit`: a packet that the end took is appended
 abbrev Appends : EndState → Life → Packet → Result (Unit {0}) SubmitError × EndState → Type 0

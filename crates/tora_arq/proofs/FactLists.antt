@@ -14,7 +14,7 @@ use Rattle.tora_arq.specs.LinkFacts.{AreHeld, AreFrom, packets_delivered, AreEve
 use Rattle.tora_arq.specs.LinkRuns.{FrameHandedIn, Submission, packets_submitted, times_bound, WasHandedIn, CameAt, CountCame, AreAllTold}
 use Rattle.tora_arq.proofs.FactSteps.{is_same_life-true}
 
--- ---- the packets of one life
+-- ---- the packets of one session
 
 pub packets_delivered-append : (life : Life) (xs ys : List LinkEvent) → packets_delivered life (xs ++ ys) ≡ packets_delivered life xs ++ packets_delivered life ys
 packets_delivered-append life [] ys = refl

@@ -328,7 +328,7 @@ module _ (s : Settings) (run : LinkRun) (call : LinkCall) (ok : IsPossible run.s
   more_delivered : (life : Life) → length (packets_delivered life (run.events ++ Queued)) ≡ length (packets_delivered life run.events) + length (packets_delivered life Queued)
   more_delivered life = ap length (packets_delivered-append life run.events Queued) ∙ length-append (packets_delivered life run.events) (packets_delivered life Queued)
 
-  -- ---- the bound life
+  -- ---- the bound session
 
   queue' : (life : Life) → E'.phase ≡ Bound life → IsQueueOf (packets_submitted life Submitted) E'
   queue' life k =

@@ -105,7 +105,7 @@ due_queue times now most number (suc window) (q ∷ queue) =
     go None h = tt
     go (Some due) h = record { len = ap suc h.len; behind = h.behind }
 
--- ---- a phase, where an event is added
+-- ---- a phase after one more event
 
 grown : (events : List LinkEvent) (event : LinkEvent) (n : ℕ) → length events < n → length (events ++ event ∷ []) ≤ n
 grown events event n h = omega (arith, length-append events (event ∷ []))

@@ -9,7 +9,7 @@ use Rattle.tora_arq.specs.declared.phase.Phase.TheVariants.{Bound}
 use Rattle.tora_arq.specs.Settings.{Settings}
 use Rattle.tora_arq.specs.LinkEnd.{EndState, after_submit, is_hello_due, frame_sent}
 
--- the end after these packets were submitted in a life
+-- the end after these packets were submitted in a session
 abbrev pub after_submits : EndState → Life → List Packet → EndState
 after_submits e life [] = e
 after_submits e life (packet ∷ packets) = after_submits (after_submit e life packet) life packets

@@ -232,8 +232,8 @@ after_packets life furthest e number [] = e
 after_packets life furthest e number (packet ∷ packets) = after_packets life furthest
     (after_packet life furthest e number packet) (suc number) packets
 
--- the verdict by the first and the last number: all packets were accepted before, the next one is among them, or all
--- are ahead of it
+-- the verdict by the first and the last number: all packets were accepted before, the next one is among them, or all of
+-- them are ahead of the next one
 abbrev pub verdict_of_numbers : ℕ → ℕ → ℕ → Verdict
 verdict_of_numbers accepted first last =
     if nat_le last accepted then Repeated

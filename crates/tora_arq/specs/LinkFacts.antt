@@ -190,7 +190,7 @@ pub record IsDataOf (submitted : List Packet) (accepted number count : ℕ) (pac
       → IsPacketAt submitted place packet
   pub count_is : count ≡ accepted
 
--- the same for a frame of any kind
+-- a frame carries submitted packets under their numbers, if it is a DATA frame, and the count of accepted packets
 abbrev pub IsBodyOf : List Packet → ℕ → Body → Type 0
 IsBodyOf submitted accepted Hello = Unit {0}
 IsBodyOf submitted accepted (Data number count packets) = IsDataOf submitted accepted number count packets.items

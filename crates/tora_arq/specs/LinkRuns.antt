@@ -90,7 +90,7 @@ run_of s calls = run_after_all s first_run calls
 abbrev pub EveryRun : (Settings → LinkRun → Type 0) → Type 0
 EveryRun Holds = (s : Settings) (calls : List LinkCall) → AreAllPossible s first_run calls → Holds s (run_of s calls)
 
--- the same for runs after which the end is bound to a session
+-- a statement holds for every run of allowed calls of a new end after which it is bound to a session
 abbrev pub EveryBoundRun : (Settings → LinkRun → Life → Type 0) → Type 0
 EveryBoundRun Holds = EveryRun (λ s run. (life : Life) → run.state.phase ≡ Bound life → Holds s run life)
 
@@ -147,13 +147,13 @@ pub record IsDataOfRun (run : LinkRun) (life : Life) (number count : ℕ) (packe
       → IsPacketAt (packets_submitted life run.submitted) place packet
   pub count_is : count ≤ length (packets_delivered life run.events)
 
--- the same for a frame of any kind
+-- a frame carries packets submitted in the session, if it is a DATA frame, and a count of packets delivered in it
 abbrev pub IsBodyOfRun : LinkRun → Life → Body → Type 0
 IsBodyOfRun run life Hello = Unit {0}
 IsBodyOfRun run life (Data number count packets) = IsDataOfRun run life number count packets.items
 IsBodyOfRun run life (Ack count) = count ≤ length (packets_delivered life run.events)
 
--- the same for the session that the frame's header names
+-- a frame carries packets and a count of the session that its header names
 abbrev pub IsFrameOfRun : LinkRun → FrameParts → Type 0
 IsFrameOfRun run f = IsBodyOfRun run (life_of f.header.life f.header.heard) f.body
 

@@ -334,7 +334,7 @@ pub data TellsIn (s : Settings) (e : EndState) (now : ℕ) : Phase → Option Fr
   bound_tells_nothing : {life : Life} → ¬ IsOldHelloDue e → ¬ IsHelloDue s e now
       → NoneIsDue s.times now s.window e.queue → e.owes_ack ≡ false → TellsIn s e now (Bound life) None e
 
--- the frame due at this tick, and the end after it is sent
+-- the frame due at this tick, and the end after the frame is sent
 abbrev pub Tells : Settings → EndState → ℕ → Option FrameParts → EndState → Type 0
 Tells s e now frame after = TellsIn s e now e.phase frame after
 

@@ -1,4 +1,4 @@
--- The heights that an end delivers: no packet is an update of a node other than the peer.
+-- No packet that an end holds or delivers is an update of a node other than the peer.
 use Rattle.std.specs.Prelude.{◌≡◌, ℕ, false, List, Option, Some, None}
 use Rattle.std.specs.List.{AllByRecursion}
 use Rattle.tora_packet.specs.declared.Packet.{Packet}

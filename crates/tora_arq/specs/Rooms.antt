@@ -35,7 +35,7 @@ HasBodyRoom places early (Data number count packets) e = HasRoomFor places early
     (length packets.items) e
 HasBodyRoom places early (Ack count) e = Unit {0}
 
--- the same for a frame that may bind a session
+-- there is room for the packets of a frame that may bind a session
 abbrev pub HasFirstRoom : (places early : ℕ) → Body → EndState → Type 0
 HasFirstRoom places early Hello e = Unit {0}
 HasFirstRoom places early (Data number count packets) e = (length e.events + 1 + WINDOW < places) × (WINDOW ≤ early)

@@ -44,7 +44,7 @@ pub fn calls_keep_an_end()
     ensures first { (s : Settings) → IsEnd s first_end }
     ensures next { EveryCall (λ s e call after. IsEnd s e → IsEnd s after) }
     ensures run { EveryRun (λ s run. IsEnd s run.state) }
-    // The tick 0 ends no life.
+    // The tick 0 ends no session.
     ensures tick_zero { (s : Settings) (e : EndState) → IsTimes s.times → after_tick s e 0 ≡ e }
     // If no frame is due, nothing changes.
     ensures none_due { (s : Settings) (e : EndState) (now : ℕ) → frame_due s e now ≡ None → after_transmit s e now ≡ e }

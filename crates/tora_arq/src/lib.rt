@@ -7,7 +7,7 @@
 //! ```rust
 //! let mut one = LinkEnd::new(alloc, 1, 2, Times::STANDARD)?;
 //! let mut two = LinkEnd::new(alloc, 2, 1, Times::STANDARD)?;
-//! one.open(5, 0); // the numbers of their lives, from their life files
+//! one.open(5, 0); // session numbers, from their life files
 //! two.open(9, 0);
 //! for _ in 0..2 {
 //!     while let Some(frame) = one.poll_transmit(0) {

@@ -1,4 +1,4 @@
-//! A life of a link.
+//! A session of a link.
 ghost use Rattle.std.specs.Prelude.{◌≡◌};
 ghost use Rattle.tora_arq.specs.Lives.{is_same_life, reversed};
 

@@ -193,7 +193,7 @@ impl Steady {
         !self.is_over(now)
     }
 
-    /// Whether no frame of the peer of the bound life came for `silent` ticks.
+    /// Whether no frame of the peer of the bound session came for `silent` ticks.
     #[inline(always)]
     fn is_over(&self, now: u64) -> bool
         ensures { result ≡ is_over self.now now }

@@ -428,7 +428,7 @@ least-put_other (suc place) (suc i) h new (row ∷ rows) apart is least = (least
 pub none-put : (place : ℕ) (new : Row) (rows : List Row) → IsNull new → IsLeastPlace None rows → IsLeastPlace None (slice_set rows place new)
 none-put place new rows is least = null-put place new rows is least
 
--- the same if the row had no entry before
+-- a row without an entry that replaces a row without one leaves the least where it is
 pub least-put_null : (place : ℕ) (least : Option ℕ) (new : Row) (rows : List Row) (d : Row) → IsNull new → (slice_index_or rows place d).entry ≡ None → IsLeastPlace least rows
     → IsLeastPlace least (slice_set rows place new)
 least-put_null place None new rows d is none least = null-put place new rows is least

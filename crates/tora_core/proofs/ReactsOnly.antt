@@ -244,7 +244,7 @@ link-other v k n = if-false (k == v.destination) (up_destination v k) (up_other 
 link-destination : (v : View) (k : ℕ) → k ≡ v.destination → on_link_up v k ≡ up_destination v k
 link-destination v k e = if-true (k == v.destination) (up_destination v k) (up_other v k) (is-same k v.destination e)
 
--- the outcome of an update where no route is required
+-- the outcome of an update if no route is required
 abbrev update_unasked : View → ℕ → Quintuple → ℕ → Outcome
 update_unasked v k height now = let w = updated_view v k height in if lacks_downstream w then after_update_loss w now else silent w
 

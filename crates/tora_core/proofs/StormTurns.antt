@@ -41,7 +41,7 @@ joined-1 delta fault =
       rows = storm_row (delta +ℤ pos 1) 2 ∷ record { neighbour = 3; entry = None; told = true } ∷ [];
     }) height
 
--- the same after the update of 3; the Bool says whether the entry of 2 is below the height
+-- node 1 after the update of 3; the Bool says whether the entry of 2 is below the height
 abbrev settled-1 : ℕ → ℤ → Bool → Outcome
 settled-1 now delta lower =
     let w = storm_view (delta +ℤ pos 1) 1 2 3 in
@@ -66,7 +66,7 @@ joined-2 delta fault =
       rows = storm_row (delta +ℤ pos 1) 1 ∷ record { neighbour = 3; entry = None; told = true } ∷ [];
     }) height
 
--- the same after the update of 3; the Bool says whether the entry of 1 is below the height
+-- node 2 after the update of 3; the Bool says whether the entry of 1 is below the height
 abbrev settled-2 : ℕ → ℤ → Bool → Outcome
 settled-2 now delta lower =
     let w = storm_view (delta +ℤ pos 1) 2 1 3 in
@@ -91,7 +91,7 @@ joined-3 delta fault =
       rows = storm_row (delta +ℤ pos 1) 1 ∷ record { neighbour = 2; entry = None; told = true } ∷ [];
     }) height
 
--- the same after the update of 2; the Bool says whether the entry of 1 is below the height
+-- node 3 after the update of 2; the Bool says whether the entry of 1 is below the height
 abbrev settled-3 : ℕ → ℤ → Bool → Outcome
 settled-3 now delta lower =
     let w = storm_view (delta +ℤ pos 1) 3 1 2 in

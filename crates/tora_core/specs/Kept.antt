@@ -72,7 +72,7 @@ IsBroadcastOf v (Some Tell.Query) = Unit {0}
 IsBroadcastOf v (Some (Tell.Update height)) = (v.me ≢ v.destination) × (v.height ≡ Some height)
 IsBroadcastOf v (Some (Tell.Clear tau oid)) = IsClear (clear_of v.destination tau oid)
 
--- the view and the broadcast after an input, where the view keeps the invariants
+-- the view after an input keeps the invariants, and the broadcast agrees with it
 pub record IsKeptOutcome (o : Outcome) : Type 0 where
   pub view : IsKept o.view
   pub broadcast : IsBroadcastOf o.view o.broadcast

@@ -59,7 +59,7 @@ are_null rows = list_all (λ row. is_none row.entry) rows
 
 -- ---- downstream neighbours
 
--- the link to a neighbour with this entry is downstream: the entry is lower than the own height, or that is NULL
+-- a neighbour with this entry is downstream: the entry is lower than the own height, or the own height is NULL
 abbrev pub is_downstream : Option Quintuple → Option Quintuple → Bool
 is_downstream own None = false
 is_downstream None (Some entry) = true

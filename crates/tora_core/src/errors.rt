@@ -63,7 +63,7 @@ pub enum StepError {
     NotUp,
     /// The height in an update is not that of the neighbour that sent it.
     WrongSender,
-    /// The needed destination is not in the table.
+    /// The destination of a need is not in the table.
     UnknownDestination,
 }
 

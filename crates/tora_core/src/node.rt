@@ -124,10 +124,10 @@ impl Core {
         Core::with_erasure(alloc, Erasure::Plain, limits, me, neighbours, destinations)
     }
 
-    /// As `with_limits`, with this treatment of erased levels.
+    /// As `with_limits`, with this choice of how to treat erased levels.
     ///
     /// # Errors
-    /// Those of `with_limits`, in its order.
+    /// Those of `with_limits`, in the same order.
     pub fn with_erasure(
         alloc: Global,
         erasure: Erasure,
@@ -243,7 +243,7 @@ impl Core {
     /// if the input is refused.
     ///
     /// # Errors
-    /// Those of `step`.
+    /// Those of `step`, in the same order.
     pub fn step_into(&mut self, input: &Input, now: u64, sends: &mut Sends) -> Result<(), StepError>
         ensures refused { MatchOption (refusal_of self.old input.now) (IsOk result) (λ e. result ≡ Err e) }
         ensures unchanged { OnErr result (self.new ≡ self.old) }

@@ -172,7 +172,7 @@ told_at end f place (k ∷ ks) [] g h = absurd h
 told_at end f zero (k ∷ ks) (link ∷ links) g h = (g link ∙ h.0, h.1)
 told_at end f (suc place) (k ∷ ks) (link ∷ links) g h = (h.0, told_at end f place ks links g h.1)
 
--- the ends are the same at every neighbour
+-- the ends are equal at every neighbour
 pub ends_as : (end end' : ℕ → LinkEndView) (ks : List ℕ) (links : List Link) → ((k : ℕ) → end k ≡ end' k) → AreEnds end ks links → AreEnds end' ks links
 ends_as end end' [] [] same h = tt
 ends_as end end' [] (link ∷ links) same h = absurd h

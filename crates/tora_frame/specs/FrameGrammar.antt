@@ -96,8 +96,8 @@ kind_at bytes = slice_index bytes 1
 abbrev pub is_kind : ℕ → Bool
 is_kind kind = (kind == 1) || (kind == 2) || (kind == 3)
 
--- in version 1 a number, a count and one packet; in version 2 a number, a count, the count of packets, three zeros, and
--- from one shortest to sixteen longest packets
+-- the payload length of a DATA frame: in version 1 two numbers and one packet; in version 2 two numbers, the number of
+-- packets, three zeros, and from one shortest to sixteen longest packets
 abbrev pub is_data_length : ℕ → ℕ → Bool
 is_data_length version n =
     if version == 1 then is_packet_length (n - PACKET_HEAD)
@@ -179,7 +179,7 @@ unfoldable pub packets_at : ℕ → List ℕ → List Packet
 packets_at zero bytes = []
 packets_at (suc many) bytes = whole_packet_at (first_packet bytes) ∷ packets_at many (behind_first bytes)
 
--- how many packets a DATA frame of version 2 has
+-- the number of packets in a DATA frame of version 2
 abbrev pub batch_size_at : List ℕ → ℕ
 batch_size_at bytes = slice_index bytes 44
 

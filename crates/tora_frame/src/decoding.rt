@@ -141,7 +141,7 @@ fn read_header(bytes: &[u8], version: Version) -> Result<Header, FrameError>
     Ok(header)
 }
 
-/// Reads and checks the number and the count of a DATA frame.
+/// Reads and checks the first packet number and the count of accepted packets of a DATA frame.
 fn read_numbers(bytes: &[u8]) -> Result<(u64, u64), FrameError>
     requires { 44 ≤ length bytes.now }
     ensures exact { MatchBool (is_bad_number (u64_at 28 bytes.now) (u64_at 36 bytes.now))
@@ -242,7 +242,7 @@ pub fn decode(bytes: &[u8]) -> Result<Frame, FrameError>
 /// have any packets.
 ///
 /// # Errors
-/// Those of `decode`.
+/// Those of `decode`, in the same order.
 pub fn decode_into<'a>(
     bytes: &[u8],
     packets: &'a mut Packets,

@@ -70,7 +70,7 @@ fn data_head_length(version: Version) -> usize
     }
 }
 
-/// Appends the count of packets, if the version has such a field.
+/// Appends the number of packets in the frame, if the version has such a field.
 fn put_batch_size(version: Version, many: usize, out: &mut Bytes)
     requires many { many ≤ MOST_PACKETS }
     requires room { array_vec_len out.old + 4 ≤ LONGEST_FRAME }

@@ -7,7 +7,7 @@
 //!
 //! ```rust
 //! let header = Header { version: Version::Two, sender: 1, receiver: 2, life: 5, heard: 9 };
-//! let frame = Frame::ack(header, 3); // three packets of this life were accepted
+//! let frame = Frame::ack(header, 3); // three packets of this session were accepted
 //! let bytes = encode(&frame);
 //! assert_eq!(rt; bytes.len(), 36);
 //! assert_eq!(rt; decode(&bytes), Ok(frame));

@@ -8,10 +8,10 @@ use sha2::{Digest, Sha256};
 use std::alloc::AllocError;
 use std::marker::Model;
 
-/// The bytes of a block of SHA-256.
+/// The length of a block of SHA-256, in bytes.
 const BLOCK: usize = 64;
 
-/// The bytes of a tag: half of the digest (RFC 2104, section 5).
+/// The length of a tag in bytes: half of the digest (RFC 2104, section 5).
 pub const TAG: usize = 16;
 
 const INNER_PAD: u8 = 0x36;
@@ -44,7 +44,7 @@ impl Model for Key {
 }
 
 impl Key {
-    /// The key of these bytes. If there are more than 64, their digest is used, as the RFC says.
+    /// The key made of these bytes. If there are more than 64, their digest is used, as the RFC says.
     #[tactic(auto, unfolding(crate::specs::Hmac::padded))]
     pub fn new(bytes: &[u8]) -> Key
         ensures { result ≡ padded bytes.now }

@@ -87,7 +87,7 @@ impl Model for CorePort {
         ≡ length (items_of s (took_of (lane_view p.pass)))) };
 }
 
-/// The core's port after it has ended: the ports of seats can still be closed. Contracts see the same as of the port.
+/// The core's port after it has ended: the ports of seats can still be closed. Contracts see what they saw of the port.
 #[derive(Drop)]
 pub struct Settling {
     pass: LanePass,

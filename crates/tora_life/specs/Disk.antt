@@ -36,7 +36,7 @@ pub record LeavesOnly {D : Type 0} (moment : D → ℕ) (left_since : D → ℕ 
     → Type 0) : Type 0 where
   pub later : moment old ≤ moment new
   pub each : (c : List ℕ) → left_since new (moment old) c → P c
-  -- the same, for a run that began at an earlier moment
+  -- a crash since an earlier moment t leaves a file that it may have left before the run, or one with the property P
   pub before : (t : ℕ) (c : List ℕ) → t ≤ moment old → left_since new t c → left_since old t c ⊎ P c
 
 -- the count of failures rises by 1 if the call failed; it stops at 2^64 - 1

@@ -23,7 +23,7 @@ TakesSome take h [] after = after ≡ h
 TakesSome {H = H} take h (cargo ∷ cargoes) after = (between : H) × take h (Some cargo) between
     × TakesSome take between cargoes after
 
--- outbound messages are taken until none is left, or as many as a lane holds were taken
+-- outbound messages are taken until none is left, or as many as a queue holds were taken
 abbrev pub TakesAll : {H : Type 0} → (H → Option Cargo → H → Type 0) → H → List Cargo → H → Type 0
 TakesAll {H = H} take h cargoes after = (between : H) × TakesSome take h cargoes between
     × (take between None after ⊎ ((length cargoes ≡ MOST_CARGOES) × (after ≡ between)))

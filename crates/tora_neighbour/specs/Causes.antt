@@ -20,7 +20,7 @@ use Rattle.tora_neighbour.specs.Intake.{Reading, intake_in, after_came}
 use Rattle.tora_neighbour.specs.Turns.{AreDue, after_frames}
 use Rattle.tora_neighbour.specs.declared.turn_parts.TheConstants.{MOST_FAILURES}
 
--- the file draws only numbers above the last life of the end
+-- the file draws only numbers above that of the end's last session
 abbrev pub IsReady : EndState → Numbers → Type 0
 IsReady e numbers = e.last_life ≤ numbers.drawn
 

@@ -21,7 +21,7 @@ abbrev pub after_reading : Settings → EndState → ℕ → Reading → EndStat
 after_reading s e now (Ok frame) = after_frame s e frame now
 after_reading s e now (Err error) = e
 
--- the same, if a datagram was received
+-- the result of passing on a datagram, if one was received
 abbrev pub intake_in : Settings → EndState → ℕ → Option Reading → Option Intake
 intake_in s e now None = None
 intake_in s e now (Some reading) = Some (intake_of s e now reading)

@@ -7,7 +7,7 @@ use Rattle.tora_lane.specs.declared.ports.Gone.{Gone}
 use Rattle.tora_lane.specs.Ports.{InEnd, new_item}
 use Rattle.tora_lane.specs.Out.{ReceiveEnd}
 
--- a port of the same seat of the same lane
+-- a port of the same seat of the same queue
 abbrev pub IsSamePort : InEnd → InEnd → Type 0
 IsSamePort before after = (after.lane ≡ before.lane) × (after.seat ≡ before.seat)
 

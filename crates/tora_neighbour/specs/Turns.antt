@@ -22,7 +22,7 @@ use Rattle.tora_seat.specs.Between.{after_cargo, after_cut_of_bound}
 -- A turn, at one tick: what the link end received in it, and what the end returned.
 pub record Turn : Type 0 where
   pub now : ℕ
-  pub opened : Option ℕ  -- the life number that was drawn for a closed end
+  pub opened : Option ℕ  -- the session number that was drawn for a closed end
   pub cargoes : List Cargo  -- the outbound messages that were taken for the link
   pub sent : List FrameParts  -- the frames that the end returned to be sent
   pub answers : List (Result (Unit {0}) WireError)  -- the result of each send
@@ -74,7 +74,7 @@ when_heard s e t = after_came s (when_none_due s e t) t.now (came_of t)
 
 -- ---- the conditions on a turn
 
--- a number is drawn exactly if the end is closed, and it is above the number of the end's last life
+-- a number is drawn exactly if the end is closed, and it is above the number of the end's last session
 abbrev pub IsOpening : EndState → Option ℕ → Type 0
 IsOpening e None = IsFalse (is_closed e)
 IsOpening e (Some life) = IsTrue (is_closed e) × (e.last_life < life)
@@ -163,7 +163,7 @@ pub record EndsWithNoNumber (e : EndState) (t : Turn) (after : EndState) : Type 
   pub nothing : t ≡ idle_turn t.now
   pub after_is : after ≡ e
 
--- the wire has failed a hundred times in a row: the bound life is cut, and the events that are left are put
+-- the wire has failed a hundred times in a row: the bound session is cut, and the events that are left are put
 pub record EndsBroken (e : EndState) (t : Turn) (after : EndState) : Type 0 where
   pub nothing_came : came_of t ≡ None
   pub nothing_heard : t.intake ≡ None

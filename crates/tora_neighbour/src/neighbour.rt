@@ -36,16 +36,17 @@ fn fault_of(ending: Ending) -> Option<LinkFault>
 /// In each turn, with one tick of 100 ms, it
 /// 1. draws a number for a closed end, and opens the end;
 /// 2. passes the tick to the end;
-/// 3. takes the waiting outbound messages, at most as many as a lane holds, and submits or cuts each in its own life (a
-///    packet of a life that is not bound is dropped);
+/// 3. takes the waiting outbound messages, at most as many as a queue holds, and submits or cuts each in its own
+///    session (a packet of a session that is not bound is dropped);
 /// 4. sends due frames until none is due;
 /// 5. receives once, and passes a received datagram to the end;
 /// 6. puts each event of the end;
 /// 7. puts a beat in the first turn, and if ten ticks have passed since the last beat.
 ///
 /// It ends if the life file draws no number (`Life`), if a hundred calls of the wire in a row failed (`Wire`), or if
-/// the hub returns `Gone` (no fault). At `Wire` it makes no further call of the wire, cuts the bound life, and puts the
-/// events that are left. A failed send counts as a try of its frame; a failed receive returns no datagram.
+/// the hub returns `Gone` (no fault). At `Wire` it makes no further call of the wire, cuts the bound session if there
+/// is one, and puts the events that are left. A failed send counts as a try of its frame; a failed receive returns no
+/// datagram.
 pub fn run_neighbour<R: Wait, D: Disk, W: Wire, C: Clock, H: Hub>(
     rt: &R,
     link: Link<D, W>,

@@ -71,7 +71,7 @@ pub fn open_closed<D: Disk>(
     }
 }
 
-/// Takes the waiting outbound messages, at most as many as a lane holds (`MOST_CARGOES`).
+/// Takes the waiting outbound messages, at most as many as a queue holds (`MOST_CARGOES`).
 pub fn take_cargoes<R: Wait, H: Hub>(rt: &R, end: &mut LinkEnd, hub: &mut H)
     ensures taken { (cargoes : List Cargo) × (length cargoes ≤ MOST_CARGOES)
         × (end.new ≡ record end.old { state = after_cargoes end.old.state cargoes })

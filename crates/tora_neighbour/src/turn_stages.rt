@@ -110,7 +110,7 @@ pub fn exchange<R: Wait, W: Wire>(
     Ok(())
 }
 
-/// Cuts the bound life, and puts the events that are left.
+/// Cuts the bound session, and puts the events that are left.
 pub fn give_up<R: Wait, H: Hub>(rt: &R, end: &mut LinkEnd, hub: &mut H, now: u64)
     ensures settings { end.new.settings ≡ end.old.settings }
     ensures takes { H.takes hub.new ≡ H.takes hub.old }

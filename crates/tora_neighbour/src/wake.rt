@@ -8,7 +8,7 @@ pub trait Wake {
     /// Ends the current wait, or the next one if there is none. It does not wait.
     fn wake(&self);
 
-    /// Wakes the thread because the core has ended, and takes no more items from its lane. It does not wait.
+    /// Wakes the thread because the core has ended, and takes no more items from its queue. It does not wait.
     fn end(&self) {
         self.wake();
     }

@@ -28,7 +28,7 @@ here n k = ap₂ (λ x y. x && y) (eq-eqb n n refl) (eq-eqb k k refl)
 ends_are : (w : Network) (m j : ℕ) (part : LinkPart) (n k : ℕ) → (after_part w (OfLink m j part)).ends n k ≡ (if nat_eq n m && nat_eq k j then end_after (settings_at w m j) (w.ends m j) part else w.ends n k)
 ends_are w m j part n k = ap (λ (f : ℕ → ℕ → EndState). f n k) (beside_ends (with_part w m j part) m j part)
 
--- the same, where the end is the part's own
+-- the end after a part, if it is the part's own end
 own_end : (w : Network) (m j : ℕ) (part : LinkPart) (n k : ℕ) (b : Bool) → (nat_eq n m && nat_eq k j) ≡ b →
     (if b then end_after (settings_at w m j) (w.ends m j) part else w.ends n k) ≡ (if b then end_after (settings_at w n k) (w.ends n k) part else w.ends n k)
 own_end w m j part n k true q =

@@ -53,7 +53,7 @@ WereMade s e parts = (after : EndState) × AreLinkParts s e parts after
 abbrev pub WereServed : List ℕ → SeatState → List ServedItem → Type 0
 WereServed neighbours s xs = (after : SeatState) × AreServed neighbours s xs after
 
--- the same from a new end or a new seat, after each start
+-- the contract holds from a new end or a new seat on, after each start
 abbrev pub AllWere : {A : Type 0} → (List A → Type 0) → List (List A) → Type 0
 AllWere Was [] = Unit {0}
 AllWere Was (one ∷ more) = Was one × AllWere Was more

@@ -36,7 +36,7 @@ use tora_world::{
 };
 
 /// Running nodes are a world: for any parts that their threads make, some schedule of the free world leads to a world
-/// with the same cores, link ends and queues, in which the same was sent, taken and accepted.
+/// with the same cores, link ends, queues, and records of what was sent, taken and accepted.
 ///
 /// A run of parts must satisfy only this: the thread's definition allows each part, queues keep their order, no wire
 /// delivers a forged datagram that its end accepts, and the numbers drawn for a link end rise. Ticks, results of

@@ -37,7 +37,7 @@ none_pending (row ∷ rows) h k =
     let q = or_parts (is_some row.pending) (any_pending rows) h in
     cond_both (nat_eq k row.neighbour) row.pending (pending_of rows k) (λ o. o ≡ None) (λ _. life-none row.pending q.0) (λ _. none_pending rows q.1 k)
 
--- if none is pending, none is offered
+-- if no cut is pending, none is offered
 pub cuts_none : (answers : Answers) (ks : List ℕ) (v : Serving) → ((k : ℕ) → v.seat.pending k ≡ None) → after_cuts_tried answers ks v ≡ v
 unfolding after_cuts_tried
 cuts_none answers [] v h = refl
@@ -79,7 +79,7 @@ pub ends_row : (b : Bool) (rows : List LinkRow) (i : ℕ) (d new : LinkRow) → 
 ends_row false rows i d new lt h = set_same rows i d new lt h
 ends_row true rows i d new lt h = set_less rows i d new lt h.0 h.1
 
--- ---- links that are up without a current life
+-- ---- links that are up without a current session
 
 -- if no link has to go down now, and none has to go down later that does not have to go down now, then none has to go
 -- down later

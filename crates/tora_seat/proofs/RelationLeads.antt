@@ -50,7 +50,7 @@ lead_on first next v u w a b = record {
 lead_as : (next other : Answers → Serving) (v w : Serving) → ((answers : Answers) → other answers ≡ next answers) → Leads next v w → Leads other v w
 lead_as next other v w e a = record { made = a.made; grows = a.grows; leads = λ answers f. e answers ∙ a.leads answers f }
 
--- ---- cargoes
+-- ---- outbound messages
 
 cut_leads : (v : Serving) (k : ℕ) {w : Serving} → TriesCut v k w → Leads (λ answers. after_cut_tried answers v k (v.seat.pending k)) v w
 cut_leads v k (no_cut e) = quiet (λ answers. after_cut_tried answers v k (v.seat.pending k)) v v refl (λ answers. ap (after_cut_tried answers v k) e)
@@ -181,7 +181,7 @@ settles_lead ks up now v input w near h =
     (lead_on (λ answers. after_step answers ks input now v) (λ answers x. after_settling (length ks) answers ks now x) v h.between w (step_leads ks now v input h.steps)
     (down_leads ks up now h.downs (length ks) h.between w (step_near ks now v input h.steps ∙ near) (count_most ks h.between.seat.core.up) h.go_down h.none_left))
 
--- the same from any serving with the same offers
+-- an action that leads from one serving leads from another one with the same offers, if it computes the same
 leads_from : (next other : Answers → Serving) (v u w : Serving) → u.offers ≡ v.offers → ((answers : Answers) → other answers ≡ next answers) → Leads next u w → Leads other v w
 leads_from next other v u w same e a = record {
   made = a.made;

@@ -77,7 +77,7 @@ pub record RowsGo {O : Type 0} (did_offer : O → ℕ → Cargo → Bool → O �
 
 -- ---- the whole seat
 
--- the same for a seat that serves an item of this tick
+-- messages are offered, and with the results of these offers the definition leads from the old seat to the new
 pub record SeatGoes {O : Type 0} (did_offer : O → ℕ → Cargo → Bool → O → Type 0) (next : Answers → List ℕ → Serving
     → Serving) (now : ℕ) (seat : SeatView) (outs : O) (new : SeatView) (after : O) : Type 0 where
   pub made : List Offer

@@ -22,7 +22,7 @@ abbrev pub ForEach : {A : Type 0} → (Serving → A → Serving → Type 0) →
 ForEach Does [] v w = w ≡ v
 ForEach Does (x ∷ xs) v w = (between : Serving) × Does v x between × ForEach Does xs between w
 
--- ---- one cargo
+-- ---- one outbound message
 
 -- if the cut of a session is pending at a neighbour, it is offered once, and stays pending if the queue returns it
 pub data TriesCut (v : Serving) (k : ℕ) : Serving → Type 0 where

@@ -8,7 +8,7 @@
 //! let core = Core::new(alloc, 1, &[2, 3], &[4])?;
 //! let mut seat = CoreSeat::new(alloc, core)?;
 //! let item = Item { seat: 0, number: 1, now: 7, what: What::Up(life) };
-//! let answer = seat.serve(&item, &mut lanes); // offers the cargoes of the links to `lanes`
+//! let answer = seat.serve(&item, &mut lanes); // offers outbound messages to `lanes`
 //! assert_eq!(rt; seat.inputs(), [Input::LinkUp(2)].as_slice());
 //! assert_eq!(rt; seat.current(0), Some(life));
 //! ```

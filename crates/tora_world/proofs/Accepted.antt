@@ -88,7 +88,7 @@ module _ (cores : CoreLaws) (seats : SeatLaws) (n : ℕ) (ks : List ℕ) (answer
     pub own : Each (IsOwnView n) v.seat.core.views
     pub sends : AreOffersOf n v.offers
 
-  -- ---- cargoes
+  -- ---- outbound messages
 
   cut_sound : (v : Serving) (k : ℕ) (o : Option Life) → Sound v → Sound (after_cut_tried answers v k o)
   cut_sound v k None h = h

@@ -288,8 +288,7 @@ module _ (l : Life) where
             seen_while_bound count es (free_by e.1 w e.0) now (omega (arith, one)) on h
         go false is le again = again (λ j. true≢false (sym (ap (is_bound_to l) j ∙ same_refl l) ∙ is)) (let z : 0 + times_bound n k l es (free_by e.1 w e.0) ≤ 1 = le in omega (arith, z))
 
--- a count that an end had accepted in some world of the run is at most its last count, if it is bound to the session
--- then
+-- a count that an end had accepted in some world of the run is at most its last count, if it is still bound then
 pub seen_now : LinkLaws → LifeLaws → (t : Topology) (times : Times) (es : Schedule) (n k : ℕ) (l : Life) (count : ℕ) → ((after_schedule es (first_world t times)).ends n k).phase ≡ Bound l →
     Sometime (HasAccepted n k l count) es (first_world t times) → count ≤ ((after_schedule es (first_world t times)).ends n k).accepted
 seen_now laws lows t times es n k l count on h = seen_before l n k count es (first_world t times) (λ q. absurd (cc)) (binds_once laws lows t times es n k l) on h

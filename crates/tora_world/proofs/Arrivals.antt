@@ -1,4 +1,4 @@
--- The arrivals at a core: one more at the end, or one less at the front.
+-- The arrivals at a core: one more at the end, or one fewer at the front.
 use Rattle.tora_packet.specs.declared.Packet.{Packet}
 use Rattle.std.proofs.Common.{◌≡◌, ℕ, ◌<◌, ◌≤◌, Bool, true, false, ◌&&◌, inr, if◌then◌else◌, map, List, [], ◌∷◌, ◌++◌, refl, sym, ap, ◌∙◌, subst, append_assoc, arith}
 use Rattle.tora_arq.specs.declared.life.Life.{Life}

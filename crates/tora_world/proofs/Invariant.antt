@@ -184,11 +184,11 @@ Told m seen f =
     IsIn f.header.life (m f.header.sender f.header.receiver).drawn
     × Tells (m f.header.sender f.header.receiver).sent (seen f.header.sender f.header.receiver) (life_of f.header.life f.header.heard) f.body
 
--- the same, for the session as the other end writes it
+-- the counts that the other end was seen to accept, by the session as this end writes it
 abbrev pub seen_at_other : Seen → ℕ → ℕ → Life → ℕ → Type 0
 seen_at_other seen n k l c = seen k n (reversed l) c
 
--- the whole: the steps made are a run of the machine, every end follows it, and so does every datagram
+-- the whole invariant: the steps are a run of the machine, and every end and every datagram follows it
 pub record AllEndsFollow (steps : List MachineStep) (view : ℕ → ℕ → EndView) (frames : List FrameParts) (seen : Seen) : Type 0 where
   pub legal : IsMachineRun steps
   pub sides : (n k : ℕ) → FollowsMachine (view n k) (machine_after steps n k) (machine_after steps k n).sent (seen_at_other seen n k)

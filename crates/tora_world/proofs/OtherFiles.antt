@@ -132,6 +132,6 @@ module _ (before after : LifeDisk) where
   pub may_become : ((m : ℕ) → IsFloor m before → IsFloor m after) → MayBecome before after
   may_become kept = (λ disk. instead disk (discrete_disk disk before), λ n disk h. forgets_nothing kept n disk (discrete_disk disk before) h, here (discrete_disk before before))
 
--- the same for the file after any call or crash
+-- a life file may become the file after any call or crash
 pub becomes_by_event : LifeLaws → (event : LifeEvent) (disk : LifeDisk) → MayHappen event disk → MayBecome disk (after_event event disk)
 becomes_by_event lows event disk may = may_become disk (after_event event disk) (λ m h. lows.keep m event disk h may)

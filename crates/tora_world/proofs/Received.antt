@@ -70,7 +70,7 @@ module _ (cores : CoreLaws) (seats : SeatLaws) (ks : List ℕ) (answers : Answer
     pub follows : v.seat.core ≡ core_after_all first (before ++ v.inputs)
     pub same : (k : ℕ) (l : Life) → v.seat.current k ≡ Some l → taken_in ss k l ≡ received k v.inputs
 
-  -- ---- cargoes
+  -- ---- outbound messages
 
   cut_sound : (ss : List Step) (v : Serving) (k : ℕ) (o : Option Life) → Sound ss v → Sound ss (after_cut_tried answers v k o)
   cut_sound ss v k None h = h

@@ -27,7 +27,7 @@ use Rattle.tora_world.proofs.TableLeads.{happens}
 use Rattle.tora_world.proofs.TableHolds.{step_holds}
 use Rattle.tora_world.proofs.PutRooms.{room_served}
 
--- ---- the lanes
+-- ---- the queues
 
 -- values of nodes, one of which changes
 at_each : {A : Type 0} (P : A → Type 0) (n : ℕ) (value : A) (old new : ℕ → A) → ChangesAt n value old new → P value → ((a : ℕ) → P (old a)) → (a : ℕ) → P (new a)

@@ -39,7 +39,7 @@ is_tick w (CoreTurn n) = (λ q. absurd (cc), λ ne. refl)
 is_tick w (Arm n call) = (λ q. absurd (cc), λ ne. refl)
 is_tick w (Restart n torn) = (λ q. absurd (cc), λ ne. refl)
 
--- ---- answers
+-- ---- results of offers
 
 module _ (w : World) (n : ℕ) (offers : List Offer) (k : ℕ) where
   waits : length (w.cargoes n k ++ put_to k offers) ≡ length (w.cargoes n k) + length (put_to k offers)

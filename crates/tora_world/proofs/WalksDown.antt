@@ -129,7 +129,7 @@ module _ (rules : RuleLaws) where
     fewer [] = omega arith
     fewer (n ∷ nodes) = let a = one_weaker (is_under low (height_at w n d)) (is_under high (height_at w n d)) (under_both low high l (height_at w n d)) in let b = fewer nodes in omega arith
 
-    -- the node of the lower height is not counted below itself, so the count is smaller
+    -- the node of the lower height is below the higher one and not below itself, so the count is smaller
     pub one_less : (k : ℕ) → height_at w k d ≡ Some (Some low) → (nodes : List ℕ) → has_number k nodes ≡ true → under w d low nodes < under w d high nodes
     one_less k is [] there = absurd cc
     one_less k is (n ∷ nodes) there = go (nat_eq n k) refl there (one_less k is nodes)

@@ -68,7 +68,7 @@ pub record ChangesAt {A : Type 0} (n : ℕ) (value : A) (old new : ℕ → A) : 
   pub here : new n ≡ value
   pub elsewhere : (a : ℕ) → a ≢ n → new a ≡ old a
 
--- the same for values of link ends
+-- the value for the end of n towards k becomes this, and the values for all other ends are unchanged
 pub record ChangesAtEnd {A : Type 0} (n k : ℕ) (value : A) (old new : ℕ → ℕ → A) : Type 0 where
   pub here : new n k ≡ value
   pub elsewhere : (a b : ℕ) → ¬ ((a ≡ n) × (b ≡ k)) → new a b ≡ old a b

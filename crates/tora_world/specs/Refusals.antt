@@ -58,7 +58,7 @@ stepped_after c w n k event earlier = if is_some (refusal_by c w event) then ear
 abbrev pub free_stepped_after : Choice → World → ℕ → ℕ → FreeEvent → List Packet → List Packet
 free_stepped_after c w n k event earlier = if_happens (λ e. stepped_after c w n k e earlier) earlier event
 
--- the same after a run
+-- the packets that a node had taken from a neighbour before its last restart, after a run
 abbrev pub stepped_at_restart : ℕ → ℕ → Schedule → World → List Packet → List Packet
 stepped_at_restart n k [] w earlier = earlier
 stepped_at_restart n k (e ∷ es) w earlier = stepped_at_restart n k es (free_by e.1 w e.0)

@@ -34,7 +34,7 @@ pub record IsAtRest (w : World) : Type 0 where
   pub idle : (n k : ℕ) → is_link w.topology n k ≡ true → IsIdleEnd w n k
   pub lives : (n k : ℕ) → is_link w.topology n k ≡ true → IsInOneLife w n k
 
--- ---- the same, computed
+-- ---- the test for rest
 
 abbrev pub is_idle_end : World → ℕ → ℕ → Bool
 is_idle_end w n k = is_empty (w.cargoes n k) && is_empty (w.ends n k).events && is_empty (w.ends n k).queue

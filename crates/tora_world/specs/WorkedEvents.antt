@@ -39,7 +39,7 @@ pub record ArmedCalls : Type 0 where
   pub not_written : ((after (Arm 1 Fails.Write ∷ Open 1 2 ∷ [])).ends 1 2).phase ≡ Closed
   pub not_synced : ((after (Arm 1 Fails.Sync ∷ Open 1 2 ∷ [])).ends 1 2).phase ≡ Closed
 
--- ---- lanes
+-- ---- queues
 
 abbrev pub item_of : ℕ → Item
 item_of number = record { seat = 1; number = number; now = 1; what = Tells.Need 2 }
