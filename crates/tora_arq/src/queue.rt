@@ -94,7 +94,7 @@ impl SendQueue {
         self.len().min(WINDOW as usize)
     }
 
-    /// The packet at the index `place`, from 0 on.
+    /// The packet at the index `place`, counted from 0.
     fn packet_at(&self, place: usize) -> QueuedPacket
         requires { place < length self.now.items }
         ensures { slice_get self.now.items place ≡ Some result }

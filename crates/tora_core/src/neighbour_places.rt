@@ -84,7 +84,7 @@ fn is_marked(place: usize, up: &[bool]) -> bool
     up[place]
 }
 
-/// The place of a neighbour, from 0 on, if it has one.
+/// The place of a neighbour, counted from 0, if it has one.
 fn place_of_row(k: Id, places: &[Row]) -> Option<usize>
     ensures { result ≡ position (λ row. row.neighbour == k) places.now }
 {

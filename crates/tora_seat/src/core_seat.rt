@@ -64,8 +64,8 @@ impl CoreSeat {
         self.seat.stepped()
     }
 
-    /// The current session of the neighbour at a place, from 0 on in ascending order. `None` if it has none, or there
-    /// is no such neighbour.
+    /// The current session of the neighbour at a place, counted from 0 in ascending order. `None` if it has none, or
+    /// there is no such neighbour.
     pub fn current(&self, place: usize) -> Option<Life>
         ensures { MatchOption (slice_get self.now.core.neighbours place) (result ≡ None)
             (λ k. result ≡ current_of self.now.rows k) }
@@ -73,8 +73,8 @@ impl CoreSeat {
         self.seat.current(place)
     }
 
-    /// The session whose cut is not in the queue yet, of the neighbour at a place, from 0 on in ascending order. `None`
-    /// if there is none, or no such neighbour.
+    /// The session whose cut is not in the queue yet, of the neighbour at a place, counted from 0 in ascending order.
+    /// `None` if there is none, or no such neighbour.
     pub fn pending(&self, place: usize) -> Option<Life>
         ensures { MatchOption (slice_get self.now.core.neighbours place) (result ≡ None)
             (λ k. result ≡ pending_of self.now.rows k) }

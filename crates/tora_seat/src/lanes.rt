@@ -13,8 +13,8 @@ pub trait OutLanes {
     /// An offer: old lanes, place, outbound message, whether it was put into the lane, new lanes.
     ghost did_offer: { Self → ℕ → Cargo → Bool → Self → Type 0 };
 
-    /// Offers an outbound message to the lane at a place, from 0 on. Returns whether the message was put at the back of
-    /// the lane.
+    /// Offers an outbound message to the lane at a place, counted from 0. Returns whether the message was put at the
+    /// back of the lane.
     ///
     /// If it was not put, nothing changes. The call takes no memory and never waits.
     fn offer(&mut self, place: usize, cargo: Cargo) -> bool

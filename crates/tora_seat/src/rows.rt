@@ -113,7 +113,7 @@ pub fn row_at(rows: &[LinkRow], place: usize) -> Option<LinkRow>
     rows.get(place).copied()
 }
 
-/// The place of a neighbour, from 0 on, if it is one of these.
+/// The place of a neighbour, counted from 0, if it is one of these.
 pub fn place_in(neighbours: &[Id], k: Id) -> Option<usize>
     ensures { result ≡ position (λ n. n == k) neighbours.now }
 {

@@ -51,7 +51,7 @@ impl Model for BareSeat {
 }
 
 impl BareSeat {
-    /// The neighbour at a place, from 0 on in ascending order.
+    /// The neighbour at a place, counted from 0 in ascending order.
     pub(crate) fn neighbour(&self, place: usize) -> Option<Id>
         ensures { result ≡ slice_get self.now.core.neighbours place }
     {
@@ -131,7 +131,7 @@ impl BareSeat {
         });
     }
 
-    /// The place of a neighbour, from 0 on in ascending order, if there is such a neighbour.
+    /// The place of a neighbour, counted from 0 in ascending order, if there is such a neighbour.
     pub(crate) fn place(&self, k: Id) -> Option<usize>
         ensures { MatchOption result (has_number k self.now.core.neighbours ≡ false)
             (λ place. slice_get self.now.core.neighbours place ≡ Some k) }
@@ -182,8 +182,8 @@ impl BareSeat {
         self.stepped
     }
 
-    /// The current session of the neighbour at a place, from 0 on in ascending order. `None` if it has none, or there
-    /// is no such neighbour.
+    /// The current session of the neighbour at a place, counted from 0 in ascending order. `None` if it has none, or
+    /// there is no such neighbour.
     pub fn current(&self, place: usize) -> Option<Life>
         ensures { MatchOption (slice_get self.now.core.neighbours place) (result ≡ None)
             (λ k. result ≡ current_of self.now.rows k) }
@@ -194,8 +194,8 @@ impl BareSeat {
         }
     }
 
-    /// The session whose cut is not in the queue yet, of the neighbour at a place, from 0 on in ascending order. `None`
-    /// if there is none, or no such neighbour.
+    /// The session whose cut is not in the queue yet, of the neighbour at a place, counted from 0 in ascending order.
+    /// `None` if there is none, or no such neighbour.
     pub fn pending(&self, place: usize) -> Option<Life>
         ensures { MatchOption (slice_get self.now.core.neighbours place) (result ≡ None)
             (λ k. result ≡ pending_of self.now.rows k) }

@@ -59,7 +59,7 @@ pub record IsDatagram (w : World) (i : ℕ) (f : FrameParts) : Type 0 where
   pub all : w.datagrams ≡ before ++ f ∷ behind
   pub number : i ≡ suc (length before)
 
--- the seat of neighbour k is its place among the neighbours, from 0 on
+-- the seat of neighbour k is its place among the neighbours, counted from 0
 pub record IsSeatOf (k : ℕ) (neighbours : List ℕ) (seat : ℕ) : Type 0 where
   pub before : List ℕ
   pub behind : List ℕ

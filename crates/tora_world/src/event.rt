@@ -15,7 +15,7 @@ pub enum Event {
     Pull(Id, Id),
     /// Sends the first frame due to a neighbour.
     Transmit(Id, Id),
-    /// Delivers a datagram to its receiver. The number is its place among all datagrams ever sent, from 1 on.
+    /// Delivers a datagram to its receiver. The number is its place among all datagrams ever sent, counted from 1.
     Deliver(u64),
     /// Puts an event of the link end into the node's queue.
     Pump(Id, Id),
