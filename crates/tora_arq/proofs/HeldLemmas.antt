@@ -60,7 +60,7 @@ released_all life e held f q = ap (λ h. record e { held = h }) q ∙ sym (go e.
     go (None ∷ held) f = refl
     go (Some packet ∷ held) f = absurd (cc)
 
--- a place without an item is beyond the list
+-- an index without an element is at or beyond the end of the list
 pub none_past : {A : Type 0} (xs : List A) (i : ℕ) → slice_get xs i ≡ None → length xs ≤ i
 none_past [] i e = omega arith
 none_past (x ∷ xs) zero e = absurd (cc)

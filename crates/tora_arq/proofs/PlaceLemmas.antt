@@ -151,7 +151,7 @@ module _ (places : ℕ) where
       (λ _. bound_place s e life now f f.body (omega (arith, lt)) w lt r))
       (λ _. here)))
 
-  -- a frame that needs no more than one place fewer
+  -- a frame for which there is room in one place fewer
   pub frame_place : (s : Settings) (e : EndState) (f : FrameParts) (now : ℕ) → s.window ≡ WINDOW → HasFrameRoom fewer f e → HasEventPlace places (on_frame s e f now).1
   unfolding on_frame
   frame_place s e f now w r =

@@ -1,4 +1,4 @@
--- Before the computed tick no frame is due and no tick ends the session; from it on one of these holds.
+-- Before the computed tick no frame is due and no tick ends the session; at and after it, one of the two holds.
 use Rattle.std.proofs.Common.{◌≡◌, ℕ, suc, zero, ◌<◌, ◌^◌, ◌||◌, ◌&&◌, Bool, true, false, not, List, [], ◌∷◌, length, nat_le, is_some, None, if◌then◌else◌, refl, sym, ap, ◌∙◌, arith}
 use Rattle.std.proofs.lemmas.Bool.Decides.{nat_tests}
 use Rattle.tora_arq.specs.declared.life.Life.{Life}

@@ -8,6 +8,6 @@ use Rattle.tora_arq.specs.NextDue.{is_any_due}
 abbrev pub last_tick : ℕ
 last_tick = 2 ^ 64 - 1
 
--- before this tick no frame is due and no tick ends the session, and from it on one of these holds
+-- before this tick no frame is due and no tick ends the session; at and after this tick, one of the two holds
 abbrev pub IsStillUntil : Settings → EndState → ℕ → Type 0
 IsStillUntil s e until = (tick : ℕ) → tick < last_tick → nat_le until tick ≡ is_any_due s e tick

@@ -157,7 +157,7 @@ among-map f [] row i = absurd i
 among-map f (r ∷ rows) row (inl e) = inl (ap f e)
 among-map f (r ∷ rows) row (inr i) = inr (among-map f rows row i)
 
--- the entry of the neighbour that sent an update
+-- after an update, the entry of its sender is known
 knows-updated : (v : View) (k : ℕ) (height : Quintuple) → IsUp v k → KnowsSome (updated_view v k height)
 knows-updated v k height up =
     let row : Row = up.0 in

@@ -38,12 +38,12 @@ pub data LifeEvent : Type 0 where
   Arm : DiskCall → LifeEvent
   Restart : State → LifeEvent
 
--- every file that a crash of the new disk leaves, a crash of the old one may have left
+-- a crash of the old disk may leave every file that a crash of the new one may leave
 pub record IsLeftBy (old new : State) : Type 0 where
   pub whole : IsWhole new
   pub images : (c : List ℕ) → MayLeave new c → MayLeave old c
 
--- a crash may leave every disk that this one may become
+-- the event is possible; a restart is possible with every disk that a crash of this disk may leave
 abbrev pub MayHappen : LifeEvent → LifeDisk → Type 0
 MayHappen Draw disk = ⊤
 MayHappen (Arm call) disk = ⊤

@@ -95,9 +95,9 @@ pub trait Disk {
     /// What a read returns is one of the images.
     ghost seen_may_stay: { (disk : Self) → IsTrue (tells disk) → may_leave disk (seen disk) };
 
-    /// What a crash may leave now, a crash since any earlier moment may have left, too.
+    /// A crash since any earlier moment may have left every file that a crash may leave now.
     ghost counts_now: { (disk : Self) (t : ℕ) (c : List ℕ) → t ≤ moment disk → may_leave disk c → left_since disk t c };
 
-    /// What a crash since the present moment may have left, a crash may leave now.
+    /// A crash may leave now every file that a crash since the present moment may have left.
     ghost only_now: { (disk : Self) (c : List ℕ) → left_since disk (moment disk) c → may_leave disk c };
 }

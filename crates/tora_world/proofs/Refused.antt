@@ -116,7 +116,7 @@ taken_from steps w seen g were_put n item items q k l p seat what on =
     let x = taken_is_put steps w seen g n item items q k l p seat what on in
     packet_put (IsSentBy k) (reversed l) (w.put k n) x.0 p (were_put k n) x.1
 
--- a change of other parts of the world
+-- a change of other parts of the world keeps the invariant
 same_nodes : {earlier : ℕ → ℕ → List Packet} (w w' : World) → w'.topology ≡ w.topology → w'.seats ≡ w.seats → w'.put ≡ w.put → w'.inputs ≡ w.inputs → w'.steps ≡ w.steps → AreNodes earlier w → AreNodes earlier w'
 same_nodes {earlier} w w' a b c d e h = record {
   seats = λ n. subst (λ t. IsSeat n (neighbours_of t n) (w'.seats n)) (sym a) (subst (λ (f : ℕ → SeatState). IsSeat n (neighbours w n) (f n)) (sym b) (h.seats n));
