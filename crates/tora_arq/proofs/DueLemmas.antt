@@ -1,4 +1,4 @@
--- From which tick on something is due.
+-- The tick from which something is due.
 use Rattle.std.proofs.Common.{◌≡◌, ℕ, zero, suc, ◌+◌, ◌^◌, ◌<◌, ◌≤◌, Bool, true, false, ◌||◌, nat_le, min, max, List, [], ◌∷◌, length, drop, Option, Some, None, if◌then◌else◌, refl, sym, ap, ◌∙◌, arith, slice_get, is_some}
 use Rattle.std.proofs.lemmas.Bool.Decides.{nat_tests}
 use Rattle.std.proofs.Math.Bool.{or-false}
@@ -55,7 +55,7 @@ is_some_behind : (q : QueuedPacket) (due : Option DueBatch) → is_some (due_beh
 is_some_behind q None = refl
 is_some_behind q (Some due) = refl
 
--- a packet, the ones after it, and a property of all of them
+-- the first packet and the following ones, by the parts of the conditions
 one_of_all : (q : QueuedPacket) (ready given rest gone : Bool) (here : DueBatch) (behind : Option DueBatch) → rest ≡ is_some behind || gone →
     (ready || given) || rest ≡ is_some (if ready then Some here else due_behind q behind) || (given || gone)
 one_of_all q true given rest gone here behind e = refl
@@ -99,7 +99,7 @@ no_hello_if : (owes : Bool) (frame : FrameParts) (e left : EndState) → is_hell
 no_hello_if true frame e left h = h
 no_hello_if false frame e left h = refl
 
--- nothing is due after the HELLOs
+-- after the HELLOs the first frame due is not a HELLO
 pub no_hello_behind : (s : Settings) (e : EndState) (life : Life) (due : Option DueBatch) → is_hello (on_transmit_due s e life due).0 ≡ false
 no_hello_behind s e life (Some due) = refl
 no_hello_behind s e life None = no_hello_if e.owes_ack _ _ _ refl

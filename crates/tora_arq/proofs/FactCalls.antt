@@ -1,4 +1,4 @@
--- What holds of each call of a link end.
+-- What holds for each call of a link end.
 use Rattle.std.proofs.Common.{◌≡◌, ◌≢◌, ℕ, zero, suc, ◌+◌, ◌-◌, ◌^◌, ◌<◌, ◌≤◌, false, true≢false, not, ◌⊎◌, inl, inr, ⊎_elim, List, [], ◌∷◌, ◌++◌, map, length, drop, Option, Some, None, IfNone, Result, Ok, Err, slice_get, nat_le, if◌then◌else◌, refl, sym, ap, ◌∙◌, subst, arith, append_assoc, append-nil, length-append, length-drop}
 use Rattle.std.proofs.lemmas.Bool.{cond_both, and_right, or_from, not-false, not-true, cases_lt, lt-leb}
 use Rattle.std.proofs.lemmas.List.{length-map, map-append, nil_from_length, drop-drop, drop-append-le}
@@ -31,7 +31,7 @@ pub if_none : {A : Type 0} (o : Option A) (P : Type 0) → (o ≡ None → P) �
 if_none None P h = h refl
 if_none (Some x) P h = tt
 
--- no statement about packets
+-- the trivial statement about packets
 abbrev pub Any : ℕ → Packet → Type 0
 Any place packet = Unit {0}
 
@@ -52,7 +52,7 @@ one_life ph a b p q = cc
 one_number : (ph : Phase) (a b : ℕ) → ph ≡ Unbound a → ph ≡ Unbound b → a ≡ b
 one_number ph a b p q = cc
 
--- ---- lives
+-- ---- sessions
 
 module _ (Is : ℕ → Packet → Type 0) (s : Settings) (call : LinkCall) (e e' : EndState) where
   pub step-fixed : Step Is s call e e' → (life : Life) → e.phase ≡ Bound life → StaysOrCloses life e'.phase
@@ -180,7 +180,7 @@ module _ (Is : ℕ → Packet → Type 0) (s : Settings) (call : LinkCall) (e e'
   step-between (binds l i v p g) = between_from (Unbound l.own) (Bound l) i g.phase (Up l ∷ map (Deliver l) g.packets) (g.packets, refl)
   step-between (goes_on l i v p g) = between_from (Bound l) (Bound l) i (g.phase ∙ i) (map (Deliver l) g.packets) (refl, g.packets, refl)
 
--- ---- the packets of one life
+-- ---- the packets of one session
 
 pub packets_delivered-map : (life : Life) (packets : List Packet) → packets_delivered life (map (Deliver life) packets) ≡ packets
 packets_delivered-map life [] = refl
@@ -254,7 +254,7 @@ module _ (Is : ℕ → Packet → Type 0) (s : Settings) (call : LinkCall) (e e'
       map-drop f (suc n) [] = refl
       map-drop f (suc n) (x ∷ xs) = map-drop f n xs
 
-  -- what an end has just bound holds nothing of the life
+  -- an end that has just bound a session holds nothing of it
   pub step-first : Step Is s call e e' → (own : ℕ) (life : Life) → e.phase ≡ Unbound own → e'.phase ≡ Bound life → IsQueueOf [] e' × (packet_submitted e call ≡ []) × (e'.acknowledged ≡ 0)
   step-first (stays h) own life j k = absurd (unbound_or_bound e.phase own life j (sym h.phase ∙ k))
   step-first (opens x h) own life j k = absurd (closed_or_unbound e.phase own h.closed j)
@@ -308,7 +308,7 @@ slice_get-drop zero xs i = let z : i ≡ 0 + i = omega arith in ap (slice_get xs
 slice_get-drop (suc n) [] i = refl
 slice_get-drop (suc n) (x ∷ xs) i = let z : suc (n + i) ≡ suc n + i = omega arith in slice_get-drop n xs i ∙ ap (slice_get (x ∷ xs)) z
 
--- one of packets without a gap
+-- one of a list of packets without a gap
 AreFrom-at : (Is : ℕ → Packet → Type 0) (place : ℕ) (packets : List Packet) (i : ℕ) (packet : Packet) → AreFrom Is place packets → slice_get packets i ≡ Some packet → Is (place + i) packet
 AreFrom-at Is place [] i packet h e = absurd (cc)
 AreFrom-at Is place (x ∷ packets) zero packet h e =
@@ -345,9 +345,9 @@ call-sends s e PollEvent f q = absurd (cc)
 call-sends s e (Transmit now) f q = (transmit_sends s now e).frame f q
 call-sends s e (Cut life) f q = absurd (cc)
 
--- ---- packets submitted, and lives cut
+-- ---- packets submitted, and sessions cut
 
--- a result and a state of `submit`: a packet that is taken is appended
+-- the result and the state after `submit`: a packet that the end took is appended
 abbrev Appends : EndState → Life → Packet → Result (Unit {0}) SubmitError × EndState → Type 0
 Appends e life packet r = r.0 ≡ Ok tt → (e.phase ≡ Bound life) × (r.1 ≡ record e { queue = e.queue ++ untried packet ∷ [] })
 
@@ -409,12 +409,12 @@ cut-other e life n = go e.phase refl
         (λ t. absurd (n (j ∙ ap Bound (sym (is_same_life-true life current t)))))
         (λ _. refl)
 
--- ---- where nothing changes
+-- ---- calls that change nothing
 
 abbrev Idle : EndState → Option FrameParts × EndState → Type 0
 Idle e r = r.0 ≡ None → r.1 ≡ e
 
--- where no frame is due
+-- no frame is due
 pub transmit-idle : (s : Settings) (e : EndState) (now : ℕ) → frame_due s e now ≡ None → after_transmit s e now ≡ e
 unfolding on_transmit on_transmit_in
 transmit-idle s e now = go e.phase
@@ -433,7 +433,7 @@ transmit-idle s e now = go e.phase
     go (Unbound own) = go_hello own e.heard (None, e) (λ q. refl)
     go (Bound life) = go_hello life.own life.peer (on_transmit_due s e life (due_of s e now)) (go_due life (due_of s e now))
 
--- at the tick 0
+-- the tick is 0
 none_given_up : (times : Times) (queue : List QueuedPacket) → 0 < times.retry → has_given_up times 0 queue ≡ false
 none_given_up times [] h = refl
 none_given_up times (q ∷ queue) h =
@@ -451,7 +451,7 @@ tick-zero s e t = go e.phase
     go (Unbound own) = refl
     go (Bound life) = ap (λ b. if b then after_end e life Because.Silent else e) silent_at_zero
 
--- the own number changes only where the end is opened
+-- the own number changes only when the end is opened
 pub step-number : (Is : ℕ → Packet → Type 0) (s : Settings) (call : LinkCall) (e e' : EndState) → Step Is s call e e' → (e'.last_life ≡ e.last_life) ⊎ (OpensWith e'.last_life call × (e.last_life < e'.last_life))
 step-number Is s call e e' (stays h) = inl h.last_life
 step-number Is s call e e' (opens own h) = inr (subst (λ n. OpensWith n call) (sym h.last_life) h.opens, omega (arith, h.last_life, h.above))

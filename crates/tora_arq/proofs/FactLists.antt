@@ -1,4 +1,4 @@
--- Events, packets and frames of a run, one call further.
+-- Events, packets and frames of a run after one more call.
 use Rattle.std.proofs.Common.{◌≡◌, ◌≢◌, ℕ, zero, suc, ◌+◌, ◌<◌, ◌≤◌, true, false, ⊎_elim, List, [], ◌∷◌, ◌++◌, map, Option, Some, None, if◌then◌else◌, Contains, refl, sym, ap, ◌∙◌, subst, arith, eqb-true, ◌==◌, append_assoc}
 use Rattle.std.specs.List.{AllByRecursion}
 use Rattle.std.proofs.lemmas.Bool.{cases_Bool, false_from_ne_true}
@@ -14,7 +14,7 @@ use Rattle.tora_arq.specs.LinkFacts.{AreHeld, AreFrom, packets_delivered, AreEve
 use Rattle.tora_arq.specs.LinkRuns.{FrameHandedIn, Submission, packets_submitted, times_bound, WasHandedIn, CameAt, CountCame, AreAllTold}
 use Rattle.tora_arq.proofs.FactSteps.{is_same_life-true}
 
--- ---- the packets of one life
+-- ---- the packets of one session
 
 pub packets_delivered-append : (life : Life) (xs ys : List LinkEvent) → packets_delivered life (xs ++ ys) ≡ packets_delivered life xs ++ packets_delivered life ys
 packets_delivered-append life [] ys = refl
@@ -35,7 +35,7 @@ packets_delivered-other life other [] n = refl
 packets_delivered-other life other (packet ∷ packets) n =
     ap (λ b. (if b then packet ∷ [] else []) ++ packets_delivered life (map (Deliver other) packets)) n ∙ packets_delivered-other life other packets n
 
--- ---- every event is of a life with a number below this one
+-- ---- every event is of a session with an own number below this one
 
 abbrev pub EachBelow : ℕ → List LinkEvent → Type 0
 EachBelow n [] = Unit {0}
@@ -107,7 +107,7 @@ rising_map : (n : ℕ) (life : Life) (packets : List Packet) → AreRising n (ma
 rising_map n life [] = tt
 rising_map n life (packet ∷ packets) = rising_map n life packets
 
--- packets of a life follow, or its end
+-- then packets of the session, or its end
 pub rising_packets : (n : ℕ) (events : List LinkEvent) (life : Life) (packets : List Packet) → AreRising n events → AreRising n (events ++ map (Deliver life) packets)
 rising_packets n [] life packets h = rising_map n life packets
 rising_packets n (Up other ∷ events) life packets h = (h.0, rising_packets other.own events life packets h.1)
@@ -120,18 +120,18 @@ rising_down n (Up other ∷ events) life reason h = (h.0, rising_down other.own 
 rising_down n (Deliver other packet ∷ events) life reason h = rising_down n events life reason h
 rising_down n (Down other why ∷ events) life reason h = rising_down n events life reason h
 
--- a life with a number above all earlier ones
+-- then a session with an own number above all earlier ones
 pub rising_up : (n : ℕ) (events : List LinkEvent) (life : Life) (packets : List Packet) → n < life.own → EachBelow life.own events → AreRising n events → AreRising n (events ++ Up life ∷ map (Deliver life) packets)
 rising_up n [] life packets m b h = (m, rising_map life.own life packets)
 rising_up n (Up other ∷ events) life packets m b h = (h.0, rising_up other.own events life packets b.0 b.1 h.1)
 rising_up n (Deliver other packet ∷ events) life packets m b h = rising_up n events life packets m b.1 h
 rising_up n (Down other reason ∷ events) life packets m b h = rising_up n events life packets m b.1 h
 
--- lives with a greater number are others
+-- sessions with different own numbers differ
 other_above : (a b : Life) → a.own < b.own → a ≢ b
 other_above a b h = λ q. let z : a.own ≡ b.own = ap (λ (x : Life). x.own) q in absurd (omega arith)
 
--- the number of a life is below that of the one bound now
+-- the number of a session is below that of the session that is bound now
 abbrev IsBelowNow : Life → Option Life → Type 0
 IsBelowNow life None = Unit {0}
 IsBelowNow life (Some now) = life.own < now.own
@@ -148,7 +148,7 @@ others_follow life n (Some now) after (Deliver other packet ∷ events) le b l r
 others_follow life n (Some now) after (Down other reason ∷ events) le b l r =
     (subst (λ x. life ≢ x) (sym l.0) (other_above life now b), others_follow life n None after events le tt l.1 r)
 
--- the number of the life bound now is not above this
+-- the number of the session that is bound now is at most this
 abbrev IsUpTo : ℕ → Option Life → Type 0
 IsUpTo n None = Unit {0}
 IsUpTo n (Some now) = now.own ≤ n

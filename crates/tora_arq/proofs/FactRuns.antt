@@ -1,4 +1,4 @@
--- What holds of each run of a link end.
+-- What holds for each run of a link end.
 use Rattle.std.proofs.Common.{◌≡◌, ℕ, suc, ◌+◌, ◌-◌, ◌<◌, ◌≤◌, true, false, true≢false, ◌⊎◌, inl, inr, ⊎_elim, List, [], ◌∷◌, ◌++◌, map, length, Option, Some, None, if◌then◌else◌, refl, sym, ap, ◌∙◌, subst, arith, append_assoc, append-nil, length-append}
 use Rattle.std.specs.List.{AllByRecursion}
 use Rattle.std.proofs.lemmas.Bool.{cases_Bool, false_from_ne_true}
@@ -22,20 +22,20 @@ use Rattle.tora_arq.proofs.FactSteps.Step.{stays, opens, ends, submits, binds, g
 use Rattle.tora_arq.proofs.FactCalls.{Any, queued_by, frame-content, call-sends, events_queued-is, call-gives, call-end, call-bound, call-behind, call-between, call-delivers, call-queue, call-first, call-acknowledges}
 use Rattle.tora_arq.proofs.FactLists.{packets_delivered-append, packets_submitted-append, packets_delivered-other, EachBelow, EachBelow-more, EachBelow-append, EachBelow-map, none_delivered, none_submitted, all_more, all_append, all_at, Leads-append, Leads-between, rising_packets, rising_down, rising_up, AreFrom-more, AreHeld-more, IsPacketAt-append, was_last, came_more, count_more, told_more, told_append, told_map}
 
--- the numbers of all lives so far are below this one: an own number that is not bound, or the one after the last
+-- the own numbers of all sessions so far are below this number
 abbrev pub next_number : Phase → ℕ → ℕ
 next_number Closed last = suc last
 next_number (Unbound own) last = own
 next_number (Bound life) last = suc last
 
--- what went through an end in the life that is bound
+-- what went through an end in the bound session
 pub record IsBoundRun (s : Settings) (run : LinkRun) (life : Life) : Type 0 where
   pub accepted : length (packets_delivered life run.events) ≡ run.state.accepted
   pub held : AreHeld (CameAt s run.frames life) run.state.accepted run.state.held
   pub queue : IsQueueOf (packets_submitted life run.submitted) run.state
   pub count : (run.state.acknowledged ≡ 0) ⊎ CountCame s run.frames life run.state.acknowledged
 
--- what every call keeps of a run
+-- the invariant of a run
 pub record IsRun (s : Settings) (run : LinkRun) : Type 0 where
   pub end : IsEnd s run.state
   pub positive : (own : ℕ) → run.state.phase ≡ Unbound own → 0 < own
@@ -73,7 +73,7 @@ no_submissions e PollEvent p = refl
 no_submissions e (Transmit now) p = refl
 no_submissions e (Cut life) p = refl
 
--- a frame of the life that is passed in while the end has its number
+-- a frame of the session, passed in while the end has the session's own number
 abbrev handed_in : EndState → FrameParts → FrameHandedIn
 handed_in e frame = record { own = own_number_in e.phase; frame = frame }
 
@@ -89,7 +89,7 @@ call_hands s frames e life PollEvent o h = absurd h
 call_hands s frames e life (Transmit now) o h = absurd h
 call_hands s frames e life (Cut other) o h = absurd h
 
--- its packets came in it
+-- each packet of the frame came in that frame
 body_tells : (s : Settings) (frames : List FrameHandedIn) (e : EndState) (life : Life) (frame : FrameParts) → own_number_in e.phase ≡ Some life.own → IsFrameOf s life frame → (body : Body) → frame.body ≡ body → BodyTells (CameAt s (frames ++ handed_in e frame ∷ []) life) body
 body_tells s frames e life frame o h body q = λ place packet c. record {
   handed = handed_in e frame;
@@ -106,7 +106,7 @@ call_tells s frames e life PollEvent o = tt
 call_tells s frames e life (Transmit now) o = tt
 call_tells s frames e life (Cut other) o = tt
 
--- and its count
+-- the count of the frame came in that frame
 call_counts : (s : Settings) (frames : List FrameHandedIn) (e : EndState) (life : Life) (count : ℕ) (call : LinkCall) → own_number_in e.phase ≡ Some life.own → IsCountOfCall s life count call → CountCame s (frames ++ frames_handed_in e call) life count
 call_counts s frames e life count (Open own now) o h = absurd h
 call_counts s frames e life count (Frame frame now) o h = record {
@@ -120,7 +120,7 @@ call_counts s frames e life count PollEvent o h = absurd h
 call_counts s frames e life count (Transmit now) o h = absurd h
 call_counts s frames e life count (Cut other) o h = absurd h
 
--- a life is bound, or nothing of it is delivered
+-- a session is bound, or it is not the bound one
 bound_or_not : (ph : Phase) (life : Life) → (ph ≡ Bound life) ⊎ (life_in ph ≡ Some life → ⊥)
 bound_or_not Closed life = inr (λ q. absurd (cc))
 bound_or_not (Unbound own) life = inr (λ q. absurd (cc))
@@ -140,7 +140,7 @@ none_between (Some before) None events life n h = ap (packets_delivered life) h.
 none_between (Some before) (Some other) events life n h =
     ap (packets_delivered life) h.2 ∙ packets_delivered-other life before h.1 (subst (λ x. is_same_life life x ≡ false) (sym h.0) (other_life life other n))
 
--- of a life, what was submitted and delivered only grows
+-- what was submitted and delivered in a session only grows
 body_more : (run run' : LinkRun) (life : Life) (packets : List Packet) → packets_submitted life run'.submitted ≡ packets_submitted life run.submitted ++ packets → length (packets_delivered life run.events) ≤ length (packets_delivered life run'.events) → (body : Body) → IsBodyOfRun run life body → IsBodyOfRun run' life body
 body_more run run' life packets q le Hello h = tt
 body_more run run' life packets q le (Data number count carried) h =
@@ -201,7 +201,7 @@ module _ (s : Settings) (run : LinkRun) (call : LinkCall) (ok : IsPossible run.s
   number_of_unbound : (own : ℕ) → E.phase ≡ Unbound own → own ≡ E.last_life
   number_of_unbound own j = let b : IsUnboundEnd E own = subst (IsEndIn s E) j h.end in b.number
 
-  -- numbers only rise
+  -- the next own number never falls
   next_rises : (t : Step Any s call E E') → next_number E.phase E.last_life ≤ next_number E'.phase E'.last_life
   next_rises (stays k) = let z : next_number E'.phase E'.last_life ≡ next_number E.phase E.last_life = ap (λ p. next_number p E'.last_life) k.phase ∙ ap (next_number E.phase) k.last_life in omega arith
   next_rises (opens own k) = omega (arith, at_closed E E.last_life k.closed refl, at_unbound E' own k.phase, k.above)
@@ -210,7 +210,7 @@ module _ (s : Settings) (run : LinkRun) (call : LinkCall) (ok : IsPossible run.s
   next_rises (binds l i v p g) = omega (arith, at_unbound E l.own i, number_of_unbound l.own i, at_bound E' l E.last_life g.phase g.last_life)
   next_rises (goes_on l i v p g) = omega (arith, at_bound E l E.last_life i refl, at_bound E' l E.last_life (g.phase ∙ i) g.last_life)
 
-  -- the events queued are of the life that is bound
+  -- the queued events are of the bound session
   queued_below : (t : Step Any s call E E') → EachBelow (next_number E'.phase E'.last_life) (queued_by Any s call E E' t)
   queued_below (stays k) = tt
   queued_below (opens own k) = tt
@@ -278,7 +278,7 @@ module _ (s : Settings) (run : LinkRun) (call : LinkCall) (ok : IsPossible run.s
   submissions_by (binds l i v p g) = subst (AllByRecursion (λ (x : Submission). x.life.own < next_number E'.phase E'.last_life)) (sym (no_submissions E call p)) tt
   submissions_by (goes_on l i v p g) = subst (AllByRecursion (λ (x : Submission). x.life.own < next_number E'.phase E'.last_life)) (sym (no_submissions E call p)) tt
 
-  -- of the bound life the call submits just this
+  -- in the bound session the call submits exactly this
   submitted_of : (t : Step Any s call E E') (life : Life) → E.phase ≡ Bound life → packets_submitted life (submissions E call) ≡ packet_submitted E call
   submitted_of (stays k) life j = ap (packets_submitted life) (no_submissions E call k.submitted) ∙ sym k.submitted
   submitted_of (opens own k) life j = ap (packets_submitted life) (no_submissions E call k.submitted) ∙ sym k.submitted
@@ -328,7 +328,7 @@ module _ (s : Settings) (run : LinkRun) (call : LinkCall) (ok : IsPossible run.s
   more_delivered : (life : Life) → length (packets_delivered life (run.events ++ Queued)) ≡ length (packets_delivered life run.events) + length (packets_delivered life Queued)
   more_delivered life = ap length (packets_delivered-append life run.events Queued) ∙ length-append (packets_delivered life run.events) (packets_delivered life Queued)
 
-  -- ---- the bound life
+  -- ---- the bound session
 
   queue' : (life : Life) → E'.phase ≡ Bound life → IsQueueOf (packets_submitted life Submitted) E'
   queue' life k =
@@ -417,7 +417,7 @@ every-run s calls ok = all-runs s calls first_run ok (first-run s)
 
 -- ---- consequences for frames sent
 
--- what a frame carries with a number is the packet submitted with it
+-- the packet that a frame carries under a number was submitted under that number
 carried : (run : LinkRun) (life : Life) (body : Body) (number : ℕ) (packet : Packet) → IsBodyOfRun run life body → Carries body number packet → (place : ℕ) × (number ≡ suc place) × IsPacketAt (packets_submitted life run.submitted) place packet
 carried run life Hello number packet h c = absurd c
 carried run life (Data first count packets) number packet h c =

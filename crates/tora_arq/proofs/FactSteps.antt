@@ -1,4 +1,4 @@
--- The effect of a call on an end: it stays, opens, binds, continues its life, takes a packet, or ends its life.
+-- The effect of a call on an end: it stays, opens, binds, continues its session, takes a packet, or ends its session.
 use Rattle.std.proofs.Common.{◌≡◌, ℕ, zero, suc, ◌+◌, ◌-◌, ◌^◌, ◌<◌, ◌≤◌, Bool, true, false, not, ◌⊎◌, inl, inr, List, [], ◌∷◌, ◌++◌, map, length, drop, min, max, Option, Some, None, Result, nat_lt, nat_le, ◌==◌, refl, sym, ap, ◌∙◌, subst, arith, append_assoc, append-nil, length-append, eqb-true, eq-eqb, ltb-false, leb-true, leb-false}
 use Rattle.std.proofs.lemmas.Bool.{cond_both, and_parts, and_from, or_parts, not-false}
 use Rattle.std.proofs.lemmas.List.{map-append}
@@ -29,7 +29,7 @@ use Rattle.tora_arq.specs.LinkEnd.{EndState, is_two, passed, data_version, most_
 use Rattle.tora_arq.specs.LinkFacts.{LinkCall, after_call, IsPossible, events_left, packet_where_ok, packet_submitted, IsFrameOf, HandsInFrameOf, OpensWith, IsFrameSentIn, AreHeld, AreFrom, IsPacketAt, HasNumber, BodyTells, CallTells, IsCountOfCall}
 use Rattle.tora_arq.specs.LinkFacts.LinkCall.{Open, Frame, Tick, Submit, PollEvent, Transmit, Cut}
 
--- ---- lives compared
+-- ---- sessions compared
 
 pub is_same_life-refl : (life : Life) → is_same_life life life ≡ true
 is_same_life-refl life = and_from _ _ (eq-eqb life.own life.own refl) (eq-eqb life.peer life.peer refl)
@@ -43,7 +43,7 @@ is_same_life-true a b e =
 
 -- ---- what is delivered and held
 
--- an end takes these packets, and the rest of it stays
+-- an end delivers these packets, and the rest of its state stays
 pub record Releases (Is : ℕ → Packet → Type 0) (life : Life) (e e' : EndState) : Type 0 where
   pub phase : e'.phase ≡ e.phase
   pub heard : e'.heard ≡ e.heard
@@ -101,7 +101,7 @@ hold_keeps Is a (suc place) packet [] t h = hold_keeps Is (suc a) place packet [
 hold_keeps Is a (suc place) packet (None ∷ held) t h = hold_keeps Is (suc a) place packet held (let z : a + suc place ≡ suc a + place = omega arith in subst (λ m. Is m packet) z t) h
 hold_keeps Is a (suc place) packet (Some first ∷ held) t h = (h.0, hold_keeps Is (suc a) place packet held (let z : a + suc place ≡ suc a + place = omega arith in subst (λ m. Is m packet) z t) h.1)
 
--- an end continues with packets of a DATA frame, where `Tells` is what the frame says about them
+-- a bound end receives packets of a DATA frame; `Tells` is what the frame says about them
 pub record Takes (Is : ℕ → Packet → Type 0) (window furthest : ℕ) (life : Life) (Tells : Type 0) (e e' : EndState) : Type 0 where
   pub phase : e'.phase ≡ e.phase
   pub heard : e'.heard ≡ e.heard
@@ -134,7 +134,7 @@ pub AreFrom-append : (Is : ℕ → Packet → Type 0) (place : ℕ) (xs ys : Lis
 AreFrom-append Is place [] ys a b = let z : place + 0 ≡ place = omega arith in subst (λ n. AreFrom Is n ys) z b
 AreFrom-append Is place (x ∷ xs) ys a b = (a.0, AreFrom-append Is (suc place) xs ys a.1 (let z : place + suc (length xs) ≡ suc place + length xs = omega arith in subst (λ n. AreFrom Is n ys) z b))
 
--- first by some packets and then by more
+-- first some packets, and then more
 take_more : (Is : ℕ → Packet → Type 0) (window furthest : ℕ) (life : Life) (First Rest Tells : Type 0) (e e1 e2 : EndState) → (Tells → First × Rest) → Takes Is window furthest life First e e1 → Takes Is window furthest life Rest e1 e2 →
     Takes Is window furthest life Tells e e2
 take_more Is window furthest life First Rest Tells e e1 e2 split a b = record {
@@ -183,7 +183,7 @@ packet_takes Is window furthest life number packet e =
     })
     (λ _. take_none Is window furthest life _ e))
 
--- each of the packets, numbered on from the first, is that of its number
+-- each of the packets, numbered from the first number on, is the one of its number
 abbrev pub AreTold : (ℕ → Packet → Type 0) → ℕ → List Packet → Type 0
 AreTold Is number packets = (place : ℕ) (packet : Packet) → HasNumber number packets (suc place) packet → Is place packet
 
@@ -198,7 +198,7 @@ packets_take Is window furthest life (packet ∷ packets) number e =
 
 -- ---- the effect of a call on an end
 
--- the layer above sees nothing but that more may have been transmitted
+-- the call changes at most which packets were transmitted, and what is owed
 pub record Stays (s : Settings) (call : LinkCall) (e e' : EndState) : Type 0 where
   pub phase : e'.phase ≡ e.phase
   pub heard : (life : Life) → e.phase ≡ Bound life → e'.heard ≡ e.heard
@@ -212,7 +212,7 @@ pub record Stays (s : Settings) (call : LinkCall) (e e' : EndState) : Type 0 whe
   pub events : e'.events ≡ events_left e call
   pub submitted : packet_submitted e call ≡ []
 
--- an end opens with a number
+-- the end opens with a number
 pub record Opens (own : ℕ) (call : LinkCall) (e e' : EndState) : Type 0 where
   pub closed : e.phase ≡ Closed
   pub above : e.last_life < own
@@ -227,7 +227,7 @@ pub record Opens (own : ℕ) (call : LinkCall) (e e' : EndState) : Type 0 where
   pub events : e'.events ≡ events_left e call
   pub submitted : packet_submitted e call ≡ []
 
--- a bound life ends, and the end closes
+-- the bound session ends, and the end closes
 pub record Ends (life : Life) (reason : Reason) (call : LinkCall) (e e' : EndState) : Type 0 where
   pub bound : e.phase ≡ Bound life
   pub phase : e'.phase ≡ Closed
@@ -237,7 +237,7 @@ pub record Ends (life : Life) (reason : Reason) (call : LinkCall) (e e' : EndSta
   pub events : e'.events ≡ events_left e call ++ Down life reason ∷ []
   pub submitted : packet_submitted e call ≡ []
 
--- a bound end takes a packet
+-- the bound end takes a packet
 pub record Submits (life : Life) (packet : Packet) (call : LinkCall) (e e' : EndState) : Type 0 where
   pub names : call ≡ Submit life packet
   pub bound : e.phase ≡ Bound life
@@ -252,7 +252,7 @@ pub record Submits (life : Life) (packet : Packet) (call : LinkCall) (e e' : End
   pub events : e'.events ≡ events_left e call
   pub submitted : packet_submitted e call ≡ packet ∷ []
 
--- a frame of the life comes to a bound end, the state of which is `b`
+-- a frame of the session arrives at a bound end with the state `b`
 pub record GoesOn (Is : ℕ → Packet → Type 0) (s : Settings) (life : Life) (call : LinkCall) (b e' : EndState) : Type 0 where
   pub count : ℕ
   pub counts : IsCountOfCall s life count call
@@ -491,7 +491,7 @@ cut_step Is s e life = go e.phase refl
         (λ _. ends current Because.Cut (life_ends current Because.Cut (Cut life) e j refl refl))
         (λ _. stays (no_change s (Cut life) e refl refl))
 
--- the effect of a call of `submit` on an end, by its result
+-- the effect of `submit` on an end, by its result
 abbrev SubmitStep : (ℕ → Packet → Type 0) → Settings → EndState → Life → Packet → Result (Unit {0}) SubmitError × EndState → Type 0
 SubmitStep Is s e life packet r = packet_submitted e (Submit life packet) ≡ packet_where_ok packet r.0 → Step Is s (Submit life packet) e r.1
 
@@ -526,12 +526,12 @@ submit_step Is s e life packet = go e.phase refl
 
 -- ---- frames sent
 
--- places in a list with one more packet before it
+-- the places of a list after one more packet was put before it
 AreFrom-behind : (packet : Packet) (all : List Packet) (place : ℕ) (packets : List Packet) → AreFrom (IsPacketAt all) place packets → AreFrom (IsPacketAt (packet ∷ all)) (suc place) packets
 AreFrom-behind packet all place [] h = tt
 AreFrom-behind packet all place (x ∷ packets) h = (h.0, AreFrom-behind packet all (suc place) packets h.1)
 
--- packets that are due one after another are at the front of the queue, and stay there
+-- the packets of a run are at the front of the queue, and stay there
 record IsRun (most : ℕ) (queue : List QueuedPacket) (run : ReadyRun) : Type 0 where
   few : length run.packets ≤ most
   packets_are : AreFrom (IsPacketAt (packets_in queue)) 0 run.packets
@@ -552,7 +552,7 @@ run_keeps times now (suc most) (q ∷ queue) =
     })
     (λ _. record { few = omega arith; packets_are = tt; here = omega arith; same = refl })
 
--- packets that are due are in the queue from their place on, and stay there
+-- due packets are in the queue from their place on, and stay there
 pub record IsDue (number window : ℕ) (queue : List QueuedPacket) (due : DueBatch) : Type 0 where
   pub place : ℕ
   pub within : place + length due.packets ≤ window
@@ -590,7 +590,7 @@ due_keeps times now most number (suc window) (q ∷ queue) due =
           same = ap (λ ps. q.packet ∷ ps) i.same;
         })
 
--- the result of a call of `poll_transmit`, and its effect on an end
+-- the result of `poll_transmit`, and its effect on an end
 pub record Sends (s : Settings) (now : ℕ) (e : EndState) (r : Option FrameParts × EndState) : Type 0 where
   pub end : Stays s (Transmit now) e r.1
   pub frame : (f : FrameParts) → r.0 ≡ Some f → IsFrameSentIn s e f e.phase
@@ -598,14 +598,14 @@ pub record Sends (s : Settings) (now : ℕ) (e : EndState) (r : Option FramePart
 sends_none : (s : Settings) (now : ℕ) (e : EndState) → Sends s now e (None, e)
 sends_none s now e = record { end = no_change s (Transmit now) e refl refl; frame = λ f q. absurd (cc) }
 
--- a frame that leaves all but what is owed as it was
+-- a frame that changes only what is owed
 sends_some : (s : Settings) (now : ℕ) (e e' : EndState) (f : FrameParts) → Stays s (Transmit now) e e' → IsFrameSentIn s e f e.phase → Sends s now e (Some f, e')
 sends_some s now e e' f k t = record {
   end = k;
   frame = λ g q. let y : f ≡ g = cc in subst (λ h. IsFrameSentIn s e h e.phase) y t;
 }
 
--- of what is sent nothing else changes
+-- a change of what is owed changes nothing else
 owing_keeps : (s : Settings) (now : ℕ) (e : EndState) (owes_hello owes_old_hello owes_ack : Bool) (last_hello : Option ℕ) →
     Stays s (Transmit now) e (record e { owes_hello = owes_hello; owes_old_hello = owes_old_hello; owes_ack = owes_ack; last_hello = last_hello })
 owing_keeps s now e owes_hello owes_old_hello owes_ack last_hello = record {
@@ -626,7 +626,7 @@ module _ (s : Settings) (now : ℕ) (e : EndState) where
   in_phase : (ph : Phase) (f : FrameParts) → e.phase ≡ ph → IsFrameSentIn s e f ph → IsFrameSentIn s e f e.phase
   in_phase ph f j h = subst (IsFrameSentIn s e f) (sym j) h
 
-  -- a HELLO if one is due, and otherwise another frame
+  -- a HELLO if one is due, and otherwise the other frame
   hello_sends : (own heard : ℕ) (other : Option FrameParts × EndState) → ((version : Version) → IsFrameSentIn s e (frame_sent s version own heard Hello) e.phase) → Sends s now e other → Sends s now e (on_hello s e own heard now other)
   hello_sends own heard other h k =
       cond_both (is_old_hello_due e) _ _ (Sends s now e)

@@ -20,7 +20,7 @@ use Rattle.tora_arq.proofs.PollLemmas.{not_again}
 abbrev tried_once : ℕ → Packet → QueuedPacket
 tried_once now packet = retried (untried packet) now
 
--- the end whose queue these are
+-- the end with this send queue
 abbrev with_queue : EndState → List QueuedPacket → EndState
 with_queue e queue = record e { queue = queue }
 
@@ -67,7 +67,7 @@ none_again times now most number (suc window) [] h = refl
 none_again times now most number (suc window) (packet ∷ packets) h =
     rw (not_again times now (untried packet) h, none_again times now most (suc number) window packets h) refl
 
--- the end once they are transmitted
+-- the end after the packets are transmitted
 abbrev after_flood : EndState → ℕ → List Packet → EndState
 after_flood e now packets = record e {
   queue = map (tried_once now) packets;

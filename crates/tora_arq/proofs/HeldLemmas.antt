@@ -1,4 +1,4 @@
--- Packets that came early, by place.
+-- Out-of-order packets, by place.
 use Rattle.std.proofs.Common.{◌≡◌, ℕ, zero, suc, ◌<◌, ◌≤◌, max, List, [], ◌∷◌, ◌++◌, length, drop, Option, Some, None, slice_get, slice_set, refl, sym, ap, ◌∙◌, arith}
 use Rattle.tora_packet.specs.declared.Packet.{Packet}
 use Rattle.tora_arq.specs.declared.life.Life.{Life}
@@ -60,7 +60,7 @@ released_all life e held f q = ap (λ h. record e { held = h }) q ∙ sym (go e.
     go (None ∷ held) f = refl
     go (Some packet ∷ held) f = absurd (cc)
 
--- where there is no item
+-- an index without an element is at or beyond the end of the list
 pub none_past : {A : Type 0} (xs : List A) (i : ℕ) → slice_get xs i ≡ None → length xs ≤ i
 none_past [] i e = omega arith
 none_past (x ∷ xs) zero e = absurd (cc)

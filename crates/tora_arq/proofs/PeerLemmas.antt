@@ -1,4 +1,4 @@
--- What is held or delivered is no update of another node than the peer.
+-- No packet that is held or delivered is an update of a node other than the peer.
 use Rattle.std.proofs.Common.{◌≡◌, ℕ, zero, suc, true, false, List, [], ◌∷◌, map, length, drop, Option, Some, None, Contains, if◌then◌else◌, refl, sym, ap, subst}
 use Rattle.std.specs.List.{AllByRecursion, list_any}
 use Rattle.std.proofs.lemmas.Option.{same_Some}
@@ -23,7 +23,7 @@ use Rattle.tora_arq.proofs.FactSteps.Step.{stays, opens, ends, submits, binds, g
 use Rattle.tora_arq.proofs.FactCalls.{queued_by, events_queued-is, call-behind}
 use Rattle.tora_arq.proofs.FactLists.{all_append, all_at}
 
--- no update of another node than the peer, at any place
+-- a packet is not an update of a node other than the peer
 abbrev OfPeer : ℕ → ℕ → Packet → Type 0
 OfPeer peer place packet = is_update_of_another peer packet ≡ false
 

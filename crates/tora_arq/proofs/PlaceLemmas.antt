@@ -1,4 +1,4 @@
--- A bound end has a place for the event that its life ended, whatever is called.
+-- A bound end has a place for its `Down` event after every call.
 use Rattle.std.proofs.Common.{◌≡◌, ℕ, suc, ◌+◌, ◌-◌, ◌^◌, ◌<◌, ◌≤◌, ◌==◌, ◌⊎◌, inl, inr, ap, IfNone, true, false, not, nat_lt, nat_le, List, [], ◌∷◌, length, Option, Some, None, Result, sym, subst, arith, length-append}
 use Rattle.std.specs.Prelude.{IfSome}
 use Rattle.std.proofs.lemmas.Bool.{cond_both}
@@ -94,7 +94,7 @@ module _ (places : ℕ) where
   told_place e version life (Data number count packets) h = h
   told_place e version life (Ack count) h = h
 
-  -- the next packets, for each of which there is room
+  -- these packets are the next ones, and there is room for each
   packets_place : (ps : List Packet) (e : EndState) (life : Life) (furthest number : ℕ) → AreNext places furthest number (length ps) e → length (after_packets life furthest e number ps).events ≤ places
   unfolding after_packets
   packets_place [] e life furthest number r = omega (arith, r.room)
@@ -105,7 +105,7 @@ module _ (places : ℕ) where
       (subst (λ n. AreNext places furthest n (length ps) (after_packet life furthest e number p)) one (subst (λ n. AreNext places furthest (number + 1) n (after_packet life furthest e number p)) rest (next_room places furthest life e number (suc (length ps)) p (omega arith) r)))
 
 module _ (places : ℕ) where
-  -- one place less
+  -- one place fewer
   abbrev fewer : ℕ
   fewer = places - 1
 
@@ -151,7 +151,7 @@ module _ (places : ℕ) where
       (λ _. bound_place s e life now f f.body (omega (arith, lt)) w lt r))
       (λ _. here)))
 
-  -- a frame for which there is room in one place less
+  -- a frame for which there is room in one place fewer
   pub frame_place : (s : Settings) (e : EndState) (f : FrameParts) (now : ℕ) → s.window ≡ WINDOW → HasFrameRoom fewer f e → HasEventPlace places (on_frame s e f now).1
   unfolding on_frame
   frame_place s e f now w r =
@@ -160,14 +160,14 @@ module _ (places : ℕ) where
       cond_both (is_busy e) _ _ (λ (x : Verdict × EndState). HasEventPlace places x.1) (λ _. here) (λ _.
       in_phase s e f now e.phase w r.place r.body))
 
--- ---- the place is kept, whatever other room there is
+-- ---- the place is free, whatever other room there is
 
 whole_in : (places last heard : ℕ) (e : EndState) (phase : Phase) → EVENT_PLACES ≤ places → IsPhase last heard e.events phase → HasEventPlaceIn places e phase
 whole_in places last heard e Closed le h = tt
 whole_in places last heard e (Unbound own) le h = tt
 whole_in places last heard e (Bound life) le h = let lt : length e.events < EVENT_PLACES = h.room in omega (arith, le, lt)
 
--- with room for all events
+-- there is room for all events
 pub whole_place : (places : ℕ) (s : Settings) (e : EndState) → EVENT_PLACES ≤ places → IsEndState s e → HasEventPlace places e
 whole_place places s e le k = whole_in places e.last_life e.heard e e.phase le k.in_phase
 
@@ -176,7 +176,7 @@ more_in places more e Closed le h = tt
 more_in places more e (Unbound own) le h = tt
 more_in places more e (Bound life) le h = omega (arith, le, h)
 
--- with more room
+-- there is more room
 pub more_place : (places more : ℕ) (e : EndState) → places ≤ more → HasEventPlace places e → HasEventPlace more e
 more_place places more e le h = more_in places more e e.phase le h
 
@@ -185,20 +185,20 @@ pub heard_place : (places early : ℕ) (s : Settings) (e : EndState) (f : FrameP
 heard_place places early s e f now w k (inl all) = whole_place places s (on_frame s e f now).1 all.events k
 heard_place places early s e f now w k (inr some) = frame_place places s e f now w some
 
--- ---- what a shell keeps
+-- ---- the invariant of a growing end
 
--- the state, and the place in the room that stays
+-- the state after a call, and a free place if the room stays
 pub keeps : (s : Settings) (old new : State) (after : EndState) → state_in new ≡ after → rooms_in new ≡ rooms_in old → IsEndState s after → HasEventPlace old.events.capacity after → IsEndState s (state_in new) × HasEventPlace new.events.capacity (state_in new)
 keeps s old new after q r a b =
     let room : old.events.capacity ≡ new.events.capacity = sym (ap (λ (x : Rooms). x.events) r) in
     subst (λ (e : EndState). IsEndState s e × HasEventPlace new.events.capacity e) (sym q) (a, subst (λ n. HasEventPlace n after) room b)
 
--- both, where room was made
+-- the state and the free place, after room was made
 pub roomier : (s : Settings) (old new : State) → state_in new ≡ state_in old → old.events.capacity ≤ new.events.capacity → IsEndState s (state_in old) × HasEventPlace old.events.capacity (state_in old) →
     IsEndState s (state_in new) × HasEventPlace new.events.capacity (state_in new)
 roomier s old new q le k = subst (λ (e : EndState). IsEndState s e × HasEventPlace new.events.capacity e) (sym q) (k.0, more_place old.events.capacity new.events.capacity (state_in old) le k.1)
 
--- what holds of the state as it was and of that after a call holds of what the call leaves
+-- a property of the state before and of that after a call holds for the state that the call leaves
 pub after_some : {A : Type 0} (P : EndState → Type 0) (o : Option A) (old new : State) (after : EndState) → IfSome o (λ _. state_in new ≡ after) → IfNone o (new ≡ old) → P (state_in old) → P after → P (state_in new)
 after_some P None old new after some none a b = subst (λ (x : State). P (state_in x)) (sym none) a
 after_some P (Some h) old new after some none a b = subst P (sym some) b

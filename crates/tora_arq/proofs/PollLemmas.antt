@@ -1,4 +1,4 @@
--- Each frame that a poll gives leaves fewer frames due at that tick.
+-- Each frame that a poll returns leaves fewer frames due at that tick.
 use Rattle.std.proofs.Common.{◌≡◌, ℕ, zero, suc, ◌+◌, ◌-◌, ◌<◌, ◌≤◌, min, ◌&&◌, not, Bool, true, false, List, [], ◌∷◌, ◌++◌, length, Option, Some, None, ◌==◌, if◌then◌else◌, refl, ap, ◌∙◌, subst, arith}
 use Rattle.std.proofs.lemmas.Bool.{cond_both, or_from, and_right, lt-leb}
 use Rattle.std.proofs.lemmas.Bool.Decides.{nat_tests}
@@ -42,7 +42,7 @@ not_again times now q h =
     let tried : (suc q.tries == 0) ≡ false = grind (arith, nat_tests) in
     or_from _ _ tried (and_right _ _ (lt-leb times.retry (now - now) (omega (arith, h))))
 
--- packets that are transmitted leave no more due than there were
+-- transmitting packets leaves at most as many due as before
 run_counts : (times : Times) (now window most : ℕ) (queue : List QueuedPacket) → 0 < times.retry → count_ready times now window (ready_run times now most queue).queue ≤ count_ready times now window queue
 unfolding ready_run
 run_counts times now window zero queue h = omega arith
@@ -52,7 +52,7 @@ run_counts times now (suc window) (suc most) (q ∷ queue) h =
     cond_both (is_ready times now q) _ _ (λ (r : ReadyRun). count_ready times now (suc window) r.queue ≤ count_ready times now (suc window) (q ∷ queue))
     (λ _. rw (not_again times now q h) (omega (arith, run_counts times now window most queue h))) (λ _. omega arith)
 
--- and where the first is due, one fewer at least
+-- if the first one was due, it leaves fewer
 run_counts_one : (times : Times) (now window most : ℕ) (q : QueuedPacket) (queue : List QueuedPacket) → 0 < times.retry → 0 < most → is_ready times now q ≡ true →
     suc (count_ready times now (suc window) (ready_run times now most (q ∷ queue)).queue) ≤ count_ready times now (suc window) (q ∷ queue)
 unfolding ready_run
@@ -104,7 +104,7 @@ some_packets : (version : Version) → 0 < most_packets version
 some_packets One = omega arith
 some_packets Two = omega arith
 
--- a frame that is given leaves fewer due
+-- a frame that is returned leaves fewer due
 abbrev Counts : Settings → ℕ → EndState → Option FrameParts × EndState → Type 0
 Counts s now e r = (f : FrameParts) → r.0 ≡ Some f → suc (count_due s now r.1) ≤ count_due s now e
 

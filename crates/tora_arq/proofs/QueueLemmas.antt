@@ -1,4 +1,4 @@
--- The first packet due, and one that is given up, by their places.
+-- The first due packet, and the first packet that is given up, by their places.
 use Rattle.std.proofs.Common.{◌≡◌, ℕ, zero, suc, ◌+◌, ◌<◌, ◌≤◌, true, false, min, ◌-◌, List, [], ◌∷◌, ◌++◌, length, take, drop, Some, None, if◌then◌else◌, refl, sym, ap, ◌∙◌, arith, slice_get, slice_set, length-drop, append_assoc, append-nil}
 use Rattle.std.proofs.lemmas.Bool.{cond_both}
 use Rattle.std.proofs.lemmas.Bool.Decides.{nat_tests}
@@ -52,7 +52,7 @@ none_due times now most number (suc window) (q ∷ queue) h =
 abbrev pub run_from : Times → ℕ → ℕ → ℕ → List QueuedPacket → ReadyRun
 run_from times now most place queue = ready_run times now most (drop place queue)
 
--- the same, and the queue with them
+-- the due packets from a place on, and the queue after they are transmitted
 abbrev pub batch_from : Times → ℕ → ℕ → ℕ → ℕ → List QueuedPacket → DueBatch
 batch_from times now most number place queue = record {
   number = number + place;
@@ -77,7 +77,7 @@ due_at times now most number (suc window) (suc place) (r ∷ queue) q w h e t =
 
 -- ---- packets that are due one after another
 
--- no more than there are
+-- a run has at most as many packets as the queue
 pub run_within : (times : Times) (now most : ℕ) (queue : List QueuedPacket) → ready_run times now most queue ≡ ready_run times now (min most (length queue)) queue
 unfolding ready_run
 run_within times now zero queue = let none : min 0 (length queue) ≡ 0 = omega arith in rw none refl
@@ -86,7 +86,7 @@ run_within times now (suc most) (q ∷ queue) =
     let one : min (suc most) (suc (length queue)) ≡ suc (min most (length queue)) = omega arith in
     rw one (ap (λ (r : ReadyRun). if is_ready times now q then with_ready q now r else no_run (q ∷ queue)) (run_within times now most queue))
 
--- the first one is due: there is one at least, and no more than wanted
+-- if the first packet is due, the run has at least one packet, and at most as many as wanted
 pub run_some : (times : Times) (now most : ℕ) (queue : List QueuedPacket) (q : QueuedPacket) → 0 < most → slice_get queue 0 ≡ Some q → is_ready times now q ≡ true → 0 < length (ready_run times now most queue).packets
 unfolding ready_run
 run_some times now zero queue q m e t = absurd (omega arith)
@@ -102,12 +102,12 @@ run_most times now (suc most) [] = omega arith
 run_most times now (suc most) (q ∷ queue) =
     cond_both (is_ready times now q) _ _ (λ (r : ReadyRun). length r.packets ≤ min (suc most) (suc (length queue))) (λ _. omega (arith, run_most times now most queue)) (λ _. omega arith)
 
--- at a packet that is due
+-- the next packet is due
 pub run_on : (times : Times) (now most : ℕ) (q : QueuedPacket) (queue : List QueuedPacket) → is_ready times now q ≡ true → ready_run times now (suc most) (q ∷ queue) ≡ with_ready q now (ready_run times now most queue)
 unfolding ready_run
 run_on times now most q queue t = rw t refl
 
--- at one that is not
+-- the next packet is not due
 pub run_stops : (times : Times) (now most : ℕ) (q : QueuedPacket) (queue : List QueuedPacket) → is_ready times now q ≡ false → ready_run times now most (q ∷ queue) ≡ no_run (q ∷ queue)
 unfolding ready_run
 run_stops times now zero q queue t = refl
@@ -119,7 +119,7 @@ run_none times now queue = refl
 
 -- ---- the packets that are taken
 
--- no further than the window and the queue reach
+-- at most up to the end of the window and of the queue
 pub same_run : (times : Times) (now most window place end : ℕ) (queue : List QueuedPacket) → end ≡ min (min window (length queue)) (place + most) →
     run_from times now (min most (window - place)) place queue ≡ run_from times now (end - place) place queue
 same_run times now most window place end queue h =
@@ -146,9 +146,9 @@ rest_at (suc place) (r ∷ queue) q e =
     let one : suc place + 1 ≡ suc (place + 1) = omega arith in
     rw one (rest_at place queue q e)
 
--- ---- the queue as packets are taken one after another
+-- ---- the queue while packets are taken one after another
 
--- what is taken so far, the queue as it is now, and how many more may be taken, make this run of this front
+-- the packets taken so far, the current queue, and how many more may be taken give this run of the front of the queue
 pub record Taking (times : Times) (now left at : ℕ) (taken : List Packet) (queue : List QueuedPacket) (packets : List Packet) (all : List QueuedPacket) : Type 0 where
   pub packets_are : taken ++ (run_from times now left at queue).packets ≡ packets
   pub queue_is : take at queue ++ (run_from times now left at queue).queue ≡ all
@@ -176,7 +176,7 @@ taking_all times now left at taken queue packets all run h = (
   sym (take-append-drop at queue) ∙ ap (λ (r : ReadyRun). take at queue ++ r.queue) (sym run) ∙ h.queue_is,
 )
 
--- one that is not ends it
+-- a packet that is not due ends the run
 pub taking_stops : (times : Times) (now left at : ℕ) (taken : List Packet) (queue : List QueuedPacket) (packets : List Packet) (all : List QueuedPacket) (q : QueuedPacket) → slice_get queue at ≡ Some q → is_ready times now q ≡ false →
     Taking times now left at taken queue packets all → (taken ≡ packets) × (queue ≡ all)
 taking_stops times now left at taken queue packets all q e t h =

@@ -1,4 +1,4 @@
--- What every call keeps of a link end.
+-- The invariant of a link end after every call.
 use Rattle.std.proofs.Common.{◌≡◌, ℕ, zero, suc, ◌+◌, ◌-◌, ◌^◌, ◌<◌, ◌≤◌, min, max, Bool, true, false, ◌==◌, not, nat_lt, nat_le, List, [], ◌∷◌, ◌++◌, length, drop, Option, Some, None, Result, refl, sym, ap, subst, arith, length-append, length-drop, leb-true}
 use Rattle.std.proofs.lemmas.Bool.{cond_both, ltb-false, leb-false}
 use Rattle.tora_packet.specs.declared.Packet.{Packet}
@@ -65,7 +65,7 @@ acknowledged_queue window acknowledged count queue c h = record {
   untried = untried_behind window (count - acknowledged) queue h.untried;
 }
 
--- what the transmission of a packet leaves of the queue
+-- the queue after the transmission of a packet
 record IsDueOf (window : ℕ) (queue : List QueuedPacket) (due : DueBatch) : Type 0 where
   len : length due.queue ≡ length queue
   behind : drop window due.queue ≡ drop window queue
@@ -105,7 +105,7 @@ due_queue times now most number (suc window) (q ∷ queue) =
     go None h = tt
     go (Some due) h = record { len = ap suc h.len; behind = h.behind }
 
--- ---- a phase, where an event is added
+-- ---- a phase after one more event
 
 grown : (events : List LinkEvent) (event : LinkEvent) (n : ℕ) → length events < n → length (events ++ event ∷ []) ≤ n
 grown events event n h = omega (arith, length-append events (event ∷ []))

@@ -24,7 +24,7 @@ dropped life furthest e number packet h =
     let far = lt-leb number furthest h in
     cond_both (nat_le number e.accepted) _ _ (λ x. x ≡ e) (λ _. refl) (λ _. rw far refl)
 
--- an end that holds a packet at a place, and then delivers what is held up to the first gap
+-- an end that holds a packet at a place, and then delivers the held packets up to the first gap
 abbrev pub released : EndState → Life → ℕ → Packet → EndState
 released e life place packet = after_release life (record e { held = hold_at place packet e.held }) (hold_at place packet e.held)
 

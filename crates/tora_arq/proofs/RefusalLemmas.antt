@@ -26,7 +26,7 @@ is_refusal Busy = true
 abbrev Keeps : EndState → Verdict × EndState → Type 0
 Keeps e r = is_refusal r.0 ≡ true → r.1 ≡ e
 
--- a state and a verdict that is no refusal
+-- the verdict is not a refusal
 abbrev Goes : Verdict × EndState → Type 0
 Goes r = is_refusal r.0 ≡ false
 

@@ -1,4 +1,4 @@
--- What the packets of a frame leave of the room for events, and of the places of those held.
+-- The room for events and for out-of-order packets after the packets of a frame.
 use Rattle.std.proofs.Common.{◌≡◌, ℕ, suc, ◌-◌, ◌+◌, ◌<◌, ◌≤◌, ◌⊎◌, inl, inr, true, false, nat_le, leb, List, [], ◌∷◌, length, Option, Some, None, ap, refl, sym, subst, arith, length-append, leb-true}
 use Rattle.std.proofs.lemmas.Bool.{cases_Bool, cond_both, leb-false}
 use Rattle.tora_packet.specs.declared.Packet.{Packet}
@@ -39,7 +39,7 @@ packet_room places window furthest life e number packet r =
     (hold_room places window furthest e number packet (leb-false number e.accepted late) (leb-true number furthest soon) r))
     (λ _. r))
 
--- after a packet that was accepted before, or the next one, the following packets are the next ones
+-- after a packet that was accepted before or is the next one, the following packets are the next ones
 pub next_room : (places furthest : ℕ) (life : Life) (e : EndState) (number count : ℕ) (packet : Packet) → 0 < count → AreNext places furthest number count e → AreNext places furthest (number + 1) (count - 1) (after_packet life furthest e number packet)
 next_room places furthest life e number count packet some r = go (cases_Bool (leb number e.accepted))
   where
@@ -63,19 +63,19 @@ next_room places furthest life e number count packet some r = go (cases_Bool (le
           ahead = omega (arith, next, r.within, some);
         })
 
--- of the room for some packets there is that for the first of them
+-- the room for some packets contains the room for the first of them
 pub room_first : (places early furthest : ℕ) (e : EndState) (number count : ℕ) → 0 < count → HasRoomFor places early furthest number count e → HasRoomFor places early furthest number 1 e
 room_first places early furthest e number count some (inl r) = inl r
 room_first places early furthest e number count some (inr r) = inr (record { room = omega (arith, r.room, some); next = r.next; within = omega (arith, r.within, some); none = r.none; ahead = r.ahead })
 
--- and then the room for the others
+-- after the first packet there is room for the others
 pub room_next : (places early furthest : ℕ) (life : Life) (e : EndState) (number all index : ℕ) (packet : Packet) → index < all → HasRoomFor places early furthest number (all - index) e → HasRoomFor places early furthest (number + 1) (all - (index + 1)) (after_packet life furthest e number packet)
 room_next places early furthest life e number all index packet lt (inl r) = inl (r.0, packet_room places WINDOW furthest life e number packet r.1)
 room_next places early furthest life e number all index packet lt (inr r) =
     let left : all - index - 1 ≡ all - (index + 1) = omega arith in
     inr (subst (λ n. AreNext places furthest (number + 1) n (after_packet life furthest e number packet)) left (next_room places furthest life e number (all - index) packet (omega (arith, lt)) r))
 
--- none of some packets is beyond the window
+-- the packets are within the window
 pub room_ahead : (places early furthest : ℕ) (e : EndState) (number count : ℕ) → HasRoomFor places early furthest number count e → e.accepted ≤ furthest
 room_ahead places early furthest e number count (inl r) = omega (arith, r.1.held)
 room_ahead places early furthest e number count (inr r) = r.ahead
@@ -85,7 +85,7 @@ pub deliver_room : (places early furthest : ℕ) (e : EndState) (number : ℕ) �
 deliver_room places early furthest e number above within (inl r) = omega (arith, above, within, r.1.room)
 deliver_room places early furthest e number above within (inr r) = omega (arith, r.room)
 
--- where a packet is held, there are lists
+-- if a packet is held, there is room for out-of-order packets
 pub held_room : (places early furthest : ℕ) (e : EndState) (number : ℕ) → (e.held ≡ [] → number ≤ e.accepted + 1 → ⊥) → HasRoomFor places early furthest number 1 e → (WINDOW ≤ early) × HasRoom places WINDOW furthest e
 held_room places early furthest e number not (inl r) = r
 held_room places early furthest e number not (inr r) = absurd (not r.none r.next)

@@ -1,4 +1,4 @@
--- What a steady end says, hears and is ticked is what is kept of it.
+-- The calls on the fields of an idle end agree with the calls of the end.
 use Rattle.std.proofs.Common.{◌≡◌, ℕ, zero, suc, ◌<◌, min, ◌||◌, ◌&&◌, Bool, true, false, not, [], nat_le, nat_lt, is_some, Option, Some, None, ◌==◌, if◌then◌else◌, refl, sym, ap, ap₂, ◌∙◌, subst, arith}
 use Rattle.std.proofs.lemmas.Bool.Decides.{nat_tests}
 use Rattle.tora_frame.specs.declared.parts.Header.{Header}
@@ -52,7 +52,7 @@ or_false true = refl
 or_false false = refl
 
 module _ (h : Steady) (s : Settings) (e : EndState) (is : IsSteady h s e) where
-  -- ---- said
+  -- ---- HELLOs that are sent
 
   no_batch : (times : Times) (now most number window : ℕ) → first_due times now most number window [] ≡ None
   unfolding first_due
@@ -96,9 +96,7 @@ module _ (h : Steady) (s : Settings) (e : EndState) (is : IsSteady h s e) where
   pub sent_steady : (now : ℕ) → IsSteady (on_send h now).1 s e
   sent_steady now = sent_so (owes_old h) (has_hello h now) now
 
-  -- ---- heard
-
-  -- ---- heard
+  -- ---- HELLOs that are received
 
   -- the peer is not known to speak a version that the end doesn't speak
   known : (v w : Version) (two : Bool) → (is_two v ≡ false → two ≡ false) → (two || not (is_two w)) ≡ true → is_unknown v w ≡ false
@@ -129,7 +127,7 @@ module _ (h : Steady) (s : Settings) (e : EndState) (is : IsSteady h s e) where
       let phase : e.phase ≡ Bound (life_of h.own h.peer_life) = is.phase ∙ ap (λ (b : Bool). phase_in b h.own h.peer_life) told₁.0 in
       rw (is.version, is.me, is.peer, told₂.0, told₃.0, spoken, is.events, phase, not_above, not_below, told₅.0, within, is.mark, marked h.speaks_two (is_two header.version) version) refl
 
-  -- ---- ticked
+  -- ---- ticks
 
   -- no tick changes an end that is not bound, nor a bound one before it has timed out
   in_silence : (now : ℕ) (b : Bool) → (b && nat_le h.silent (ticks_passed h.heard now)) ≡ false → after_tick_in s (resumed h e) now (phase_in b h.own h.peer_life) ≡ resumed h e
@@ -150,7 +148,7 @@ module _ (h : Steady) (s : Settings) (e : EndState) (is : IsSteady h s e) where
   pub due : (now : ℕ) → is_some (frame_due s (resumed h e) now) ≡ owes_old h || has_hello h now
   due now = ap (λ (r : Option FrameParts × EndState). is_some r.0) (sends now) ∙ some_due (owes_old h) (has_hello h now) now
 
-  -- the life of a bound end ends once it has timed out
+  -- the session of a bound end ends once it has timed out
   ended_in : (now : ℕ) (b silent : Bool) → nat_le h.silent (ticks_passed h.heard now) ≡ silent →
       (not (is_closed_in (phase_in b h.own h.peer_life)) && is_closed_in (after_tick_in s (record (resumed h e) { phase = phase_in b h.own h.peer_life }) now (phase_in b h.own h.peer_life)).phase) ≡ b && silent
   ended_in now false silent k = refl

@@ -1,4 +1,4 @@
--- Before the computed tick no frame is due and no tick ends the life; from it on one of these is so.
+-- Before the computed tick no frame is due and no tick ends the session; at and after it, one of the two holds.
 use Rattle.std.proofs.Common.{◌≡◌, ℕ, suc, zero, ◌<◌, ◌^◌, ◌||◌, ◌&&◌, Bool, true, false, not, List, [], ◌∷◌, length, nat_le, is_some, None, if◌then◌else◌, refl, sym, ap, ◌∙◌, arith}
 use Rattle.std.proofs.lemmas.Bool.Decides.{nat_tests}
 use Rattle.tora_arq.specs.declared.life.Life.{Life}
@@ -20,7 +20,7 @@ unfolding first_due
 no_batch times now most number zero = refl
 no_batch times now most number (suc window) = refl
 
--- no packet is due or given up where there is none
+-- no packet of an empty queue is due or given up
 pub none_due : (times : Times) (tick most number window : ℕ) (queue : List QueuedPacket) → length queue ≡ 0 → is_some (first_due times tick most number window queue) || has_given_up times tick queue ≡ false
 none_due times tick most number window [] h = ap (λ due. is_some due || false) (no_batch times tick most number window)
 none_due times tick most number window (q ∷ queue) h = absurd (omega (arith, h))

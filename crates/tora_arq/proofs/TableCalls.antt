@@ -1,4 +1,4 @@
--- The rows of the calls of a link end agree with the calls.
+-- The rows for the calls of a link end agree with the definitions of the calls.
 use Rattle.std.proofs.Common.{◌≡◌, ◌≢◌, ◌⊎◌, inl, inr, ℕ, zero, suc, ◌+◌, ◌-◌, ◌^◌, ◌<◌, ◌≤◌, min, max, Bool, true, false, List, [], ◌∷◌, ◌++◌, map, length, drop, slice_get, Option, Some, None, Result, refl, sym, ap, ◌∙◌, subst, arith}
 use Rattle.std.specs.List.{AllByRecursion}
 use Rattle.std.proofs.lemmas.Bool.{cases_Bool, le-leb, lt-leb, cases_lt}
@@ -26,7 +26,7 @@ use Rattle.tora_arq.proofs.TableHears.{from_row, parts_of, pair}
 
 -- ---- calls
 
--- a state with its own row is in no other row
+-- a state that has a row of its own is in no other row
 from_state : (R : EndState → Type 0) (r e : EndState) → r ≡ e → R e → (f : EndState) → f ≡ r → R f
 from_state R r e q row f p = subst R (sym q ∙ sym p) row
 
@@ -137,7 +137,7 @@ module _ (times : Times) (now : ℕ) where
   late : (q : QueuedPacket) → IsNotDue times now q → is_ready times now q ≡ false
   late q n = not-told (is_ready times now q) (IsDue times now q) (told_due times now q) n
 
-  -- the run has as many as wanted, or the next one is not due
+  -- the run has as many packets as wanted, or the next packet is not due
   abbrev Stops : ℕ → ℕ → List QueuedPacket → Type 0
   Stops wanted many behind = (many ≡ wanted) ⊎ ((q : QueuedPacket) → slice_get behind 0 ≡ Some q → IsNotDue times now q)
 
@@ -195,7 +195,7 @@ module _ (times : Times) (now : ℕ) where
       }
 
   module _ (most : ℕ) where
-    -- one more packet in front, and one more place in the window
+    -- one more packet at the front, and one more place in the window
     all-behind : {window many reached : ℕ} {behind : List QueuedPacket} → AreAll times now most window many reached behind → AreAll times now most (suc window) many (suc reached) behind
     all-behind (frame_is_full e) = frame_is_full e
     all-behind (window_ends e) = window_ends (ap suc e)

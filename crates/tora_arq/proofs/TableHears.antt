@@ -1,4 +1,4 @@
--- The rows of received frames agree with the definition.
+-- The rows for received frames agree with the definition.
 use Rattle.std.proofs.Common.{◌≡◌, ◌≢◌, ◌⊎◌, inl, inr, ℕ, suc, ◌+◌, ◌-◌, ◌<◌, ◌≤◌, max, true, false, true≢false, nat_lt, List, [], ◌∷◌, ◌++◌, map, length, drop, Option, Some, None, refl, sym, ap, ◌∙◌, subst, arith, append_assoc, append-nil}
 use Rattle.std.proofs.lemmas.Bool.{cases_Bool, le-leb, lt-leb, le-ltb, lt-ltb, eq-eqb, ne_eqb, cases_lt, cases_eq, cases_order}
 use Rattle.std.proofs.Math.Bool.{or-false, or-true}
@@ -23,7 +23,7 @@ use Rattle.tora_arq.proofs.TableWords.{not_foreign, from_peer, foreign, not_busy
 
 -- ---- results
 
--- a result with its own row is in no other row
+-- a result that has a row of its own is in no other row
 pub from_row : {A : Type 0} (R : A → EndState → Type 0) (r : A × EndState) (a : A) (e : EndState) → r ≡ (a, e) → R a e → (b : A) (f : EndState) → (b ≡ r.0) × (f ≡ r.1) → R b f
 from_row {A} R r a e q row b f p =
     let x : a ≡ b = sym (ap (λ (y : A × EndState). y.0) q) ∙ sym p.0 in
@@ -51,7 +51,7 @@ judged-some next first behind = at (cases_lt next behind) (cases_lt next first)
     at (inl l) (inl m) = (Ahead, all_are_ahead m)
     at (inl l) (inr m) = (Accepted, next_is_among_them m l)
 
--- what is released: the packets of a run
+-- the end after the packets of a run are delivered
 abbrev released : Life → EndState → List Packet → List (Option Packet) → EndState
 released life e packets rest = record e {
   events = e.events ++ map (Deliver life) packets;
@@ -119,9 +119,9 @@ packets-some life furthest e number (packet ∷ packets) =
     let first = taken-some life furthest e number packet in
     let more = packets-some life furthest first.0 (suc number) packets in (more.0, first_packet first.1 more.1)
 
--- ---- a life begins
+-- ---- a session begins
 
--- the end that the definition binds
+-- the end after the definition has bound the session
 abbrev bound_by : EndState → ℕ → Header → ℕ → EndState
 bound_by e own h now = record (passed (after_bind e (life_of own h.life)) h.version) { last_hearing = now }
 

@@ -1,4 +1,4 @@
--- The words of the link end's table are what the definitions test.
+-- The terms of the link end's table agree with the tests of the definitions.
 use Rattle.std.proofs.Common.{◌≡◌, ◌≢◌, ◌⊎◌, inl, inr, ℕ, zero, suc, ◌-◌, ◌<◌, ◌≤◌, Bool, true, false, not, true≢false, ◌||◌, nat_le, List, [], ◌∷◌, length, Option, Some, None, Contains, refl, sym, ap, ◌∙◌, subst, arith}
 use Rattle.std.specs.List.{list_any}
 use Rattle.std.proofs.lemmas.Bool.{or_from, or_parts, or_left, or_right, and_from, and_parts, not-false, not-true, le-leb, leb-true, le-ltb, lt-ltb, ltb-true, ltb-false, eq-eqb, eqb-true, cases_lt}
@@ -178,12 +178,12 @@ told_hello s e now = told_or e.owes_hello (has_hello_passed s e.last_hello now) 
 pub told_old : (e : EndState) → Told (is_old_hello_due e) (IsOldHelloDue e)
 told_old e = (λ t. let p = and_parts _ _ t in (p.0, not-true _ p.1), λ d. and_from _ _ d.0 (ap not d.1))
 
--- ---- lives
+-- ---- sessions
 
 pub told_life : (a b : Life) → Told (is_same_life a b) (a ≡ b)
 told_life a b = (is_same_life-true a b, λ e. subst (λ x. is_same_life a x ≡ true) e (is_same_life-refl a))
 
--- a phase is bound to this life, or not
+-- a phase is bound to this session, or not
 pub bound_or_not : (phase : Phase) (life : Life) → (phase ≡ Bound life) ⊎ (phase ≢ Bound life)
 bound_or_not Closed life = inr (λ e. cc)
 bound_or_not (Unbound own) life = inr (λ e. cc)

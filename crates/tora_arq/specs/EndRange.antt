@@ -21,13 +21,13 @@ pub record LinkEndView : Type 0 where
 abbrev pub link_end_of : Settings → EndState → LinkEndView
 link_end_of settings state = record { settings = settings; state = state }
 
--- a frame's packets, of which there is one at least, have numbers up to 2^62
+-- a DATA frame has at least one packet, and its packets have numbers up to 2^62
 abbrev pub IsNumbered : Body → Type 0
 IsNumbered Hello = Unit {0}
 IsNumbered (Data number count packets) = (0 < length packets.items) × (number + length packets.items ≤ 2 ^ 62 + 1)
 IsNumbered (Ack count) = Unit {0}
 
--- this many places for events suffice for the packets up to the last number of the window, and no packet beyond it is
+-- this many places for events suffice for the packets up to the number `furthest`, and no packet beyond that number is
 -- held
 pub record HasRoom (places window furthest : ℕ) (e : EndState) : Type 0 where
   pub room : length e.events + furthest < places + e.accepted
@@ -39,12 +39,12 @@ abbrev pub AreUntried : List QueuedPacket → Type 0
 AreUntried [] = Unit {0}
 AreUntried (q ∷ queue) = (q.tries ≡ 0) × AreUntried queue
 
--- an own number, which is that of the last life
+-- the own number of an open end is that of its last session
 pub record IsOwnNumber (last own : ℕ) : Type 0 where
   pub number : IsLifeNumber own
   pub latest : own ≡ last
 
--- a bound life: the peer's number is the one heard, and there is a place for the event that the life ended
+-- a bound session: the peer's number is the one noted, and there is a place for the event that the session ended
 pub record IsBoundLife (last heard : ℕ) (events : List LinkEvent) (life : Life) : Type 0 where
   pub own : IsOwnNumber last life.own
   pub peer : IsLifeNumber life.peer
@@ -56,7 +56,7 @@ IsPhase last heard events Closed = Unit {0}
 IsPhase last heard events (Unbound own) = IsOwnNumber last own
 IsPhase last heard events (Bound life) = IsBoundLife last heard events life
 
--- no more than 2^62 packets in a life; those after the window were never transmitted
+-- at most 2^62 packets are submitted in a session, and the packets beyond the window were never transmitted
 pub record IsQueue (window acknowledged : ℕ) (queue : List QueuedPacket) : Type 0 where
   pub submitted : acknowledged + length queue ≤ 2 ^ 62
   pub untried : AreUntried (drop window queue)

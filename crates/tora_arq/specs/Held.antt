@@ -2,7 +2,7 @@
 use Rattle.std.specs.Prelude.{ℕ, zero, suc, List, [], ◌∷◌, Option, Some, None}
 use Rattle.tora_packet.specs.declared.Packet.{Packet}
 
--- puts a packet at a place, unless one is held there
+-- holds a packet at a place, unless a packet is held there already
 abbrev pub hold_at : ℕ → Packet → List (Option Packet) → List (Option Packet)
 hold_at zero packet [] = Some packet ∷ []
 hold_at zero packet (None ∷ held) = Some packet ∷ held
@@ -10,7 +10,7 @@ hold_at zero packet (Some first ∷ held) = Some first ∷ held
 hold_at (suc place) packet [] = None ∷ hold_at place packet []
 hold_at (suc place) packet (slot ∷ held) = slot ∷ hold_at place packet held
 
--- empty places are appended up to this many
+-- the places, with empty ones appended until there are this many
 abbrev pub padded : ℕ → List (Option Packet) → List (Option Packet)
 padded zero held = held
 padded (suc places) [] = None ∷ padded places []

@@ -27,21 +27,21 @@ use Rattle.tora_arq.specs.Held.{hold_at}
 use Rattle.tora_arq.specs.SendQueue.{untried, has_given_up, DueBatch, first_due}
 
 pub record EndState : Type 0 where
-  pub phase : Phase  -- closed, or open with an own number: unbound, or bound to a life
-  pub heard : ℕ  -- the greatest life number of the peer noted in this life, 0 for none
-  pub last_life : ℕ  -- the own number of the last life, 0 before the first
+  pub phase : Phase  -- closed, or open with an own number: unbound, or bound to a session
+  pub heard : ℕ  -- the greatest session number of the peer noted in this session, 0 for none
+  pub last_life : ℕ  -- the own number of the last session, 0 before the first
   pub queue : List QueuedPacket  -- the packets submitted and not acknowledged
-  pub acknowledged : ℕ  -- how many packets of this life the peer has acknowledged
-  pub transmitted : ℕ  -- the greatest number of a packet that was transmitted in this life
-  pub accepted : ℕ  -- how many packets of the peer were delivered in this life
+  pub acknowledged : ℕ  -- how many packets of this session the peer has acknowledged
+  pub transmitted : ℕ  -- the greatest number of a packet that was transmitted in this session
+  pub accepted : ℕ  -- how many packets of the peer were delivered in this session
   pub held : List (Option Packet)  -- the out-of-order packets, by place; the first place is that of the next number
-  pub events : List LinkEvent  -- the events that were not polled, of all lives
+  pub events : List LinkEvent  -- the events that were not polled, of all sessions
   pub speaks_two : Bool  -- the mark that the peer speaks version 2
   pub owes_hello : Bool
   pub owes_old_hello : Bool  -- the last HELLO was of version 2 and none of version 1 has followed it
   pub owes_ack : Bool
   pub last_hello : Option ℕ  -- the tick of the last HELLO, not counting those of version 1 after version 2
-  pub last_hearing : ℕ  -- the tick of the peer's last frame in this life
+  pub last_hearing : ℕ  -- the tick of the peer's last frame in this session
 
 abbrev pub first_end : EndState
 first_end = record {
@@ -77,13 +77,13 @@ life_in Closed = None
 life_in (Unbound own) = None
 life_in (Bound life) = Some life
 
--- the life that is bound
+-- the bound session, if there is one
 abbrev pub bound_life : EndState → Option Life
 bound_life e = life_in e.phase
 
--- ---- a life begins and ends
+-- ---- a session begins and ends
 
--- a new life with an own number; the events that were not polled stay
+-- a new session with an own number; the events that were not polled stay
 abbrev pub after_open : EndState → ℕ → ℕ → EndState
 after_open e life now = record {
   phase = Unbound life;
@@ -106,7 +106,7 @@ after_open e life now = record {
 abbrev pub with_event : EndState → LinkEvent → EndState
 with_event e event = record e { events = e.events ++ event ∷ [] }
 
--- the bound life ends, and the end closes
+-- the bound session ends, and the end closes
 abbrev pub after_end : EndState → Life → Reason → EndState
 after_end e life reason = record (with_event e (Down life reason)) {
   phase = Closed;
@@ -117,7 +117,7 @@ after_end e life reason = record (with_event e (Down life reason)) {
   owes_ack = false;
 }
 
--- a life is bound, in which nothing was transmitted or accepted yet; the mark stays if this life was noted
+-- a session is bound, and nothing was transmitted or accepted in it; the mark stays if the number was noted before
 abbrev pub after_bind : EndState → Life → EndState
 after_bind e life = record (with_event e (Up life)) {
   phase = Bound life;
@@ -137,7 +137,7 @@ abbrev pub is_two : Version → Bool
 is_two One = false
 is_two Two = true
 
--- a frame of this version is accepted; version 2 sets the mark
+-- a frame of this version is accepted: version 2 sets the mark
 abbrev pub passed : EndState → Version → EndState
 passed e version = record e { speaks_two = is_two version || e.speaks_two }
 
@@ -150,7 +150,7 @@ abbrev pub most_packets : Version → ℕ
 most_packets One = 1
 most_packets Two = 16
 
--- ---- a frame comes: the first of seven cases that applies
+-- ---- a frame arrives: the first of seven cases that applies
 
 -- the count that a frame acknowledges
 abbrev pub count_of : Body → ℕ
@@ -169,12 +169,12 @@ has_update_of_another sender Hello = false
 has_update_of_another sender (Data number count packets) = list_any (is_update_of_another sender) packets.items
 has_update_of_another sender (Ack count) = false
 
--- the frame is of version 2 and the end speaks only version 1
+-- the frame is of version 2, and the end speaks only version 1
 abbrev pub is_unknown : Version → Version → Bool
 is_unknown One version = is_two version
 is_unknown Two version = false
 
--- case 1: not from the peer, not for this node, of a version that this end doesn't speak, or an update of another node
+-- case 1: not from the peer, not for this node, of a version that the end does not speak, or an update of another node
 abbrev pub is_foreign : Settings → FrameParts → Bool
 is_foreign s f =
     not (f.header.sender == s.peer) || not (f.header.receiver == s.me)
@@ -184,7 +184,7 @@ is_foreign s f =
 abbrev pub is_busy : EndState → Bool
 is_busy e = nat_lt (EVENT_PLACES - length e.events) PLACES_OF_A_FRAME
 
--- case 5, at an unbound end: only a HELLO counts, a greater life is noted, and an equal one changes at most the mark
+-- case 5, at an unbound end: only a HELLO counts; a greater number is noted, and an equal one changes at most the mark
 abbrev pub on_life_told : EndState → Version → ℕ → Body → Verdict × EndState
 on_life_told e version life Hello =
     if nat_lt life e.heard then (Stale, e)
@@ -201,14 +201,14 @@ after_acknowledgement e count now = record e {
   last_hearing = now;
 }
 
--- the next packet is delivered; `held` has the packets held after it
+-- the next packet is delivered; `held` are the out-of-order packets after it
 abbrev pub after_delivery : EndState → Life → Packet → List (Option Packet) → EndState
 after_delivery e life packet held = record (with_event e (Deliver life packet)) {
   accepted = suc e.accepted;
   held = held;
 }
 
--- the held packets up to the first gap are delivered
+-- the held packets are delivered up to the first gap
 unfoldable pub after_release : Life → EndState → List (Option Packet) → EndState
 after_release life e [] = e
 after_release life e (None ∷ held) = e
@@ -217,8 +217,8 @@ after_release life e (Some packet ∷ held) = after_release life (after_delivery
 abbrev pub after_hold : EndState → ℕ → Packet → EndState
 after_hold e number packet = record e { held = hold_at (number - suc e.accepted) packet e.held }
 
--- case 7, each packet of a DATA frame: an accepted one is skipped, one within the window is held and then delivered in
--- order, and one beyond it is dropped; `furthest` is the last number of the window when the frame came
+-- case 7, each packet of a DATA frame: skipped if accepted before, held and delivered in order if within the window,
+-- and dropped if beyond it; `furthest` is the last number of the window when the frame arrived
 unfoldable pub after_packet : Life → ℕ → EndState → ℕ → Packet → EndState
 after_packet life furthest e number packet =
     if nat_le number e.accepted then e
@@ -226,14 +226,14 @@ after_packet life furthest e number packet =
     (after_hold e number packet).held
     else e
 
--- packets numbered in sequence from the first
+-- packets numbered in sequence from this number on
 unfoldable pub after_packets : Life → ℕ → EndState → ℕ → List Packet → EndState
 after_packets life furthest e number [] = e
 after_packets life furthest e number (packet ∷ packets) = after_packets life furthest
     (after_packet life furthest e number packet) (suc number) packets
 
--- the verdict by the first and the last number: all were accepted before, the next one is among them, or all are beyond
--- it
+-- the verdict by the first and the last number: all packets were accepted before, the next one is among them, or all of
+-- them are ahead of the next one
 abbrev pub verdict_of_numbers : ℕ → ℕ → ℕ → Verdict
 verdict_of_numbers accepted first last =
     if nat_le last accepted then Repeated
@@ -247,7 +247,7 @@ on_data window e life number packets = (
   after_packets life (e.accepted + window) e number packets,
 )
 
--- case 7: both numbers match; `binds` says that this frame bound the life
+-- case 7: both numbers match; `binds` says whether this frame bound the session
 unfoldable pub on_matched : ℕ → EndState → Life → Bool → ℕ → Body → Verdict × EndState
 on_matched window e life binds now Hello = (Accepted, record e { last_hearing = now })
 on_matched window e life binds now (Data number count packets) =
@@ -298,9 +298,9 @@ after_tick_in s e now (Bound life) = if is_silent s e now then after_end e life 
 unfoldable pub after_tick : Settings → EndState → ℕ → EndState
 after_tick s e now = after_tick_in s e now e.phase
 
--- ---- a packet is submitted, a life is cut
+-- ---- a packet is submitted, a session is cut
 
--- the life is not the bound one, 2^62 packets were submitted in this life, the queue is full, or there is room
+-- the session is not the bound one, 2^62 packets were submitted in it, the queue is full, or there is room
 abbrev pub on_submit_in : EndState → Life → Packet → Phase → Result (Unit {0}) SubmitError × EndState
 on_submit_in e life packet Closed = (Err (Refusal.WrongLife packet), e)
 on_submit_in e life packet (Unbound own) = (Err (Refusal.WrongLife packet), e)
@@ -331,7 +331,7 @@ after_cut_in e life (Bound current) = if is_same_life life current then after_en
 unfoldable pub after_cut : EndState → Life → EndState
 after_cut e life = after_cut_in e life e.phase
 
--- ---- what is to be done outside
+-- ---- events and frames to poll
 
 abbrev pub first_event : EndState → Option LinkEvent
 first_event e = slice_get e.events 0
@@ -347,7 +347,7 @@ has_hello_passed s (Some last) now = nat_le s.times.hello (ticks_passed last now
 abbrev pub is_hello_due : Settings → EndState → ℕ → Bool
 is_hello_due s e now = e.owes_hello || has_hello_passed s e.last_hello now
 
--- one of version 2 was sent, and the peer isn't known to speak it
+-- a HELLO of version 2 was sent and none of version 1 since, and the peer is not known to speak version 2
 abbrev pub is_old_hello_due : EndState → Bool
 is_old_hello_due e = e.owes_old_hello && not e.speaks_two
 
@@ -361,19 +361,19 @@ is_hello_body Hello = true
 is_hello_body (Data _ _ _) = false
 is_hello_body (Ack _) = false
 
--- whether there is a frame, and it is a HELLO
+-- there is a frame, and it is a HELLO
 abbrev pub is_hello : Option FrameParts → Bool
 is_hello None = false
 is_hello (Some frame) = is_hello_body frame.body
 
--- a HELLO of the newest version is sent, after which one of version 1 may be due
+-- the end after a HELLO of the newest version; if that is version 2, one of version 1 may be due next
 abbrev pub after_hello : Settings → EndState → ℕ → EndState
 after_hello s e now = record e { owes_hello = false; owes_old_hello = is_two s.version; last_hello = Some now }
 
 abbrev pub after_old_hello : EndState → EndState
 after_old_hello e = record e { owes_old_hello = false }
 
--- the first HELLO due: of version 1 after one of version 2, or of the newest version; it comes before other frames
+-- the first HELLO due: of version 1 if one has to follow version 2, else of the newest version; or else `other`
 abbrev pub on_hello : Settings → EndState → ℕ → ℕ → ℕ → Option FrameParts × EndState → Option FrameParts × EndState
 on_hello s e own heard now other =
     if is_old_hello_due e then (Some (frame_sent s One own heard Hello), after_old_hello e)
@@ -395,7 +395,7 @@ on_transmit_due s e life None =
     then (Some (frame_sent s (data_version e) life.own life.peer (Ack e.accepted)), record e { owes_ack = false })
     else (None, e)
 
--- the packets due at an end
+-- the packets that are due at an end
 abbrev pub due_of : Settings → EndState → ℕ → Option DueBatch
 due_of s e now = first_due s.times now (most_packets (data_version e)) (suc e.acknowledged) s.window e.queue
 

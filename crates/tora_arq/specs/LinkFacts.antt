@@ -41,8 +41,7 @@ abbrev pub IsPossible : EndState → LinkCall → Type 0
 IsPossible e (Open life now) = (e.phase ≡ Closed) × (e.last_life < life)
 IsPossible e call = Unit {0}
 
--- this holds for every allowed call in any state: of the settings, the state before it, the call, and the state after
--- it
+-- a statement about settings, state, call and next state holds for every allowed call in every state
 abbrev pub EveryCall : (Settings → EndState → LinkCall → EndState → Type 0) → Type 0
 EveryCall Holds =
     (s : Settings) (e : EndState) (call : LinkCall) → IsPossible e call → Holds s e call (after_call s e call)
@@ -57,16 +56,16 @@ abbrev pub event_given_by : EndState → LinkCall → Option LinkEvent
 event_given_by e PollEvent = first_event e
 event_given_by e call = None
 
--- the events that are left after a call has returned its event
+-- the events that are left in the queue after a call has returned its event
 abbrev pub events_left : EndState → LinkCall → List LinkEvent
 events_left e PollEvent = drop 1 e.events
 events_left e call = e.events
 
--- the events that a call appends to those
+-- the events that a call appends to the queue
 abbrev pub events_queued : Settings → EndState → LinkCall → List LinkEvent
 events_queued s e call = drop (length (events_left e call)) (after_call s e call).events
 
--- the packet, if it is taken
+-- the packet, if the end took it
 abbrev pub packet_where_ok : Packet → Result (Unit {0}) SubmitError → List Packet
 packet_where_ok packet (Ok done) = packet ∷ []
 packet_where_ok packet (Err error) = []
@@ -76,9 +75,9 @@ abbrev pub packet_submitted : EndState → LinkCall → List Packet
 packet_submitted e (Submit life packet) = packet_where_ok packet (submit_answer e life packet)
 packet_submitted e call = []
 
--- ---- invariants of every call of an end
+-- ---- invariants of every call
 
--- an end with an own number that no frame of the peer has carried yet: nothing was transmitted or accepted
+-- an unbound end: nothing was submitted, transmitted or accepted in the session of its own number
 pub record IsUnboundEnd (e : EndState) (own : ℕ) : Type 0 where
   pub number : own ≡ e.last_life
   pub queue : e.queue ≡ []
@@ -87,7 +86,7 @@ pub record IsUnboundEnd (e : EndState) (own : ℕ) : Type 0 where
   pub accepted : e.accepted ≡ 0
   pub held : e.held ≡ []
 
--- a bound end: what was transmitted was submitted, and no more is held than the window
+-- a bound end: transmitted packets were submitted, and at most a window of packets is held
 pub record IsBoundEnd (s : Settings) (e : EndState) (life : Life) : Type 0 where
   pub number : life.own ≡ e.last_life
   pub heard : e.heard ≡ life.peer
@@ -103,50 +102,50 @@ IsEndIn s e (Bound life) = IsBoundEnd s e life
 abbrev pub IsEnd : Settings → EndState → Type 0
 IsEnd s e = IsEndIn s e e.phase
 
--- ---- lives
+-- ---- sessions
 
--- a frame of a life: from the peer to this end, with both numbers of the life
+-- a frame of a session: from the peer to this end, with both numbers of the session
 pub record IsFrameOf (s : Settings) (life : Life) (f : FrameParts) : Type 0 where
   pub sender : f.header.sender ≡ s.peer
   pub receiver : f.header.receiver ≡ s.me
   pub peer : f.header.life ≡ life.peer
   pub own : f.header.heard ≡ life.own
 
--- the call passes in a frame of this life
+-- the call passes in a frame of this session
 abbrev pub HandsInFrameOf : Settings → Life → LinkCall → Type 0
 HandsInFrameOf s life (Frame frame now) = IsFrameOf s life frame
 HandsInFrameOf s life call = ⊥
 
--- the call opens an end with this number
+-- the call opens the end with this number
 abbrev pub OpensWith : ℕ → LinkCall → Type 0
 OpensWith own (Open life now) = own ≡ life
 OpensWith own call = ⊥
 
--- a bound end stays bound to that life, or closes
+-- a bound end stays bound to its session, or closes
 abbrev pub StaysOrCloses : Life → Phase → Type 0
 StaysOrCloses life after = (after ≡ Bound life) ⊎ (after ≡ Closed)
 
--- an end that is bound was bound before, or had the own number of the life, which a frame of the peer now carries
+-- an end that is bound now was bound before, or had the session's own number and receives a frame with both numbers
 abbrev pub WasBoundOrBinds : Settings → Life → LinkCall → Phase → Type 0
 WasBoundOrBinds s life call before = (before ≡ Bound life) ⊎ ((before ≡ Unbound life.own) × HandsInFrameOf s life call)
 
--- an end with an own number that is not bound had it before, or was closed and is opened with it
+-- an unbound end had its own number before, or was closed and is opened with it
 abbrev pub WasUnboundOrOpens : ℕ → LinkCall → Phase → Type 0
 WasUnboundOrOpens own call before = (before ≡ Unbound own) ⊎ ((before ≡ Closed) × OpensWith own call)
 
 -- ---- frames sent, and packets submitted
 
--- these packets are those from a number on, in order and without a gap
+-- these packets have the numbers from this one on, in order and without a gap
 abbrev pub AreFrom : (ℕ → Packet → Type 0) → ℕ → List Packet → Type 0
 AreFrom Is place [] = Unit {0}
 AreFrom Is place (packet ∷ packets) = Is place packet × AreFrom Is (suc place) packets
 
--- the packet of a number of a life, where the first of the list has the number 1
+-- the packet at this place of the list; the packet at place 0 has the number 1
 abbrev pub IsPacketAt : List Packet → ℕ → Packet → Type 0
 IsPacketAt packets place packet = slice_get packets place ≡ Some packet
 
--- a DATA frame carries packets of the queue within the window, the number of the first, and the count of packets
--- accepted
+-- a DATA frame carries packets of the queue within the window, the number of the first one, and the count of accepted
+-- packets
 pub record IsDataSent (s : Settings) (e : EndState) (number count : ℕ) (packets : List Packet) : Type 0 where
   pub place : ℕ
   pub within : place + length packets ≤ s.window
@@ -159,7 +158,7 @@ IsBodySent s e Hello = Unit {0}
 IsBodySent s e (Data number count packets) = IsDataSent s e number count packets.items
 IsBodySent s e (Ack count) = count ≡ e.accepted
 
--- a frame of an end: none of a closed one, a HELLO with the own number and the life heard, or one with both numbers
+-- the frames that an end may send: none if closed, a HELLO with its own and the noted number, or frames of the session
 abbrev pub IsFrameSentIn : Settings → EndState → FrameParts → Phase → Type 0
 IsFrameSentIn s e f Closed = ⊥
 IsFrameSentIn s e f (Unbound own) = f ≡ frame_sent s f.header.version own e.heard Hello
@@ -168,13 +167,13 @@ IsFrameSentIn s e f (Bound life) = (f ≡ frame_sent s f.header.version life.own
 abbrev pub IsFrameSent : Settings → EndState → FrameParts → Type 0
 IsFrameSent s e f = IsFrameSentIn s e f e.phase
 
--- of the packets submitted in a life, those that are not acknowledged wait in the queue
+-- the packets of the queue are the submitted ones that are not acknowledged
 pub record IsQueueOf (submitted : List Packet) (e : EndState) : Type 0 where
   pub acknowledged : e.acknowledged ≤ length submitted
   pub transmitted : e.transmitted ≤ length submitted
   pub waiting : packets_in e.queue ≡ drop e.acknowledged submitted
 
--- among packets numbered in sequence from a first number, this one has this number
+-- the packet with this number, among packets numbered in sequence from a first number
 abbrev pub HasNumber : ℕ → List Packet → ℕ → Packet → Type 0
 HasNumber first packets number packet = (place : ℕ) × (number ≡ first + place) × (slice_get packets place ≡ Some packet)
 
@@ -184,14 +183,14 @@ Carries Hello number packet = ⊥
 Carries (Data first count packets) number packet = HasNumber first packets.items number packet
 Carries (Ack count) number packet = ⊥
 
--- a DATA frame carries the packets of its numbers, and this count
+-- a DATA frame carries submitted packets under their numbers, and the count of accepted packets
 pub record IsDataOf (submitted : List Packet) (accepted number count : ℕ) (packets : List Packet) : Type 0 where
   pub first : 0 < number
   pub packets_are : (place : ℕ) (packet : Packet) → HasNumber number packets (suc place) packet
       → IsPacketAt submitted place packet
   pub count_is : count ≡ accepted
 
--- the same for any frame
+-- a frame carries submitted packets under their numbers, if it is a DATA frame, and the count of accepted packets
 abbrev pub IsBodyOf : List Packet → ℕ → Body → Type 0
 IsBodyOf submitted accepted Hello = Unit {0}
 IsBodyOf submitted accepted (Data number count packets) = IsDataOf submitted accepted number count packets.items
@@ -199,22 +198,22 @@ IsBodyOf submitted accepted (Ack count) = count ≡ accepted
 
 -- ---- packets delivered
 
--- each packet that is held is that of its place; the first place is that of the next packet
+-- each held packet is the one of its place; the first place is that of the next packet
 abbrev pub AreHeld : (ℕ → Packet → Type 0) → ℕ → List (Option Packet) → Type 0
 AreHeld Is place [] = Unit {0}
 AreHeld Is place (None ∷ held) = AreHeld Is (suc place) held
 AreHeld Is place (Some packet ∷ held) = Is place packet × AreHeld Is (suc place) held
 
--- each packet of a DATA frame is that of its number
+-- each packet of a DATA frame is the one of its number
 abbrev pub BodyTells : (ℕ → Packet → Type 0) → Body → Type 0
 BodyTells Is body = (place : ℕ) (packet : Packet) → Carries body (suc place) packet → Is place packet
 
--- if the call passes in a DATA frame of this life, each packet is that of its number
+-- if the call passes in a DATA frame of this session, each packet in it is the one of its number
 abbrev pub CallTells : (ℕ → Packet → Type 0) → Settings → Life → LinkCall → Type 0
 CallTells Is s life (Frame frame now) = IsFrameOf s life frame → BodyTells Is frame.body
 CallTells Is s life call = Unit {0}
 
--- the packets of one life among events
+-- the packets of one session among events
 abbrev pub packets_delivered : Life → List LinkEvent → List Packet
 packets_delivered life [] = []
 packets_delivered life (Up other ∷ events) = packets_delivered life events
@@ -222,7 +221,7 @@ packets_delivered life (Deliver other packet ∷ events) = (if is_same_life life
     else []) ++ packets_delivered life events
 packets_delivered life (Down other reason ∷ events) = packets_delivered life events
 
--- the next packets are delivered, each once; those that are held are still those of their places
+-- these packets are the next ones, each once; the packets held afterwards are the ones of their places
 pub record DeliversNext (Is : ℕ → Packet → Type 0) (before after : EndState) (packets : List Packet) : Type 0 where
   pub accepted : after.accepted ≡ before.accepted + length packets
   pub next : AreFrom Is before.accepted packets
@@ -235,7 +234,7 @@ abbrev pub list_of : {A : Type 0} → Option A → List A
 list_of None = []
 list_of (Some x) = x ∷ []
 
--- the events between a bound life and the next: Up where a life is bound, then its packets, and Down where it ends
+-- the events while one bound session replaces another: Up when it is bound, then its packets, and Down when it ends
 abbrev pub AreEventsBetween : Option Life → Option Life → List LinkEvent → Type 0
 AreEventsBetween None None events = events ≡ []
 AreEventsBetween None (Some life) events = (packets : List Packet) × (events ≡ Up life ∷ map (Deliver life) packets)
@@ -243,7 +242,7 @@ AreEventsBetween (Some life) None events = (reason : Reason) × (events ≡ Down
 AreEventsBetween (Some life) (Some next) events = (life ≡ next) × (packets : List Packet)
     × (events ≡ map (Deliver life) packets)
 
--- the events lead from one bound life to another: Up comes first, then only packets of that life, and Down last
+-- the events lead from one bound session to another: Up comes first, then only packets of that session, and Down last
 abbrev pub Leads : Option Life → List LinkEvent → Option Life → Type 0
 Leads now [] after = now ≡ after
 Leads None (Up life ∷ events) after = Leads (Some life) events after
@@ -253,21 +252,21 @@ Leads (Some now) (Up life ∷ events) after = ⊥
 Leads (Some now) (Deliver life packet ∷ events) after = (life ≡ now) × Leads (Some now) events after
 Leads (Some now) (Down life reason ∷ events) after = (life ≡ now) × Leads None events after
 
--- none of these events is of this life
+-- none of these events is of this session
 abbrev pub AreOfOthers : Life → List LinkEvent → Type 0
 AreOfOthers life [] = Unit {0}
 AreOfOthers life (Up other ∷ events) = (life ≢ other) × AreOfOthers life events
 AreOfOthers life (Deliver other packet ∷ events) = (life ≢ other) × AreOfOthers life events
 AreOfOthers life (Down other reason ∷ events) = (life ≢ other) × AreOfOthers life events
 
--- no event of a life comes after its Down
+-- no event of a session comes after its Down
 abbrev pub AreOverByDown : List LinkEvent → Type 0
 AreOverByDown [] = Unit {0}
 AreOverByDown (Up life ∷ events) = AreOverByDown events
 AreOverByDown (Deliver life packet ∷ events) = AreOverByDown events
 AreOverByDown (Down life reason ∷ events) = AreOfOthers life events × AreOverByDown events
 
--- each life that is bound has an own number above that of the one before
+-- each session that is bound has an own number above that of the one before
 abbrev pub AreRising : ℕ → List LinkEvent → Type 0
 AreRising number [] = Unit {0}
 AreRising number (Up life ∷ events) = (number < life.own) × AreRising life.own events
@@ -276,13 +275,13 @@ AreRising number (Down life reason ∷ events) = AreRising number events
 
 -- ---- counts
 
--- the call passes in a frame of this life with this count
+-- the call passes in a frame of this session with this count
 abbrev pub IsCountOfCall : Settings → Life → ℕ → LinkCall → Type 0
 IsCountOfCall s life count (Frame frame now) = IsFrameOf s life frame × (count_of frame.body ≡ count)
 IsCountOfCall s life count call = ⊥
 
--- the count of acknowledged packets stays, or becomes that of a frame of the life; it is at most the count of
--- transmitted ones
+-- the count of acknowledged packets stays, or becomes the count in a frame of the session; it is at most the count of
+-- transmitted packets
 pub record Acknowledges (s : Settings) (life : Life) (call : LinkCall) (before after : EndState) : Type 0 where
   pub stays : before.acknowledged ≤ after.acknowledged
   pub transmitted : after.acknowledged ≤ after.transmitted

@@ -17,23 +17,23 @@ use Rattle.tora_arq.specs.LinkFacts.LinkCall.{Frame, Submit}
 
 -- ---- runs
 
--- a frame that was passed in, with the own number that the end had then, if it was open
+-- a frame that was passed in, with the own number that the end had then; None if the end was closed
 pub record FrameHandedIn : Type 0 where
   pub own : Option ℕ
   pub frame : FrameParts
 
--- a packet that was submitted in a life
+-- a packet that was submitted in a session
 pub record Submission : Type 0 where
   pub life : Life
   pub packet : Packet
 
--- a run: the state of the end, and all that went through it, in order
+-- a run: the state of the end, and everything that went through it, in order
 pub record LinkRun : Type 0 where
   pub state : EndState
   pub frames : List FrameHandedIn
   pub submitted : List Submission
-  pub events : List LinkEvent  -- that were queued
-  pub given : List LinkEvent  -- those of them that were polled
+  pub events : List LinkEvent  -- the events that were queued
+  pub given : List LinkEvent  -- the events that were polled
   pub sent : List FrameParts
 
 abbrev pub first_run : LinkRun
@@ -58,7 +58,7 @@ frames_handed_in e call = []
 abbrev pub submission_of : Life → Packet → Submission
 submission_of life packet = record { life = life; packet = packet }
 
--- the packets that a call submits, with the life that it names
+-- the packets that a call submits, with the session that it names
 abbrev pub submissions : EndState → LinkCall → List Submission
 submissions e (Submit life packet) = map (submission_of life) (packet_submitted e (Submit life packet))
 submissions e call = []
@@ -82,32 +82,32 @@ abbrev pub AreAllPossible : Settings → LinkRun → List LinkCall → Type 0
 AreAllPossible s run [] = Unit {0}
 AreAllPossible s run (call ∷ calls) = IsPossible run.state call × AreAllPossible s (run_after s run call) calls
 
--- the run of these calls from the first state on
+-- the run of these calls of a new end
 abbrev pub run_of : Settings → List LinkCall → LinkRun
 run_of s calls = run_after_all s first_run calls
 
--- this holds for every run of allowed calls from a new end on
+-- a statement holds for every run of allowed calls of a new end
 abbrev pub EveryRun : (Settings → LinkRun → Type 0) → Type 0
 EveryRun Holds = (s : Settings) (calls : List LinkCall) → AreAllPossible s first_run calls → Holds s (run_of s calls)
 
--- the same for runs after which the end is bound to a life
+-- a statement holds for every run of allowed calls of a new end after which it is bound to a session
 abbrev pub EveryBoundRun : (Settings → LinkRun → Life → Type 0) → Type 0
 EveryBoundRun Holds = EveryRun (λ s run. (life : Life) → run.state.phase ≡ Bound life → Holds s run life)
 
--- ---- what went through an end in one life
+-- ---- what went through an end in one session
 
 abbrev pub packets_submitted : Life → List Submission → List Packet
 packets_submitted life [] = []
 packets_submitted life (x ∷ xs) = (if is_same_life life x.life then x.packet ∷ [] else []) ++ packets_submitted life xs
 
--- a frame of this life was passed in while the end had its number
+-- a frame of this session was passed in while the end had the session's own number
 pub record WasHandedIn (s : Settings) (frames : List FrameHandedIn) (life : Life) (handed : FrameHandedIn) : Type 0
   where
     pub among : Contains frames handed
     pub own : handed.own ≡ Some life.own
     pub of_life : IsFrameOf s life handed.frame
 
--- the packet at this place came in a DATA frame of the life, with its number
+-- the packet at this place came in a DATA frame of the session, under its number
 pub record CameAt (s : Settings) (frames : List FrameHandedIn) (life : Life) (place : ℕ) (packet : Packet) : Type 0
   where
     pub handed : FrameHandedIn
@@ -118,13 +118,13 @@ pub record CameAt (s : Settings) (frames : List FrameHandedIn) (life : Life) (pl
 abbrev pub AreFromFirst : (ℕ → Packet → Type 0) → List Packet → Type 0
 AreFromFirst Is packets = AreFrom Is 0 packets
 
--- the count came in a frame of the life
+-- the count came in a frame of the session
 pub record CountCame (s : Settings) (frames : List FrameHandedIn) (life : Life) (count : ℕ) : Type 0 where
   pub handed : FrameHandedIn
   pub was : WasHandedIn s frames life handed
   pub count_is : count_of handed.frame.body ≡ count
 
--- for each bound life a frame of that life arrived
+-- for each bound session, a frame of that session was passed in
 abbrev pub AreAllTold : Settings → List FrameHandedIn → List LinkEvent → Type 0
 AreAllTold s frames [] = Unit {0}
 AreAllTold s frames (Up life ∷ events) = ((handed : FrameHandedIn) × WasHandedIn s frames life handed)
@@ -132,37 +132,37 @@ AreAllTold s frames (Up life ∷ events) = ((handed : FrameHandedIn) × WasHande
 AreAllTold s frames (Deliver life packet ∷ events) = AreAllTold s frames events
 AreAllTold s frames (Down life reason ∷ events) = AreAllTold s frames events
 
--- how many lives with this own number were bound
+-- how many sessions with this own number were bound
 abbrev pub times_bound : ℕ → List LinkEvent → ℕ
 times_bound own [] = 0
 times_bound own (Up life ∷ events) = (if life.own == own then 1 else 0) + times_bound own events
 times_bound own (Deliver life packet ∷ events) = times_bound own events
 times_bound own (Down life reason ∷ events) = times_bound own events
 
--- a DATA frame carries the packets of its numbers of those submitted in the life, and a count that is not above the
--- packets delivered in it
+-- a DATA frame carries packets submitted in the session under their numbers, and a count of at most the packets
+-- delivered in it
 pub record IsDataOfRun (run : LinkRun) (life : Life) (number count : ℕ) (packets : List Packet) : Type 0 where
   pub first : 0 < number
   pub packets_are : (place : ℕ) (packet : Packet) → HasNumber number packets (suc place) packet
       → IsPacketAt (packets_submitted life run.submitted) place packet
   pub count_is : count ≤ length (packets_delivered life run.events)
 
--- the same for any frame
+-- a frame carries packets submitted in the session, if it is a DATA frame, and a count of packets delivered in it
 abbrev pub IsBodyOfRun : LinkRun → Life → Body → Type 0
 IsBodyOfRun run life Hello = Unit {0}
 IsBodyOfRun run life (Data number count packets) = IsDataOfRun run life number count packets.items
 IsBodyOfRun run life (Ack count) = count ≤ length (packets_delivered life run.events)
 
--- in the life that its header names
+-- a frame carries packets and a count of the session that its header names
 abbrev pub IsFrameOfRun : LinkRun → FrameParts → Type 0
 IsFrameOfRun run f = IsBodyOfRun run (life_of f.header.life f.header.heard) f.body
 
--- two frames of one life of an end
+-- two frames of one session of an end
 pub record IsOfOneLife (f g : FrameParts) : Type 0 where
   pub own : f.header.life ≡ g.header.life
   pub peer : f.header.heard ≡ g.header.heard
 
--- every try of a number in a life carries the same packet
+-- every try of a number in a session carries the same packet
 abbrev pub IsSameAtEachTry : List FrameParts → Type 0
 IsSameAtEachTry sent =
     (f g : FrameParts) (number : ℕ) (packet other : Packet) → Contains sent f → Contains sent g → IsOfOneLife f g

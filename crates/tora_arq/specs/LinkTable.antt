@@ -30,7 +30,7 @@ use Rattle.tora_arq.specs.Held.{hold_at, first_held}
 use Rattle.tora_arq.specs.SendQueue.{packets_in, untried, retried}
 use Rattle.tora_arq.specs.LinkEnd.{EndState, is_two, count_of, frame_sent}
 
--- ---- words
+-- ---- terms of the table
 
 -- the frame carries this packet
 abbrev pub HasPacket : Body → Packet → Type 0
@@ -38,8 +38,8 @@ HasPacket Hello packet = ⊥
 HasPacket (Data number count packets) packet = Contains packets.items packet
 HasPacket (Ack count) packet = ⊥
 
--- the peer sends it to this node, in a version that the end speaks, and each update that it carries has the sender's
--- own height
+-- the frame is from the peer to this node, in a version that the end speaks, and its updates have the sender's own
+-- height
 pub record IsFromPeer (s : Settings) (h : Header) (body : Body) : Type 0 where
   pub sender : h.sender ≡ s.peer
   pub receiver : h.receiver ≡ s.me
@@ -50,11 +50,11 @@ pub record IsFromPeer (s : Settings) (h : Header) (body : Body) : Type 0 where
 abbrev pub HasPlaces : EndState → Type 0
 HasPlaces e = length e.events + PLACES_OF_A_FRAME ≤ EVENT_PLACES
 
--- a frame of the peer came at this tick, in this version
+-- the end after a frame of the peer in this version at this tick
 abbrev pub heard_now : EndState → Version → ℕ → EndState
 heard_now e version now = record e { speaks_two = is_two version || e.speaks_two; last_hearing = now }
 
--- a DATA frame came, with this count
+-- the end after a DATA frame with this count
 abbrev pub heard_data : EndState → Version → ℕ → ℕ → EndState
 heard_data e version count now = record (heard_now e version now) {
   queue = drop (count - e.acknowledged) e.queue;
@@ -62,7 +62,7 @@ heard_data e version count now = record (heard_now e version now) {
   owes_ack = true;
 }
 
--- the life is over
+-- the end after its session has ended
 abbrev pub ended : EndState → Life → Reason → EndState
 ended e life reason = record e {
   phase = Closed;
@@ -74,7 +74,7 @@ ended e life reason = record e {
   owes_ack = false;
 }
 
--- the life begins: nothing was transmitted, accepted or held in it
+-- the end after a session has begun: nothing was transmitted, accepted or held in it
 abbrev pub begun : EndState → Life → EndState
 begun e life = record e {
   phase = Bound life;
@@ -89,7 +89,7 @@ begun e life = record e {
 
 -- ---- what an end receives
 
--- an unbound end binds the life that it had noted, or a newer one
+-- an unbound end binds the session with the peer's number that it had noted, or with a greater one
 pub data Binds (e : EndState) (own : ℕ) (h : Header) (now : ℕ) : EndState → Type 0 where
   noted_life_begins : h.life ≡ e.heard → Binds e own h now (heard_now (begun e (life_of own h.life)) h.version now)
   newer_life_begins : e.heard < h.life
@@ -99,23 +99,23 @@ pub data Binds (e : EndState) (own : ℕ) (h : Header) (now : ℕ) : EndState �
         last_hearing = now;
       })
 
--- the verdict on a DATA frame, by the next number, its first number, and the one after its last
+-- the verdict on a DATA frame, by the next number to deliver, the frame's first number, and the one after its last
 pub data IsJudged (next first behind : ℕ) : Verdict → Type 0 where
   all_were_accepted : behind ≤ next → IsJudged next first behind Repeated
   next_is_among_them : first ≤ next → next < behind → IsJudged next first behind Accepted
   all_are_ahead : next < first → IsJudged next first behind Ahead
 
--- the packets held up to the first gap, and those held from there on
+-- the held packets up to the first gap, and the places from there on
 pub record IsRun (held : List (Option Packet)) (packets : List Packet) (rest : List (Option Packet)) : Type 0 where
   pub held_is : held ≡ map Some packets ++ rest
   pub gap : first_held rest ≡ None
 
--- one packet of a DATA frame, by its number; `furthest` is the last one of the window when the frame came
+-- one packet of a DATA frame, by its number; `furthest` is the last number of the window when the frame arrived
 pub data TakesPacket (life : Life) (furthest : ℕ) (e : EndState) (number : ℕ) (packet : Packet) : EndState
     → Type 0 where
   was_accepted : number ≤ e.accepted → TakesPacket life furthest e number packet e
   is_too_far : e.accepted < number → furthest < number → TakesPacket life furthest e number packet e
-  -- it is held at its place, and the packets up to the first gap are delivered
+  -- the packet is held at its place, and the packets up to the first gap are delivered
   is_taken : {packets : List Packet} {rest : List (Option Packet)} → e.accepted < number → number ≤ furthest
       → IsRun (hold_at (number - suc e.accepted) packet e.held) packets rest
       → TakesPacket life furthest e number packet (record e {
@@ -124,7 +124,7 @@ pub data TakesPacket (life : Life) (furthest : ℕ) (e : EndState) (number : ℕ
         held = rest;
       })
 
--- packets numbered in sequence from the first, one after another
+-- packets numbered in sequence from this number on, one after another
 pub data TakesPackets (life : Life) (furthest : ℕ) : EndState → ℕ → List Packet → EndState → Type 0 where
   no_packet : {e : EndState} {number : ℕ} → TakesPackets life furthest e number [] e
   first_packet : {e between after : EndState} {number : ℕ} {packet : Packet} {packets : List Packet}
@@ -132,10 +132,10 @@ pub data TakesPackets (life : Life) (furthest : ℕ) : EndState → ℕ → List
       after
       → TakesPackets life furthest e number (packet ∷ packets) after
 
--- a frame that is looked at
+-- a frame that passes cases 1 and 2
 pub data HearsIn (s : Settings) (e : EndState) (h : Header) (now : ℕ) : Phase → Body → Verdict → EndState → Type 0 where
   closed : {body : Body} → HearsIn s e h now Closed body Stale e
-  -- an unbound end, and the frame carries a number that is not its own
+  -- the end is unbound, and the frame does not carry its own number
   no_hello_unechoed : {own : ℕ} {body : Body} → h.heard ≢ own → body ≢ Hello
       → HearsIn s e h now (Unbound own) body Stale e
   hello_of_older_life : {own : ℕ} → h.heard ≢ own → h.life < e.heard → HearsIn s e h now (Unbound own) Hello Stale e
@@ -147,7 +147,7 @@ pub data HearsIn (s : Settings) (e : EndState) (h : Header) (now : ℕ) : Phase 
         speaks_two = is_two h.version;
         owes_hello = true;
       })
-  -- the frame carries its own number
+  -- the end is unbound, and the frame carries its own number
   counts_before_binding : {own : ℕ} {body : Body} → h.heard ≡ own → 0 < count_of body
       → HearsIn s e h now (Unbound own) body Foreign e
   echo_of_older_life : {own : ℕ} {body : Body} → h.heard ≡ own → count_of body ≡ 0 → h.life < e.heard
@@ -161,11 +161,11 @@ pub data HearsIn (s : Settings) (e : EndState) (h : Header) (now : ℕ) : Phase 
       → IsJudged 1 number (number + length packets) verdict
       → TakesPackets (life_of own h.life) s.window (record bound { owes_ack = true }) number packets after
       → HearsIn s e h now (Unbound own) (Data number 0 (batch packets)) verdict after
-  -- a bound end, and the life of the peer is another one
+  -- the end is bound, and the frame has another session number of the peer
   newer_life : {life : Life} {body : Body} → life.peer < h.life →
       HearsIn s e h now (Bound life) body Accepted (ended e life Because.NewPeer)
   older_life : {life : Life} {body : Body} → h.life < life.peer → HearsIn s e h now (Bound life) body Stale e
-  -- it is the bound one, and the frame carries a number that is not the own one
+  -- the frame has the bound session number of the peer, but not the end's own number
   unechoed : {life : Life} {body : Body} → h.life ≡ life.peer → h.heard ≢ life.own
       → HearsIn s e h now (Bound life) body Stale e
   -- both numbers match
@@ -189,7 +189,7 @@ pub data HearsIn (s : Settings) (e : EndState) (h : Header) (now : ℕ) : Phase 
       → TakesPackets life (e.accepted + s.window) (heard_data e h.version count now) number packets after
       → HearsIn s e h now (Bound life) (Data number count (batch packets)) verdict after
 
--- a frame with this header and body comes at this tick
+-- a frame with this header and body arrives at this tick
 pub data Hears (s : Settings) (e : EndState) (h : Header) (body : Body) (now : ℕ) : Verdict → EndState → Type 0 where
   not_from_peer : ¬ IsFromPeer s h body → Hears s e h body now Foreign e
   no_places : IsFromPeer s h body → ¬ HasPlaces e → Hears s e h body now Busy e
@@ -199,7 +199,7 @@ pub data Hears (s : Settings) (e : EndState) (h : Header) (body : Body) (now : �
 
 -- ---- what an end does
 
--- the end is opened with a number, and the events that were not polled stay
+-- the end is opened with a number; the events that were not polled stay
 pub data Opens (e : EndState) (life now : ℕ) : EndState → Type 0 where
   opened : e.phase ≡ Closed → e.last_life < life → Opens e life now (record e {
     phase = Unbound life;
@@ -218,7 +218,7 @@ pub data Opens (e : EndState) (life now : ℕ) : EndState → Type 0 where
     last_hearing = now;
   })
 
--- the packet was tried `tries` times, and the last try was `retry` ticks ago
+-- the packet was tried `tries` times, the last time at least `retry` ticks ago
 pub record IsGivenUp (times : Times) (now : ℕ) (q : QueuedPacket) : Type 0 where
   pub tried : times.tries ≤ q.tries
   pub long_ago : times.retry ≤ ticks_passed q.last_try now
@@ -236,11 +236,11 @@ pub data Ticks (s : Settings) (e : EndState) (now : ℕ) : EndState → Type 0 w
   tick_heard : (life : Life) → e.phase ≡ Bound life → ¬ IsSilent s e now → Ticks s e now e
   tick_silent : (life : Life) → e.phase ≡ Bound life → IsSilent s e now → Ticks s e now (ended e life Because.Silent)
 
--- how many packets were submitted in this life
+-- how many packets were submitted in this session
 abbrev pub submitted : EndState → ℕ
 submitted e = e.acknowledged + length e.queue
 
--- a packet is submitted for a life
+-- a packet is submitted in a session
 pub data Submits (e : EndState) (life : Life) (packet : Packet) : Result (Unit {0}) SubmitError → EndState
     → Type 0 where
   of_another_life : e.phase ≢ Bound life → Submits e life packet (Err (Refusal.WrongLife packet)) e
@@ -251,7 +251,7 @@ pub data Submits (e : EndState) (life : Life) (packet : Packet) : Result (Unit {
   packet_waits : e.phase ≡ Bound life → submitted e < 2 ^ 62 → length e.queue < QUEUE_PLACES
       → Submits e life packet (Ok tt) (record e { queue = e.queue ++ untried packet ∷ [] })
 
--- a life is cut
+-- a session is cut
 pub data Cuts (e : EndState) (life : Life) : EndState → Type 0 where
   cut_another_life : e.phase ≢ Bound life → Cuts e life e
   cut_bound_life : e.phase ≡ Bound life → Cuts e life (ended e life Because.Cut)
@@ -267,21 +267,21 @@ abbrev pub IsHelloDue : Settings → EndState → ℕ → Type 0
 IsHelloDue s e now =
     (e.owes_hello ≡ true) ⊎ ((last : ℕ) × (e.last_hello ≡ Some last) × (s.times.hello ≤ ticks_passed last now))
 
--- it was never transmitted, or fewer than `tries` times with the last try `retry` ticks ago
+-- the packet was never transmitted, or fewer than `tries` times and the last time at least `retry` ticks ago
 abbrev pub IsDue : Times → ℕ → QueuedPacket → Type 0
 IsDue times now q = (q.tries ≡ 0) ⊎ ((q.tries < times.tries) × (times.retry ≤ ticks_passed q.last_try now))
 
 abbrev pub IsNotDue : Times → ℕ → QueuedPacket → Type 0
 IsNotDue times now q = ¬ IsDue times now q
 
--- no more packets go into the frame: it is full, the window ends, or the next one is not due
+-- no further packet goes into the frame: the frame is full, the window ends, or the next packet is not due
 pub data AreAll (times : Times) (now most window many reached : ℕ) (behind : List QueuedPacket) : Type 0 where
   frame_is_full : many ≡ most → AreAll times now most window many reached behind
   window_ends : reached ≡ window → AreAll times now most window many reached behind
   next_is_not_due : ((q : QueuedPacket) → slice_get behind 0 ≡ Some q → IsNotDue times now q)
       → AreAll times now most window many reached behind
 
--- the first packet due within the window, and the due ones that follow it, as many as a frame carries
+-- the first packet due within the window, and the due packets that follow it directly, as many as a frame carries
 pub record AreDue (times : Times) (now most window : ℕ) (queue before due behind : List QueuedPacket) : Type 0 where
   pub queue_is : queue ≡ before ++ due ++ behind
   pub before_are_not : AllByRecursion (IsNotDue times now) before
@@ -295,12 +295,12 @@ pub record AreDue (times : Times) (now most window : ℕ) (queue before due behi
 abbrev pub NoneIsDue : Times → ℕ → ℕ → List QueuedPacket → Type 0
 NoneIsDue times now window queue = AllByRecursion (IsNotDue times now) (take window queue)
 
--- the version of DATA frames and ACKs, by the mark, and how many packets such a DATA frame carries
+-- the version of DATA frames and ACKs, by the mark, and how many packets such a DATA frame may carry
 pub data Speaks (e : EndState) : Version → ℕ → Type 0 where
   one_packet : e.speaks_two ≡ false → Speaks e One 1
   sixteen_packets : e.speaks_two ≡ true → Speaks e Two 16
 
--- an open end: the number of its own life, and that of the peer's, which its frames carry
+-- the two session numbers in the frames of an open end: its own, and the one noted or bound
 pub data Names (e : EndState) : Phase → ℕ → ℕ → Type 0 where
   of_unbound : {own : ℕ} → Names e (Unbound own) own e.heard
   of_bound : {life : Life} → Names e (Bound life) life.own life.peer
@@ -308,7 +308,7 @@ pub data Names (e : EndState) : Phase → ℕ → ℕ → Type 0 where
 -- the first frame due
 pub data TellsIn (s : Settings) (e : EndState) (now : ℕ) : Phase → Option FrameParts → EndState → Type 0 where
   closed_tells_nothing : TellsIn s e now Closed None e
-  -- an open end
+  -- the end is open
   old_hello_is_due : {phase : Phase} {own heard : ℕ} → Names e phase own heard → IsOldHelloDue e
       → TellsIn s e now phase (Some (frame_sent s One own heard Hello)) (record e { owes_old_hello = false })
   hello_is_due : {phase : Phase} {own heard : ℕ} → Names e phase own heard → ¬ IsOldHelloDue e → IsHelloDue s e now
@@ -334,7 +334,7 @@ pub data TellsIn (s : Settings) (e : EndState) (now : ℕ) : Phase → Option Fr
   bound_tells_nothing : {life : Life} → ¬ IsOldHelloDue e → ¬ IsHelloDue s e now
       → NoneIsDue s.times now s.window e.queue → e.owes_ack ≡ false → TellsIn s e now (Bound life) None e
 
--- the frame due at this tick, and the end after it is sent
+-- the frame due at this tick, and the end after the frame is sent
 abbrev pub Tells : Settings → EndState → ℕ → Option FrameParts → EndState → Type 0
 Tells s e now frame after = TellsIn s e now e.phase frame after
 

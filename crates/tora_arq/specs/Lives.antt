@@ -1,4 +1,4 @@
--- Lives of a link.
+-- Sessions of a link.
 use Rattle.std.specs.Prelude.{ℕ, Bool, ◌==◌, ◌&&◌}
 use Rattle.tora_arq.specs.declared.life.Life.{Life}
 use Rattle.tora_arq.specs.declared.link_event.LinkEvent.{LinkEvent}
@@ -14,11 +14,11 @@ life_of own peer = record { own = own; peer = peer }
 abbrev pub is_same_life : Life → Life → Bool
 is_same_life a b = (a.own == b.own) && (a.peer == b.peer)
 
--- the same life, as the other end writes it
+-- the session as the other end writes it
 abbrev pub reversed : Life → Life
 reversed life = record { own = life.peer; peer = life.own }
 
--- the life that an event is of
+-- the session of an event
 abbrev pub event_life : LinkEvent → Life
 event_life (Up life) = life
 event_life (Deliver life packet) = life

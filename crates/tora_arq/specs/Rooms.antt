@@ -9,13 +9,13 @@ use Rattle.tora_arq.specs.declared.phase.Phase.TheVariants.{Closed, Unbound, Bou
 use Rattle.tora_arq.specs.LinkEnd.{EndState}
 use Rattle.tora_arq.specs.EndRange.{HasRoom}
 
--- there is room for everything that may come
+-- there is room for all events and all out-of-order packets that there may be
 pub record HasLists (places early : ℕ) : Type 0 where
   pub events : EVENT_PLACES ≤ places
   pub held : WINDOW ≤ early
 
--- this many packets from a number on are within the window, the next number is among them or after them, no packet is
--- held, and there is room for an event for each
+-- packets numbered from `number` on are within the window and not ahead of the next number, no packet is held, and
+-- there is room for an event for each
 pub record AreNext (places furthest number count : ℕ) (e : EndState) : Type 0 where
   pub room : length e.events + count ≤ places
   pub next : number ≤ e.accepted + 1
@@ -23,25 +23,25 @@ pub record AreNext (places furthest number count : ℕ) (e : EndState) : Type 0 
   pub none : e.held ≡ []
   pub ahead : e.accepted ≤ furthest
 
--- one of the two
+-- there is room for a window of out-of-order packets, or none of the packets may have to be held
 abbrev pub HasRoomFor : (places early furthest number count : ℕ) → EndState → Type 0
 HasRoomFor places early furthest number count e =
     ((WINDOW ≤ early) × HasRoom places WINDOW furthest e) ⊎ AreNext places furthest number count e
 
--- the room for the contents of a frame in a bound life
+-- there is room for the packets of a frame in a bound session
 abbrev pub HasBodyRoom : (places early : ℕ) → Body → EndState → Type 0
 HasBodyRoom places early Hello e = Unit {0}
 HasBodyRoom places early (Data number count packets) e = HasRoomFor places early (e.accepted + WINDOW) number
     (length packets.items) e
 HasBodyRoom places early (Ack count) e = Unit {0}
 
--- the same for a frame that may bind a life
+-- there is room for the packets of a frame that may bind a session
 abbrev pub HasFirstRoom : (places early : ℕ) → Body → EndState → Type 0
 HasFirstRoom places early Hello e = Unit {0}
 HasFirstRoom places early (Data number count packets) e = (length e.events + 1 + WINDOW < places) × (WINDOW ≤ early)
 HasFirstRoom places early (Ack count) e = Unit {0}
 
--- the room for the contents of a frame if none of its packets may have to be held
+-- there is room for the packets of a frame, none of which may have to be held
 abbrev pub HasNextRoom : (places : ℕ) → Body → EndState → Phase → Type 0
 HasNextRoom places Hello e phase = Unit {0}
 HasNextRoom places (Ack count) e phase = Unit {0}
@@ -54,7 +54,7 @@ pub record HasFrameRoom (places : ℕ) (f : FrameParts) (e : EndState) : Type 0 
   pub place : length e.events < places
   pub body : HasNextRoom places f.body e e.phase
 
--- a bound end has a place for the event that its life ended
+-- a bound end has a place for the event that its session ended
 abbrev pub HasEventPlaceIn : (places : ℕ) → EndState → Phase → Type 0
 HasEventPlaceIn places e Closed = Unit {0}
 HasEventPlaceIn places e (Unbound own) = Unit {0}

@@ -5,7 +5,7 @@ use Rattle.tora_frame.specs.declared.parts.Version.{Version}
 use Rattle.tora_arq.specs.declared.times.Times.{Times}
 use Rattle.tora_arq.specs.declared.TheConstants.{WINDOW}
 
--- the newest version that it speaks, its node, the node at the other end, its times, and its window
+-- the newest version that an end speaks, its node, the node at the other end, its times, and its window
 pub record Settings : Type 0 where
   pub version : Version
   pub me : ℕ

@@ -40,6 +40,6 @@ rooms_of events packets early = record { events = events; packets = packets; ear
 abbrev pub rooms_in : State → Rooms
 rooms_in s = rooms_of s.events.capacity s.queue.capacity s.held.capacity
 
--- the room for all that may wait
+-- the room for all events and packets that there may be
 abbrev pub whole_rooms : Rooms
 whole_rooms = rooms_of EVENT_PLACES QUEUE_PLACES HELD_PLACES

@@ -14,7 +14,7 @@ use Rattle.tora_arq.specs.LinkEnd.{EndState, is_two}
 use Rattle.tora_arq.specs.EndRange.{IsEndState}
 use Rattle.tora_arq.specs.Still.{last_tick}
 
--- bound in a life, or open and waiting for the peer
+-- bound to a session, or open and unbound
 abbrev pub phase_in : Bool → ℕ → ℕ → Phase
 phase_in true own peer = Bound (life_of own peer)
 phase_in false own peer = Unbound own
@@ -27,7 +27,7 @@ abbrev pub resumed : Steady → EndState → EndState
 resumed h e = record e { last_hello = Some h.said; last_hearing = h.heard; owes_old_hello = h.owes_old_hello }
 
 -- the fields of an idle end: it is open, owes neither a HELLO at once nor an ACK, and has no unacknowledged packet and
--- no event. Only these fields have the ticks of its last HELLO and of the peer's last frame.
+-- no event. The ticks of its last HELLO and of the peer's last frame are in these fields only.
 pub record IsSteady (h : Steady) (s : Settings) (e : EndState) : Type 0 where
   pub version : s.version ≡ h.version
   pub me : s.me ≡ h.me
@@ -44,7 +44,7 @@ pub record IsSteady (h : Steady) (s : Settings) (e : EndState) : Type 0 where
   pub owes_ack : e.owes_ack ≡ false
   pub kept : IsEndState s e
 
--- the end owes no frame except the regular HELLOs, and no packet and no event waits
+-- the end owes no frame except the regular HELLOs, has no unacknowledged packet and has no event
 abbrev pub is_at_ease : Settings → EndState → Bool
 is_at_ease s e =
     not e.owes_hello && (not e.owes_ack && ((length e.queue == 0) &&
@@ -76,11 +76,11 @@ abbrev pub steady_since : Settings → EndState → Option ℕ → Option Steady
 steady_since s e None = None
 steady_since s e (Some said) = if is_at_ease s e then kept_in s e said e.phase else None
 
--- the fields of an end, if it is open, has sent a HELLO in this life, and is idle
+-- the fields of an end that is idle and has sent a HELLO in this session; None for any other end
 abbrev pub steady_of : Settings → EndState → Option Steady
 steady_of s e = steady_since s e e.last_hello
 
--- the header of a HELLO of such an end
+-- the header of a HELLO of an idle end
 abbrev pub header_of : Steady → Version → Header
 header_of h version = record { version = version; sender = h.me; receiver = h.peer; life = h.own; heard = h.peer_life }
 
@@ -92,11 +92,11 @@ owes_old h = h.owes_old_hello && not h.speaks_two
 abbrev pub has_hello : Steady → ℕ → Bool
 has_hello h now = nat_le h.hello (ticks_passed h.said now)
 
--- no frame of the peer of a bound life came for `silent` ticks
+-- no frame of the peer of a bound session came for `silent` ticks
 abbrev pub is_over : Steady → ℕ → Bool
 is_over h now = h.is_bound && nat_le h.silent (ticks_passed h.heard now)
 
--- what such an end sends at a tick, and its fields after that
+-- the header of the frame that an idle end sends at a tick, and its fields after that
 abbrev pub on_send : Steady → ℕ → Option Header × Steady
 on_send h now =
     if owes_old h then (Some (header_of h One), record h { owes_old_hello = false })
@@ -109,22 +109,22 @@ on_send h now =
     )
     else (None, h)
 
--- the HELLO with a header, if there is one
+-- the HELLO with this header, if there is one
 abbrev pub told_by : Option Header → Option FrameParts
 told_by None = None
 told_by (Some header) = Some (frame_of header Hello)
 
--- a HELLO of the bound life that says nothing new
+-- a HELLO of the bound session that changes only the tick of the peer's last frame
 abbrev pub is_told : Steady → Header → Bool
 is_told h header =
     h.is_bound && ((header.sender == h.peer) && ((header.receiver == h.me) &&
     ((header.life == h.peer_life) && ((header.heard == h.own) && (h.speaks_two || not (is_two header.version))))))
 
--- the tick that is a number of ticks after another one, at most the last tick
+-- the tick that is `ticks` ticks after another one, at most 2^64 - 1
 abbrev pub behind : ℕ → ℕ → ℕ
 behind earlier ticks = min (earlier + ticks) last_tick
 
--- the tick from which on a HELLO is due at such an end, or its life ends
+-- the first tick at which a HELLO is due at an idle end, or its session times out
 abbrev pub until_of : Steady → ℕ
 until_of h =
     if owes_old h then 0

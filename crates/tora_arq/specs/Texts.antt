@@ -1,4 +1,4 @@
--- Lives, verdicts, reasons and errors as text.
+-- Sessions, verdicts, reasons and errors as text.
 use Rattle.std.specs.Prelude.{ℕ, codes, List, ◌++◌}
 use Rattle.std.specs.Fmt.{decimal}
 use Rattle.tora_arq.specs.declared.life.Life.{Life}
@@ -9,7 +9,7 @@ use Rattle.tora_arq.specs.declared.reason.Reason.TheVariants as Because
 use Rattle.tora_arq.specs.declared.submit_error.SubmitError.{SubmitError}
 use Rattle.tora_arq.specs.declared.submit_error.SubmitError.TheVariants as Refusal
 
--- a life as OWN/PEER
+-- a session as OWN/PEER
 abbrev pub written_life : Life → List ℕ
 written_life life = decimal life.own ++ codes "/" ++ decimal life.peer
 

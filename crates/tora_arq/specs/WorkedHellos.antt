@@ -1,15 +1,15 @@
--- The first HELLO of an end that speaks version 2, and a frame that comes before its HELLO of version 1.
+-- The first HELLO of an end that speaks version 2, and a frame that arrives before its HELLO of version 1.
 use Rattle.tora_frame.specs.declared.parts.Body.TheVariants.{Hello}
 use Rattle.tora_frame.specs.declared.parts.Version.TheVariants.{One, Two}
 use Rattle.tora_frame.specs.FrameParts.{FrameParts, frame_of}
 use Rattle.tora_arq.specs.Settings.{Settings, settings_of}
 use Rattle.tora_arq.specs.LinkEnd.{EndState, first_end, after_open, after_frame, after_transmit}
 
--- the end of node 1 towards node 2
+-- the settings of node 1 for its link to node 2
 abbrev pub worked_settings : Settings
 worked_settings = settings_of Two 1 2 (record { hello = 10; silent = 50; retry = 5; tries = 8 })
 
--- it is opened with 5, and sends its HELLO of version 2
+-- the end is opened with 5, and sends its HELLO of version 2
 abbrev pub given_hello : EndState
 given_hello = after_transmit worked_settings (after_open first_end 5 0) 0
 

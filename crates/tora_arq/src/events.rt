@@ -10,7 +10,7 @@ use std::alloc::{AllocError, Global};
 use std::marker::Model;
 use tora_packet::Packet;
 
-/// Events in the order in which they came, and the room for them.
+/// Events in the order in which they came, and the places for them.
 #[derive(Debug, Drop)]
 pub struct EventQueue {
     ring: HeapCircularBuffer<LinkEvent>,
@@ -34,7 +34,7 @@ impl EventQueue {
         Ok(EventQueue { ring })
     }
 
-    /// How many events wait.
+    /// How many events are in the queue.
     #[inline(always)]
     pub fn len(&self) -> usize
         ensures length { result ≡ length self.now.items }
@@ -43,7 +43,7 @@ impl EventQueue {
         self.ring.len()
     }
 
-    /// Whether an event waits.
+    /// Whether an event is in the queue.
     #[inline(always)]
     pub fn has_first(&self) -> bool
         ensures { result ≡ is_some (slice_get self.now.items 0) }
@@ -51,7 +51,7 @@ impl EventQueue {
         self.len() > 0
     }
 
-    /// Whether there is less room than the events of one frame may need.
+    /// Whether fewer places are free than the events of one frame may need.
     #[inline(always)]
     pub fn is_busy(&self) -> bool
         ensures { result ≡ nat_lt (EVENT_PLACES - length self.now.items) PLACES_OF_A_FRAME }
@@ -73,7 +73,7 @@ impl EventQueue {
         make_room(&mut self.ring, places)
     }
 
-    /// Appends an event.
+    /// Appends an event. There must be a free place.
     pub fn push(&mut self, event: LinkEvent)
         requires { length self.old.items < self.old.capacity }
         ensures { self.new ≡ buffer (self.old.items ++ event ∷ []) self.old.capacity }

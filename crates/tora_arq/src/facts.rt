@@ -1,7 +1,7 @@
 //! What holds for every link end, whatever its inputs: facts for the crates above.
 //!
-//! Each fact speaks of one call in any state, or of a whole run of calls of a new end. They hold for a window of any
-//! size.
+//! Each fact is about one call in any state, or about a whole run of calls of a new end. The facts hold for a window of
+//! any size.
 ghost use Rattle.std.specs.Prelude.{◌≡◌, ◌≢◌, ◌↔◌, ℕ, ◌+◌, ◌^◌, ◌<◌, ◌≤◌, ◌⊎◌, true, false, List, [], ◌∷◌, ◌++◌, map};
 ghost use Rattle.std.specs.Prelude.{length, Contains, Option, Result, Some};
 ghost use Rattle.std.specs.List.{AllByRecursion};
@@ -39,19 +39,19 @@ ghost use Rattle.tora_arq.specs.WorkedHellos.{worked_settings, given_hello, behi
 ghost use Rattle.tora_arq.specs.LinkTable.{Cuts, Gives, Hears, Opens, Submits, Tells, Ticks};
 
 /// Every call keeps these invariants: transmitted packets were submitted, at most a window of packets is held, and
-/// nothing is left of a life that has ended.
+/// nothing is left of a session that has ended.
 pub fn calls_keep_an_end()
     ensures first { (s : Settings) → IsEnd s first_end }
     ensures next { EveryCall (λ s e call after. IsEnd s e → IsEnd s after) }
     ensures run { EveryRun (λ s run. IsEnd s run.state) }
-    // The tick 0 ends no life.
+    // The tick 0 ends no session.
     ensures tick_zero { (s : Settings) (e : EndState) → IsTimes s.times → after_tick s e 0 ≡ e }
     // If no frame is due, nothing changes.
     ensures none_due { (s : Settings) (e : EndState) (now : ℕ) → frame_due s e now ≡ None → after_transmit s e now ≡ e }
 {}
 
-/// A bound pair of life numbers does not change until the life ends. After each `open` an end binds at most one life,
-/// and only on a frame of the peer that carries the end's own number.
+/// A bound pair of session numbers does not change until the session ends. After each `open` an end binds at most one
+/// session, and only on a frame of the peer that carries the end's own number.
 pub fn lives_are_bound_once()
     ensures fixed { EveryCall (λ s e call after. (life : Life) → e.phase ≡ Bound life
         → StaysOrCloses life after.phase) }
@@ -64,18 +64,20 @@ pub fn lives_are_bound_once()
         (after.last_life ≡ e.last_life) ⊎ (OpensWith after.last_life call × (e.last_life < after.last_life))) }
     ensures rising { EveryRun (λ s run. AreRising 0 run.events) }
     ensures once { EveryRun (λ s run. (own : ℕ) → times_bound own run.events ≤ 1) }
-    // For each bound life, a frame with both its numbers arrived while the end had the own number of that life.
+    // For each bound session, the end received a frame with both its numbers while the end had the session's own
+    // number.
     ensures told { EveryRun (λ s run. AreAllTold s run.frames run.events) }
 {}
 
-/// Only a bound end sends DATA frames, with both numbers of the life. They carry the submitted packets with the frame's
-/// packet numbers, the same at each try. The count that a frame carries is the count of accepted packets.
+/// Only a bound end sends DATA frames, which carry both numbers of the session. A DATA frame carries submitted packets
+/// with their numbers, and each try of a number carries the same packet. The count in a frame is the count of accepted
+/// packets.
 pub fn data_frames_are_what_was_submitted()
     ensures frame { (s : Settings) (e : EndState) (call : LinkCall) (f : FrameParts)
         → frame_sent_by s e call ≡ Some f → IsFrameSent s e f }
     ensures content { (s : Settings) (e : EndState) (f : FrameParts) (life : Life) (submitted : List Packet)
         → e.phase ≡ Bound life → IsFrameSent s e f → IsQueueOf submitted e → IsBodyOf submitted e.accepted f.body }
-    // When a life is bound, nothing has been submitted in it.
+    // When a session is bound, nothing has been submitted in it.
     ensures first { EveryCall (λ s e call after. (own : ℕ) (life : Life) → e.phase ≡ Unbound own
         → after.phase ≡ Bound life
         → IsQueueOf [] after × (packet_submitted e call ≡ [])) }
@@ -86,11 +88,11 @@ pub fn data_frames_are_what_was_submitted()
     ensures tries { EveryRun (λ s run. IsSameAtEachTry run.sent) }
 {}
 
-/// A packet can be submitted only for the bound life; a call for another life changes nothing.
+/// A packet can be submitted only in the bound session; a submit for another session changes nothing.
 pub fn packets_are_submitted_in_the_bound_life()
     ensures appends { (e : EndState) (life : Life) (packet : Packet) → submit_answer e life packet ≡ Ok tt
         → (e.phase ≡ Bound life) × (after_submit e life packet ≡ record e { queue = e.queue ++ untried packet ∷ [] }) }
-    // If the end is still bound to the life, it took the packet.
+    // If the end is still bound to the session, it took the packet.
     ensures own { (e : EndState) (life : Life) (packet : Packet)
         → (after_submit e life packet).phase ≡ Bound life → submit_answer e life packet ≡ Ok tt }
     ensures other { (e : EndState) (life : Life) (packet : Packet) → e.phase ≢ Bound life
@@ -100,11 +102,11 @@ pub fn packets_are_submitted_in_the_bound_life()
     ensures cut_other { (e : EndState) (life : Life) → e.phase ≢ Bound life → after_cut e life ≡ e }
 {}
 
-/// The packets delivered in a life are those numbered 1, 2, .. in its DATA frames, in order and each once. The place of
-/// a held packet fits its number.
+/// The packets delivered in a session are those numbered 1, 2, .. in its DATA frames, in order and each once. A held
+/// packet is at the place of its number.
 pub fn deliveries_are_in_order()
-    // If the held packets and those of a frame of the life are from some numbering of packets by the peer, then so are
-    // the packets delivered and held afterwards.
+    // If the held packets and the packets of a frame all agree with one numbering of the peer's packets, then so do the
+    // packets that are delivered and held after the call.
     ensures next { EveryCall (λ s e call after. (life : Life) (packets : List Packet) → IsEnd s e
         → after.phase ≡ Bound life
         → (e.phase ≡ Bound life → AreHeld (IsPacketAt packets) e.accepted e.held)
@@ -114,13 +116,13 @@ pub fn deliveries_are_in_order()
         (packets_delivered life run.events)) }
     ensures accepted { EveryBoundRun (λ s run life. length (packets_delivered life run.events) ≡ run.state.accepted) }
     ensures held { EveryBoundRun (λ s run life. AreHeld (CameAt s run.frames life) run.state.accepted run.state.held) }
-    // The packets of a life among events that deliver packets of it.
+    // The packets of a session among events that deliver packets of it.
     ensures packets { (life : Life) (packets : List Packet) → packets_delivered life (map (Deliver life) packets)
         ≡ packets }
 {}
 
-/// The events of a life are `Up`, its packets, and last `Down`; after that the end is closed and reports no event of
-/// the life. Events are polled in the order in which they were queued.
+/// The events of a session are `Up`, its packets, and last `Down`; after that the end is closed and reports no event of
+/// the session. Events are polled in the order in which they were queued.
 pub fn events_of_a_life_are_in_order()
     ensures behind { EveryCall (λ s e call after. after.events ≡ events_left e call ++ events_queued s e call) }
     ensures given { (e : EndState) (call : LinkCall) → list_of (event_given_by e call) ++ events_left e call
@@ -132,8 +134,8 @@ pub fn events_of_a_life_are_in_order()
     ensures over { EveryRun (λ s run. AreOverByDown run.events) }
 {}
 
-/// The count of acknowledged packets begins with 0, and changes only to the count in a frame with both numbers of the
-/// life. It never exceeds the count of transmitted packets.
+/// The count of acknowledged packets begins at 0, and changes only to the count in a frame with both numbers of the
+/// session. It never exceeds the count of transmitted packets.
 pub fn acknowledged_counts_come_from_the_peer()
     ensures first { EveryCall (λ s e call after. (own : ℕ) (life : Life) → e.phase ≡ Unbound own
         → after.phase ≡ Bound life
@@ -145,7 +147,7 @@ pub fn acknowledged_counts_come_from_the_peer()
         (run.state.acknowledged ≡ 0) ⊎ CountCame s run.frames life run.state.acknowledged) }
 {}
 
-/// No packet that is held, delivered or polled is an update of another node than the peer.
+/// No packet that is held, delivered or polled is an update of a node other than the peer.
 pub fn updates_are_of_the_peer()
     ensures first { (s : Settings) → IsOfPeer s first_end }
     ensures next { EveryCall (λ s e call after. IsOfPeer s e → IsOfPeer s after) }
@@ -167,8 +169,8 @@ pub fn refused_frames_change_nothing()
         → verdict_of s e frame now ≡ Is.Stale → after_frame s e frame now ≡ e }
 {}
 
-/// At one tick an end sends at most its window and four frames: a HELLO of version 1 that an earlier HELLO of version 2
-/// left due, a HELLO of each version, a DATA frame for each packet within the window, and an ACK.
+/// At one tick an end sends at most its window and four frames: a HELLO of version 1 that was still due, a HELLO of
+/// each version, a DATA frame for each packet within the window, and an ACK.
 pub fn polls_of_a_tick_end()
     // This holds however often the end is polled.
     ensures most { (s : Settings) (e : EndState) (now polls : ℕ) → IsTimes s.times
@@ -189,18 +191,18 @@ pub fn old_hello_comes_right_after()
     ensures bound { (s : Settings) (e : EndState) (life : Life) (now : ℕ) → e.phase ≡ Bound life
         → e.owes_old_hello ≡ true → e.speaks_two ≡ false
         → frame_due s e now ≡ Some (frame_sent s One life.own life.peer Hello) }
-    // A new end sends a HELLO of version 2. A HELLO of version 1 arrives, so that another HELLO is owed. Then the end
-    // sends one of version 1, and one of each version.
+    // A new end sends a HELLO of version 2. Then a HELLO of version 1 arrives, so that another HELLO is owed. The end
+    // sends its HELLO of version 1 first, and then one of each version.
     ensures worked { map (λ f. f.header.version) (frames_polled worked_settings behind_hello 0 6)
         ≡ One ∷ Two ∷ One ∷ [] }
-    // Ten ticks after a HELLO that none of version 1 followed, the same frames are sent.
+    // The same frames are sent if the end last sent a HELLO of version 2 ten ticks ago and none of version 1 since.
     ensures worked_later { map (λ f. f.header.version) (frames_polled worked_settings given_hello 10 6)
         ≡ One ∷ Two ∷ One ∷ [] }
 {}
 
-/// Up to sixteen packets that are submitted at one tick go in one frame to a peer that is known to speak version 2, if
-/// none waited before and no HELLO is due; no other frame is due at that tick. So queries for sixteen destinations are
-/// one datagram for each neighbour.
+/// Up to sixteen packets that are submitted at one tick go in one frame, if the peer is known to speak version 2, no
+/// packet waited before and no HELLO is due. No other frame is due at that tick. So queries for sixteen destinations
+/// are one datagram for each neighbour.
 pub fn flood_is_one_frame()
     ensures one { (s : Settings) (e : EndState) (life : Life) (packets : List Packet) (now : ℕ) → IsIdle s e life now
         → 0 < length packets → length packets ≤ 16 → length packets ≤ s.window

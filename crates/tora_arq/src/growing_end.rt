@@ -1,4 +1,4 @@
-//! A link end that takes memory only as packets and events wait.
+//! A link end that takes memory only when packets and events have to be stored.
 ghost use Rattle.std.specs.Prelude.{◌≡◌, ◌≢◌, ◌<◌, ◌≤◌, ◌^◌, ℕ, false, IfErr, IfNone, IfOk, IfSome, IsTrue, OnErr};
 ghost use Rattle.std.specs.Prelude.{is_some, length};
 ghost use Rattle.tora_arq.specs.Settings.{IsTimes, settings_of};
@@ -20,11 +20,11 @@ use tora_frame::{BorrowedFrame, Header, Packets, Version};
 use tora_height::Id;
 use tora_packet::Packet;
 
-/// A link end as `LinkEnd`, which takes memory only as packets and events wait: a call that may queue some makes room
-/// first. So a simulator can hold very many ends that have little to do.
+/// A link end like `LinkEnd`, which takes memory only when it has to store packets and events: a call that may queue
+/// some makes room first. So a simulator can hold very many idle ends.
 ///
-/// Its calls do what those of `LinkEnd` do. Those that may take memory may fail, and change nothing then. A bound end
-/// always has a place for the event that its life ended, so a tick and a cut cannot fail.
+/// Its calls have the same effects as those of `LinkEnd`. A call that may take memory may fail, and then changes
+/// nothing. A bound end always has a place for its `Down` event, so a tick and a cut cannot fail.
 #[derive(Debug, Drop)]
 pub struct GrowingEnd {
     settings: Settings,
@@ -45,8 +45,8 @@ impl Model for GrowingEnd {
 }
 
 impl GrowingEnd {
-    /// A closed end that speaks versions up to this one, for the link between node `me` and its neighbour `peer`, two
-    /// different nodes.
+    /// A closed end for the link between node `me` and its neighbour `peer`, two different nodes. It speaks all
+    /// versions up to `version`.
     ///
     /// Every time of `times` is at least 1.
     ///
@@ -106,28 +106,28 @@ impl GrowingEnd {
         self.settings.times
     }
 
-    /// Whether the end has to be opened.
+    /// Whether the end is closed, and has to be opened.
     pub fn is_closed(&self) -> bool
         ensures { result ≡ is_closed self.now.state }
     {
         self.state.is_closed()
     }
 
-    /// The bound life.
+    /// The bound session; `None` if the end is not bound.
     pub fn life(&self) -> Option<Life>
         ensures { result ≡ bound_life self.now.state }
     {
         self.state.life()
     }
 
-    /// How many packets wait for their acknowledgement.
+    /// How many packets are not acknowledged.
     pub fn waiting(&self) -> usize
         ensures { result ≡ length self.now.state.queue }
     {
         self.state.queue.len()
     }
 
-    /// Whether an event waits to be polled.
+    /// Whether there is an event to poll.
     #[inline(always)]
     pub fn has_event(&self) -> bool
         ensures { result ≡ is_some (first_event self.now.state) }
@@ -135,14 +135,14 @@ impl GrowingEnd {
         self.state.events.has_first()
     }
 
-    /// The next event, if one waits. It stays in the queue.
+    /// The next event, if there is one. It stays in the queue.
     pub fn next_event(&self) -> Option<LinkEvent>
         ensures { result ≡ first_event self.now.state }
     {
         self.state.events.first()
     }
 
-    /// Whether a frame is due.
+    /// Whether a frame is due at the tick `now`.
     pub fn has_frame_due(&self, now: u64) -> bool
         ensures { result ≡ is_some (frame_due self.now.settings self.now.state now) }
     {
@@ -177,7 +177,7 @@ impl GrowingEnd {
         self.state.resume(steady);
     }
 
-    /// Opens a closed end with a number that is above all earlier ones, at most 2^62.
+    /// Opens a closed end with a session number that is above all earlier ones and at most 2^62.
     pub fn open(&mut self, life: u64, now: u64)
         requires closed { IsTrue (is_closed self.old.state) }
         requires above { self.old.state.last_life < life }
@@ -194,7 +194,7 @@ impl GrowingEnd {
         self.state.on_tick(&self.settings, now);
     }
 
-    /// Removes and returns the next event, if one waits.
+    /// Removes and returns the next event, if there is one.
     pub fn poll_event(&mut self) -> Option<LinkEvent>
         ensures event { result ≡ first_event self.old.state }
         ensures state { self.new ≡ record self.old { state = after_poll_event self.old.state } }
@@ -202,7 +202,7 @@ impl GrowingEnd {
         self.state.events.pop()
     }
 
-    /// Ends a life if it is the bound one; otherwise nothing changes.
+    /// Ends a session if it is the bound one; otherwise nothing changes.
     pub fn cut(&mut self, life: Life)
         ensures { self.new ≡ record self.old { state = after_cut self.old.state life } }
     {

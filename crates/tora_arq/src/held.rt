@@ -28,7 +28,7 @@ impl Model for HeldPackets {
 }
 
 impl HeldPackets {
-    /// No packets, with this many places.
+    /// No packets, with room for this many.
     pub fn new(alloc: Global, places: usize) -> Result<HeldPackets, AllocError>
         ensures { IfOk result (λ h. h ≡ buffer [] places) }
     {
@@ -61,7 +61,7 @@ impl HeldPackets {
         make_room(&mut self.ring, places)
     }
 
-    /// Appends empty places up to this many.
+    /// Appends empty places until there are this many.
     #[tactic(auto, using(crate::proofs::HeldLemmas::padded_more, crate::proofs::HeldLemmas::padded_all))]
     fn pad(&mut self, places: usize)
         requires { places ≤ self.old.capacity }
@@ -72,7 +72,7 @@ impl HeldPackets {
         }
     }
 
-    /// Holds a packet at a place, unless one is held there already.
+    /// Holds a packet at a place, unless a packet is held there already.
     #[tactic(auto, using(crate::proofs::HeldLemmas::hold_empty, crate::proofs::HeldLemmas::hold_taken, crate::proofs::HeldLemmas::padded_within))]
     pub fn hold(&mut self, place: usize, packet: Packet)
         requires room { place < self.old.capacity }
@@ -88,7 +88,7 @@ impl HeldPackets {
         }
     }
 
-    /// Removes and returns the packet of the first place, if one is held there.
+    /// Removes the first place, and returns its packet if there is one.
     pub fn take_first(&mut self) -> Option<Packet>
         ensures packet { result ≡ first_held self.old.items }
         ensures some { OnSome result (self.new ≡ buffer (drop 1 self.old.items) self.old.capacity) }

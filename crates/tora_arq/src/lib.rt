@@ -7,7 +7,7 @@
 //! ```rust
 //! let mut one = LinkEnd::new(alloc, 1, 2, Times::STANDARD)?;
 //! let mut two = LinkEnd::new(alloc, 2, 1, Times::STANDARD)?;
-//! one.open(5, 0); // the numbers of their lives, from their life files
+//! one.open(5, 0); // session numbers, from their life files
 //! two.open(9, 0);
 //! for _ in 0..2 {
 //!     while let Some(frame) = one.poll_transmit(0) {
@@ -63,18 +63,18 @@ pub use submit_error::SubmitError;
 pub use times::Times;
 pub use verdict::Verdict;
 
-/// How many packets of a life may be transmitted and not acknowledged.
+/// How many packets of a session may be transmitted and not acknowledged.
 pub const WINDOW: u64 = 32;
 
 /// How many events of a link end may wait to be polled: twice a window.
 pub const EVENT_PLACES: usize = 2 * WINDOW as usize;
 
-/// How many places for events must be free when a frame arrives: for the event that a life is bound, for the packets of
-/// a window, and for the event that the life ended.
+/// How many places for events must be free when a frame arrives: one for `Up`, a window for packets, and one for
+/// `Down`.
 pub const PLACES_OF_A_FRAME: usize = WINDOW as usize + 2;
 
 /// How many packets that arrived out of order are held at most: a window.
 const HELD_PLACES: usize = WINDOW as usize;
 
-/// How many packets of a life may wait for their acknowledgement.
+/// How many packets of a session may be unacknowledged, transmitted or not.
 pub const QUEUE_PLACES: usize = 256;

@@ -1,12 +1,12 @@
-//! A life of a link.
+//! A session of a link.
 ghost use Rattle.std.specs.Prelude.{◌≡◌};
 ghost use Rattle.tora_arq.specs.Lives.{is_same_life, reversed};
 
 use std::fmt;
 
-/// A life (session) of a link: the numbers that its two ends drew for it, each 1 to 2^62.
+/// A session of a link: the two numbers that its two ends drew for it, each 1 to 2^62.
 ///
-/// The other end writes the same life with the two numbers exchanged.
+/// The other end writes the same session with the two numbers exchanged.
 #[derive(Clone, Copy, Debug, PartialEq, Eq, Hash)]
 pub struct Life {
     /// The number of this end.
@@ -16,7 +16,7 @@ pub struct Life {
 }
 
 impl Life {
-    /// The life as the other end writes it.
+    /// The session as the other end writes it.
     pub fn reversed(self) -> Life
         ensures { result ≡ reversed self }
     {
@@ -34,7 +34,7 @@ impl Life {
     }
 }
 
-/// A life as `OWN/PEER`.
+/// A session as `OWN/PEER`.
 impl fmt::Display for Life {
     ghost use Rattle.std.specs.Prelude.{Some};
     ghost use Rattle.tora_arq.specs.Texts.{written_life};

@@ -28,19 +28,19 @@ use tora_packet::Packet;
 /// The end of a link to one neighbour.
 ///
 /// It is closed at first. A caller draws a number that it never drew before and opens the end with it. By HELLOs the
-/// two ends then bind a life, in which each sends packets that the other delivers once and in order. The end of a life
-/// closes the link end, and the caller opens it with the next number.
+/// two ends then bind a session, in which each end delivers the other's packets once and in order. When the session
+/// ends, the link end closes, and the caller opens it with the next number.
 ///
-/// In each turn a caller with the tick `now` does this, in this order:
+/// In each turn a caller with the tick `now` makes these calls, in this order:
 /// 1. if `is_closed`, `open` with a new number;
 /// 2. `on_tick`;
-/// 3. `submit` the packets to be sent, or `cut` a life;
-/// 4. `poll_transmit` until it gives `None`, and send each frame;
+/// 3. `submit` each packet to send, or `cut` a session;
+/// 4. `poll_transmit` until it returns `None`, and send each frame;
 /// 5. `on_frame` with a frame that arrived;
-/// 6. `poll_event` until it gives `None`.
+/// 6. `poll_event` until it returns `None`.
 ///
 /// Any other order is safe. A tick is 100 ms. If a tick is less than an earlier one, no time has passed. Only `new`
-/// takes memory. A bound end always has a place for the event that its life ended.
+/// takes memory. A bound end always has a place for its `Down` event.
 #[derive(Debug, Drop)]
 pub struct LinkEnd {
     settings: Settings,
@@ -61,10 +61,10 @@ impl Model for LinkEnd {
 
 impl LinkEnd {
     /// A closed end of the link between node `me` and its neighbour `peer`, two different nodes. It speaks version 2,
-    /// and version 1 to a peer that isn't known to speak version 2.
+    /// and version 1 to a peer that is not known to speak version 2.
     ///
-    /// Every time of `times` is at least 1. It makes room for `QUEUE_PLACES` packets that wait for their
-    /// acknowledgement and for `EVENT_PLACES` events.
+    /// Every time of `times` is at least 1. The end makes room for `QUEUE_PLACES` unacknowledged packets and for
+    /// `EVENT_PLACES` events.
     ///
     /// # Errors
     /// `Memory`.
@@ -92,7 +92,7 @@ impl LinkEnd {
         LinkEnd::of(alloc, Version::One, me, peer, times)
     }
 
-    /// A closed end that speaks versions up to this one.
+    /// A closed end that speaks all versions up to `version`.
     fn of(
         alloc: Global,
         version: Version,
@@ -118,7 +118,7 @@ impl LinkEnd {
         Ok(LinkEnd { settings, state })
     }
 
-    /// Whether the end has to be opened.
+    /// Whether the end is closed, and has to be opened.
     pub fn is_closed(&self) -> bool
         ensures { result ≡ is_closed self.now.state }
     {
@@ -154,7 +154,7 @@ impl LinkEnd {
         self.settings.times
     }
 
-    /// How many packets wait for their acknowledgement, at most `QUEUE_PLACES`.
+    /// How many packets are not acknowledged, at most `QUEUE_PLACES`.
     pub fn waiting(&self) -> usize
         ensures waiting { result ≡ length self.now.state.queue }
         ensures within { result ≤ QUEUE_PLACES }
@@ -162,7 +162,7 @@ impl LinkEnd {
         self.state.queue.len()
     }
 
-    /// The own number of the last life, 1 to 2^62; 0 before the first.
+    /// The own number of the last session, 1 to 2^62; 0 before the first.
     pub fn last_life(&self) -> u64
         ensures last { result ≡ self.now.state.last_life }
         ensures within { result ≤ 2 ^ 62 }
@@ -170,16 +170,16 @@ impl LinkEnd {
         self.state.last_life
     }
 
-    /// The bound life.
+    /// The bound session; `None` if the end is not bound.
     pub fn life(&self) -> Option<Life>
         ensures life { result ≡ bound_life self.now.state }
-        // There is a place for the event that the life ended.
+        // There is a place for the event that the session ended.
         ensures room { OnSome result (length self.now.state.events < EVENT_PLACES) }
     {
         self.state.life()
     }
 
-    /// Opens a closed end with a number that is above all earlier ones, at most 2^62.
+    /// Opens a closed end with a session number that is above all earlier ones and at most 2^62.
     pub fn open(&mut self, life: u64, now: u64)
         requires closed { IsTrue (is_closed self.old.state) }
         requires above { self.old.state.last_life < life }
@@ -189,31 +189,28 @@ impl LinkEnd {
         self.state.open(life, now);
     }
 
-    /// Takes a frame that came in at the tick `now`. The first of these that applies decides:
-    /// 1. It is not from the peer or not for this node, or it is of version 2 and the end of version 1, or it has an
-    ///    update
-    ///    of another node than the peer: `Foreign`.
-    /// 2. Fewer than `PLACES_OF_A_FRAME` of the `EVENT_PLACES` places for events are free: `Busy`.
-    /// 3. The end is closed: `Stale`.
-    /// 4. At a bound end, a life of the sender above the bound one ends the bound life (`NewPeer`): `Accepted`. One
-    ///    below
-    ///    it: `Stale`.
-    /// 5. The life that the sender heard is not the own number. A HELLO at an unbound end: `Stale` where its life is
-    ///    below
-    ///    the one noted, otherwise it is noted, and a HELLO is owed where it is a greater one: `Accepted`. Any other:
-    ///    `Stale`.
-    /// 6. The count is above the packets transmitted in this life: `Foreign`. At an unbound end, a life below the one
-    ///    noted:
-    ///    `Stale`. Otherwise an unbound end binds the life (`Up`), and a HELLO is owed where the life was not noted before.
-    /// 7. The peer is heard, and packets up to the count leave the queue. HELLO: `Accepted`. ACK: `Accepted` where the
-    ///    count grew or the frame bound the life, otherwise `Repeated`. DATA, for which an ACK is owed: `Repeated` where
-    ///    all its packets were accepted before, `Accepted` where the next packet is among them, otherwise `Ahead`. Each
-    ///    packet by itself is passed over where it was accepted before, held within the window and then delivered in
-    ///    order (`Deliver`), or dropped.
+    /// Receives a frame at the tick `now`. The first case that applies decides:
+    /// 1. `Foreign`: the frame is not from the peer or not for this node, it is of version 2 and the end speaks only
+    ///    version 1, or it has an update of a node other than the peer.
+    /// 2. `Busy`: fewer than `PLACES_OF_A_FRAME` of the `EVENT_PLACES` places for events are free.
+    /// 3. `Stale`: the end is closed.
+    /// 4. The end is bound to a session with another number of the sender. If the frame's number is greater, the
+    ///    session ends (`NewPeer`): `Accepted`. If it is smaller: `Stale`.
+    /// 5. The number that the sender heard is not the end's own number. A HELLO at an unbound end: `Stale` if its
+    ///    session number is below the noted one; otherwise the number is noted, and a HELLO is owed if it is greater:
+    ///    `Accepted`. Any other frame: `Stale`.
+    /// 6. The count is above the packets transmitted in this session: `Foreign`. At an unbound end, a session number
+    ///    below the noted one: `Stale`. Otherwise an unbound end binds the session (`Up`), owes a HELLO if the number
+    ///    was not noted before, and continues with case 7.
+    /// 7. The tick counts as that of the peer's last frame, and the packets up to the count leave the queue. HELLO:
+    ///    `Accepted`. ACK: `Accepted` if the count grew or the frame bound the session, otherwise `Repeated`. DATA:
+    ///    `Repeated` if all its packets were accepted before, `Accepted` if the next packet is among them, otherwise
+    ///    `Ahead`; an ACK is owed. Each packet of the frame is skipped if it was accepted before, held if it is within
+    ///    the window and then delivered in order (`Deliver`), and otherwise dropped.
     ///
-    /// A frame that changes the life noted sets the mark that the peer speaks version 2 where it is of version 2, and
-    /// unsets it otherwise. Another frame of version 2 sets it in the cases 5 to 7, where it is neither `Stale` nor
-    /// `Foreign`.
+    /// The end has a mark that the peer speaks version 2. A frame that changes the noted number sets the mark if it is
+    /// of version 2, and otherwise clears it. Any other frame of version 2 sets the mark in cases 5 to 7, unless its
+    /// verdict is `Stale` or `Foreign`.
     ///
     /// `Foreign`, `Busy` and `Stale` change nothing.
     pub fn on_frame(&mut self, frame: &Frame, now: u64) -> Verdict
@@ -235,7 +232,7 @@ impl LinkEnd {
         self.state.on_frame(&self.settings, frame, now)
     }
 
-    /// As `on_frame`, for a HELLO, given by its header.
+    /// As `on_frame`, for a HELLO, which is given by its header.
     #[inline(always)]
     pub fn on_hello(&mut self, header: &Header, now: u64) -> Verdict
         requires { IsHeader header.now }
@@ -248,7 +245,7 @@ impl LinkEnd {
         self.state.on_hello(&self.settings, header, now)
     }
 
-    /// Ends the bound life (`Silent`) if no frame of the peer came for `silent` ticks, or if a packet is not
+    /// Ends the bound session (`Silent`) if no frame of the peer came for `silent` ticks, or if a packet is not
     /// acknowledged `retry` ticks after the last of its `tries` tries.
     pub fn on_tick(&mut self, now: u64)
         ensures { self.new ≡ record self.old { state = after_tick self.old.settings self.old.state now } }
@@ -256,12 +253,12 @@ impl LinkEnd {
         self.state.on_tick(&self.settings, now);
     }
 
-    /// Takes a packet to be sent in a life.
+    /// Takes a packet to send in a session.
     ///
     /// # Errors
-    /// In this order: `WrongLife` if the life is not the bound one, which changes nothing and returns the packet;
-    /// `Spent` if 2^62 packets were submitted in this life, which ends it; `Full` if `QUEUE_PLACES` packets wait for
-    /// their acknowledgement, which ends it.
+    /// In this order: `WrongLife` if the session is not the bound one, which changes nothing and returns the packet;
+    /// `Spent` if 2^62 packets were submitted in this session, which ends it; `Full` if `QUEUE_PLACES` packets are not
+    /// acknowledged, which ends it.
     pub fn submit(&mut self, life: Life, packet: Packet) -> Result<(), SubmitError>
         ensures answer { result ≡ submit_answer self.old.state life packet }
         ensures state { self.new ≡ record self.old { state = after_submit self.old.state life packet } }
@@ -269,14 +266,14 @@ impl LinkEnd {
         self.state.submit(life, packet)
     }
 
-    /// The next event, if one waits. It stays in the queue.
+    /// The next event, if there is one. It stays in the queue.
     pub fn next_event(&self) -> Option<LinkEvent>
         ensures { result ≡ first_event self.now.state }
     {
         self.state.events.first()
     }
 
-    /// Removes and returns the next event, if one waits.
+    /// Removes and returns the next event, if there is one.
     pub fn poll_event(&mut self) -> Option<LinkEvent>
         ensures event { result ≡ first_event self.old.state }
         ensures state { self.new ≡ record self.old { state = after_poll_event self.old.state } }
@@ -284,24 +281,24 @@ impl LinkEnd {
         self.state.events.pop()
     }
 
-    /// Whether a frame is due.
+    /// Whether a frame is due at the tick `now`.
     pub fn has_frame_due(&self, now: u64) -> bool
         ensures { result ≡ is_some (frame_due self.now.settings self.now.state now) }
     {
         self.state.is_frame_due(&self.settings, now)
     }
 
-    /// The first tick from `now` on at which a frame is due or the bound life ends in silence, if there is no other
-    /// call until then. `None` if there is no such tick below 2^64. It looks at no more packets than the window.
+    /// The first tick from `now` on at which a frame is due or the bound session times out, if there is no other call
+    /// until then. `None` if there is no such tick below 2^64. It reads at most a window of packets.
     pub fn next_due(&self, now: u64) -> Option<u64>
         ensures { IsNextDue self.now.settings self.now.state now result }
     {
         self.state.next_due(&self.settings, now)
     }
 
-    /// The tick from which on a frame is due or a tick ends the life; before it, no frame is due and a tick changes
-    /// nothing. It holds until another call; 0 if a frame is due at once, 2^64 - 1 if never, as at a closed end. It
-    /// looks at no more packets than the window.
+    /// The first tick at which a frame is due or a tick ends the session. This holds at every later tick too; before
+    /// it, no frame is due and a tick changes nothing. It is valid until another call. It is 0 if a frame is due at
+    /// once, and 2^64 - 1 if there is no such tick, as at a closed end. It reads at most a window of packets.
     #[inline(always)]
     pub fn still_until(&self) -> u64
         ensures exact { IsStillUntil self.now.settings self.now.state result }
@@ -313,8 +310,8 @@ impl LinkEnd {
     }
 
     /// The fields that HELLOs read, if the end is idle: it is open, has sent a HELLO, owes neither a HELLO at once nor
-    /// an ACK, and has no unacknowledged packet and no event. The caller uses them instead of the end, and calls
-    /// `resume` before any other call.
+    /// an ACK, and has no unacknowledged packet and no event. The caller then uses these fields instead of the end, and
+    /// calls `resume` before any other call.
     pub fn steady(&self) -> Option<Steady>
         ensures given { result ≡ steady_of self.now.settings self.now.state }
         ensures steady { IfSome result (λ steady. IsSteady steady self.now.settings self.now.state) }
@@ -323,7 +320,7 @@ impl LinkEnd {
         self.state.steady(&self.settings)
     }
 
-    /// Writes the idle fields back into the end.
+    /// Writes the fields of an idle end back into it.
     pub fn resume(&mut self, steady: &Steady)
         requires { IsSteady steady.now self.old.settings self.old.state }
         ensures { self.new ≡ record self.old { state = resumed steady.now self.old.state } }
@@ -331,14 +328,18 @@ impl LinkEnd {
         self.state.resume(steady);
     }
 
-    /// Returns the first frame due, which counts as sent; `None` only if none is due.
+    /// Returns the first frame due, which counts as sent; `None` if no frame is due.
     ///
-    /// In this order: a HELLO of the newest version that the end speaks, if one is owed or `hello` ticks have passed
-    /// since the last one; a HELLO of version 1 after one of version 2, while the peer isn't known to speak version 2;
-    /// a DATA frame with the first packet within the window that was never transmitted, or was `retry` ticks ago and
-    /// fewer than `tries` times; an ACK, if one is owed. A DATA frame counts as an owed ACK. DATA and ACK are of
-    /// version 2 if the peer is known to speak it. A DATA frame of version 2 carries the first packet and those that
-    /// follow it, at most sixteen in all, as long as they are within the window and due.
+    /// The first of these is due:
+    /// 1. a HELLO of the newest version that the end speaks, if one is owed or `hello` ticks have passed since the last
+    ///    one;
+    /// 2. a HELLO of version 1 after one of version 2, while the peer is not known to speak version 2;
+    /// 3. a DATA frame, if a packet within the window was never transmitted, or was transmitted fewer than `tries`
+    ///    times and the last time `retry` ticks ago;
+    /// 4. an ACK, if one is owed; a DATA frame counts as an owed ACK.
+    ///
+    /// DATA and ACK are of version 2 if the peer is known to speak it. A DATA frame of version 2 carries the first
+    /// packet due and the due packets that follow it directly within the window, at most sixteen in all.
     pub fn poll_transmit(&mut self, now: u64) -> Option<Frame>
         ensures frame { result ≡ frame_due self.old.settings self.old.state now }
         ensures state { self.new ≡ record self.old { state = after_transmit self.old.settings self.old.state now } }
@@ -349,8 +350,8 @@ impl LinkEnd {
         Some(frame.to_frame())
     }
 
-    /// As `poll_transmit`, but a DATA frame borrows its packets from `packets`, which is overwritten. If the frame is
-    /// no DATA frame, or none is due, `packets` may have any packets.
+    /// As `poll_transmit`, but a DATA frame borrows its packets from `packets`, which is overwritten. After any other
+    /// frame, or none, `packets` may have any packets.
     pub fn poll_transmit_into<'a>(
         &mut self,
         now: u64,
@@ -363,8 +364,8 @@ impl LinkEnd {
         self.state.poll_transmit(&self.settings, now, packets)
     }
 
-    /// Like `poll_transmit`, but only for a HELLO, of which it returns the header. `None` if another frame or none is
-    /// due; nothing changes then.
+    /// Like `poll_transmit`, but only for a HELLO, and returns its header. `None` if no frame is due or the first frame
+    /// due is not a HELLO; then nothing changes.
     pub fn poll_hello(&mut self, now: u64) -> Option<Header>
         ensures frame { IfSome result (λ header. frame_due self.old.settings self.old.state now
             ≡ Some (frame_of header Body.Hello)) }
@@ -379,7 +380,7 @@ impl LinkEnd {
         self.state.poll_first_hello(&self.settings, now)
     }
 
-    /// Ends a life if it is the bound one; otherwise nothing changes.
+    /// Ends a session if it is the bound one; otherwise nothing changes.
     pub fn cut(&mut self, life: Life)
         ensures { self.new ≡ record self.old { state = after_cut self.old.state life } }
     {

@@ -8,16 +8,16 @@ use tora_packet::Packet;
 /// An event that a link end reports to its node.
 #[derive(Clone, Copy, Debug, PartialEq, Eq, Hash)]
 pub enum LinkEvent {
-    /// A life was bound: the link is up.
+    /// A session was bound: the link is up.
     Up(Life),
-    /// The next packet of the peer in a life.
+    /// The next packet of the peer in a session.
     Deliver(Life, Packet),
-    /// A life ended: the link is down.
+    /// A session ended: the link is down.
     Down(Life, Reason),
 }
 
 impl LinkEvent {
-    /// The life that the event is of.
+    /// The session of the event.
     pub fn life(&self) -> Life
         ensures { result ≡ event_life self.now }
     {

@@ -87,14 +87,14 @@ impl SendQueue {
         self.ring.clear();
     }
 
-    /// How many packets are within the window. Those after them were never transmitted.
+    /// How many packets are within the window. The packets beyond it were never transmitted.
     fn within_window(&self) -> usize
         ensures { result ≡ min WINDOW (length self.now.items) }
     {
         self.len().min(WINDOW as usize)
     }
 
-    /// The packet at the index `place`, from 0 on.
+    /// The packet at the index `place`, counted from 0.
     fn packet_at(&self, place: usize) -> QueuedPacket
         requires { place < length self.now.items }
         ensures { slice_get self.now.items place ≡ Some result }
@@ -112,8 +112,8 @@ impl SendQueue {
         rings::set(&mut self.ring, place, packet);
     }
 
-    /// Whether a packet was transmitted `tries` times and the last time is `retry` ticks ago. It looks at no more than
-    /// the window.
+    /// Whether a packet was transmitted `tries` times, the last time at least `retry` ticks ago. It reads at most a
+    /// window of packets.
     #[tactic(auto, using(crate::proofs::QueueLemmas::given_up_at, crate::proofs::QueueLemmas::none_given_up_here))]
     pub fn has_given_up(&self, times: &Times, now: u64) -> bool
         requires tries { 0 < times.now.tries }
@@ -128,7 +128,8 @@ impl SendQueue {
         false
     }
 
-    /// The first packet due within the window, and how many are before it. It looks at no more than the window.
+    /// The first due packet within the window, and how many packets are before it. It reads at most a window of
+    /// packets.
     fn first_ready(&self, times: &Times, now: u64) -> Option<(usize, QueuedPacket)>
         ensures first { MatchOption result (AreLate times.now now WINDOW self.now.items) (λ r.
             IsFirstReady times.now now WINDOW self.now.items r.0 r.1) }
@@ -153,7 +154,7 @@ impl SendQueue {
         }
     }
 
-    /// The first tick at which a packet within the window is due or is given up. It looks at no more than the window.
+    /// The first tick at which a packet within the window is due or is given up. It reads at most a window of packets.
     #[inline(never)]
     pub fn due_tick(&self, times: &Times) -> Option<u64>
         requires retry { 0 < times.now.retry }
@@ -171,7 +172,7 @@ impl SendQueue {
     }
 
     /// Appends the packets from a place up to another, stopping at the first that is not due. They count as transmitted
-    /// now.
+    /// at `now`.
     fn take_run(&mut self, times: &Times, now: u64, place: usize, end: usize, packets: &mut Packets)
         requires within { end ≤ length self.old.items }
         requires most { end ≤ place + MOST_PACKETS }
@@ -192,8 +193,8 @@ impl SendQueue {
         }
     }
 
-    /// Moves the first due packet of the window into `packets`, replacing what `packets` held, and then the due packets
-    /// that follow it directly, at most `most` in all. They count as transmitted at `now`.
+    /// Replaces the content of `packets` by the first due packet of the window and the due packets that follow it
+    /// directly, at most `most` in all. They count as transmitted at `now`.
     ///
     /// The result is the index of the first of them; `None` if no packet is due.
     pub fn take_due(

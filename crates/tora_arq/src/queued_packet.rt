@@ -57,7 +57,7 @@ impl QueuedPacket {
         self.tries == 0 || (self.tries < times.tries && self.is_retry_time(times, now))
     }
 
-    /// Whether it was tried `tries` times, and `retry` ticks have passed since the last try.
+    /// Whether the packet was transmitted `tries` times, the last time at least `retry` ticks ago.
     pub fn is_given_up(&self, times: &Times, now: u64) -> bool
         ensures { result ≡ is_given_up times.now now self.now }
     {

@@ -1,21 +1,21 @@
-//! Why a life ended.
+//! Why a session ended.
 ghost use Rattle.std.specs.Prelude.{◌≡◌};
 ghost use Rattle.tora_arq.specs.Lives.{reason_number};
 
 use std::fmt;
 
-/// Why a life ended.
+/// Why a session ended.
 #[derive(Clone, Copy, Debug, PartialEq, Eq, Hash)]
 pub enum Reason {
     /// No frame of the peer came, or the peer did not acknowledge a packet.
     Silent,
-    /// The peer began a newer life.
+    /// The peer began a newer session.
     NewPeer,
     /// The send queue was full.
     Full,
-    /// The node cut the life.
+    /// The node cut the session.
     Cut,
-    /// The numbers of packets were used up.
+    /// The packet numbers are used up.
     Spent,
 }
 

@@ -30,7 +30,7 @@ fn count_of(body: BorrowedBody<'_>) -> u64
 }
 
 impl State {
-    /// Notes the version of an accepted frame: version 2 sets the mark.
+    /// Sets the mark that the peer speaks version 2, if an accepted frame is of version 2.
     fn pass(&mut self, version: Version)
         ensures state { state_in self.new ≡ passed (state_in self.old) version }
         ensures rooms { rooms_in self.new ≡ rooms_in self.old }
@@ -38,7 +38,7 @@ impl State {
         self.speaks_two = is_two(version) || self.speaks_two;
     }
 
-    /// Receives a frame that does not carry the own number, at an end that is not bound.
+    /// Receives a frame that does not carry the end's own number, at an end that is not bound.
     fn on_life_told(&mut self, version: Version, life: u64, body: BorrowedBody<'_>) -> Verdict
         ensures verdict { result ≡ (on_life_told (state_in self.old) version life (body_of body.entry)).0 }
         ensures state { state_in self.new ≡ (on_life_told (state_in self.old) version life (body_of body.entry)).1 }
@@ -81,7 +81,7 @@ impl State {
         self.release(life);
     }
 
-    /// Receives a packet of the bound life. `furthest` is the last number of the window.
+    /// Receives a packet of the bound session. `furthest` is the last number of the window.
     #[tactic(auto, using(crate::proofs::ReceiveLemmas::passed_over, crate::proofs::ReceiveLemmas::dropped))]
     fn on_packet(&mut self, life: Life, furthest: u64, number: u64, packet: Packet)
         requires room { HasRoomFor self.old.events.capacity self.old.held.capacity furthest number 1 (state_in self.old) }
@@ -100,7 +100,7 @@ impl State {
         }
     }
 
-    /// Receives packets of the bound life, numbered in sequence from `number` on.
+    /// Receives packets of the bound session, numbered in sequence from `number` on.
     fn on_packets(&mut self, life: Life, number: u64, packets: &[Packet])
         requires room { HasRoomFor self.old.events.capacity self.old.held.capacity (self.old.accepted + WINDOW) number
             (length packets.now) (state_in self.old) }
@@ -118,7 +118,7 @@ impl State {
         }
     }
 
-    /// Receives a DATA frame of the bound life.
+    /// Receives a DATA frame of the bound session.
     #[tactic(auto, unfolding(crate::specs::LinkEnd::on_data))]
     fn on_data(&mut self, life: Life, number: u64, packets: &[Packet]) -> Verdict
         requires room { HasRoomFor self.old.events.capacity self.old.held.capacity (self.old.accepted + WINDOW) number
@@ -142,7 +142,7 @@ impl State {
         Verdict::Ahead
     }
 
-    /// Receives a frame of the bound life. `binds` says whether this frame bound it.
+    /// Receives a frame of the bound session. `binds` says whether this frame bound it.
     #[tactic(auto, unfolding(crate::specs::LinkEnd::on_matched))]
     fn on_matched(&mut self, life: Life, binds: bool, now: u64, body: BorrowedBody<'_>) -> Verdict
         requires numbered { IsNumbered (body_of body) }
@@ -276,7 +276,7 @@ impl State {
         Verdict::Accepted
     }
 
-    /// Receives a HELLO, given by its header. It has a separate path because most frames are HELLOs.
+    /// Receives a HELLO, given by its header. It has a path of its own because most frames are HELLOs.
     #[inline(always)]
     #[tactic(auto, unfolding(crate::specs::LinkEnd::on_frame, crate::specs::LinkEnd::on_frame_in))]
     pub fn on_hello(&mut self, settings: &Settings, header: &Header, now: u64) -> Verdict

@@ -6,7 +6,7 @@ ghost use Rattle.circular_buffer.specs.Buffer.{buffer};
 use circular_buffer::HeapCircularBuffer;
 use std::alloc::AllocError;
 
-/// The fewest places of a ring that has any. From there a ring grows by doubling.
+/// The fewest places of a ring that is not empty. A ring grows by doubling.
 const FEWEST_PLACES: usize = 4;
 
 /// The item at a place.
@@ -43,7 +43,7 @@ pub fn set<T: Drop>(ring: &mut HeapCircularBuffer<T>, place: usize, item: T)
     *slot = item;
 }
 
-/// Removes the first items.
+/// Removes the first `count` items.
 pub fn remove_first<T: Drop>(ring: &mut HeapCircularBuffer<T>, count: usize)
     requires { count ≤ length ring.old.items }
     ensures { ring.new ≡ buffer (drop count ring.old.items) ring.old.capacity }
@@ -70,7 +70,7 @@ pub fn make_room<T: Drop>(ring: &mut HeapCircularBuffer<T>, places: usize) -> Re
     grow(ring, places)
 }
 
-/// As `make_room`, if the room has to grow. It is a separate function because that is rare.
+/// As `make_room`, if the room has to grow. It is a separate function because growing is rare.
 #[inline(never)]
 fn grow<T: Drop>(ring: &mut HeapCircularBuffer<T>, places: usize) -> Result<(), AllocError>
     requires { ring.old.capacity < places }

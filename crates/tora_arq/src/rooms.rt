@@ -36,7 +36,7 @@ impl State {
         }
     }
 
-    /// Makes room for this many events and one more, and keeps a place for the event that the life ended.
+    /// Makes room for this many events, and one place more for the event that the session ended.
     ///
     /// # Errors
     /// Out of memory; nothing changes then.
@@ -51,7 +51,7 @@ impl State {
         Ok(())
     }
 
-    /// Makes room for all that a frame may queue, and for the event that the life ended.
+    /// Makes room for all that a frame may queue, and for the event that the session ended.
     ///
     /// # Errors
     /// Out of memory; nothing changes then except the room.
@@ -68,7 +68,7 @@ impl State {
         Ok(())
     }
 
-    /// Makes room for the most events and the most out-of-order packets.
+    /// Makes room for the greatest number of events and of out-of-order packets.
     ///
     /// # Errors
     /// Out of memory; nothing changes then except the room.
@@ -83,7 +83,7 @@ impl State {
         Ok(())
     }
 
-    /// Makes room for another packet to wait, unless the queue has its most packets.
+    /// Makes room for one more unacknowledged packet, unless the queue has its greatest length.
     ///
     /// # Errors
     /// Out of memory; nothing changes then.

@@ -30,7 +30,7 @@ pub fn ticks_passed(earlier: u64, now: u64) -> u64
     now.saturating_sub(earlier)
 }
 
-/// The tick `ticks` after an earlier one; `None` if it does not fit into 64 bits.
+/// The tick that is `ticks` ticks after an earlier one; `None` if it does not fit into 64 bits.
 pub fn tick_behind(earlier: u64, ticks: u64) -> Option<u64>
     requires { 0 < ticks }
     ensures { (tick : ℕ) → tick < 2 ^ 64 → has_begun result tick ≡ nat_le ticks (ticks_passed earlier tick) }

@@ -28,11 +28,11 @@ pub struct State {
     /// Whether the last HELLO was of version 2 and no HELLO of version 1 has followed it.
     pub owes_old_hello: bool,
     pub owes_ack: bool,
-    /// The tick of the last HELLO of this life.
+    /// The tick of the last HELLO of this session.
     pub last_hello: Option<u64>,
     /// The tick of the last frame of the peer.
     pub last_hearing: u64,
-    /// The greatest life number of the peer that was noted, 0 for none.
+    /// The greatest session number of the peer that was noted, 0 for none.
     pub heard: u64,
     /// The greatest number of a transmitted packet.
     pub transmitted: u64,
@@ -40,18 +40,19 @@ pub struct State {
     pub acknowledged: u64,
     /// How many packets of the peer were delivered.
     pub accepted: u64,
-    /// The number of the last life, 0 before the first.
+    /// The number of the last session, 0 before the first.
     pub last_life: u64,
     /// The packets submitted and not acknowledged.
     pub queue: SendQueue,
-    /// The events that were not polled yet.
+    /// The events that were not polled.
     pub events: EventQueue,
     /// Packets of the peer that arrived out of order.
     pub held: HeldPackets,
 }
 
 impl State {
-    /// A closed end that had no life, with room for this many events, unacknowledged packets, and out-of-order packets.
+    /// A closed end that had no session, with room for this many events, unacknowledged packets, and out-of-order
+    /// packets.
     pub fn new(
         alloc: Global,
         events: usize,
@@ -83,7 +84,7 @@ impl State {
         })
     }
 
-    /// Whether it has to be opened.
+    /// Whether the end is closed.
     pub fn is_closed(&self) -> bool
         ensures { result ≡ is_closed (state_in self.now) }
     {
@@ -94,7 +95,7 @@ impl State {
         }
     }
 
-    /// The bound life.
+    /// The bound session; `None` if the end is not bound.
     pub fn life(&self) -> Option<Life>
         ensures { result ≡ bound_life (state_in self.now) }
     {
@@ -105,7 +106,7 @@ impl State {
         }
     }
 
-    /// Writes the idle fields back.
+    /// Writes the fields of an idle end back.
     pub fn resume(&mut self, steady: &Steady)
         ensures state { state_in self.new ≡ resumed steady.now (state_in self.old) }
         ensures rooms { rooms_in self.new ≡ rooms_in self.old }
@@ -115,7 +116,7 @@ impl State {
         self.owes_old_hello = steady.owes_old_hello;
     }
 
-    /// Ends the bound life. It is a separate function because its callers seldom reach it.
+    /// Ends the bound session. It is a separate function because its callers seldom reach it.
     #[inline(never)]
     pub fn end(&mut self, life: Life, reason: Reason)
         requires { length self.old.events.items < self.old.events.capacity }
@@ -131,7 +132,7 @@ impl State {
         self.owes_ack = false;
     }
 
-    /// Binds a life.
+    /// Binds a session.
     pub fn bind(&mut self, life: Life)
         requires { length self.old.events.items < self.old.events.capacity }
         ensures state { state_in self.new ≡ after_bind (state_in self.old) life }
@@ -184,7 +185,7 @@ impl State {
         }
     }
 
-    /// Opens the end with an own number.
+    /// Opens the end with an own session number.
     pub fn open(&mut self, life: u64, now: u64)
         ensures state { state_in self.new ≡ after_open (state_in self.old) life now }
         ensures rooms { rooms_in self.new ≡ rooms_in self.old }
@@ -214,7 +215,7 @@ impl State {
         ticks_passed(self.last_hearing, now) >= times.silent || self.queue.has_given_up(times, now)
     }
 
-    /// Ends the bound life if it has timed out.
+    /// Ends the bound session if it has timed out.
     #[tactic(auto, unfolding(crate::specs::LinkEnd::after_tick))]
     pub fn on_tick(&mut self, settings: &Settings, now: u64)
         requires end { IsEndState (settings_in settings.now) (state_in self.old) }
@@ -259,7 +260,7 @@ impl State {
         Ok(())
     }
 
-    /// Ends a life if it is the bound one.
+    /// Ends a session if it is the bound one.
     #[tactic(auto, unfolding(crate::specs::LinkEnd::after_cut))]
     pub fn cut(&mut self, life: Life)
         requires { HasEventPlace self.old.events.capacity (state_in self.old) }

@@ -16,8 +16,8 @@ use crate::transmit::is_two;
 use tora_frame::{Header, Version};
 use tora_height::Id;
 
-/// The fields of an idle link end that a HELLO reads. An end is idle if it is open, owes no HELLO at once and no ACK,
-/// has no unacknowledged packet, and has no event to report. It has 64 bytes.
+/// The fields of an idle link end that a HELLO reads, in 64 bytes. An end is idle if it is open, owes no HELLO at once
+/// and no ACK, has no unacknowledged packet, and has no event to report.
 ///
 /// A caller with many link ends can store these fields close together and the ends elsewhere. `LinkEnd::steady` returns
 /// the fields, the calls here do what the same calls of the end would do, and `LinkEnd::resume` writes the fields back
@@ -28,13 +28,13 @@ pub struct Steady {
     pub said: u64,
     /// The tick of the last frame of the peer.
     pub heard: u64,
-    /// The own number of the life; 0 means no end.
+    /// The own number of the session; 0 if the value is `none()`.
     pub own: u64,
-    /// The life number of the peer: that of the bound life, or the greatest that was noted; 0 for none.
+    /// The session number of the peer: that of the bound session, or the greatest that was noted; 0 for none.
     pub peer_life: u64,
     /// How many ticks after a HELLO the next one is due.
     pub hello: u64,
-    /// After how many ticks without hearing the peer the bound life ends.
+    /// After how many ticks without a frame of the peer the bound session ends.
     pub silent: u64,
     /// The node of the end.
     pub me: Id,
@@ -42,7 +42,7 @@ pub struct Steady {
     pub peer: Id,
     /// The newest version that the end speaks.
     pub version: Version,
-    /// Whether a life is bound.
+    /// Whether a session is bound.
     pub is_bound: bool,
     /// Whether the peer is known to speak version 2.
     pub speaks_two: bool,
@@ -51,7 +51,7 @@ pub struct Steady {
 }
 
 impl Steady {
-    /// The value for no end.
+    /// The value that marks the absence of a link end.
     pub fn none() -> Steady
         ensures { result.own ≡ 0 }
     {
@@ -71,7 +71,7 @@ impl Steady {
         }
     }
 
-    /// Whether it is the value for no end.
+    /// Whether it is the value of `none()`.
     #[inline(always)]
     pub fn is_none(&self) -> bool
         ensures { result ≡ (self.now.own == 0) }
@@ -143,8 +143,8 @@ impl Steady {
         self.take_hello(now)
     }
 
-    /// Receives a HELLO of the bound life that changes only the tick of the last frame of the peer, and returns `true`.
-    /// For any other HELLO it returns `false` and changes nothing; the end itself has to receive it.
+    /// Receives a HELLO of the bound session that changes only the tick of the last frame of the peer, and returns
+    /// `true`. For any other HELLO it returns `false` and changes nothing; the end itself has to receive that HELLO.
     #[inline(always)]
     pub fn on_hello(&mut self, header: &Header, now: u64) -> bool
         ensures taken { (s : EndSettings) (e : EndState) → IsSteady self.old s e → result ≡ true
@@ -161,7 +161,7 @@ impl Steady {
         true
     }
 
-    /// Whether a HELLO with this header is of the bound life and says nothing new.
+    /// Whether a HELLO with this header is of the bound session and changes only the tick of the peer's last frame.
     #[inline(always)]
     fn is_told(&self, header: &Header) -> bool
         ensures { result ≡ is_told self.now header.now }
@@ -183,7 +183,7 @@ impl Steady {
         self.owes_old() || self.has_hello(now)
     }
 
-    /// Whether this tick changes nothing, because it ends no life.
+    /// Whether this tick ends no session, and so changes nothing.
     #[inline(always)]
     pub fn is_calm(&self, now: u64) -> bool
         ensures same { (s : EndSettings) (e : EndState) → IsSteady self.now s e → result ≡ true
@@ -193,7 +193,7 @@ impl Steady {
         !self.is_over(now)
     }
 
-    /// Whether no frame of the peer of the bound life came for `silent` ticks.
+    /// Whether no frame of the peer of the bound session came for `silent` ticks.
     #[inline(always)]
     fn is_over(&self, now: u64) -> bool
         ensures { result ≡ is_over self.now now }
@@ -201,8 +201,9 @@ impl Steady {
         self.is_bound && ticks_passed(self.heard, now) >= self.silent
     }
 
-    /// The tick from which on a HELLO is due or a tick ends the life; before it, no frame is due and a tick changes
-    /// nothing. It holds until another call; 0 if a HELLO is due at once.
+    /// The first tick at which a HELLO is due or a tick ends the session. This holds at every later tick too; before
+    /// it, no frame is due and a tick changes nothing. It is valid until another call. It is 0 if a HELLO is due at
+    /// once.
     #[inline(always)]
     pub fn still_until(&self) -> u64
         ensures exact { (s : EndSettings) (e : EndState) → IsSteady self.now s e
@@ -232,7 +233,7 @@ impl Steady {
 }
 
 impl State {
-    /// Whether the end is idle: it owes no frame except the regular HELLOs, and no packet and no event waits.
+    /// Whether the end owes no frame except the regular HELLOs, has no unacknowledged packet and has no event.
     fn is_at_ease(&self, settings: &Settings) -> bool
         ensures { result ≡ is_at_ease (settings_in settings.now) (state_in self.now) }
     {
@@ -243,7 +244,7 @@ impl State {
             && (is_two(settings.version) || !self.speaks_two)
     }
 
-    /// The fields of an end that sent its last HELLO at this tick.
+    /// The fields of an end that sent its last HELLO at the tick `said`.
     fn kept(&self, settings: &Settings, said: u64, own: u64, is_bound: bool) -> Steady
         ensures { result ≡ kept_of (settings_in settings.now) (state_in self.now) said own is_bound }
     {

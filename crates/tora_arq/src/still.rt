@@ -15,7 +15,7 @@ use crate::settings::Settings;
 use crate::state::State;
 use crate::{Times, WINDOW};
 
-/// The tick `ticks` after another one, or the last tick if that is later.
+/// The tick that is `ticks` ticks after another one, at most 2^64 - 1.
 fn tick_behind(earlier: u64, ticks: u64) -> u64
     requires { 0 < ticks }
     ensures { (tick : ℕ) → tick < last_tick → nat_le result tick ≡ nat_le ticks (ticks_passed earlier tick) }
@@ -23,7 +23,7 @@ fn tick_behind(earlier: u64, ticks: u64) -> u64
     earlier.saturating_add(ticks)
 }
 
-/// The earlier one of two ticks, the second of which may be `None`.
+/// The earlier one of two ticks; the second may be `None`.
 fn earliest(first: u64, other: Option<u64>) -> u64
     ensures { (tick : ℕ) → nat_le result tick ≡ nat_le first tick || has_begun other tick }
 {
@@ -34,8 +34,8 @@ fn earliest(first: u64, other: Option<u64>) -> u64
 }
 
 impl SendQueue {
-    /// A tick, or the first tick at which a packet within the window is due or is given up, whichever is earlier. It
-    /// looks at no more than the window.
+    /// The tick `first`, or the first tick at which a packet within the window is due or is given up, whichever is
+    /// earlier. It reads at most a window of packets.
     #[inline(always)]
     fn still_until(&self, times: &Times, first: u64) -> u64
         requires retry { 0 < times.now.retry }
@@ -53,7 +53,7 @@ impl SendQueue {
 }
 
 impl State {
-    /// Whether a HELLO is due at any tick.
+    /// Whether a HELLO is due whatever the tick is.
     fn owes_any_hello(&self) -> bool
         ensures { result ≡ self.now.owes_hello || is_old_hello_due (state_in self.now) }
     {
@@ -76,7 +76,7 @@ impl State {
         }
     }
 
-    /// The first tick at which a frame of a bound end is due, or its life ends.
+    /// The first tick at which a frame of a bound end is due, or its session times out.
     #[inline(always)]
     fn still_in_life(&self, settings: &Settings) -> u64
         requires { IsEndState (settings_in settings.now) (state_in self.now) }
@@ -92,7 +92,7 @@ impl State {
         self.queue.still_until(times, first)
     }
 
-    /// The first tick at which a frame is due, or a life ends.
+    /// The first tick at which a frame is due, or a session times out.
     #[tactic(auto, unfolding(crate::specs::LinkEnd::on_transmit, crate::specs::LinkEnd::on_transmit_in, crate::specs::LinkEnd::after_tick))]
     #[inline(always)]
     fn due_from(&self, settings: &Settings) -> u64
@@ -106,7 +106,7 @@ impl State {
         }
     }
 
-    /// The first tick at which a frame is due or a life ends; before it, no tick changes the end.
+    /// The first tick at which a frame is due or a session times out; before it, no tick changes the end.
     #[inline(always)]
     pub fn still_until(&self, settings: &Settings) -> u64
         requires { IsEndState (settings_in settings.now) (state_in self.now) }

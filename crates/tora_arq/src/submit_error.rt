@@ -9,11 +9,11 @@ use tora_packet::Packet;
 /// Why a packet is not submitted.
 #[derive(Clone, Copy, Debug, PartialEq, Eq, Hash, Error)]
 pub enum SubmitError {
-    /// The life is not the bound one. The packet is returned.
+    /// The session is not the bound one. The packet is returned.
     WrongLife(Packet),
-    /// The send queue is full. The life has ended.
+    /// The send queue is full. The session has ended.
     Full,
-    /// The numbers of packets are used up. The life has ended.
+    /// The packet numbers are used up. The session has ended.
     Spent,
 }
 

@@ -5,16 +5,16 @@
 pub struct Times {
     /// How many ticks of 100 ms after a HELLO the next one is due.
     pub hello: u64,
-    /// After how many ticks of 100 ms without a frame of the peer a life ends.
+    /// After how many ticks of 100 ms without a frame of the peer a session ends.
     pub silent: u64,
-    /// After how many ticks of 100 ms a transmitted packet is due again, or is given up after its last try.
+    /// How many ticks of 100 ms after a try a packet is transmitted again, or is given up after its last try.
     pub retry: u64,
     /// How many times a packet is transmitted before it is given up.
     pub tries: u64,
 }
 
 impl Times {
-    /// The times that the program uses: a HELLO each second, the end of a life after 5 s without a frame, 0.5 s between
+    /// The times that the program uses: a HELLO each second, a session ends after 5 s without a frame, 0.5 s between
     /// tries, 8 tries.
     pub const STANDARD: Times = Times {
         hello: 10,

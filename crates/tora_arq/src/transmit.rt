@@ -103,7 +103,7 @@ impl State {
         settings.header(Version::One, life, heard)
     }
 
-    /// Sends the first packets due, which are put into `packets`, or an ACK if one is owed.
+    /// Sends the first packets due, copied into `packets`, or an ACK if one is owed.
     fn take_due<'a>(
         &mut self,
         settings: &Settings,
@@ -183,7 +183,7 @@ impl State {
         tick_behind(self.last_hello?, settings.times.hello)
     }
 
-    /// The first tick at which a frame of a bound end is due, or its life ends.
+    /// The first tick at which a frame of a bound end is due, or its session times out.
     fn bound_tick(&self, settings: &Settings) -> Option<u64>
         requires { IsEndState (settings_in settings.now) (state_in self.now) }
         ensures { (life : Life) (tick : ℕ) → tick < 2 ^ 64 → has_begun result tick
@@ -198,7 +198,7 @@ impl State {
         earlier(self.hello_tick(settings), earlier(packets, silent))
     }
 
-    /// The first tick at which a frame is due, or a life ends.
+    /// The first tick at which a frame is due, or a session times out.
     #[tactic(auto, unfolding(crate::specs::LinkEnd::on_transmit, crate::specs::LinkEnd::on_transmit_in, crate::specs::LinkEnd::after_tick))]
     fn due_tick(&self, settings: &Settings) -> Option<u64>
         requires { IsEndState (settings_in settings.now) (state_in self.now) }
@@ -212,7 +212,7 @@ impl State {
         }
     }
 
-    /// The first tick from `now` on at which a frame is due, or a life ends.
+    /// The first tick from `now` on at which a frame is due, or a session times out.
     pub fn next_due(&self, settings: &Settings, now: u64) -> Option<u64>
         requires { IsEndState (settings_in settings.now) (state_in self.now) }
         ensures { IsNextDue (settings_in settings.now) (state_in self.now) now result }
@@ -248,8 +248,8 @@ impl State {
         None
     }
 
-    /// Sends the first frame due if it is a HELLO, and returns its header. `None` if it is another frame, or none is
-    /// due.
+    /// Sends the first frame due if it is a HELLO, and returns its header. `None` if no frame is due or the first one
+    /// is not a HELLO.
     #[tactic(auto, unfolding(crate::specs::LinkEnd::on_transmit, crate::specs::LinkEnd::on_transmit_in), using(crate::proofs::DueLemmas::no_hello_behind))]
     pub fn poll_first_hello(&mut self, settings: &Settings, now: u64) -> Option<Header>
         requires { IsEndState (settings_in settings.now) (state_in self.old) }
@@ -269,7 +269,7 @@ impl State {
         }
     }
 
-    /// Sends the first frame due. Its packets are put into `packets`.
+    /// Sends the first frame due. Its packets are copied into `packets`.
     #[tactic(auto, unfolding(crate::specs::LinkEnd::on_transmit, crate::specs::LinkEnd::on_transmit_in))]
     pub fn poll_transmit<'a>(
         &mut self,

@@ -4,17 +4,17 @@ use std::fmt;
 /// The verdict of a link end on a frame.
 #[derive(Clone, Copy, Debug, PartialEq, Eq, Hash)]
 pub enum Verdict {
-    /// The frame brought something new, or was a HELLO of the life.
+    /// The frame brought something new, or is a HELLO of the session.
     Accepted,
     /// The frame brought nothing new: a packet that was accepted before, or a count that did not grow.
     Repeated,
-    /// A packet that arrived before one with a smaller number.
+    /// The frame's packets arrived before a packet with a smaller number.
     Ahead,
-    /// A frame of another life, or a frame at a closed end.
+    /// The frame is of another session, or the end is closed.
     Stale,
-    /// A frame that the peer would not send to this end.
+    /// The peer would not send this frame to this end.
     Foreign,
-    /// The frame was not looked at, because too many events wait.
+    /// The end did not examine the frame, because too many events are not polled.
     Busy,
 }
 

@@ -1,4 +1,4 @@
--- What an input changes of a core, and what it leaves.
+-- What an input changes in a core, and what it leaves unchanged.
 use Rattle.std.proofs.Common.{◌≡◌, ◌≢◌, refl, ap, sym, subst, ◌∙◌, ℕ, ◌<◌, ◌==◌, Bool, true, false, not, ◌&&◌, ◌||◌, List, [], ◌∷◌, map, Option, Some, None, is_some, nat_lt, inl, inr, arith}
 use Rattle.std.specs.Prelude.{if◌then◌else◌, filter_map, fold, find, option_map}
 use Rattle.std.specs.List.{AllByRecursion, cons_option}
@@ -70,7 +70,7 @@ other-apart : (a b c : Bool) → (b ≡ true → a ≡ false) → (a || (not b &
 other-apart a true c e = let f : a ≡ false = e refl in ap (λ x. x || false) f
 other-apart a false c e = refl
 
--- a number apart from one of two equal ones is apart from the other
+-- if two numbers are equal, a number that differs from one of them differs from the other
 apart-too : (x m n : ℕ) → (x == m) ≡ false → (m == n) ≡ true → (x == n) ≡ false
 apart-too x m n e f = subst (λ (k : ℕ). (x == k) ≡ false) (same-number m n f) e
 
@@ -230,7 +230,7 @@ packet_of-destination d Tell.Query = refl
 packet_of-destination d (Tell.Update height) = refl
 packet_of-destination d (Tell.Clear tau oid) = refl
 
--- a packet that is for this destination, where there is one
+-- the packet, if there is one, is about this destination
 abbrev IsFor : ℕ → Option Packet → Type 0
 IsFor d None = Unit {0}
 IsFor d (Some packet) = destination_of packet ≡ d
@@ -266,7 +266,7 @@ pub ascending-sends : (c : CoreView) (input : Input) (now : ℕ) → IsCore c �
 ascending-sends c input now core =
     cond_both (is_some (refusal_of c input)) [] (filter_map (next_packet input now) c.views) (λ (ps : List Packet). IsAscending (map destination_of ps)) (λ _. tt) (λ _. sends-in-order input now c.views core.ascending_destinations)
 
--- of a destination that one of the views is of
+-- one of the views has the destination of the packet
 abbrev IsKnown : List View → Packet → Type 0
 IsKnown views packet = has_destination (destination_of packet) views ≡ true
 
@@ -295,7 +295,7 @@ linked c (In.LinkUp k) free = tt
 linked c (In.LinkDown k) free = (free-down c k free).1
 linked c (In.Packet k packet) free = (free-packet c k packet free).1
 
--- so it is in each view, whose rows are those of the up neighbours
+-- the link of the input is in each view, whose rows are those of the neighbours whose links are up
 pub all-linked : (me : ℕ) (up : List ℕ) (input : Input) (views : List View) → IsLinked input up → AllByRecursion (IsViewOf me up) views
     → AllByRecursion (λ (v : View). IsLinked input (up_neighbours v)) views
 all-linked me up input [] is all = tt

@@ -1,4 +1,4 @@
--- What is broadcast of a view that is kept makes a packet for its destination.
+-- The broadcast of a view that keeps the invariants makes a packet for its destination.
 use Rattle.std.proofs.Common.{◌≡◌, ◌∙◌, sym, subst, ℕ, Option, None, Some}
 use Rattle.std.specs.Prelude.{IfSome}
 use Rattle.tora_height.specs.Height.{Quintuple, IsHeightOf}

@@ -1,4 +1,4 @@
--- An input that is not refused may come to each view, and a core keeps its laws.
+-- An accepted input may come to each view, and a core keeps its invariants.
 use Rattle.std.proofs.Common.{◌≡◌, ◌≢◌, ◌∙◌, refl, ap, sym, subst, ℕ, ◌<◌, ◌≤◌, suc, Bool, true, false, not, List, [], ◌∷◌, map, length, Option, Some, None, is_some, nat_lt, ◌||◌, arith}
 use Rattle.std.specs.Prelude.{if◌then◌else◌}
 use Rattle.std.specs.List.{AllByRecursion}
@@ -38,7 +38,7 @@ pub refused-not : (b : Bool) (e : StepError) (o : Option StepError) → (if b th
 refused-not true e o h = absurd cc
 refused-not false e o h = (refl, h)
 
--- a link that comes up is one of a configured neighbour, and is not up
+-- a link that comes up is to a configured neighbour, and was not up
 pub free-up : (c : CoreView) (k : ℕ) → refusal_of c (In.LinkUp k) ≡ None → (has_number k c.neighbours ≡ true) × (has_number k c.up ≡ false)
 free-up c k free =
     let one = refused-not (not (has_number k c.neighbours)) _ _ free in
@@ -61,7 +61,7 @@ length-neighbours_of : (rows : List Row) → length rows ≡ length (neighbours_
 length-neighbours_of [] = refl
 length-neighbours_of (row ∷ rows) = ap suc (length-neighbours_of rows)
 
--- fewer links are up than there are neighbours where one comes up
+-- if a link comes up, fewer links are up than there are neighbours
 pub fewer-up : (c : CoreView) (k : ℕ) → IsCore c → refusal_of c (In.LinkUp k) ≡ None → length c.up < length c.neighbours
 fewer-up c k core free = let is = free-up c k free in part-shorter k c.up c.neighbours core.up is.0 is.1
 
@@ -94,7 +94,7 @@ all-can_take c input core ok free = all-weaker (IsViewOf c.me c.up) (CanTake inp
 
 -- ---- a core after an input
 
--- an input that does not concern a view is no link input
+-- an input that does not concern a view is not about a link
 elsewhere : (up : List ℕ) (input : Input) (destination : ℕ) → concerns input destination ≡ false → up_after up input ≡ up
 elsewhere up (In.Need d) destination e = refl
 elsewhere up (In.LinkUp k) destination e = absurd cc
@@ -170,7 +170,7 @@ not-refused : (b : Bool) (e : CoreError) (o : Option CoreError) → (if b then S
 not-refused true e o h = absurd cc
 not-refused false e o h = (refl, h)
 
--- a count that is not above a limit is not above the greatest
+-- a count within a limit is within the greatest limit
 within-greatest : (greatest limit count : ℕ) → nat_lt (at_most greatest limit) count ≡ false → count ≤ greatest
 within-greatest greatest limit count few = go (nat_lt limit greatest) refl few
   where

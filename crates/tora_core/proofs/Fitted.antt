@@ -10,7 +10,7 @@ use Rattle.tora_core.specs.Heights.{fitted_by, fitted_height}
 pub fitted_height-in_range : (h : Quintuple) → IsHeight h → fitted_height h ≡ Some h
 fitted_height-in_range h ok = ap (fitted_by h) (height_has_no_fault h ok)
 
--- a level that is reflected gives a height
+-- the reflection of a level in range gives a height in range
 pub reflected-in_range : (l : Level) (me : ℕ) → IsLevel l → IsId me → IsHeight (quintuple l.tau l.oid 1 (pos 0) me)
 reflected-in_range l me ok id =
     record {

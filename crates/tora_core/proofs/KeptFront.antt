@@ -1,11 +1,11 @@
--- Steps of a loop that moves the elements that stay to the front.
+-- Steps of a loop that moves the elements to keep to the front of the list.
 use Rattle.std.proofs.Common.{◌≡◌, ◌∙◌, sym, ap, refl, ℕ, ◌+◌, ◌<◌, Bool, true, false, List, [], ◌∷◌, ◌++◌, take, drop, length, get_or, arith}
 use Rattle.std.specs.Prelude.{filter, slice_set}
 use Rattle.std.proofs.lemmas.Grind.{common_steps}
 use Rattle.std.proofs.lemmas.List.{append-nil}
 use Rattle.std.proofs.lemmas.List.Elements.{filter-append}
 
--- what is read after the elements that were moved
+-- an element that is read after the moved elements
 read-behind : {X : Type 0} (xs ys : List X) (i : ℕ) (x : X) → i < length ys → drop i ys ≡ drop i xs → x ≡ get_or ys i x → x ≡ get_or xs i x
 read-behind xs ys i x lt rest read = grind (arith, common_steps)
 
@@ -22,13 +22,13 @@ filter-stays : {X : Type 0} (test : X → Bool) (x : X) → test x ≡ true → 
 filter-stays test x is = rw is refl
 
 module _ {X : Type 0} (test : X → Bool) (xs ys : List X) (i kept : ℕ) (x : X) where
-  -- an element that goes
+  -- an element that is not kept
   pub front-gone : i < length xs → length ys ≡ length xs → drop i ys ≡ drop i xs → x ≡ get_or ys i x → test x ≡ false → take kept ys ≡ filter test (take i xs) → take kept ys ≡ filter test (take (i + 1) xs)
   front-gone lt len rest read is front =
       let next = next-of xs i x lt (read-behind xs ys i x (omega (arith, len, lt)) rest read) in
       front ∙ sym (ap (filter test) next ∙ filter-append test (take i xs) (x ∷ []) ∙ ap (λ (zs : List X). filter test (take i xs) ++ zs) (filter-goes test x is) ∙ append-nil (filter test (take i xs)))
 
-  -- an element that stays, with the elements before it
+  -- an element that is kept, and the elements before it
   pub front-stays : (front_with : List X) → i < length xs → length ys ≡ length xs → drop i ys ≡ drop i xs → x ≡ get_or ys i x → test x ≡ true → take kept ys ≡ filter test (take i xs) → front_with ≡ take kept ys ++ x ∷ [] → front_with ≡ filter test (take (i + 1) xs)
   front-stays front_with lt len rest read is front made =
       let next = next-of xs i x lt (read-behind xs ys i x (omega (arith, len, lt)) rest read) in

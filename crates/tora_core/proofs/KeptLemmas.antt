@@ -1,4 +1,4 @@
--- Every input keeps what views keep.
+-- Every input keeps the invariants of a view.
 use Rattle.std.proofs.Common.{◌≡◌, ◌≢◌, refl, ℕ, ◌<◌, ◌≤◌, ◌^◌, Bool, true, false, not, ◌&&◌, ◌||◌, ℤ, pos, ◌+ℤ◌, ◌-ℤ◌, ◌<ℤ◌, arith, ap, sym, subst, ◌∙◌, List, [], ◌∷◌, map, Option, Some, None, is_some, is_none, nat_lt, ◌==◌}
 use Rattle.std.specs.Prelude.{IfSome, IsSome, filter, if◌then◌else◌}
 use Rattle.std.specs.List.{AllByRecursion, list_any, list_all, cons_option}
@@ -27,7 +27,7 @@ use Rattle.tora_core.proofs.Order.{lt-tau, lt-level, lt-delta, level-below}
 use Rattle.tora_core.proofs.Fitted.{reflected-in_range}
 use Rattle.tora_core.proofs.RowLemmas.{all-weaker, all-map, all-filter, all-with_row, ascending-map, ascending-filter, ascending-with_row, heights_of-told, all-heights_of, down-heights_of, least_height-any, least_height-all, greatest-all, greatest-reached, time-first}
 
--- what no change of height touches, at a node that is not the destination
+-- the invariants that a change of the own height cannot break, at a node that is not the destination
 pub record IsBase (v : View) : Type 0 where
   pub me : IsId v.me
   pub destination : IsId v.destination
@@ -139,7 +139,7 @@ after_join-kept : (v : View) → IsBase v → IsKeptOutcome (after_join v)
 unfolding after_join
 after_join-kept v b = join-at v b (least_height (heights_of v.rows)) refl
 
--- ---- a level of the node's own
+-- ---- a level that the node defines
 
 or_left : (a b : Bool) → a ≡ true → (a || b) ≡ true
 or_left true b h = refl
@@ -209,7 +209,7 @@ after_link_loss-kept v now b f =
     cond_both (are_null v.rows) (silent (record v { height = None })) (new_level v now) (λ (o : Outcome). IsKeptOutcome o) (λ _. null-sound v b f)
     (λ some. let first = first-heights_of v.rows some in new_level-kept v now b f first.0 first.1 first.2)
 
--- some height is at a lower level, where not all are at the greatest
+-- if not all heights are at the greatest level, some height is at a lower one
 abbrev NotBelow : Level → Quintuple → Type 0
 NotBelow l h = is_lt (level_cmp l (level_of h)) ≡ false
 
@@ -228,7 +228,7 @@ some-lower l q (h ∷ hs) e all some = at (λ (s : list_all (is_at l) hs ≡ fal
         or_left (is_downstream (Some q) (Some h)) (list_any (λ h. is_downstream (Some q) (Some h)) hs)
         (lt-level h q (subst P (sym e) (level-below (level_of h) l all.0 is)))
 
--- at the lowest level nothing is lower
+-- no level is lower than the lowest one
 all-at_lowest : (l : Level) (hs : List Quintuple) → l.tau ≡ 0 → l.oid ≡ 0 → l.r ≡ 0 → AllByRecursion (NotBelow l) hs → list_all (is_at l) hs ≡ true
 all-at_lowest l [] t o r all = refl
 all-at_lowest l (h ∷ hs) t o r all =
@@ -363,7 +363,7 @@ not-stuck true true h s = refl
 not-stuck true false h s = absurd cc
 not-stuck false b h s = absurd cc
 
--- a view whose rows changed: either it still has a downstream neighbour, or the outcome is that of the loss
+-- the rows of a view changed: it still has a downstream neighbour, or the outcome is that of the loss of the last one
 settled : (w : View) (o : Outcome) → IsBase w → IfSome w.height (IsHeightOf w.me w.destination) → (w.flag ≡ true → (w.height ≡ None) × (heights_of w.rows ≡ []))
     → (w.flag ≡ false → IsKeptOutcome o) → IsKeptOutcome (if lacks_downstream w then o else silent w)
 settled w o b height flag lost =
@@ -528,7 +528,7 @@ row_with_entry-is_row me destination k h row e ok apart r =
 row_with_entry-neighbour : (k : ℕ) (h : Quintuple) (row : Row) → (row_with_entry k h row).neighbour ≡ row.neighbour
 row_with_entry-neighbour k h row = cond_both (row.neighbour == k) (record row { entry = Some h }) row (λ (x : Row). x.neighbour ≡ row.neighbour) (λ _. refl) (λ _. refl)
 
--- ---- entries that go
+-- ---- entries that are removed
 
 withdrawn-is_row : (me destination k : ℕ) (row : Row) → me ≢ destination → IsRow me destination row → IsRow me destination (withdrawn_row destination k row)
 withdrawn-is_row me destination k row e r =
@@ -556,7 +556,7 @@ untold-neighbour k row = cond_both (row.neighbour == k) (record row { told = fal
 untold-none : (k : ℕ) (row : Row) → row.entry ≡ None → (untold_row k row).entry ≡ None
 untold-none k row e = cond_both (row.neighbour == k) (record row { told = false }) row (λ (x : Row). x.entry ≡ None) (λ _. e) (λ _. e)
 
--- no entry comes by a change that leaves NULL as it is
+-- if a change keeps NULL entries, no new heights appear
 heights_of-map_none : (f : Row → Row) → ((row : Row) → row.entry ≡ None → (f row).entry ≡ None) → (rows : List Row) → heights_of rows ≡ [] → heights_of (map f rows) ≡ []
 heights_of-map_none f keep [] e = refl
 heights_of-map_none f keep (row ∷ rows) e = at (heights_of-map_none f keep rows) row.entry refl e
@@ -627,7 +627,7 @@ at-some : (l : Level) (o : Option Quintuple) → is_entry_at l o ≡ true → Is
 at-some l None e = absurd cc
 at-some l (Some h) e = refl
 
--- the meaning of the flag for a view, also for one that has lost entries
+-- the invariant of the flag, for a view that may have lost entries
 abbrev IsQuiet : View → Type 0
 IsQuiet v = v.flag ≡ true → (v.height ≡ None) × (heights_of v.rows ≡ [])
 
@@ -646,7 +646,7 @@ heard_clear-kept v l now b height quiet level =
     (λ t. after_erase-kept v l.tau l.oid b (quiet-clear v quiet (at-some l v.height t)) level)
     (λ _. settled w (after_link_loss w now) wb height (λ (t : v.flag ≡ true). ((quiet t).0, heights_of-map_none (cleared_row v.destination l) (cleared-none v.destination l) v.rows (quiet t).1)) (λ f. after_link_loss-kept w now wb f))
 
--- what a clear withdraws
+-- the rows after a clear from a neighbour
 behind_clear-rows : (x : Erasure) (v : View) (k : ℕ) → IsBase v → AllByRecursion (IsRow v.me v.destination) (rows_behind_clear x v.destination k v.rows) × AreAscending (rows_behind_clear x v.destination k v.rows)
 behind_clear-rows Plain v k b = (b.rows, b.ascending)
 behind_clear-rows Remembered v k b =
@@ -707,7 +707,7 @@ destination-kept v (In.LinkDown k) kept e may =
       lower = λ (z : v.me ≢ v.destination). absurd (z e);
     })
 
--- every input that may come keeps it
+-- every input that may come keeps the invariants
 pub outcome_of-kept : (v : View) (input : Input) (now : ℕ) → IsKept v → MayCome v input → IsKeptOutcome (outcome_of v input now)
 outcome_of-kept v input now kept may =
     cond_both (v.me == v.destination) (outcome_at_destination v input) (outcome_elsewhere v input now) (λ (o : Outcome). IsKeptOutcome o)

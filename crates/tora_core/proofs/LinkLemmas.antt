@@ -1,4 +1,4 @@
--- What is kept of rows, after each change.
+-- The stored values after each change of the rows.
 use Rattle.std.proofs.Common.{◌≡◌, ◌≢◌, refl, ap, sym, subst, ◌∙◌, ℕ, zero, suc, ◌+◌, ◌<◌, ◌≤◌, ◌==◌, Bool, true, false, not, ◌||◌, ◌&&◌, List, [], ◌∷◌, ◌++◌, map, take, drop, length, Option, Some, None, is_none, is_some, nat_lt, arith}
 use Rattle.std.specs.Prelude.{if◌then◌else◌, filter, fold, option_map, IfSome, slice_set, slice_index_or}
 use Rattle.std.specs.List.{AllByRecursion, cons_option, list_any, refill}
@@ -159,7 +159,7 @@ down_rows own rows = filter (λ row. is_downstream own row.entry) rows
 abbrev pub hop_row : Option Quintuple → Option Row → List Row → Option Row
 hop_row own best rows = fold lower_row_of best (down_rows own rows)
 
--- the link by a best row so far would be downstream from h
+-- the best row so far would be downstream of h
 abbrev IsHigher : Quintuple → Option Row → Type 0
 IsHigher h None = Unit {0}
 IsHigher h (Some best) = is_downstream best.entry (Some h) ≡ true
@@ -177,7 +177,7 @@ hop-first h (Some best) row higher is =
     let test : is_downstream best.entry row.entry ≡ true = subst (λ (o : Option Quintuple). is_downstream best.entry o ≡ true) (sym is) higher in
     ap (λ b. if b then Some row else Some best) test
 
--- a row that is downstream of something and above h
+-- a downstream row above h
 row-higher : (own : Option Quintuple) (h : Quintuple) (row : Row) → is_downstream own row.entry ≡ true → is_above h row.entry ≡ true → is_downstream row.entry (Some h) ≡ true
 row-higher own h row down above = at row.entry down above
   where
@@ -243,7 +243,7 @@ pub hop-some : (own : Option Quintuple) (place : ℕ) (h : Quintuple) (rows : Li
 hop-some own place h rows d is some =
     ap (option_map (λ (row : Row). row.neighbour)) (hop-fold own place h rows None d (down-least own place h rows is some) tt is)
 
--- some link is downstream where the count is not 0
+-- some link is downstream exactly if the count is not 0
 pub any-down : (own : Option Quintuple) (rows : List Row) → nat_lt 0 (downstream_in own rows) ≡ list_any (λ row. is_downstream own row.entry) rows
 any-down own [] = refl
 any-down own (row ∷ rows) = at (is_downstream own row.entry) (any-down own rows)
@@ -340,7 +340,7 @@ downstream-set own (suc place) h (row ∷ rows) d lt =
     let b = count-more (is_downstream own row.entry) row (down_rows own rows) in
     omega arith
 
--- a link that is downstream is counted
+-- the count includes a link that is downstream
 pub down-counted : (own : Option Quintuple) (place : ℕ) (rows : List Row) (d : Direction) → place < length rows → is_down (slice_index_or (directions_of own rows) place d) ≡ true → 0 < downstream_in own rows
 down-counted own place [] d lt e = absurd (omega arith)
 down-counted own zero (row ∷ rows) d lt e =
@@ -353,7 +353,7 @@ down-counted own (suc place) (row ∷ rows) d lt e =
     let b = count-more (is_downstream own row.entry) row (down_rows own rows) in
     omega arith
 
--- the only entry is the least
+-- if there is only one entry, it is the least
 pub least-set_first : (place : ℕ) (h : Quintuple) (rows : List Row) → place < length rows → AllByRecursion IsNull rows → IsLeastAt place h (with_entry_at place h rows)
 least-set_first place h [] lt all = absurd (omega arith)
 least-set_first zero h (row ∷ rows) lt all = (refl, later rows all.1)
@@ -363,7 +363,7 @@ least-set_first zero h (row ∷ rows) lt all = (refl, later rows all.1)
     later (x ∷ xs) none = (ap (is_downstream (Some h)) none.0, later xs none.1)
 least-set_first (suc place) h (row ∷ rows) lt all = (ap (is_above h) all.0, least-set_first place h rows (omega arith) all.1)
 
--- an entry below all others is the least
+-- if an entry is below all others, it is the least
 all-above-set : (place : ℕ) (g h : Quintuple) (rows : List Row) → place < length rows → is_lt (height_cmp g h) ≡ true → AllByRecursion (IsNotBelow h) rows → IsLeastAt place g (with_entry_at place g rows)
 all-above-set place g h [] lt low all = absurd (omega arith)
 all-above-set zero g h (row ∷ rows) lt low all = (refl, all-not_below g h rows low all.1)
@@ -377,7 +377,7 @@ all-set place g h [] high all = tt
 all-set zero g h (row ∷ rows) high all = (high, all.1)
 all-set (suc place) g h (row ∷ rows) high all = (all.0, all-set place g h rows high all.1)
 
--- an entry above the least leaves it where it is
+-- a new entry above the least leaves the least where it is
 pub least-set_higher : (place i : ℕ) (g h : Quintuple) (rows : List Row) → i ≢ place → is_lt (height_cmp h g) ≡ true → IsLeastAt i h rows → IsLeastAt i h (with_entry_at place g rows)
 least-set_higher place i g h [] apart high is = absurd is
 least-set_higher zero zero g h (row ∷ rows) apart high is = absurd (apart refl)
@@ -385,7 +385,7 @@ least-set_higher (suc place) zero g h (row ∷ rows) apart high is = (is.0, all-
 least-set_higher zero (suc i) g h (row ∷ rows) apart high is = (high, is.1)
 least-set_higher (suc place) (suc i) g h (row ∷ rows) apart high is = (is.0, least-set_higher place i g h rows (λ (e : i ≡ place). apart (ap suc e)) high is.1)
 
--- ---- a row that is written to a place
+-- ---- a row that is written to its place
 
 pub directions-put : (own : Option Quintuple) (place : ℕ) (new : Row) (rows : List Row) → slice_set (directions_of own rows) place (link_status own new.entry) ≡ directions_of own (slice_set rows place new)
 directions-put own place new [] = refl
@@ -417,7 +417,7 @@ all-put place h new [] is all = tt
 all-put zero h new (row ∷ rows) is all = (ap (is_downstream (Some h)) is, all.1)
 all-put (suc place) h new (row ∷ rows) is all = (all.0, all-put place h new rows is all.1)
 
--- a row without an entry leaves the least where it is, elsewhere
+-- a row without an entry, at another place, leaves the least where it is
 pub least-put_other : (place i : ℕ) (h : Quintuple) (new : Row) (rows : List Row) → i ≢ place → IsNull new → IsLeastAt i h rows → IsLeastAt i h (slice_set rows place new)
 least-put_other place i h new [] apart is least = absurd least
 least-put_other zero zero h new (row ∷ rows) apart is least = absurd (apart refl)
@@ -428,7 +428,7 @@ least-put_other (suc place) (suc i) h new (row ∷ rows) apart is least = (least
 pub none-put : (place : ℕ) (new : Row) (rows : List Row) → IsNull new → IsLeastPlace None rows → IsLeastPlace None (slice_set rows place new)
 none-put place new rows is least = null-put place new rows is least
 
--- and so it does where the row before had no entry, either
+-- a row without an entry that replaces a row without one leaves the least where it is
 pub least-put_null : (place : ℕ) (least : Option ℕ) (new : Row) (rows : List Row) (d : Row) → IsNull new → (slice_index_or rows place d).entry ≡ None → IsLeastPlace least rows
     → IsLeastPlace least (slice_set rows place new)
 least-put_null place None new rows d is none least = null-put place new rows is least
@@ -440,7 +440,7 @@ least-put_null place (Some i) new rows d is none least = (least.0, least-put_oth
         let clash : None ≡ Some least.0 = sym none ∙ here in
         absurd cc
 
--- ---- the places at first
+-- ---- the places of a new view
 
 null-first : (ns : List ℕ) → AllByRecursion IsNull (map empty_place ns)
 null-first [] = tt
@@ -453,7 +453,7 @@ kept-first own ns = record {
   least_is = null-first ns;
 }
 
--- ---- rows that are not there
+-- ---- neighbours without a row
 
 pub rest-kept : (k : ℕ) (rows : List Row) → AllByRecursion (λ (m : ℕ). m ≢ k) (neighbours_of rows) → without_row k rows ≡ rows
 rest-kept k [] all = refl
@@ -470,7 +470,7 @@ pub or-none : (b : Bool) → (b || false) ≡ b
 or-none true = refl
 or-none false = refl
 
--- rows that are changed, and whose entries stay
+-- rows that change, but not in their entries
 module _ (f : Row → Row) (keep : (row : Row) → (f row).entry ≡ row.entry) where
   pub directions-mapped : (own : Option Quintuple) (rows : List Row) → directions_of own rows ≡ directions_of own (map f rows)
   directions-mapped own [] = refl
@@ -502,7 +502,7 @@ module _ (f : Row → Row) (keep : (row : Row) → (f row).entry ≡ row.entry) 
   least-mapped None rows is = null-mapped rows is
   least-mapped (Some place) rows is = (is.0, least_at-mapped place is.0 rows is.1)
 
--- ---- one row more
+-- ---- one more row
 
 null-more : (row : Row) (rows : List Row) → AllByRecursion IsNull rows → IsNull row → AllByRecursion IsNull (rows ++ row ∷ [])
 null-more row [] all is = (is, tt)
@@ -535,7 +535,7 @@ entry-least place h [] more is = absurd is
 entry-least zero h (row ∷ rows) more is = is.0
 entry-least (suc place) h (row ∷ rows) more is = entry-least place h rows more is.1
 
--- the row is lower than all before it
+-- the new row is lower than all before it
 pub least-lower : (least : Option ℕ) (row : Row) (rows more : List Row) → IsLeastPlace least rows → is_downstream (low_of least (rows ++ more)) row.entry ≡ true → IsLeastPlace (Some (length rows)) (rows ++ row ∷ [])
 least-lower least row rows more is down = at row.entry refl least is down
   where
@@ -550,7 +550,7 @@ least-lower least row rows more is down = at row.entry refl least is down
         let lower : is_lt (height_cmp g x.0) ≡ true = subst (λ (o : Option Quintuple). is_downstream o (Some g) ≡ true) (entry-least place x.0 rows more x.1) f in
         (g, least-more_lower g x.0 row rows lower (least-all place x.0 rows x.1) e)
 
--- the row is not lower
+-- the new row is not lower
 pub least-same : (least : Option ℕ) (row : Row) (rows more : List Row) → IsLeastPlace least rows → is_downstream (low_of least (rows ++ more)) row.entry ≡ false → IsLeastPlace least (rows ++ row ∷ [])
 least-same None row rows more is down = null-more row rows is (at row.entry down)
   where
@@ -564,7 +564,7 @@ pub least-in : (least : Option ℕ) (rows : List Row) → IsLeastPlace least row
 least-in None rows is = tt
 least-in (Some place) rows is = least-within place is.0 rows is.1
 
--- ---- one row more, read in a loop
+-- ---- one more row, in a loop
 
 pub directions-next : (own : Option Quintuple) (ds : List Direction) (rows : List Row) (i : ℕ) (x : Row) → i < length ds → i < length rows → x ≡ slice_index_or rows i x → take i ds ≡ directions_of own (take i rows)
     → take (i + 1) (slice_set ds i (link_status own x.entry)) ≡ directions_of own (take (i + 1) rows)
@@ -655,7 +655,7 @@ null-direction own [] place d none = refl
 null-direction own (row ∷ rows) zero d none = sym (ap (link_status own) none ∙ status-none own)
 null-direction own (row ∷ rows) (suc place) d none = null-direction own rows place d none
 
--- where a row without an entry takes the place of one without an entry, all stays that is kept
+-- if a row without an entry replaces one without an entry, all stored values stay correct
 pub kept-null : (own : Option Quintuple) (rows : List Row) (ds : List Direction) (count : ℕ) (least : Option ℕ) (place : ℕ) (new d : Row)
     → IsNull new → (slice_index_or rows place d).entry ≡ None → place < length rows → AreKept own rows ds count least → AreKept own (slice_set rows place new) ds count least
 kept-null own rows ds count least place new d null none lt kept =
@@ -665,7 +665,7 @@ kept-null own rows ds count least place new d null none lt kept =
     subst (λ (xs : List Direction). AreKept own (slice_set rows place new) xs count least) same
     (kept-put own rows ds count least place new Undirected count least kept lt read (ap (λ (x : Direction). count + one_if (is_down x)) (sym status)) (least-put_null place least new rows d null none kept.least_is))
 
--- a link that is downstream is counted
+-- the count includes a link that was downstream
 pub before-counted : (own : Option Quintuple) (rows : List Row) (ds : List Direction) (count : ℕ) (least : Option ℕ) (place : ℕ) (before : Direction)
     → AreKept own rows ds count least → place < length rows → before ≡ slice_index_or ds place before → is_down before ≡ true → 0 < count
 before-counted own rows ds count least place before kept lt read down =

@@ -1,4 +1,4 @@
--- An input that concerns one destination: only its view changes and sends.
+-- An input that concerns one destination changes only its view, and sends only its packet.
 use Rattle.std.proofs.Common.{◌≡◌, refl, ap, sym, ◌∙◌, ℕ, ◌+◌, ◌<◌, ◌≤◌, suc, Bool, true, false, not, List, [], ◌∷◌, map, length, Option, Some, None, arith, nat_lt}
 use Rattle.std.specs.Prelude.{filter_map, if◌then◌else◌, slice_set, slice_index_or}
 use Rattle.std.specs.List.{AllByRecursion, position, position_or_len, cons_option}
@@ -12,7 +12,7 @@ use Rattle.tora_core.specs.CoreRun.{is_of, own_destination, concerns, next_view,
 use Rattle.tora_core.specs.Kept.{destinations_of}
 use Rattle.tora_core.proofs.NumberLemmas.{same-number}
 
--- ---- the place of the first that passes a test
+-- ---- the first element that passes a test
 
 module _ {X : Type 0} (p : X → Bool) where
   pub place-Some : (xs : List X) (i : ℕ) → position p xs ≡ Some i → (position_or_len p xs < length xs) × (i ≡ position_or_len p xs)
@@ -41,7 +41,7 @@ module _ {X : Type 0} (p : X → Bool) where
   pub none-passes : (xs : List X) → position p xs ≡ None → AllByRecursion (λ (x : X). p x ≡ false) xs
   none-passes xs e = none-within xs (place-None xs e)
 
--- no later view is of the same destination
+-- no later view has the same destination
 later-apart : (d : ℕ) (v : View) (views : List View) → is_of d v ≡ true → AllByRecursion (λ (m : ℕ). v.destination < m) (destinations_of views) → AllByRecursion (λ (w : View). is_of d w ≡ false) views
 later-apart d v [] is above = tt
 later-apart d v (w ∷ views) is above =
@@ -123,7 +123,7 @@ module _ (input : Input) (now d : ℕ) (own : own_destination input ≡ Some d) 
       at rest true be f r = let same : x ≡ v = r in ap (is_of d) same ∙ be
       at rest false be f r = let s : 1 + position_or_len (is_of d) views ≡ suc (position_or_len (is_of d) views) = omega arith in rest (omega arith) (rw s at r)
 
--- a view that the input concerns takes it
+-- a view that an input concerns takes the input
 pub view-taken : (input : Input) (now : ℕ) (v : View) → concerns input v.destination ≡ true → next_view input now v ≡ view_after v input now
 view-taken input now v is = ap (λ b. if b then view_after v input now else v) is
 

@@ -23,7 +23,7 @@ marked-length [] (row ∷ places) is = absurd is
 marked-length (mark ∷ up) [] is = absurd is
 marked-length (mark ∷ up) (row ∷ places) is = ap suc (marked-length up places is.1)
 
--- as many places as before
+-- the count of places does not change
 pub few-still : (most : ℕ) (places new : List Row) → neighbours_of new ≡ neighbours_of places → length places ≤ most → length new ≤ most
 few-still most places new same few =
     let before = length-rows places in
@@ -31,14 +31,14 @@ few-still most places new same few =
     let equal = ap (λ (ns : List ℕ). length ns) same in
     omega arith
 
--- what the numbers of all places have, those of the rows have
+-- a property of all neighbours holds for those that have rows
 pub all-up : (P : ℕ → Type 0) (up : List Bool) (places : List Row) → AllByRecursion P (neighbours_of places) → AllByRecursion P (neighbours_of (rows_up up places))
 all-up P [] places all = tt
 all-up P (mark ∷ up) [] all = tt
 all-up P (true ∷ up) (row ∷ places) all = (all.0, all-up P up places all.1)
 all-up P (false ∷ up) (row ∷ places) all = all-up P up places all.1
 
--- where a neighbour has a row its place is marked
+-- if a neighbour has a row, its place is marked
 pub up-on : (k place : ℕ) (up : List Bool) (places : List Row) → has_number k (neighbours_of (rows_up up places)) ≡ true → IsOnlyPlace k place (neighbours_of places)
     → slice_index_or up place false ≡ true
 up-on k place [] places has is = absurd cc
@@ -50,7 +50,7 @@ up-on k (suc place) (true ∷ up) (row ∷ places) has is =
     up-on k place up places (or-true-right (row.neighbour == k) (has_number k (neighbours_of (rows_up up places))) has (not-same row.neighbour k is.0)) is.1
 up-on k (suc place) (false ∷ up) (row ∷ places) has is = up-on k place up places has is.1
 
--- and where it has none it is not
+-- if a neighbour has no row, its place is not marked
 pub up-off : (k place : ℕ) (up : List Bool) (places : List Row) → AllByRecursion (λ (row : Row). row.neighbour ≢ k) (rows_up up places) → IsOnlyPlace k place (neighbours_of places)
     → slice_index_or up place false ≡ false
 up-off k place [] places all is = refl
@@ -69,7 +69,7 @@ null-off place (mark ∷ up) [] d is off lt = absurd is
 null-off zero (mark ∷ up) (row ∷ places) d is off lt = is.0 off
 null-off (suc place) (mark ∷ up) (row ∷ places) d is off lt = null-off place up places d is.1 off (omega arith)
 
--- a mark, with any value for a missing one
+-- a mark that is read, whatever the default value is
 pub mark-read : (place : ℕ) (up : List Bool) (b c : Bool) → place < length up → slice_index_or up place b ≡ slice_index_or up place c
 mark-read place [] b c lt = absurd (omega arith)
 mark-read zero (mark ∷ up) b c lt = refl
@@ -130,7 +130,7 @@ find-other k [] all = refl
 find-other k (row ∷ rows) all =
     ap (λ b. if b then Some row else find (λ (r : Row). r.neighbour == k) rows) (not-same row.neighbour k all.0) ∙ find-other k rows all.1
 
--- the row of a neighbour is that at its place, where that is marked
+-- the row of a neighbour is that at its place, if the place is marked
 pub find-on : (k place : ℕ) (up : List Bool) (places : List Row) (d : Row) → slice_index_or up place false ≡ true → IsOnlyPlace k place (neighbours_of places)
     → find (λ (row : Row). row.neighbour == k) (rows_up up places) ≡ Some (slice_index_or places place d)
 find-on k place [] places d on is = absurd cc
@@ -197,7 +197,7 @@ numbers-entry place h [] = refl
 numbers-entry zero h (row ∷ places) = refl
 numbers-entry (suc place) h (row ∷ places) = ap (λ (ns : List ℕ). row.neighbour ∷ ns) (numbers-entry place h places)
 
--- ---- a row that is written to a place
+-- ---- a row that is written to its place
 
 pub numbers-put : (k place : ℕ) (new : Row) (places : List Row) → new.neighbour ≡ k → IsOnlyPlace k place (neighbours_of places) → neighbours_of (slice_set places place new) ≡ neighbours_of places
 numbers-put k place new [] of is = refl
@@ -212,7 +212,7 @@ marked-put place mark new (m ∷ up) [] keep is = absurd is
 marked-put zero mark new (m ∷ up) (row ∷ places) keep is = (keep, is.1)
 marked-put (suc place) mark new (m ∷ up) (row ∷ places) keep is = (is.0, marked-put place mark new up places keep is.1)
 
--- the row of a neighbour goes
+-- the row of a neighbour is removed
 pub up-goes : (k place : ℕ) (new : Row) (up : List Bool) (places : List Row) → IsOnlyPlace k place (neighbours_of places)
     → rows_up (slice_set up place false) (slice_set places place new) ≡ without_row k (rows_up up places)
 up-goes k place new [] places is = refl
@@ -232,18 +232,18 @@ below m n lt = grind (arith, nat_tests)
 not_below : (m n : ℕ) → n < m → nat_lt m n ≡ false
 not_below m n lt = grind (arith, nat_tests)
 
--- a row before all others
+-- a new row before all others
 with_row-first : (new : Row) (rows : List Row) → AllByRecursion (λ (m : ℕ). new.neighbour < m) (neighbours_of rows) → with_row new rows ≡ new ∷ rows
 with_row-first new [] all = refl
 with_row-first new (row ∷ rows) all = ap (λ b. if b then new ∷ row ∷ rows else row ∷ with_row new rows) (below new.neighbour row.neighbour all.0)
 
--- what all numbers have, the one at a place has
+-- a property of all numbers holds for the one at a place
 only-has : (P : ℕ → Type 0) (k place : ℕ) (ns : List ℕ) → IsOnlyPlace k place ns → AllByRecursion P ns → P k
 only-has P k place [] is all = absurd is
 only-has P k zero (n ∷ ns) is all = subst P is.0 all.0
 only-has P k (suc place) (n ∷ ns) is all = only-has P k place ns is.1 all.1
 
--- the row of a neighbour comes
+-- the row of a neighbour is added
 pub up-comes : (k place : ℕ) (new : Row) (up : List Bool) (places : List Row) → new.neighbour ≡ k → IsAscending (neighbours_of places) → IsOnlyPlace k place (neighbours_of places)
     → AreMarked up places → slice_index_or up place false ≡ false → rows_up (slice_set up place true) (slice_set places place new) ≡ with_row new (rows_up up places)
 up-comes k place new [] [] of asc is marked off = absurd is
@@ -260,7 +260,7 @@ up-comes k (suc place) new (true ∷ up) (row ∷ places) of asc is marked off =
     ∙ sym (ap (λ b. if b then new ∷ row ∷ rows_up up places else row ∷ with_row new (rows_up up places)) (not_below new.neighbour row.neighbour above))
 up-comes k (suc place) new (false ∷ up) (row ∷ places) of asc is marked off = up-comes k place new up places of asc.1 is.1 marked.1 off
 
--- ---- the places at first
+-- ---- the places of a new view
 
 pub marked-first : (ns : List ℕ) → AreMarked (replicate (length ns) false) (map empty_place ns)
 marked-first [] = tt

@@ -1,4 +1,4 @@
--- No input changes whose view it is.
+-- No input changes the node and the destination of a view.
 use Rattle.std.proofs.Common.{◌≡◌, refl, ap, ◌∙◌, ℕ, Bool, [], ◌∷◌, true, false, not, ◌&&◌, pos, map, Option, Some, None, is_none, ◌==◌, List}
 use Rattle.std.specs.Prelude.{if◌then◌else◌, nat_lt}
 use Rattle.std.specs.List.{list_all}
@@ -18,13 +18,13 @@ use Rattle.tora_core.specs.Heights.{fresh_time, fitted_height}
 use Rattle.tora_core.specs.Rules.{Outcome, silent, query_broadcast, update_broadcast_of, update_broadcast, joined_height, after_join, new_level_at, new_level, after_erase, after_link_loss, below_delta, propagated_level, reflected_level, after_update_loss_at, after_update_loss, cleared_level, hearing_clear, is_outdated, rows_behind_clear, link_row, on_update, on_outdated, on_taken_update, on_clear, on_heard_clear, on_packet, outcome_at_destination, outcome_elsewhere, outcome_of}
 use Rattle.tora_core.specs.CoreRun.{up_after}
 
--- an outcome of a view of node n for destination d, over these up neighbours
+-- the outcome has a view of node n for destination d, with rows for these neighbours
 pub record IsPlaced (n d : ℕ) (up : List ℕ) (o : Outcome) : Type 0 where
   pub me : o.view.me ≡ n
   pub destination : o.view.destination ≡ d
   pub rows : neighbours_of o.view.rows ≡ up
 
--- the outcome is of this view
+-- the outcome has the node, the destination and the neighbours of this view
 abbrev Of : View → Outcome → Type 0
 Of v o = IsPlaced v.me v.destination (neighbours_of v.rows) o
 

@@ -1,4 +1,4 @@
--- An input that a core does not refuse may come to its views, and they react to it.
+-- An accepted input may come to the views of a core, and they react to it by the relation.
 use Rattle.std.proofs.Common.{◌≡◌, ◌≢◌, refl, ℕ, Bool, true, false, not, ◌==◌, ap, sym, subst, ◌∙◌, inl, inr, List, [], ◌∷◌, Option, Some, None}
 use Rattle.std.specs.Prelude.{Contains, if◌then◌else◌, option_map}
 use Rattle.std.specs.List.{AllByRecursion}
@@ -20,7 +20,7 @@ use Rattle.tora_core.specs.Reacts.{IsUp, IsFromUp, Reacts}
 use Rattle.tora_core.proofs.ReactsWords.{IsAmong, all-among, all-from_among, among-Contains, Contains-among, list_any-true, true-list_any, is-same, same-is}
 use Rattle.tora_core.proofs.ReactsTotal.{reacts-some}
 
--- what is not refused passed each test
+-- an accepted input passes each check
 passed : (b : Bool) (fault : StepError) (rest : Option StepError) → (if not b then Some fault else rest) ≡ None → (b ≡ true) × (rest ≡ None)
 passed true fault rest e = (refl, e)
 passed false fault rest e = absurd cc
@@ -65,7 +65,7 @@ packet-may k (Upd u) v is from e =
     let other : k ≢ v.destination = λ (s : k ≡ v.destination). is.other (id ∙ s ∙ sym e) in
     (record { ranges = is.height; id = id; zero = λ (s : k ≡ v.destination). absurd (other s); above = λ _ t r. is.above t r }, other)
 
--- what is not refused may come to a view that it concerns, from an up neighbour
+-- an accepted input may come to a view that it concerns, over a link that is up
 accepted-may : (c : CoreView) (input : Input) (v : View) → IsCore c → IsInput input → refusal_of c input ≡ None → IsViewOf c.me c.up v → concerns input v.destination ≡ true → MayCome v input × IsFromUp v input
 accepted-may c (In.Need d) v core is e view here = (tt, tt)
 accepted-may c (In.LinkDown k) v core is e view here = (tt, tt)
@@ -87,7 +87,7 @@ next-is input now v here = (if-true (concerns input v.destination) (view_after v
     if-true true x y e = refl
     if-true false x y e = absurd cc
 
--- a view of a core, and the effect of an accepted input
+-- a view of a core reacts to an accepted input by the relation
 pub accepted-reacts : (c : CoreView) (input : Input) (now : ℕ) (v : View) → IsCore c → IsInput input → refusal_of c input ≡ None → Contains c.views v → concerns input v.destination ≡ true
     → (broadcast : Option Broadcast) × Reacts v input now (next_view input now v) broadcast × (next_packet input now v ≡ option_map (packet_of v.destination) broadcast)
 accepted-reacts c input now v core is e in_core here =

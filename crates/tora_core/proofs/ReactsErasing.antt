@@ -16,7 +16,7 @@ keeps-some v level = at v.erasure refl
     at Plain is = kept_plain is
     at Remembered is = kept_remembered is
 
--- a reflected level is one that a clear erases
+-- a clear can erase every reflected level
 pub is-cleared : (level : Level) → level.r ≡ 1 → level ≡ cleared_level level.tau level.oid
 is-cleared level one = let P : ℕ → Level = λ r. record { tau = level.tau; oid = level.oid; r = r } in ap P one
 
@@ -28,7 +28,7 @@ pub keeps-only : (v : View) (level : Level) {kept : Option Level} → Keeps v le
 keeps-only v level (kept_plain is) = ap (λ (x : Erasure). erased_after x v.erased level) (sym is)
 keeps-only v level (kept_remembered is) = ap (λ (x : Erasure). erased_after x v.erased level) (sym is)
 
--- a view after a clear, at a node with this choice
+-- the view after a clear, at a node with this choice
 abbrev heard_as : Erasure → View → ℕ → Level → View
 heard_as x v k level = record v { rows = rows_behind_clear x v.destination k v.rows; erased = erased_after x v.erased level }
 

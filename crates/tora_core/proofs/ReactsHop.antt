@@ -12,7 +12,7 @@ use Rattle.tora_core.specs.Kept.{IsRow, IsKept}
 use Rattle.tora_core.specs.Reacts.{IsEntry, IsNextHop}
 use Rattle.tora_core.proofs.ReactsWords.{IsAmong, all-among, all-from_among, among-Contains, Contains-among, entry-among, IsNotBelow, least-below_none, not-lower, height-same, down-lower, lower-down}
 
--- a row with an entry
+-- the row has an entry
 abbrev HasEntry : Row → Type 0
 HasEntry row = (h : Quintuple) × (row.entry ≡ Some h)
 
@@ -45,7 +45,7 @@ filter-among test (r ∷ rows) row i t =
     second f (inl e) rest = let x = ap test e in absurd cc
     second f (inr j) rest = rest j
 
--- the lowest row has the least entry, and is one of the rows
+-- this row has the least entry, and is one of the rows
 record IsLowestRow (a : Quintuple) (best : Row) (rows : List Row) (m : Row) : Type 0 where
   low : Quintuple
   entry : m.entry ≡ Some low
@@ -144,7 +144,7 @@ hop-is v k e = at (fold lower_row_of None (downstream_rows v)) refl e
     at None is f = absurd cc
     at (Some m) is f = let same : m.neighbour ≡ k = cc in subst (IsNextHop v) same (hop-row v m is)
 
--- a neighbour's entry has its number
+-- the entry of a neighbour has the neighbour's number
 entry-id : (v : View) (k : ℕ) (h : Quintuple) → IsKept v → IsEntry v k h → h.id ≡ k
 entry-id v k h kept i =
     let row : Row = i.0 in
@@ -155,7 +155,7 @@ entry-id v k h kept i =
     of n d None e is = absurd cc
     of n d (Some g) e is = let same : g ≡ h = cc in subst (λ (x : Quintuple). x.id ≡ n) same is.id
 
--- there is one next hop at most, since no two neighbours have the same entry
+-- there is at most one next hop, since no two neighbours have the same entry
 hop-one : (v : View) (j k : ℕ) → IsKept v → IsNextHop v j → IsNextHop v k → j ≡ k
 hop-one v j k kept x y =
     let same = height-same x.entry y.entry (y.lowest j x.entry x.known x.downstream) (x.lowest k y.entry y.known y.downstream) in

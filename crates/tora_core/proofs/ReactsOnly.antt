@@ -1,4 +1,4 @@
--- What the relation allows is what the rule computes.
+-- The relation allows only what the rules compute.
 use Rattle.std.proofs.Common.{◌≡◌, ◌≢◌, ◌⊎◌, inl, inr, refl, ℕ, ◌<◌, ◌^◌, Bool, true, false, not, ◌&&◌, ◌==◌, arith, ap, sym, subst, ◌∙◌, Option, Some, None, is_some, is_none, ℤ, pos, ◌+ℤ◌, ◌-ℤ◌}
 use Rattle.std.specs.Prelude.{IfSome, if◌then◌else◌}
 use Rattle.std.specs.List.{AllByRecursion, list_all}
@@ -21,7 +21,7 @@ use Rattle.tora_core.proofs.Fitted.{fitted_height-in_range}
 use Rattle.tora_core.proofs.ReactsErasing.{hears-only, is-cleared, is-outdated, keeps-only, not-outdated}
 use Rattle.tora_core.proofs.ReactsWords.{all-among, among-Contains, known-least, known-greatest, delta-least, common-all, common-greatest, differ-all, time-fresh, fitted_height-out, none-are_null, some-are_null, some-downstream, none-downstream, downstream-lacks, lacks-not, level-own, own-not, told-is, told-not, is-zero, not-zero, is-same, is-other}
 
--- this is what the outcome says
+-- the outcome has this view and this broadcast
 abbrev pub Gives : Outcome → View → Option Broadcast → Type 0
 Gives o after broadcast = (after ≡ o.view) × (broadcast ≡ o.broadcast)
 
@@ -40,7 +40,7 @@ if-false false x y e = refl
 
 -- ---- known heights are in range
 
--- the node's number and what it knows are in range
+-- the node's number and all heights that it knows are in range
 pub record IsRanged (v : View) : Type 0 where
   pub me : v.me < 2 ^ 32
   pub known : (h : Quintuple) → IsKnown v h → IsHeight h
@@ -90,7 +90,7 @@ updated-ranged v k height kept is =
 
 -- ---- a computed height
 
--- the effect of a height, if there is one, on a view
+-- the outcome of setting a height, if there is one
 abbrev pub taken_of : View → ℕ → Option Quintuple → Outcome
 taken_of v last None = silent (record v { height = None })
 taken_of v last (Some h) = record { view = record v { height = Some h; rows = all_told v.rows; last = last }; broadcast = Some (Tell.Update h) }
@@ -143,7 +143,7 @@ link_loss-only v now {after} {broadcast} me (new_level_after_failure some new) =
     gives-by (after_link_loss v now) (new_level v now) after broadcast
     (if-false (are_null v.rows) (silent (record v { height = None })) (new_level v now) (some-are_null v some)) (new_level-only v now after broadcast me new)
 
--- which case it is
+-- the case, by the greatest level
 update_loss-at : (v : View) (now : ℕ) (level : Level) → IsGreatestLevel v level → after_update_loss v now ≡ after_update_loss_at v now (Some level)
 unfolding after_update_loss
 update_loss-at v now level is = ap (after_update_loss_at v now) (known-greatest v level is)
@@ -244,14 +244,14 @@ link-other v k n = if-false (k == v.destination) (up_destination v k) (up_other 
 link-destination : (v : View) (k : ℕ) → k ≡ v.destination → on_link_up v k ≡ up_destination v k
 link-destination v k e = if-true (k == v.destination) (up_destination v k) (up_other v k) (is-same k v.destination e)
 
--- the outcome of an update where no route is required
+-- the outcome of an update if no route is required
 abbrev update_unasked : View → ℕ → Quintuple → ℕ → Outcome
 update_unasked v k height now = let w = updated_view v k height in if lacks_downstream w then after_update_loss w now else silent w
 
 update-unasked : (v : View) (k : ℕ) (height : Quintuple) (now : ℕ) → v.flag ≡ false → on_taken_update v k height now ≡ update_unasked v k height now
 update-unasked v k height now unset = if-false v.flag (after_join (updated_view v k height)) (update_unasked v k height now) unset
 
--- the outcome of an update that is not older than the clear of its level, and of one that is
+-- the outcome of an update by whether it counts as older than the clear of its level
 update-fresh : (v : View) (k : ℕ) (height : Quintuple) (now : ℕ) → ¬ IsOutdated v height → on_update v k height now ≡ on_taken_update v k height now
 update-fresh v k height now fresh = if-false (is_outdated v height) (on_outdated v k now) (on_taken_update v k height now) (not-outdated v height fresh)
 

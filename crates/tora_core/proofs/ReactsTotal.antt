@@ -1,4 +1,4 @@
--- The relation allows what the rule computes.
+-- The relation allows what the rules compute.
 use Rattle.std.proofs.Common.{◌≡◌, ◌⊎◌, inl, inr, refl, ℕ, ◌<◌, ◌^◌, Bool, true, false, not, ◌&&◌, ◌==◌, ap, sym, subst, List, [], ◌∷◌, map, Option, Some, None, nat_lt, is_some, is_none, ℤ, pos, ◌+ℤ◌, ◌-ℤ◌}
 use Rattle.std.specs.Prelude.{if◌then◌else◌}
 use Rattle.std.specs.List.{list_all}
@@ -24,7 +24,7 @@ use Rattle.tora_core.proofs.ReactsErasing.{hears-some, keeps-reflected, keeps-so
 use Rattle.tora_core.proofs.ReactsWords.{IsAmong, among-Contains, entry-among, among-known, known-among, least-none, least-known, greatest-none, greatest-known, least-delta, delta-some, all-common, all-differ, fresh-time, knows_none, knows_some, downstream-some, downstream-none, lacks-downstream, not-lacks, own-level, not-own, level-at, is-told, told-is, is-same, zero-is, one-is, same-is, other-is}
 use Rattle.tora_core.proofs.ReactsOnly.{IsRanged, kept-ranged, linked-ranged, updated-ranged, taken_of, taken-update, taken-new}
 
--- the relation at an outcome
+-- the relation holds for an outcome
 abbrev AtOutcome : (View → Option Broadcast → Type 0) → Outcome → Type 0
 AtOutcome R o = R o.view o.broadcast
 
@@ -157,7 +157,7 @@ among-map f [] row i = absurd i
 among-map f (r ∷ rows) row (inl e) = inl (ap f e)
 among-map f (r ∷ rows) row (inr i) = inr (among-map f rows row i)
 
--- the entry of the neighbour that sent an update
+-- after an update, the entry of its sender is known
 knows-updated : (v : View) (k : ℕ) (height : Quintuple) → IsUp v k → KnowsSome (updated_view v k height)
 knows-updated v k height up =
     let row : Row = up.0 in

@@ -23,7 +23,7 @@ use Rattle.tora_core.specs.Heights.{time_after, time_after_all, fresh_time, fitt
 use Rattle.tora_core.specs.Reacts.{IsTold, IsKnown, KnowsSome, KnowsNone, HasDownstream, HasNoDownstream, LacksDownstream, IsOwnLevel, IsLeastKnown, IsGreatestLevel, IsLeastDelta, IsCommonLevel, LevelsDiffer, IsFreshTime}
 use Rattle.tora_core.proofs.RowLemmas.{all-weaker, least_height-all, greatest-all, greatest-reached}
 
--- ---- among the elements of a list
+-- ---- elements of a list
 
 abbrev pub IsAmong : {X : Type 0} → X → List X → Type 0
 IsAmong x [] = ⊥
@@ -144,7 +144,7 @@ among-entry (r ∷ rows) h i = at (λ j. among-entry rows h j) r.entry refl i
     at rest (Some g) is (inl e) = (r, inl refl, is ∙ ap Some e)
     at rest (Some g) is (inr j) = let s = rest j in (s.0, inr s.1, s.2)
 
--- the known heights are those in the list of known heights
+-- the known heights are those of the list of known heights
 pub known-among : (v : View) (h : Quintuple) → IsKnown v h → IsAmong h (known_heights v)
 known-among v h k = let e = k.1 in entry-among v.rows e.0 h (among-Contains v.rows e.0 e.1) e.3
 
@@ -208,13 +208,13 @@ is_lt-not_lower a b n = at (is_lt (height_cmp a b)) refl
 same_parts : (t u o p q r : ℕ) (d e : ℤ) (i j : ℕ) → t ≡ u → o ≡ p → q ≡ r → d ≡ e → i ≡ j → quintuple t o q d i ≡ quintuple u p r e j
 same_parts t u o p q r d e i j a b c f g = rw (a, b, c, f, g) refl
 
--- heights that compare alike are one
+-- heights that compare as equal are equal
 pub height_cmp-Equal : (a b : Quintuple) → height_cmp a b ≡ Equal → a ≡ b
 height_cmp-Equal a b h =
     same_parts a.tau b.tau a.oid b.oid a.r b.r a.delta b.delta a.id b.id
     (grind (arith, nat_tests)) (grind (arith, nat_tests)) (grind (arith, nat_tests)) (grind (arith, nat_tests, ints)) (grind (arith, nat_tests, ints))
 
--- two heights of which neither is lower are one
+-- if neither of two heights is lower, they are equal
 pub height-same : (a b : Quintuple) → ¬ IsLower a b → ¬ IsLower b a → a ≡ b
 height-same a b x y = at (height_cmp a b) refl
   where
@@ -244,7 +244,7 @@ level-same a b x y = at (level_cmp a b) refl
     at Equal e = level_cmp-Equal a b e
     at Greater e = absurd (y (lower_level-cmp b a (level_cmp_total.antisymm b a ∙ ap ordering_reverse e)))
 
--- a height is at a level where its own level is that one
+-- a height is at its own level only
 pub at-level : (level : Level) (h : Quintuple) → is_at level h ≡ true → level_of h ≡ level
 at-level level h e = level_cmp-Equal (level_of h) level (at (level_cmp (level_of h) level) e)
   where
@@ -266,7 +266,7 @@ lt-gt Greater = refl
 pub below-above : (a b : Quintuple) → is_lt (height_cmp a b) ≡ is_gt (height_cmp b a)
 below-above a b = ap is_lt (height_cmp_total.antisymm a b) ∙ lt-gt (height_cmp b a)
 
--- not below, chained
+-- the order "not below" is transitive
 pub not-below : (a b m : Quintuple) → is_lt (height_cmp a b) ≡ false → is_lt (height_cmp b m) ≡ false → is_lt (height_cmp a m) ≡ false
 not-below a b m x y = below-above a m ∙ upto height_cmp_total m b a (sym (below-above b m) ∙ y) (sym (below-above a b) ∙ x)
 
@@ -296,7 +296,7 @@ least-some a (h ∷ hs) e =
     let P : Option Quintuple → Type 0 = λ o. fold lower_of o hs ≡ None → ⊥ in
     cond_both (is_lt (height_cmp h a)) (Some h) (Some a) P (λ _ f. least-some h hs f) (λ _ f. least-some a hs f) e
 
--- nothing is the least only where there is nothing
+-- there is no least height only if there are no heights
 pub least-none : (hs : List Quintuple) (h : Quintuple) → least_height hs ≡ None → IsAmong h hs → ⊥
 least-none [] h e i = i
 least-none (g ∷ hs) h e i = least-some g hs e
@@ -467,7 +467,7 @@ delta-least v level m is = at (least_delta level (known_heights v)) refl
     at None e = let h = is.known in absurd ((delta-some level None (known_heights v) h.0 e).1 (known-among v h.0 h.1) (level-at level h.0 h.2))
     at (Some n) e = ap Some (one n (least-delta v level n e))
 
--- ---- one level alone
+-- ---- all heights at one level
 
 pub common-all : (v : View) (level : Level) → IsCommonLevel v level → list_all (is_at level) (known_heights v) ≡ true
 common-all v level is = true-list_all (is_at level) (known_heights v) (λ h i. level-at level h (is.all h (among-known v h i)))
@@ -551,7 +551,7 @@ time-fresh v now t is =
 pub fresh-same : (v : View) (now t : ℕ) → fresh_time v now ≡ t → IsFreshTime v now t
 fresh-same v now t e = subst (IsFreshTime v now) e (fresh-time v now)
 
--- ---- fitting
+-- ---- computed heights in range
 
 pub fitted_height-out : (h : Quintuple) → h.oid < 2 ^ 32 → h.id < 2 ^ 32 → ¬ IsHeight h → fitted_height h ≡ None
 fitted_height-out h oid id n = at (height_fault h) refl

@@ -1,4 +1,4 @@
--- What the changes of rows change.
+-- The effects of changes of rows.
 use Rattle.std.proofs.Common.{◌≡◌, ◌≢◌, ◌↔◌, ◌⊎◌, inl, inr, refl, ap, sym, subst, ◌∙◌, ℕ, ℤ, ◌==◌, Bool, true, false, not, ◌&&◌, List, [], ◌∷◌, map, Option, Some, None, nat_lt}
 use Rattle.std.specs.Prelude.{fold, option_map, if◌then◌else◌}
 use Rattle.std.proofs.lemmas.Bool.{cond_both}
@@ -116,7 +116,7 @@ come-told v new k =
     from (inl i) = inl (told-has v k i)
     from (inr i) = inr i
 
--- ---- a row that goes
+-- ---- a row that is removed
 
 abbrev is_other : ℕ → Row → Bool
 is_other j row = not (row.neighbour == j)
@@ -167,7 +167,7 @@ to-map f row [] i = absurd i
 to-map f row (r ∷ rows) (inl e) = inl (ap f e)
 to-map f row (r ∷ rows) (inr j) = inr (to-map f row rows j)
 
--- a change that keeps numbers, and whose rows have P where those before have Q
+-- a change that keeps the neighbours; P is a property of the rows after it, and Q of the rows before it
 module _ (f : Row → Row) (same : (row : Row) → (f row).neighbour ≡ row.neighbour) where
   map-from : (P Q : Row → Type 0) → ((row : Row) → P (f row) → Q row) → (rows : List Row) (k : ℕ) → HasRow P (map f rows) k → HasRow Q rows k
   map-from P Q keep rows k i =
@@ -195,7 +195,7 @@ module _ (f : Row → Row) (same : (row : Row) → (f row).neighbour ≡ row.nei
     λ i. has-told (record v { rows = map f v.rows }) k (map-to Told Told (λ row e. keep row ∙ e) v.rows k (told-has v k i)),
   )
 
--- ---- telling
+-- ---- marking all neighbours
 
 pub told-told : (v : View) (k : ℕ) → IsTold (record v { rows = all_told v.rows }) k ↔ IsUp v k
 told-told v k = (
@@ -203,7 +203,7 @@ told-told v k = (
   λ i. has-told (record v { rows = all_told v.rows }) k (map-to told_row (λ row. refl) Told Any (λ row _. refl) v.rows k (up-has v k i)),
 )
 
--- ---- taking an entry
+-- ---- setting an entry
 
 pub entry-number : (j : ℕ) (g : Quintuple) (row : Row) → (row_with_entry j g row).neighbour ≡ row.neighbour
 entry-number j g row = cond_both (row.neighbour == j) (record row { entry = Some g }) row (λ (r : Row). r.neighbour ≡ row.neighbour) (λ _. refl) (λ _. refl)
@@ -211,7 +211,7 @@ entry-number j g row = cond_both (row.neighbour == j) (record row { entry = Some
 pub entry-mark : (j : ℕ) (g : Quintuple) (row : Row) → (row_with_entry j g row).told ≡ row.told
 entry-mark j g row = cond_both (row.neighbour == j) (record row { entry = Some g }) row (λ (r : Row). r.told ≡ row.told) (λ _. refl) (λ _. refl)
 
--- the entry of a row before, and the new one
+-- the entry of a row, which is the new one for neighbour j and otherwise the old one
 abbrev Took : ℕ → Quintuple → Quintuple → Row → Type 0
 Took j g h row = ((row.entry ≡ Some h) × (row.neighbour ≢ j)) ⊎ ((row.neighbour ≡ j) × (g ≡ h))
 
@@ -368,7 +368,7 @@ withdraw-entry v d j k h = (
     back row e (inl f) = inl (e ∙ f)
     back row e (inr f) = inr (λ (q : row.neighbour ≡ j). f (sym e ∙ q))
 
--- ---- an item without a report
+-- ---- removing a mark
 
 pub untold-number : (j : ℕ) (row : Row) → (untold_row j row).neighbour ≡ row.neighbour
 untold-number j row = cond_both (row.neighbour == j) (record row { told = false }) row (λ (r : Row). r.neighbour ≡ row.neighbour) (λ _. refl) (λ _. refl)

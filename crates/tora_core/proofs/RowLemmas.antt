@@ -1,4 +1,4 @@
--- Rows after each change, and the least and greatest of the neighbours' heights.
+-- Rows after each change, and the least and the greatest of the neighbours' heights.
 use Rattle.std.proofs.Common.{◌≡◌, ◌≢◌, refl, ℕ, ◌+◌, ◌<◌, ◌≤◌, max, Bool, true, false, ◌||◌, arith, ap, subst, ◌∙◌, List, [], ◌∷◌, map, Option, Some, None, nat_lt}
 use Rattle.std.specs.Prelude.{IfSome, filter, fold}
 use Rattle.std.specs.List.{AllByRecursion, list_any, cons_option}
@@ -14,7 +14,7 @@ use Rattle.tora_core.specs.Heights.{time_after_all}
 use Rattle.tora_core.specs.Kept.{AreAscending}
 use Rattle.tora_core.proofs.Order.{level-itself, level-chain}
 
--- ---- All
+-- ---- all elements
 
 pub all-weaker : {X : Type 0} (P Q : X → Type 0) → ((x : X) → P x → Q x) → (xs : List X) → AllByRecursion P xs → AllByRecursion Q xs
 all-weaker P Q f [] h = tt
@@ -79,7 +79,7 @@ down-cons : (own o : Option Quintuple) (hs : List Quintuple) (b : Bool) → b �
 down-cons own None hs b e = e
 down-cons own (Some h) hs b e = ap (λ c. is_downstream own (Some h) || c) e
 
--- whether a link is downstream, by the heights
+-- whether some link is downstream depends only on the heights
 pub down-heights_of : (own : Option Quintuple) (rows : List Row) → list_any (λ row. is_downstream own row.entry) rows ≡ list_any (λ h. is_downstream own (Some h)) (heights_of rows)
 down-heights_of own [] = refl
 down-heights_of own (row ∷ rows) = down-cons own row.entry (heights_of rows) (list_any (λ row. is_downstream own row.entry) rows) (down-heights_of own rows)
@@ -111,7 +111,7 @@ least_height-from p a (h ∷ hs) m e q =
     (λ _ f. or_later (p a) (p h) (list_any p hs) (least_height-from p h hs m f q))
     (λ _ f. or_first (p a) (p h) (list_any p hs) (least_height-from p a hs m f q)) e
 
--- a test that the least passes is passed by some
+-- a test that the least height passes is passed by some height
 pub least_height-any : (p : Quintuple → Bool) (hs : List Quintuple) (m : Quintuple) → least_height hs ≡ Some m → p m ≡ true → list_any p hs ≡ true
 least_height-any p [] m e q = cc
 least_height-any p (h ∷ hs) m e q = least_height-from p h hs m e q
@@ -123,7 +123,7 @@ least_height-from_all P a (h ∷ hs) m pa all e =
     cond_both (is_lt (height_cmp h a)) (Some h) (Some a) Q
     (λ _ f. least_height-from_all P h hs m all.0 all.1 f) (λ _ f. least_height-from_all P a hs m pa all.1 f) e
 
--- what all have, the least has
+-- a property of all heights holds for the least
 pub least_height-all : (P : Quintuple → Type 0) (hs : List Quintuple) (m : Quintuple) → AllByRecursion P hs → least_height hs ≡ Some m → P m
 least_height-all P [] m all e = absurd cc
 least_height-all P (h ∷ hs) m all e = least_height-from_all P h hs m all.0 all.1 e
@@ -155,7 +155,7 @@ reached-from P a (h ∷ hs) m pa all e =
     cond_both (is_lt (level_cmp a (level_of h))) (Some (level_of h)) (Some a) Q
     (λ _ f. reached-from P (level_of h) hs m all.0 all.1 f) (λ _ f. reached-from P a hs m pa all.1 f) e
 
--- what all levels have, the greatest has
+-- a property of all levels holds for the greatest
 pub greatest-reached : (P : Level → Type 0) (hs : List Quintuple) (m : Level) → AllByRecursion (λ h. P (level_of h)) hs → greatest_level hs ≡ Some m → P m
 greatest-reached P [] m all e = absurd cc
 greatest-reached P (h ∷ hs) m all e = reached-from P (level_of h) hs m all.0 all.1 e

@@ -1,4 +1,4 @@
--- The place of a neighbour among those that are up, and of its row in each view.
+-- The place of a neighbour among those whose links are up, and of its row in each view.
 use Rattle.std.proofs.Common.{◌≡◌, ◌≢◌, refl, ap, sym, ◌∙◌, ℕ, suc, ◌+◌, ◌<◌, ◌==◌, Bool, true, false, not, ◌||◌, List, [], ◌∷◌, length, Option, Some, None, nat_lt, arith, subst}
 use Rattle.std.specs.Prelude.{if◌then◌else◌, unwrap_or}
 use Rattle.std.specs.List.{AllByRecursion, position, position_or_len}
@@ -36,7 +36,7 @@ only-of k (n ∷ ns) asc has = at (n == k) refl has (only-of k ns asc.1)
         let one : suc (position_or_len (λ m. m == k) ns) ≡ 1 + position_or_len (λ m. m == k) ns = omega arith in
         subst (λ (i : ℕ). IsOnlyPlace k i (n ∷ ns)) one (other-number n k e, rest h)
 
--- a neighbour is at the place of its row
+-- the place of a neighbour is that of its row
 row-numbers : (k : ℕ) (rows : List Row) → position_or_len (λ (row : Row). row.neighbour == k) rows ≡ position_or_len (λ n. n == k) (neighbours_of rows)
 row-numbers k [] = refl
 row-numbers k (row ∷ rows) = ap (λ (n : ℕ). if not (row.neighbour == k) then 1 + n else 0) (row-numbers k rows)
@@ -55,7 +55,7 @@ has-within k (n ∷ ns) lt = at (n == k) refl lt (has-within k ns)
     at true e within rest = refl
     at false e within rest = rest (omega arith)
 
--- the place of the row of a neighbour that has one
+-- the place of the row of a neighbour
 pub row-only : (k i : ℕ) (rows : List Row) → IsAscending (neighbours_of rows) → position (λ (row : Row). row.neighbour == k) rows ≡ Some i
     → (i < length rows) × IsOnlyPlace k i (neighbours_of rows)
 row-only k i rows asc e =
@@ -72,11 +72,11 @@ others : (k : ℕ) (rows : List Row) → AllByRecursion (λ (row : Row). (row.ne
 others k [] all = tt
 others k (row ∷ rows) all = (other-number row.neighbour k all.0, others k rows all.1)
 
--- and of one that has none
+-- a neighbour without a row has no place
 pub row-none : (k : ℕ) (rows : List Row) → position (λ (row : Row). row.neighbour == k) rows ≡ None → AllByRecursion (λ (m : ℕ). m ≢ k) (neighbours_of rows)
 row-none k rows e = others k rows (none-passes (λ (row : Row). row.neighbour == k) rows e)
 
--- a destination is at the place of its view
+-- the place of a destination is that of its view
 place-names : (d : ℕ) (views : List View) → position_or_len (λ n. n == d) (destinations_of views) ≡ position_or_len (is_of d) views
 place-names d [] = refl
 place-names d (v ∷ views) = ap (λ (n : ℕ). if not (v.destination == d) then 1 + n else 0) (place-names d views)

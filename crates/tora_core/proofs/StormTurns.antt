@@ -1,4 +1,4 @@
--- The turns of a storm, computed, except for two questions: whether the computed height is in range, and whether an
+-- The turns of a storm, computed, apart from two questions: whether the computed height is in range, and whether an
 -- entry is below it.
 use Rattle.std.proofs.Common.{◌≡◌, ◌∙◌, ap, refl, ℕ, ◌^◌, Bool, true, false, not, ◌&&◌, ◌||◌, List, [], ◌∷◌, ◌++◌, Option, None, Some, ℤ, pos, neg_ℤ, ◌+ℤ◌, ◌≤ℤ◌, ◌<ℤ◌, ◌≤◌, arith}
 use Rattle.std.specs.Prelude.{if◌then◌else◌}
@@ -32,7 +32,7 @@ in-range delta n least most low high = record {
   id_fits = omega arith;
 }
 
--- node 1 after the update of 2, if the height that it computes satisfies this
+-- node 1 after the update of 2, by the fault of the computed height, if it has one
 abbrev joined-1 : ℤ → Option HeightError → Outcome
 joined-1 delta fault =
     let height = fitted_by (storm_height ((delta +ℤ pos 1) +ℤ pos 1) 1) fault in
@@ -41,7 +41,7 @@ joined-1 delta fault =
       rows = storm_row (delta +ℤ pos 1) 2 ∷ record { neighbour = 3; entry = None; told = true } ∷ [];
     }) height
 
--- the same after the update of 3, if its entry of 2 satisfies this
+-- node 1 after the update of 3; the Bool says whether the entry of 2 is below the height
 abbrev settled-1 : ℕ → ℤ → Bool → Outcome
 settled-1 now delta lower =
     let w = storm_view (delta +ℤ pos 1) 1 2 3 in
@@ -57,7 +57,7 @@ goes-on-1 now delta low high =
     let Q : Bool → Turn = λ b. turn_after (record { view = storm_view delta 1 2 3; told = told ++ Tell.Update (storm_height ((delta +ℤ pos 1) +ℤ pos 1) 1) ∷ [] }) (settled-1 now delta b) in
     ap P fits ∙ ap Q (below delta 2 1)
 
--- node 2 after the update of 1, if the height that it computes satisfies this
+-- node 2 after the update of 1, by the fault of the computed height, if it has one
 abbrev joined-2 : ℤ → Option HeightError → Outcome
 joined-2 delta fault =
     let height = fitted_by (storm_height ((delta +ℤ pos 1) +ℤ pos 1) 2) fault in
@@ -66,7 +66,7 @@ joined-2 delta fault =
       rows = storm_row (delta +ℤ pos 1) 1 ∷ record { neighbour = 3; entry = None; told = true } ∷ [];
     }) height
 
--- the same after the update of 3, if its entry of 1 satisfies this
+-- node 2 after the update of 3; the Bool says whether the entry of 1 is below the height
 abbrev settled-2 : ℕ → ℤ → Bool → Outcome
 settled-2 now delta lower =
     let w = storm_view (delta +ℤ pos 1) 2 1 3 in
@@ -82,7 +82,7 @@ goes-on-2 now delta low high =
     let Q : Bool → Turn = λ b. turn_after (record { view = storm_view delta 2 1 3; told = told ++ Tell.Update (storm_height ((delta +ℤ pos 1) +ℤ pos 1) 2) ∷ [] }) (settled-2 now delta b) in
     ap P fits ∙ ap Q (below delta 1 2)
 
--- node 3 after the update of 1, if the height that it computes satisfies this
+-- node 3 after the update of 1, by the fault of the computed height, if it has one
 abbrev joined-3 : ℤ → Option HeightError → Outcome
 joined-3 delta fault =
     let height = fitted_by (storm_height ((delta +ℤ pos 1) +ℤ pos 1) 3) fault in
@@ -91,7 +91,7 @@ joined-3 delta fault =
       rows = storm_row (delta +ℤ pos 1) 1 ∷ record { neighbour = 2; entry = None; told = true } ∷ [];
     }) height
 
--- the same after the update of 2, if its entry of 1 satisfies this
+-- node 3 after the update of 2; the Bool says whether the entry of 1 is below the height
 abbrev settled-3 : ℕ → ℤ → Bool → Outcome
 settled-3 now delta lower =
     let w = storm_view (delta +ℤ pos 1) 3 1 2 in

@@ -1,4 +1,4 @@
--- The views of a table, beside the neighbours that each has a place for.
+-- The views of a table, each with the neighbours for which it has a place.
 use Rattle.std.proofs.Common.{◌≡◌, ◌∙◌, refl, ap, sym, ℕ, zero, suc, ◌<◌, ◌≤◌, ◌==◌, Bool, true, false, List, [], ◌∷◌, ◌++◌, map, take, length, Option, Some, arith}
 use Rattle.std.specs.Prelude.{filter_map, find, option_map, slice_index_or, slice_set, if◌then◌else◌}
 use Rattle.std.specs.List.{AllByRecursion, cons_option, flat_map}
@@ -31,7 +31,7 @@ pub places-next : (input : Input) (now : ℕ) (neighbours : List ℕ) (table : L
 places-next input now neighbours [] have = tt
 places-next input now neighbours (t ∷ table) have = (have.0, places-next input now neighbours table have.1)
 
--- the packet that an input sends of a view of the table
+-- the packet that an input makes a view of the table send
 abbrev pub packet_in : Input → ℕ → TableView → Option Packet
 packet_in input now t = next_packet input now t.view
 
@@ -76,7 +76,7 @@ pub all-in : (P : View → Type 0) (table : List TableView) → AllByRecursion P
 all-in P [] all = tt
 all-in P (t ∷ table) all = (all.0, all-in P table all.1)
 
--- where the views change at one place, the table does
+-- if one view changes, the table changes at the place of that view
 pub table-at : (input : Input) (now : ℕ) (table : List TableView) (i : ℕ) (x : TableView) (w : View) → i < length table → x ≡ slice_index_or table i x
     → map (next_view input now) (views_in table) ≡ slice_set (views_in table) i w → map (next_in input now) table ≡ slice_set table i (record x { view = w })
 table-at input now [] i x w lt read e = absurd (omega arith)

@@ -1,4 +1,4 @@
--- The worked rows, by computing.
+-- The worked examples, by computation.
 use Rattle.std.proofs.Common.{refl}
 use Rattle.tora_height.specs.Height.{height_fault}
 use Rattle.tora_core.specs.Rules.{after_join, new_level, after_erase, after_link_loss, after_update_loss}

@@ -23,7 +23,7 @@ pub record CoreView : Type 0 where
   pub me : ℕ  -- the node
   pub erasure : Erasure  -- how it treats erased levels
   pub neighbours : List ℕ  -- the configured neighbours, ascending
-  pub up : List ℕ  -- those whose link is up, ascending
+  pub up : List ℕ  -- the neighbours whose link is up, ascending
   pub views : List View  -- one for each destination, ascending
 
 -- ---- a new core
@@ -51,13 +51,13 @@ first_core_of erasure me neighbours destinations = record {
   views = map (first_view_of erasure me) (ascending destinations);
 }
 
--- the same for a node with the plain choice
+-- a new core of a node with Erasure::Plain
 abbrev pub first_core : ℕ → List ℕ → List ℕ → CoreView
 first_core me neighbours destinations = first_core_of Plain me neighbours destinations
 
 -- ---- refused inputs
 
--- the view is that of this destination
+-- the view has this destination
 abbrev pub is_of : ℕ → View → Bool
 is_of d v = v.destination == d
 
@@ -96,14 +96,14 @@ refusal_of c (In.Need d) = if has_destination d c.views then None else Some Faul
 
 -- ---- one input
 
--- the one destination that a need or a packet is about, and none for a link
+-- the destination of a need or a packet; None for an input about a link
 abbrev pub own_destination : Input → Option ℕ
 own_destination (In.Need d) = Some d
 own_destination (In.LinkUp k) = None
 own_destination (In.LinkDown k) = None
 own_destination (In.Packet k packet) = Some (destination_of packet)
 
--- a need and a packet concern their own destination, a link concerns every one
+-- a need and a packet concern their own destination, and an input about a link concerns every destination
 abbrev pub concerns : Input → ℕ → Bool
 concerns input destination = option_map_or (λ d. destination == d) (own_destination input) true
 
@@ -120,7 +120,7 @@ up_after up (In.LinkUp k) = with_number k up
 up_after up (In.LinkDown k) = without_number k up
 up_after up (In.Packet k packet) = up
 
--- the core after an input that is not refused
+-- the core after an accepted input
 abbrev pub core_taking : CoreView → Input → ℕ → CoreView
 core_taking c input now = record c { up = up_after c.up input; views = map (next_view input now) c.views }
 
@@ -128,7 +128,7 @@ core_taking c input now = record c { up = up_after c.up input; views = map (next
 abbrev pub core_after : CoreView → Input → ℕ → CoreView
 core_after c input now = if is_some (refusal_of c input) then c else core_taking c input now
 
--- the packets to all up neighbours, by ascending destination
+-- the packets to broadcast, by ascending destination; a refused input sends none
 abbrev pub sends_of : CoreView → Input → ℕ → List Packet
 sends_of c input now = if is_some (refusal_of c input) then [] else filter_map (next_packet input now) c.views
 
@@ -146,7 +146,7 @@ view_of c d = find (is_of d) c.views
 abbrev pub height_of : CoreView → ℕ → Option (Option Quintuple)
 height_of c d = option_map (λ v. v.height) (view_of c d)
 
--- the entry of a neighbour, if the table has the destination and the link is up
+-- the entry of a neighbour in a view, if its link is up
 abbrev pub entry_in : ℕ → View → Option (Option Quintuple)
 entry_in k v = option_map (λ row. row.entry) (find (λ row. row.neighbour == k) v.rows)
 

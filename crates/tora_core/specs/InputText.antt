@@ -5,7 +5,7 @@ use Rattle.tora_packet.specs.PacketText.{written_packet}
 use Rattle.tora_core.specs.declared.Input.{Input}
 use Rattle.tora_core.specs.declared.Input.TheVariants.{LinkUp, LinkDown, Packet, Need}
 
--- up or down with the neighbour, from with the neighbour and the packet, need with the destination
+-- up or down with the neighbour, from with the neighbour and the packet, or need with the destination
 abbrev pub written_input : Input → List ℕ
 written_input (LinkUp k) = codes "up " ++ decimal k
 written_input (LinkDown k) = codes "down " ++ decimal k

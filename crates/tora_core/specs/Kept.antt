@@ -19,14 +19,14 @@ use Rattle.tora_core.specs.CoreRun.{CoreView, concerns}
 
 -- ---- one view
 
--- a row of a node's view: the entry is a height of that neighbour, and that of the destination is always its own height
+-- a row of a node's view: the entry is a height of the neighbour; the destination's entry is always its zero height
 pub record IsRow (me destination : ℕ) (row : Row) : Type 0 where
   pub other : row.neighbour ≢ me
   pub entry : IfSome row.entry (IsHeightOf row.neighbour destination)
   pub zero : me ≢ destination → row.neighbour ≡ destination → row.entry ≡ Some (destination_height destination)
   pub at_destination : me ≡ destination → row.entry ≡ None
 
--- by ascending number, each once
+-- the rows are in ascending order of their neighbours, with one row for each neighbour
 abbrev pub AreAscending : List Row → Type 0
 AreAscending [] = Unit {0}
 AreAscending (row ∷ rows) = AllByRecursion (λ (other : Row). row.neighbour < other.neighbour) rows × AreAscending rows
@@ -46,7 +46,7 @@ pub record IsKept (v : View) : Type 0 where
 
 -- ---- the inputs of a view, and its broadcasts
 
--- a packet of neighbour k for this destination
+-- a packet about this destination, in which an update has the height of neighbour k
 abbrev pub IsPacketOf : ℕ → ℕ → Packet → Type 0
 IsPacketOf k destination (Qry d) = Unit {0}
 IsPacketOf k destination (Upd u) = IsHeightOf k destination u.height × (k ≢ destination)
@@ -58,32 +58,32 @@ MayCome v (In.LinkUp k) = IsId k × (k ≢ v.me) × AllByRecursion (λ (row : Ro
 MayCome v (In.LinkDown k) = Unit {0}
 MayCome v (In.Packet k packet) = IsPacketOf k v.destination packet
 
--- there is room for one more neighbour
+-- if a link comes up, there is room for one more row
 abbrev pub HasRoom : View → Input → Type 0
 HasRoom v (In.Need d) = Unit {0}
 HasRoom v (In.LinkUp k) = IsId k × (length v.rows < GREATEST_NEIGHBOURS)
 HasRoom v (In.LinkDown k) = Unit {0}
 HasRoom v (In.Packet k packet) = Unit {0}
 
--- an update carries the view's height, and a clear has a level that can be erased
+-- an update has the view's height, and a clear has a reflected level in range
 abbrev pub IsBroadcastOf : View → Option Broadcast → Type 0
 IsBroadcastOf v None = Unit {0}
 IsBroadcastOf v (Some Tell.Query) = Unit {0}
 IsBroadcastOf v (Some (Tell.Update height)) = (v.me ≢ v.destination) × (v.height ≡ Some height)
 IsBroadcastOf v (Some (Tell.Clear tau oid)) = IsClear (clear_of v.destination tau oid)
 
--- an outcome whose view keeps the invariants
+-- the view after an input keeps the invariants, and the broadcast agrees with it
 pub record IsKeptOutcome (o : Outcome) : Type 0 where
   pub view : IsKept o.view
   pub broadcast : IsBroadcastOf o.view o.broadcast
 
--- a broadcast that makes a packet for the destination
+-- the packet that is made of a broadcast is in range
 abbrev pub MakesPacket : ℕ → Broadcast → Type 0
 MakesPacket destination Tell.Query = IsId destination
 MakesPacket destination (Tell.Update height) = IsUpdate (update_of destination height)
 MakesPacket destination (Tell.Clear tau oid) = IsClear (clear_of destination tau oid)
 
--- a view that keeps the invariants, and an input that the view may get if it concerns the view
+-- a view that keeps the invariants, and an input that may come to it if it concerns the view
 pub record CanTake (input : Input) (v : View) : Type 0 where
   pub kept : IsKept v
   pub may : concerns input v.destination ≡ true → MayCome v input × HasRoom v input
@@ -95,7 +95,7 @@ IsLinked (In.LinkUp k) up = Unit {0}
 IsLinked (In.LinkDown k) up = has_number k up ≡ true
 IsLinked (In.Packet k packet) up = has_number k up ≡ true
 
--- the link that an input is about is that of one of these neighbours
+-- the link of an input is to one of these neighbours
 abbrev pub IsOfOne : Input → List ℕ → Type 0
 IsOfOne (In.Need d) neighbours = Unit {0}
 IsOfOne (In.LinkUp k) neighbours = has_number k neighbours ≡ true
@@ -108,13 +108,13 @@ IsOfOne (In.Packet k packet) neighbours = has_number k neighbours ≡ true
 abbrev pub IsNeighbour : ℕ → ℕ → Type 0
 IsNeighbour me k = IsId k × (k ≢ me)
 
--- some of the numbers, in the same order
+-- the first list is a subsequence of the second
 abbrev pub IsPart : List ℕ → List ℕ → Type 0
 IsPart [] numbers = Unit {0}
 IsPart (m ∷ part) [] = ⊥
 IsPart (m ∷ part) (n ∷ numbers) = ((m ≡ n) × IsPart part numbers) ⊎ IsPart (m ∷ part) numbers
 
--- a view of this node over these up neighbours
+-- a view of this node, whose rows are those of these neighbours
 pub record IsViewOf (me : ℕ) (up : List ℕ) (v : View) : Type 0 where
   pub owner : v.me ≡ me
   pub neighbours : up_neighbours v ≡ up

@@ -1,5 +1,5 @@
--- The stored values for the rows of one destination: a place for each neighbour, the directions of the links, the count
--- of downstream links, and the row with the least height.
+-- The values that are stored for the rows of one destination: a place for each neighbour, the directions of the links,
+-- the count of downstream links, and the row with the least height.
 use Rattle.std.specs.Prelude.{◌≡◌, ◌≢◌, ℕ, zero, suc, Bool, true, false, List, [], ◌∷◌, length, map, filter, Option, None, Some}
 use Rattle.std.specs.List.{AllByRecursion, items_where_true}
 use Rattle.std.specs.Ordering.{is_lt}
@@ -18,11 +18,11 @@ pub record LinkTable : Type 0 where
 
 -- ---- places
 
--- a place whose link is not up
+-- the place of a neighbour whose link is not up
 abbrev pub empty_place : ℕ → Row
 empty_place k = record { neighbour = k; entry = None; told = false }
 
--- the rows: those of the places whose link is up
+-- the rows of the places whose link is up
 abbrev pub rows_up : List Bool → List Row → List Row
 rows_up up places = items_where_true up places
 
@@ -68,7 +68,7 @@ IsLeastAt (suc place) h (row ∷ rows) = (is_above h row.entry ≡ true) × IsLe
 abbrev pub IsNull : Row → Type 0
 IsNull row = row.entry ≡ None
 
--- the place of the first row with the least height; none if every entry is NULL
+-- the place of the first row with the least height; None if every entry is NULL
 abbrev pub IsLeastPlace : Option ℕ → List Row → Type 0
 IsLeastPlace None rows = AllByRecursion IsNull rows
 IsLeastPlace (Some place) rows = (h : Quintuple) × IsLeastAt place h rows
@@ -84,7 +84,7 @@ abbrev pub low_of : Option ℕ → List Row → Option Quintuple
 low_of None rows = None
 low_of (Some place) rows = entry_at place rows
 
--- with another entry at this place
+-- the rows after the entry at this place was set
 abbrev pub with_entry_at : ℕ → Quintuple → List Row → List Row
 with_entry_at place h [] = []
 with_entry_at zero h (row ∷ rows) = record row { entry = Some h } ∷ rows
@@ -99,7 +99,7 @@ pub record AreKept (own : Option Quintuple) (rows : List Row) (directions : List
 
 -- ---- the place of a neighbour
 
--- k is at this place of the numbers, and nowhere else
+-- k is at this place of the list, and nowhere else
 abbrev pub IsOnlyPlace : ℕ → ℕ → List ℕ → Type 0
 IsOnlyPlace k place [] = ⊥
 IsOnlyPlace k zero (n ∷ numbers) = (n ≡ k) × AllByRecursion (λ (m : ℕ). m ≢ k) numbers

@@ -26,11 +26,11 @@ IsUp v k = (row : Row) × Contains v.rows row × (row.neighbour ≡ k)
 abbrev pub IsEntry : View → ℕ → Quintuple → Type 0
 IsEntry v k h = (row : Row) × Contains v.rows row × (row.neighbour ≡ k) × (row.entry ≡ Some h)
 
--- the link to k was up at the last broadcast of an update, and has been up since
+-- an update was broadcast to k since its link came up
 abbrev pub IsTold : View → ℕ → Type 0
 IsTold v k = (row : Row) × Contains v.rows row × (row.neighbour ≡ k) × (row.told ≡ true)
 
--- h is the entry of some up neighbour
+-- h is the entry of a neighbour whose link is up
 abbrev pub IsKnown : View → Quintuple → Type 0
 IsKnown v h = (k : ℕ) × IsEntry v k h
 
@@ -40,7 +40,7 @@ KnowsSome v = (h : Quintuple) × IsKnown v h
 abbrev pub KnowsNone : View → Type 0
 KnowsNone v = (h : Quintuple) → ¬ IsKnown v h
 
--- the link to k has an entry, and the entry is lower than the own height unless that is NULL
+-- k has an entry, and it is lower than the own height, or the own height is NULL
 abbrev pub IsDownstream : View → ℕ → Type 0
 IsDownstream v k = (h : Quintuple) × IsEntry v k h × IfSome v.height (IsLower h)
 
@@ -79,7 +79,7 @@ pub record IsLeastDelta (v : View) (level : Level) (delta : ℤ) : Type 0 where
   pub known : (h : Quintuple) × IsKnown v h × (level_of h ≡ level) × (h.delta ≡ delta)
   pub least : (h : Quintuple) → IsKnown v h → level_of h ≡ level → delta ≤ℤ h.delta
 
--- there are entries, and all are at this level
+-- there are entries, and all of them are at this level
 pub record IsCommonLevel (v : View) (level : Level) : Type 0 where
   pub some : KnowsSome v
   pub all : (h : Quintuple) → IsKnown v h → level_of h ≡ level
@@ -88,7 +88,7 @@ pub record IsCommonLevel (v : View) (level : Level) : Type 0 where
 abbrev pub LevelsDiffer : View → Type 0
 LevelsDiffer v = (g : Quintuple) × (h : Quintuple) × IsKnown v g × IsKnown v h × (level_of g ≢ level_of h)
 
--- at least the tick, at least 1, and later than each time that the node generated or knows
+-- t is at least the tick, at least 1, and later than each time that the node has generated or knows
 pub record IsAfterAll (v : View) (now t : ℕ) : Type 0 where
   pub tick : now ≤ t
   pub positive : 1 ≤ t
@@ -96,7 +96,7 @@ pub record IsAfterAll (v : View) (now t : ℕ) : Type 0 where
   pub own : IfSome v.height (λ h. h.tau < t)
   pub known : (h : Quintuple) → IsKnown v h → h.tau < t
 
--- the least such time
+-- t is the least such time
 pub record IsFreshTime (v : View) (now t : ℕ) : Type 0 where
   pub after_all : IsAfterAll v now t
   pub least : (u : ℕ) → IsAfterAll v now u → t ≤ u
@@ -110,13 +110,13 @@ pub data Takes (v : View) (h : Quintuple) (last : ℕ) : View → Option Broadca
       (Some (Tell.Update h))
   does_not_fit : ¬ IsHeight h → Takes v h last (record v { height = None }) None
 
--- a new reference level of the node's own, at the fresh time
+-- the node defines a new reference level at the fresh time
 pub record TakesNewLevel (v : View) (now : ℕ) (after : View) (broadcast : Option Broadcast) : Type 0 where
   pub time : ℕ
   pub fresh : IsFreshTime v now time
   pub taken : Takes v (quintuple time v.me 0 (pos 0) v.me) time after broadcast
 
--- one above the least entry; a route is no longer required
+-- the own height becomes one above the least entry, and a route is no longer required
 pub record Joins (v : View) (after : View) (broadcast : Option Broadcast) : Type 0 where
   pub low : Quintuple
   pub least : IsLeastKnown v low
@@ -125,7 +125,7 @@ pub record Joins (v : View) (after : View) (broadcast : Option Broadcast) : Type
 
 -- ---- erased levels
 
--- the level that counts as erased last, once this one is erased
+-- the level that was erased last, after this level was erased
 pub data Keeps (v : View) (level : Level) : Option Level → Type 0 where
   kept_plain : v.erasure ≡ Plain → Keeps v level v.erased
   kept_remembered : v.erasure ≡ Remembered → Keeps v level (Some level)
@@ -134,23 +134,23 @@ pub data Keeps (v : View) (level : Level) : Option Level → Type 0 where
 abbrev pub IsOutdated : View → Quintuple → Type 0
 IsOutdated v height = (v.erasure ≡ Remembered) × (v.erased ≡ Some (level_of height))
 
--- the neighbour's entry becomes NULL, unless it is the destination
+-- the view after the neighbour's entry became NULL, unless the neighbour is the destination
 abbrev pub withdrawn_view : View → ℕ → View
 withdrawn_view v k = record v { rows = without_entry v.destination k v.rows }
 
--- a clear of this level comes from k, which then has no height and no entries
+-- a clear of this level comes from k, which has no height and no entries when it sends a clear
 pub data HearsClear (v : View) (k : ℕ) (level : Level) : View → Type 0 where
   heard_plain : v.erasure ≡ Plain → HearsClear v k level v
   heard_remembered : v.erasure ≡ Remembered → HearsClear v k level
       (record v { rows = without_told k (without_entry v.destination k v.rows); erased = Some level })
 
--- the height and the entries become NULL, except that of the destination
+-- the view after the own height and every entry, except that of the destination, became NULL
 abbrev pub erased_view : View → Option Level → View
 erased_view v kept = record v { height = None; rows = all_erased v.destination v.rows; erased = kept }
 
 -- ---- the last downstream link is lost
 
--- the height at an original level that is reflected
+-- the height at an original level, after the level was reflected
 abbrev pub reflected_height : ℕ → Level → Quintuple
 reflected_height me level = quintuple level.tau level.oid 1 (pos 0) me
 
@@ -158,33 +158,33 @@ pub data LossCause : Type 0 where
   LinkLoss UpdateLoss : LossCause
 
 pub data Lost (v : View) (now : ℕ) : LossCause → View → Option Broadcast → Type 0 where
-  -- by a link failure or a clear, and nothing is known
+  -- lost by a link failure or a clear, and no height is known
   no_height_left : KnowsNone v → Lost v now LinkLoss (record v { height = None }) None
-  -- by a link failure or a clear, and a height is known
+  -- lost by a link failure or a clear, and a height is known
   new_level_after_failure : {after : View} {broadcast : Option Broadcast} → KnowsSome v
       → TakesNewLevel v now after broadcast
       → Lost v now LinkLoss after broadcast
-  -- by an update, and the levels are not all equal: the greatest level, one below the least delta at it
+  -- lost by an update, and the levels are not all equal: the greatest level, one below the least delta at it
   propagated_level : {after : View} {broadcast : Option Broadcast} (level : Level) (delta : ℤ)
       → LevelsDiffer v → IsGreatestLevel v level → IsLeastDelta v level delta
       → Takes v (quintuple level.tau level.oid level.r (delta -ℤ pos 1) v.me) v.last after broadcast
       → Lost v now UpdateLoss after broadcast
-  -- by an update, and all are at one original level
+  -- lost by an update, and all entries are at one original level
   reflected_level : (level : Level) → IsCommonLevel v level → level.r ≡ 0
       → Lost v now UpdateLoss (record v { height = Some (reflected_height v.me level); rows = all_told v.rows })
       (Some (Tell.Update (reflected_height v.me level)))
-  -- by an update, and all are at one reflected level, which the node defined itself
+  -- lost by an update, and all entries are at one reflected level, which the node defined
   partition_detected : {kept : Option Level} (level : Level) → IsCommonLevel v level → level.r ≡ 1 → level.oid ≡ v.me
       → Keeps v level kept
       → Lost v now UpdateLoss (erased_view v kept) (Some (Tell.Clear level.tau level.oid))
-  -- by an update, and all are at one reflected level, which another node defined
+  -- lost by an update, and all entries are at one reflected level, which another node defined
   new_level_after_reflection : {after : View} {broadcast : Option Broadcast} (level : Level)
       → IsCommonLevel v level → level.r ≡ 1 → level.oid ≢ v.me → TakesNewLevel v now after broadcast
       → Lost v now UpdateLoss after broadcast
 
--- ---- the inputs, at a node that is not the destination
+-- ---- the inputs of a node that is not the destination
 
--- a link comes up, and nothing is known of this neighbour yet
+-- the view after a link came up, with the neighbour's first entry
 abbrev pub linked_view : View → ℕ → Option Quintuple → View
 linked_view v k entry = record v { rows = with_row (link_row k entry) v.rows }
 
@@ -194,7 +194,7 @@ unlinked_view v k = record v { rows = without_row k v.rows }
 abbrev pub updated_view : View → ℕ → Quintuple → View
 updated_view v k height = record v { rows = with_entry k height v.rows }
 
--- no entry at this level, except that of the destination
+-- the view after the entries at this level, except that of the destination, became NULL
 abbrev pub cleared_view : View → Level → View
 cleared_view v level = record v { rows = all_cleared v.destination level v.rows }
 
@@ -219,7 +219,7 @@ pub data ReactsElsewhere (v : View) (now : ℕ) : Input → View → Option Broa
       → ReactsElsewhere v now (In.LinkDown k) (unlinked_view v k) None
   link_down_lost : {k : ℕ} {after : View} {broadcast : Option Broadcast} → LacksDownstream (unlinked_view v k)
       → Lost (unlinked_view v k) now LinkLoss after broadcast → ReactsElsewhere v now (In.LinkDown k) after broadcast
-  -- a query, without a downstream neighbour and with one
+  -- a query, without a downstream neighbour or with one
   query_asked : {k d : ℕ} → HasNoDownstream v → v.flag ≡ false →
       ReactsElsewhere v now (In.Packet k (Qry d)) (record v { flag = true }) (Some Tell.Query)
   query_pending : {k d : ℕ} → HasNoDownstream v → v.flag ≡ true → ReactsElsewhere v now (In.Packet k (Qry d)) v None
@@ -230,14 +230,14 @@ pub data ReactsElsewhere (v : View) (now : ℕ) : Input → View → Option Broa
       → ReactsElsewhere v now (In.Packet k (Qry d)) (record v { rows = all_told v.rows }) (Some (Tell.Update own))
   query_quiet : {k d : ℕ} → HasDownstream v → IsSome v.height → IsTold v k
       → ReactsElsewhere v now (In.Packet k (Qry d)) v None
-  -- an update of the level that was erased last
+  -- an update at the level that was erased last
   update_withdrawn : {k d : ℕ} {height : Quintuple} → IsOutdated v height → ¬ LacksDownstream (withdrawn_view v k)
       → ReactsElsewhere v now (In.Packet k (Upd (update_of d height))) (withdrawn_view v k) None
   update_withdrawn_lost : {k d : ℕ} {height : Quintuple} {after : View} {broadcast : Option Broadcast}
       → IsOutdated v height
       → LacksDownstream (withdrawn_view v k) → Lost (withdrawn_view v k) now LinkLoss after broadcast
       → ReactsElsewhere v now (In.Packet k (Upd (update_of d height))) after broadcast
-  -- any other update, where a route is required and where none is
+  -- any other update, if a route is required or if none is
   update_joined : {k d : ℕ} {height : Quintuple} {after : View} {broadcast : Option Broadcast}
       → ¬ IsOutdated v height → v.flag ≡ true → Joins (updated_view v k height) after broadcast
       → ReactsElsewhere v now (In.Packet k (Upd (update_of d height))) after broadcast
@@ -248,7 +248,7 @@ pub data ReactsElsewhere (v : View) (now : ℕ) : Input → View → Option Broa
   update_quiet : {k d : ℕ} {height : Quintuple} → ¬ IsOutdated v height → v.flag ≡ false
       → ¬ LacksDownstream (updated_view v k height)
       → ReactsElsewhere v now (In.Packet k (Upd (update_of d height))) (updated_view v k height) None
-  -- a clear, of the own level and of another one
+  -- a clear of the own level, or of another level
   clear_erased : {k d tau oid : ℕ} {u : View} {kept : Option Level} → HearsClear v k (cleared_level tau oid) u
       → IsOwnLevel u (cleared_level tau oid)
       → Keeps u (cleared_level tau oid) kept → ReactsElsewhere v now (In.Packet k (Clr (clear_of d tau oid)))
@@ -263,7 +263,7 @@ pub data ReactsElsewhere (v : View) (now : ℕ) : Input → View → Option Broa
       → ¬ LacksDownstream (cleared_view u (cleared_level tau oid))
       → ReactsElsewhere v now (In.Packet k (Clr (clear_of d tau oid))) (cleared_view u (cleared_level tau oid)) None
 
--- ---- the inputs, at the destination itself: only the set of up neighbours changes, and their entries are NULL
+-- ---- the inputs of the destination itself: only the set of rows changes, and every entry is NULL
 
 pub data ReactsAtDestination (v : View) : Input → View → Option Broadcast → Type 0 where
   own_need : {d : ℕ} → ReactsAtDestination v (In.Need d) v None

@@ -1,4 +1,4 @@
--- TORA's rules for one destination: the effect of an input on a view, and what is broadcast.
+-- TORA's rules for one destination: the effect of an input on a view, and the broadcast.
 use Rattle.std.specs.Prelude.{ℕ, ◌==◌, Bool, true, false, List, not, ◌&&◌, if◌then◌else◌, Option, None, Some, is_none, option_map, ℤ, pos, ◌+ℤ◌, ◌-ℤ◌}
 use Rattle.std.specs.List.{list_all}
 use Rattle.tora_height.specs.declared.level.Level.{Level}
@@ -16,7 +16,7 @@ use Rattle.tora_core.specs.declared.destination.Broadcast.TheVariants as Tell
 use Rattle.tora_core.specs.View.{View, known_heights, are_null, with_row, without_row, with_entry, without_entry, without_told, all_told, is_told, all_erased, is_entry_at, all_cleared, has_downstream, lacks_downstream, is_at, least_height, greatest_level, least_delta}
 use Rattle.tora_core.specs.Heights.{fresh_time, fitted_height}
 
--- what an input leads to: the next view, and what is broadcast
+-- the result of an input: the next view, and the broadcast
 pub record Outcome : Type 0 where
   pub view : View
   pub broadcast : Option Broadcast
@@ -30,7 +30,7 @@ silent v = record { view = v; broadcast = None }
 abbrev pub query_broadcast : View → Outcome
 query_broadcast v = record { view = record v { flag = true }; broadcast = Some Tell.Query }
 
--- an update with the own height, if there is one; every up neighbour is then marked as told
+-- an update with the own height, if there is one; then every neighbour whose link is up is marked
 abbrev pub update_broadcast_of : View → Option Quintuple → Outcome
 update_broadcast_of v None = silent v
 update_broadcast_of v (Some height) = record {
@@ -59,12 +59,12 @@ after_join v = update_broadcast (record v { height = joined_height v; flag = fal
 abbrev pub cleared_level : ℕ → ℕ → Level
 cleared_level tau oid = record { tau = tau; oid = oid; r = 1 }
 
--- the level that was erased last, once this one is erased
+-- the level that was erased last, after this level was erased
 abbrev pub erased_after : Erasure → Option Level → Level → Option Level
 erased_after Plain old level = old
 erased_after Remembered old level = Some level
 
--- an update is older than the clear of its level
+-- an update with this height counts as older than the clear of its level: the level was erased last
 abbrev pub is_outdated_by : Erasure → Option Level → Quintuple → Bool
 is_outdated_by Plain erased height = false
 is_outdated_by Remembered None height = false
@@ -73,12 +73,12 @@ is_outdated_by Remembered (Some level) height = is_at level height
 abbrev pub is_outdated : View → Quintuple → Bool
 is_outdated v height = is_outdated_by v.erasure v.erased height
 
--- the sender of a clear has no height and no entries: its entry is withdrawn, and its mark is removed
+-- the rows after a clear: its sender has no height and no entries, so its entry and its mark are removed
 abbrev pub rows_behind_clear : Erasure → ℕ → ℕ → List Row → List Row
 rows_behind_clear Plain destination k rows = rows
 rows_behind_clear Remembered destination k rows = without_told k (without_entry destination k rows)
 
--- a clear of a level comes from a neighbour
+-- the view after a clear of a level from a neighbour
 abbrev pub hearing_clear : View → ℕ → Level → View
 hearing_clear v k level = record v {
   rows = rows_behind_clear v.erasure v.destination k v.rows;
@@ -87,7 +87,7 @@ hearing_clear v k level = record v {
 
 -- ---- the last downstream link is lost
 
--- a new reference level of the node's own
+-- a new reference level, which the node defines
 abbrev pub new_level_at : View → ℕ → Option Quintuple → Outcome
 new_level_at v time None = silent (record v { height = None })
 new_level_at v time (Some height) = update_broadcast (record v { height = Some height; last = time })
@@ -95,7 +95,7 @@ new_level_at v time (Some height) = update_broadcast (record v { height = Some h
 unfoldable pub new_level : View → ℕ → Outcome
 new_level v now = new_level_at v (fresh_time v now) (fitted_height (quintuple (fresh_time v now) v.me 0 (pos 0) v.me))
 
--- no height, no entry except that of the destination, and a clear with the level
+-- the own height and every entry except that of the destination are erased, and a clear of the level is broadcast
 unfoldable pub after_erase : View → ℕ → ℕ → Outcome
 after_erase v tau oid =
     record {
@@ -107,11 +107,11 @@ after_erase v tau oid =
       broadcast = Some (Tell.Clear tau oid);
     }
 
--- case 1: by a link failure or a clear, and a neighbour is left
+-- case 1: lost by a link failure or a clear, and a neighbour is left
 abbrev pub new_level_after_failure : View → ℕ → Outcome
 new_level_after_failure v now = new_level v now
 
--- case 2: by an update, and the levels are not all equal: the greatest one, below the least delta at it
+-- case 2: lost by an update, and the levels are not all equal: the greatest level, one below the least delta at it
 abbrev pub below_delta : ℕ → Level → Option ℤ → Option Quintuple
 below_delta me level None = None
 below_delta me level (Some delta) = fitted_height (quintuple level.tau level.oid level.r (delta -ℤ pos 1) me)
@@ -124,7 +124,7 @@ propagated_level v level =
 abbrev pub reflected_level : View → Level → Outcome
 reflected_level v level = update_broadcast (record v { height = Some (quintuple level.tau level.oid 1 (pos 0) v.me) })
 
--- case 4: all entries are at one reflected level, which the node defined itself
+-- case 4: all entries are at one reflected level, which the node defined
 abbrev pub partition_detected : View → Level → Outcome
 partition_detected v level = after_erase v level.tau level.oid
 
@@ -132,11 +132,11 @@ partition_detected v level = after_erase v level.tau level.oid
 abbrev pub new_level_after_reflection : View → ℕ → Outcome
 new_level_after_reflection v now = new_level v now
 
--- lost by a link failure or a clear
+-- the last downstream link is lost by a link failure or a clear
 unfoldable pub after_link_loss : View → ℕ → Outcome
 after_link_loss v now = if are_null v.rows then silent (record v { height = None }) else new_level_after_failure v now
 
--- lost by an update, where this is the greatest level of the entries
+-- the last downstream link is lost by an update; `greatest` is the greatest level of the entries
 abbrev pub after_update_loss_at : View → ℕ → Option Level → Outcome
 after_update_loss_at v now None = silent (record v { height = None })
 after_update_loss_at v now (Some level) =
@@ -148,7 +148,7 @@ after_update_loss_at v now (Some level) =
 unfoldable pub after_update_loss : View → ℕ → Outcome
 after_update_loss v now = after_update_loss_at v now (greatest_level (known_heights v))
 
--- ---- the inputs, at a node that is not the destination
+-- ---- the inputs of a node that is not the destination
 
 abbrev pub on_need : View → Outcome
 on_need v = if are_null v.rows && not v.flag then query_broadcast v else silent v
@@ -177,7 +177,7 @@ on_query v k =
     else if not (is_told k v.rows) then update_broadcast v
     else silent v
 
--- an update that is older than the clear of its level only withdraws its sender's entry
+-- an update that counts as older than the clear of its level only removes its sender's entry
 abbrev pub on_outdated : View → ℕ → ℕ → Outcome
 on_outdated v k now =
     let w = record v { rows = without_entry v.destination k v.rows } in
@@ -214,14 +214,14 @@ outcome_elsewhere v (In.LinkUp k) now = on_link_up v k
 outcome_elsewhere v (In.LinkDown k) now = on_link_down v k now
 outcome_elsewhere v (In.Packet k packet) now = on_packet v k packet now
 
--- at the destination itself only the set of neighbours changes
+-- at the destination itself only the set of rows changes
 abbrev pub outcome_at_destination : View → Input → Outcome
 outcome_at_destination v (In.Need d) = silent v
 outcome_at_destination v (In.LinkUp k) = silent (record v { rows = with_row (link_row k None) v.rows })
 outcome_at_destination v (In.LinkDown k) = silent (record v { rows = without_row k v.rows })
 outcome_at_destination v (In.Packet k packet) = silent v
 
--- what an input that concerns the destination leads to
+-- the result of an input that concerns the destination
 abbrev pub outcome_of : View → Input → ℕ → Outcome
 outcome_of v input now = if v.me == v.destination then outcome_at_destination v input else outcome_elsewhere v input now
 

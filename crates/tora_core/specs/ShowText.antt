@@ -20,7 +20,7 @@ abbrev pub flag_text : Bool → List ℕ
 flag_text true = codes "1"
 flag_text false = codes "0"
 
--- a node's number, and none as -
+-- a node's number, and - for none
 abbrev pub hop_text : Option ℕ → List ℕ
 hop_text None = codes "-"
 hop_text (Some k) = decimal k
@@ -39,7 +39,7 @@ to_line v =
     codes "to " ++ decimal v.destination ++ codes " height " ++ height_text v.height ++ codes " flag "
     ++ flag_text v.flag ++ codes " hop " ++ hop_text (next_hop_of v) ++ line_end
 
--- the line of an up neighbour, at this own height
+-- the line of a neighbour whose link is up, for this own height
 unfoldable pub via_line : Option Quintuple → Row → List ℕ
 via_line own row =
     codes "via " ++ decimal row.neighbour ++ codes " " ++ height_text row.entry ++ codes " "

@@ -1,4 +1,4 @@
--- A storm: three nodes with links to each other send clears, queries and updates to each other in turns that never end.
+-- A storm: three nodes with links to each other send clears, queries and updates to each other in turns without end.
 use Rattle.std.specs.Prelude.{◌≡◌, ℕ, ◌^◌, false, true, List, [], ◌∷◌, ◌++◌, fold, Option, None, Some, ℤ, pos, neg_ℤ, ◌+ℤ◌, ◌≤ℤ◌}
 use Rattle.std.specs.List.{cons_option}
 use Rattle.tora_height.specs.Height.{Quintuple, quintuple}
@@ -19,7 +19,7 @@ storm_height delta n = quintuple 1 1 1 delta n
 abbrev pub storm_row : ℤ → ℕ → Row
 storm_row delta k = record { neighbour = k; entry = Some (storm_height delta k); told = true }
 
--- node n has joined one above its neighbours j and k; no link leads to the destination 4
+-- node n is one above its neighbours j and k, and has no link to the destination 4
 abbrev pub storm_view : ℤ → ℕ → ℕ → ℕ → View
 storm_view delta n j k = record {
   me = n;
@@ -32,7 +32,7 @@ storm_view delta n j k = record {
   erased = None;
 }
 
--- what it has broadcast by then, in this order: a clear, a query, an update
+-- what the node has broadcast before: a clear, a query, an update
 abbrev pub told_in_storm : ℤ → ℕ → List Broadcast
 told_in_storm delta n = Tell.Clear 1 1 ∷ Tell.Query ∷ Tell.Update (storm_height (delta +ℤ pos 1) n) ∷ []
 

@@ -1,4 +1,4 @@
--- The views of a core's table, each with the neighbours that there is a place for.
+-- The views of a core's table, each with the neighbours for which it has a place.
 use Rattle.std.specs.Prelude.{◌≡◌, ℕ, List, map}
 use Rattle.std.specs.List.{AllByRecursion}
 use Rattle.tora_core.specs.declared.erasure.Erasure.{Erasure}
@@ -8,7 +8,7 @@ use Rattle.tora_core.specs.CoreRun.{next_view}
 
 pub record TableView : Type 0 where
   pub view : View
-  pub neighbours : List ℕ  -- all of the node, by ascending number
+  pub neighbours : List ℕ  -- all neighbours of the node, by ascending number
 
 abbrev pub views_in : List TableView → List View
 views_in table = map (λ t. t.view) table
@@ -22,6 +22,6 @@ first_in neighbours erasure me destination = record {
 abbrev pub next_in : Input → ℕ → TableView → TableView
 next_in input now t = record t { view = next_view input now t.view }
 
--- there is a place for each of these neighbours in each view
+-- each view has a place for each of these neighbours
 abbrev pub HavePlaces : List ℕ → List TableView → Type 0
 HavePlaces neighbours table = AllByRecursion (λ (t : TableView). t.neighbours ≡ neighbours) table

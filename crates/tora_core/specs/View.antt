@@ -33,7 +33,7 @@ first_view_of erasure me destination = record {
   erased = None;
 }
 
--- the same for a node with the plain choice
+-- a new view of a node with Erasure::Plain
 abbrev pub first_view : ℕ → ℕ → View
 first_view me destination = first_view_of Plain me destination
 
@@ -59,7 +59,7 @@ are_null rows = list_all (λ row. is_none row.entry) rows
 
 -- ---- downstream neighbours
 
--- the link to a neighbour with this entry is downstream: the entry is lower than the own height, or that is NULL
+-- a neighbour with this entry is downstream: the entry is lower than the own height, or the own height is NULL
 abbrev pub is_downstream : Option Quintuple → Option Quintuple → Bool
 is_downstream own None = false
 is_downstream None (Some entry) = true
@@ -120,23 +120,23 @@ least_delta level heights =
 
 -- ---- rows after a change
 
--- with a new row at its place
+-- the rows after a new one was inserted by its number
 abbrev pub with_row : Row → List Row → List Row
 with_row new [] = new ∷ []
 with_row new (row ∷ rows) = if nat_lt new.neighbour row.neighbour then new ∷ row ∷ rows else row ∷ with_row new rows
 
--- without the row of a neighbour
+-- the rows without that of a neighbour
 abbrev pub without_row : ℕ → List Row → List Row
 without_row k rows = filter (λ row. not (row.neighbour == k)) rows
 
--- with the entry of a neighbour
+-- the row after its entry was set, if it is that of neighbour k
 abbrev pub row_with_entry : ℕ → Quintuple → Row → Row
 row_with_entry k height row = if row.neighbour == k then record row { entry = Some height } else row
 
 abbrev pub with_entry : ℕ → Quintuple → List Row → List Row
 with_entry k height rows = map (row_with_entry k height) rows
 
--- every up neighbour was sent the own height
+-- the row, marked: an update was broadcast to its neighbour
 abbrev pub told_row : Row → Row
 told_row row = record row { told = true }
 
@@ -146,14 +146,14 @@ all_told rows = map told_row rows
 abbrev pub is_told : ℕ → List Row → Bool
 is_told k rows = list_any (λ row. (row.neighbour == k) && row.told) rows
 
--- no entry except that of the destination
+-- the row without its entry, unless the neighbour is the destination
 abbrev pub erased_row : ℕ → Row → Row
 erased_row destination row = if row.neighbour == destination then row else record row { entry = None }
 
 abbrev pub all_erased : ℕ → List Row → List Row
 all_erased destination rows = map (erased_row destination) rows
 
--- no entry of a neighbour, unless it is the destination
+-- the row without its entry, if it is that of neighbour k and k is not the destination
 abbrev pub withdrawn_row : ℕ → ℕ → Row → Row
 withdrawn_row destination k row =
     if (row.neighbour == k) && not (row.neighbour == destination) then record row { entry = None } else row
@@ -161,19 +161,19 @@ withdrawn_row destination k row =
 abbrev pub without_entry : ℕ → ℕ → List Row → List Row
 without_entry destination k rows = map (withdrawn_row destination k) rows
 
--- a neighbour was not sent the own height
+-- the row without its mark, if it is that of neighbour k
 abbrev pub untold_row : ℕ → Row → Row
 untold_row k row = if row.neighbour == k then record row { told = false } else row
 
 abbrev pub without_told : ℕ → List Row → List Row
 without_told k rows = map (untold_row k) rows
 
--- no entry at this level except that of the destination
+-- the entry is a height at this level
 abbrev pub is_entry_at : Level → Option Quintuple → Bool
 is_entry_at level None = false
 is_entry_at level (Some height) = is_at level height
 
--- whether the entry at this level is erased
+-- the entry is at this level, and the neighbour is not the destination
 abbrev pub is_cleared : ℕ → Level → Row → Bool
 is_cleared destination level row = not (row.neighbour == destination) && is_entry_at level row.entry
 

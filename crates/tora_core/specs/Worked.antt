@@ -1,5 +1,4 @@
--- Examples of the rules, computed: the packets and the text of one core, and the packets between the cores of a line of
--- four.
+-- Examples of the rules, computed: the packets and the text of one core, and the packets between four cores in a line.
 use Rattle.std.specs.Prelude.{◌≡◌, ℕ, zero, suc, ◌==◌, ℤ, pos, negsuc, if◌then◌else◌, codes, List, [], ◌∷◌, ◌++◌, map, Option, None, Some, option_map}
 use Rattle.std.specs.List.{flat_map}
 use Rattle.tora_height.specs.Height.{Quintuple, quintuple}
@@ -30,7 +29,7 @@ shown_after c inputs = show_text (core_after_all c inputs)
 abbrev pub lines_of : List (List ℕ) → List ℕ
 lines_of lines = flat_map (λ line. line ++ line_end) lines
 
--- packets for destination 4
+-- an update for destination 4
 abbrev pub update : ℕ → ℕ → ℕ → ℤ → ℕ → Packet
 update tau oid r delta id = Upd (update_of 4 (quintuple tau oid r delta id))
 
@@ -40,14 +39,14 @@ query = Qry 4
 abbrev pub clear : ℕ → ℕ → Packet
 clear tau oid = Clr (clear_of 4 tau oid)
 
--- no packet, and one
+-- no packet, and one packet
 abbrev pub nothing : List Packet
 nothing = []
 
 abbrev pub only : Packet → List Packet
 only packet = packet ∷ []
 
--- node 3 between 2 and the destination 4
+-- node 3 with the neighbours 2 and 4, of which 4 is the destination
 abbrev pub node_3 : CoreView
 node_3 = first_core 3 (2 ∷ 4 ∷ []) (4 ∷ [])
 
@@ -63,16 +62,16 @@ link_lost = (LinkDown 4, 7) ∷ []
 abbrev pub level_comes_back : Inputs
 level_comes_back = (From 2 (update 7 3 0 (negsuc 0) 2), 8) ∷ (From 2 (update 7 3 1 (negsuc 0) 2), 9) ∷ []
 
--- node 2 between 1 and 3
+-- node 2 with the neighbours 1 and 3
 abbrev pub node_2 : CoreView
 node_2 = first_core 2 (1 ∷ 3 ∷ []) (4 ∷ [])
 
--- it has a route by 3, and then all entries are at one reflected level, which 9 defined
+-- node 2 has a route by 3, and then all its entries are at one reflected level, which node 9 defined
 abbrev pub foreign_reflection : Inputs
 foreign_reflection = (LinkUp 1, 1) ∷ (LinkUp 3, 1) ∷ (Need 4, 2) ∷ (From 3 (update 0 0 0 (pos 1) 3), 3)
     ∷ (From 1 (update 7 9 1 (pos 0) 1), 4) ∷ (From 3 (update 7 9 1 (negsuc 0) 3), 8) ∷ []
 
--- node 3 has a route by 4 and loses it; 2 has sent a level that is later than 3's clock
+-- node 3 has a route by 4 and loses it; 2 has sent a level whose time is later than 3's clock
 abbrev pub clock_behind : Inputs
 clock_behind =
     (LinkUp 2, 1) ∷ (LinkUp 4, 1) ∷ (From 2 query, 2) ∷ (From 2 (update 7 9 0 (pos 0) 2), 3) ∷ (LinkDown 4, 3) ∷ []
@@ -81,7 +80,7 @@ clock_behind =
 abbrev pub greatest_delta : Inputs
 greatest_delta = (LinkUp 3, 1) ∷ (Need 4, 2) ∷ (From 3 (update 0 0 0 (pos 1073741824) 3), 3) ∷ []
 
--- 2 sends another query, and one more after its link was down
+-- 2 sends a second query, and a third one after its link was down
 abbrev pub asked_again : Inputs
 asked_again = (From 2 query, 4) ∷ (LinkDown 2, 5) ∷ (LinkUp 2, 6) ∷ (From 2 query, 6) ∷ []
 
@@ -92,8 +91,8 @@ node_3_of_two = first_core 3 (2 ∷ 4 ∷ []) (5 ∷ 4 ∷ [])
 abbrev pub two_needs : Inputs
 two_needs = (LinkUp 2, 1) ∷ (Need 5, 1) ∷ (Need 4, 1) ∷ (LinkUp 4, 2) ∷ []
 
--- node 2 among 1, 3 and 5: 1 and 5 send deltas 4 and 1 at one level, and then 3 goes to a lower level, above the own
--- height
+-- node 2 with the neighbours 1, 3 and 5: 1 and 5 send deltas 4 and 1 at one level, and then 3 sends a height at a lower
+-- level, which is above the own height
 abbrev pub node_2_of_three : CoreView
 node_2_of_three = first_core 2 (1 ∷ 3 ∷ 5 ∷ []) (4 ∷ [])
 
@@ -104,11 +103,11 @@ two_deltas = (LinkUp 1, 1) ∷ (LinkUp 3, 1) ∷ (LinkUp 5, 1) ∷ (Need 4, 2) �
 
 -- ---- the line 1-2-3-4
 
--- inputs in transit, each with the node that takes it
+-- inputs in transit, each with the node to which it goes
 abbrev pub Waiting : Type 0
 Waiting = List (ℕ × Input)
 
--- cores, and what they have sent so far, each packet with its sender
+-- the cores, and what they have sent so far, each packet with its sender
 pub record Line : Type 0 where
   pub cores : List CoreView
   pub sent : List (ℕ × Packet)
@@ -128,7 +127,7 @@ abbrev pub sent_after : ℕ → Input → ℕ → List CoreView → List (ℕ ×
 sent_after n input now cores =
     flat_map (λ c. if c.me == n then map (λ packet. (n, packet)) (sends_of c input now) else []) cores
 
--- inputs are taken in the order of their arrival, all at one tick, up to a number of them
+-- the line after inputs were taken in the order of their arrival, all at one tick, at most this many
 abbrev pub line_after : ℕ → ℕ → Line → Waiting → Line
 line_after zero now line waiting = line
 line_after (suc most) now line [] = line
@@ -149,11 +148,11 @@ first_line = record {
 abbrev pub links_up : Waiting
 links_up = (1, LinkUp 2) ∷ (2, LinkUp 1) ∷ (2, LinkUp 3) ∷ (3, LinkUp 2) ∷ (3, LinkUp 4) ∷ (4, LinkUp 3) ∷ []
 
--- the links come up, node 1 needs 4, and all packets are taken
+-- the line after its links came up, node 1 needed 4, and all packets were taken
 abbrev pub joined_line : Line
 joined_line = line_after 32 1 first_line (links_up ++ (1, Need 4) ∷ [])
 
--- then 3 loses 4 at tick 7, and all packets are taken
+-- the line after node 3 then lost its link to 4 at tick 7, and all packets were taken
 abbrev pub parted_line : Line
 parted_line = line_after 32 7 (record { cores = joined_line.cores; sent = [] }) ((3, LinkDown 4) ∷ (4, LinkDown 3) ∷ [])
 
@@ -166,7 +165,7 @@ hops_in line = map (λ c. hop_of c 4) line.cores
 abbrev pub known_height : ℕ → ℕ → ℕ → ℤ → ℕ → Option (Option Quintuple)
 known_height tau oid r delta id = Some (Some (quintuple tau oid r delta id))
 
--- the view is there, and its height is NULL
+-- a view whose height is NULL
 abbrev pub null_height : Option (Option Quintuple)
 null_height = Some None
 

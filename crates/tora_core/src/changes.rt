@@ -1,5 +1,5 @@
-//! How each change of a view's rows changes what the relation speaks of: which links are up, which height each
-//! neighbour sent, and which neighbours were sent an update.
+//! The effect of each change of a view's rows on the terms of the relation: which links are up, which height each
+//! neighbour sent, and which neighbours were sent an update (the marks).
 ghost use Rattle.std.specs.Prelude.{◌≡◌, ◌≢◌, ◌↔◌, ◌⊎◌, ℕ, true, None, Some};
 ghost use Rattle.tora_height.specs.Height.{Quintuple, level_of};
 ghost use Rattle.tora_height.specs.declared.level.Level.{Level};
@@ -29,7 +29,7 @@ pub fn rows_go()
     ensures told { (v : View) (j k : ℕ) → IsTold (record v { rows = without_row j v.rows }) k ↔ (IsTold v k × (k ≢ j)) }
 {}
 
-/// The height of an update replaces the sender's entry and changes no other entry.
+/// A neighbour's update replaces its entry by the update's height and changes no other entry.
 pub fn entries_are_taken()
     ensures up { (v : View) (j k : ℕ) (g : Quintuple) → IsUp (record v { rows = with_entry j g v.rows }) k ↔ IsUp v k }
     ensures entry { (v : View) (j k : ℕ) (g h : Quintuple) → IsEntry (record v { rows = with_entry j g v.rows }) k h
@@ -38,7 +38,7 @@ pub fn entries_are_taken()
         ↔ IsTold v k }
 {}
 
-/// A broadcast update marks every neighbour whose link is up, and changes no height.
+/// A broadcast of an update marks every neighbour whose link is up, and changes no height.
 pub fn all_are_told()
     ensures up { (v : View) (k : ℕ) → IsUp (record v { rows = all_told v.rows }) k ↔ IsUp v k }
     ensures entry { (v : View) (k : ℕ) (h : Quintuple) → IsEntry (record v { rows = all_told v.rows }) k h
@@ -65,7 +65,8 @@ pub fn all_are_cleared()
         ↔ IsTold v k }
 {}
 
-/// Withdrawing a neighbour's height removes its entry, unless it is the destination, and changes no link and no mark.
+/// Withdrawing a neighbour's entry removes it, unless the neighbour is the destination, and changes no link and no
+/// mark.
 pub fn entries_are_withdrawn()
     ensures up { (v : View) (d j k : ℕ) → IsUp (record v { rows = without_entry d j v.rows }) k ↔ IsUp v k }
     ensures entry { (v : View) (d j k : ℕ) (h : Quintuple)
@@ -73,7 +74,7 @@ pub fn entries_are_withdrawn()
     ensures told { (v : View) (d j k : ℕ) → IsTold (record v { rows = without_entry d j v.rows }) k ↔ IsTold v k }
 {}
 
-/// Withdrawing a mark removes it from one neighbour, and nothing else changes.
+/// Withdrawing a mark removes it from one neighbour, and changes nothing else.
 pub fn marks_are_withdrawn()
     ensures up { (v : View) (j k : ℕ) → IsUp (record v { rows = without_told j v.rows }) k ↔ IsUp v k }
     ensures entry { (v : View) (j k : ℕ) (h : Quintuple) → IsEntry (record v { rows = without_told j v.rows }) k h
@@ -82,8 +83,8 @@ pub fn marks_are_withdrawn()
         ↔ (IsTold v k × (k ≢ j)) }
 {}
 
-/// When the searches find nothing: no next hop if no neighbour is downstream, no greatest level if every entry is NULL,
-/// and no least delta if no entry is at the level.
+/// The searches find nothing in these cases: no next hop if no neighbour is downstream, no greatest level if every
+/// entry is NULL, and no least delta if no entry is at the level.
 pub fn nothing_is_found()
     ensures next_hop { (v : View) → (next_hop_of v ≡ None) ↔ HasNoDownstream v }
     ensures level { (v : View) → (greatest_level (known_heights v) ≡ None) ↔ KnowsNone v }

@@ -9,7 +9,7 @@ use std::alloc::{AllocError, Global};
 use tora_height::Id;
 
 impl Links {
-    /// A copy of the rows and of what is stored with them.
+    /// A copy of the rows and of the values stored with them.
     ///
     /// # Errors
     /// Out of memory.
@@ -31,7 +31,7 @@ impl Links {
 }
 
 impl Destination {
-    /// The same view.
+    /// A copy of the view.
     ///
     /// # Errors
     /// Out of memory.
@@ -50,7 +50,7 @@ impl Destination {
     }
 }
 
-/// The same views.
+/// Copies of the views.
 ///
 /// # Errors
 /// Out of memory.
@@ -78,7 +78,7 @@ fn with_room(alloc: Global, room: usize, numbers: &[Id]) -> Result<Vec<Id>, Allo
 }
 
 impl Core {
-    /// A second core with the same state, independent of the first.
+    /// A second core with the same state. A change of one does not affect the other.
     ///
     /// # Errors
     /// `Memory`.

@@ -1,5 +1,5 @@
 //! The view that a node has of one destination: its state, its inputs and its broadcasts (Park and Corson 1997, section
-//! 3). `reactions` has what an input does to the rows, and `levels` how the node gets and loses its height.
+//! 3). `reactions` has the effects of inputs on the rows, and `levels` how the node gets and loses its height.
 ghost use Rattle.std.specs.Prelude.{◌≡◌, ◌==◌, ◌<◌, ◌≤◌, IfOk, IfSome, option_map, length, true};
 ghost use Rattle.tora_packet.specs.PacketParts.{IsId};
 ghost use Rattle.tora_core.specs.Links.{IsOnlyPlace};
@@ -20,7 +20,7 @@ use std::marker::Model;
 use tora_height::{Entry, Height, Id, Level};
 use tora_packet::{Clear, Packet, Query, Update};
 
-/// A broadcast about a destination, before it is a packet.
+/// A broadcast about a destination, from which a packet is made.
 #[derive(Clone, Copy, Debug, PartialEq, Eq, Hash)]
 pub enum Broadcast {
     /// A route is required.
@@ -68,7 +68,7 @@ impl Model for Destination {
 }
 
 impl Destination {
-    /// The first view of a destination, with a place for each of these neighbours, which are in ascending order.
+    /// A new view of a destination, with a place for each of these neighbours, which are in ascending order.
     ///
     /// # Errors
     /// Out of memory.
@@ -136,7 +136,7 @@ impl Destination {
         self.links.downstream()
     }
 
-    /// The entry of a neighbour whose link is up.
+    /// The entry of a neighbour whose link is up; `None` if it is not up.
     pub fn entry(&self, k: Id) -> Option<Entry>
         ensures { result ≡ entry_in k self.now.view }
     {
@@ -150,7 +150,8 @@ impl Destination {
         self.links.next_hop()
     }
 
-    /// A route to the destination is needed. Returns the packet to broadcast, if there is one. The rule reads no clock.
+    /// A route to the destination is needed. Returns the packet to broadcast, if there is one. The result does not
+    /// depend on the tick.
     pub fn need(&mut self) -> Option<Packet>
         requires kept { IsKept self.old.view }
         ensures view { self.new.view ≡ view_after self.old.view (Input.Need self.old.view.destination) 0 }
@@ -162,7 +163,8 @@ impl Destination {
         packet_to_send(destination, broadcast)
     }
 
-    /// As `need`, for a packet about the destination from the neighbour `k`, which is at `place` among the neighbours.
+    /// Like `need`, for a packet about the destination from the neighbour `k`, which is at `place` among the
+    /// neighbours.
     pub fn packet(&mut self, k: Id, place: usize, packet: &Packet, now: u64) -> Option<Packet>
         requires kept { IsKept self.old.view }
         requires place { IsOnlyPlace k place self.old.neighbours }
@@ -177,8 +179,8 @@ impl Destination {
         packet_to_send(destination, broadcast)
     }
 
-    /// As `need`, when the link to neighbour `k`, which is at `place` among the neighbours, comes up. The rules read no
-    /// clock.
+    /// Like `need`, when the link to neighbour `k`, which is at `place` among the neighbours, comes up. The result does
+    /// not depend on the tick.
     pub fn link_up(&mut self, k: Id, place: usize) -> Option<Packet>
         requires kept { IsKept self.old.view }
         requires place { IsOnlyPlace k place self.old.neighbours }
@@ -193,7 +195,7 @@ impl Destination {
         packet_to_send(destination, broadcast)
     }
 
-    /// As `need`, when the link to neighbour `k`, which is at `place` among the neighbours, goes down.
+    /// Like `need`, when the link to neighbour `k`, which is at `place` among the neighbours, goes down.
     pub fn link_down(&mut self, k: Id, place: usize, now: u64) -> Option<Packet>
         requires kept { IsKept self.old.view }
         requires place { IsOnlyPlace k place self.old.neighbours }
@@ -206,7 +208,7 @@ impl Destination {
         packet_to_send(destination, broadcast)
     }
 
-    /// Whether the node is the destination itself. Its view changes only in the set of neighbours.
+    /// Whether the node is the destination. Then only the set of neighbours changes in its view.
     pub(crate) fn is_own(&self) -> bool
         ensures { result ≡ (self.now.view.me == self.now.view.destination) }
     {

@@ -9,15 +9,15 @@ use tora_height::{Height, Id, Level};
 /// How a node treats erased reference levels, for all its destinations.
 #[derive(Clone, Copy, Debug, Default, PartialEq, Eq, Hash)]
 pub enum Erasure {
-    /// A clear erases heights of its level; an update is taken whatever its level.
+    /// A clear erases heights of its level; an update is accepted whatever its level is.
     #[default]
     Plain,
-    /// A clear also withdraws the height that its sender sent before, and an update at the level that was erased last
-    /// withdraws its sender's entry.
+    /// A clear also removes the entry of its sender, and an update at the level that was erased last only removes its
+    /// sender's entry.
     Remembered,
 }
 
-/// The level that was erased last, once this one is erased.
+/// The level that was erased last, after this level was erased.
 pub fn erased_after(erasure: Erasure, old: Option<Level>, level: Level) -> Option<Level>
     ensures { result ≡ erased_after erasure old level }
 {
@@ -27,7 +27,7 @@ pub fn erased_after(erasure: Erasure, old: Option<Level>, level: Level) -> Optio
     }
 }
 
-/// Whether an update with this height is older than the clear of its level.
+/// Whether an update with this height counts as older than the clear of its level: the level was erased last.
 fn is_outdated(erasure: Erasure, erased: Option<Level>, height: Height) -> bool
     ensures { result ≡ is_outdated_by erasure erased height }
 {
@@ -41,14 +41,14 @@ fn is_outdated(erasure: Erasure, erased: Option<Level>, height: Height) -> bool
 }
 
 impl Destination {
-    /// Whether an update with this height is older than the clear of its level.
+    /// Whether an update with this height counts as older than the clear of its level: the level was erased last.
     pub(crate) fn is_outdated(&self, height: Height) -> bool
         ensures { result ≡ is_outdated self.now.view height }
     {
         is_outdated(self.erasure, self.erased, height)
     }
 
-    /// A clear of a level comes from the neighbour `k`, which then has no height and no entries.
+    /// Receives a clear of a level from the neighbour `k`, which has no height and no entries when it sends a clear.
     pub(crate) fn hear_clear(&mut self, k: Id, level: Level)
         ensures view { self.new.view ≡ hearing_clear self.old.view k level }
         ensures neighbours { self.new.neighbours ≡ self.old.neighbours }

@@ -52,18 +52,18 @@ impl CoreError {
     }
 }
 
-/// Why an input is refused, in the order in which the causes are tested. A refused input changes nothing.
+/// Why an input is refused, in the order of the checks. A refused input changes nothing.
 #[derive(Clone, Copy, Debug, PartialEq, Eq, Hash, Error)]
 pub enum StepError {
     /// The neighbour is not one of the configured ones.
     UnknownNeighbour,
-    /// The link that comes up is up already.
+    /// The link that comes up was already up.
     AlreadyUp,
     /// The link that goes down, or over which a packet came, is not up.
     NotUp,
     /// The height in an update is not that of the neighbour that sent it.
     WrongSender,
-    /// The needed destination is not in the table.
+    /// The destination of a need is not in the table.
     UnknownDestination,
 }
 

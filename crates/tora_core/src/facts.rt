@@ -19,8 +19,8 @@ pub fn tables_stay()
         → destinations_of (core_after c input now).views ≡ destinations_of c.views }
 {}
 
-/// A link is up after an accepted `LinkUp`, and not up after an accepted `LinkDown`. No other link changes with these,
-/// and no link changes with a packet or a need.
+/// A link is up after an accepted `LinkUp`, and not up after an accepted `LinkDown`. These inputs change no other link,
+/// and a packet or a need changes no link.
 pub fn links_follow_inputs()
     ensures comes { (c : CoreView) (k now : ℕ) → refusal_of c (LinkUp k) ≡ None
         → has_number k (core_after c (LinkUp k) now).up ≡ true }
@@ -35,7 +35,7 @@ pub fn links_follow_inputs()
     ensures at_need { (c : CoreView) (d now : ℕ) → (core_after c (Need d) now).up ≡ c.up }
 {}
 
-/// When an input is accepted.
+/// The conditions under which inputs are accepted.
 pub fn inputs_are_accepted()
     ensures link_up { (c : CoreView) (k : ℕ) → (refusal_of c (LinkUp k) ≡ None)
         ↔ ((has_number k c.neighbours ≡ true) × (has_number k c.up ≡ false)) }
@@ -74,7 +74,7 @@ pub fn numbers_are_put_in_order()
     ensures order { (numbers : List ℕ) → has_repeat numbers ≡ false → IsAscending (ascending numbers) }
 {}
 
-/// After an insertion the list has the number, after a removal it has not, and no other number is added or removed.
+/// After an insertion the list has the number, after a removal it does not, and no other number is added or removed.
 pub fn numbers_come_and_go()
     ensures put { (n m : ℕ) (numbers : List ℕ) → has_number n (with_number m numbers)
         ≡ ((m == n) || has_number n numbers) }

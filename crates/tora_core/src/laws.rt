@@ -21,8 +21,8 @@ pub fn rules_are_kept()
         → IsKeptOutcome (outcome_of v input now) }
 {}
 
-/// Every view of a core keeps the invariants over every run of inputs from a new core on, of any length, with any
-/// ticks, with any inputs refused on the way, for any limits and either choice of `Erasure`.
+/// Every view of a core keeps the invariants over every run of inputs of a new core: of any length, with any ticks,
+/// with refused inputs among them, for any limits and either choice of `Erasure`.
 pub fn runs_are_kept()
     ensures { (erasure : Erasure) (limits : CoreLimits) (me : ℕ) (neighbours destinations : List ℕ)
         (inputs : List (Input × ℕ)) → IsId me → AllByRecursion IsId neighbours → AllByRecursion IsId destinations

@@ -1,5 +1,5 @@
-//! How a node gets and loses its height for a destination (Park and Corson 1997, section 3): it joins one above its
-//! lowest neighbour; when it loses its last downstream link it defines, propagates or reflects a reference level, or
+//! How a node gets and loses its height for a destination (Park and Corson 1997, section 3). It joins one above its
+//! lowest neighbour. When it loses its last downstream link, it defines, propagates or reflects a reference level, or
 //! gives up its height.
 ghost use Rattle.std.specs.Prelude.{◌≡◌, ◌<◌, Some, pos};
 ghost use Rattle.tora_height.specs.Height.{IsLevel, quintuple};
@@ -21,7 +21,7 @@ fn fitted(tau: u64, oid: Id, r: u8, delta: i32, id: Id) -> Entry
 }
 
 impl Destination {
-    /// From now on a route is required.
+    /// Broadcasts a query: from now on a route is required.
     pub(crate) fn broadcast_query(&mut self) -> Option<Broadcast>
         ensures view { self.new.view ≡ (query_broadcast self.old.view).view }
         ensures broadcast { result ≡ (query_broadcast self.old.view).broadcast }
@@ -31,7 +31,7 @@ impl Destination {
         Some(Broadcast::Query)
     }
 
-    /// Broadcasts the height in an update, if there is one.
+    /// Broadcasts the own height in an update, if there is one.
     pub(crate) fn broadcast_update(&mut self) -> Option<Broadcast>
         ensures view { self.new.view ≡ (update_broadcast self.old.view).view }
         ensures broadcast { result ≡ (update_broadcast self.old.view).broadcast }
@@ -42,7 +42,7 @@ impl Destination {
         Some(Broadcast::Update(height))
     }
 
-    /// Takes the height one above the least entry.
+    /// Sets the own height to one above the least entry.
     #[tactic(auto, unfolding(crate::specs::Rules::after_join))]
     pub(crate) fn join(&mut self) -> Option<Broadcast>
         ensures view { self.new.view ≡ (after_join self.old.view).view }
@@ -64,7 +64,7 @@ impl Destination {
         }
     }
 
-    /// The last downstream link was lost by a link failure or a clear.
+    /// Reacts to the loss of the last downstream link by a link failure or a clear (case 1).
     #[tactic(auto, unfolding(crate::specs::Rules::after_link_loss))]
     pub(crate) fn after_link_loss(&mut self, now: u64) -> Option<Broadcast>
         ensures view { self.new.view ≡ (after_link_loss self.old.view now).view }
@@ -78,7 +78,7 @@ impl Destination {
         self.define_level(now)
     }
 
-    /// The last downstream link was lost by an update.
+    /// Reacts to the loss of the last downstream link by an update (cases 2 to 5).
     #[tactic(auto, unfolding(crate::specs::Rules::after_update_loss))]
     pub(crate) fn after_update_loss(&mut self, now: u64) -> Option<Broadcast>
         ensures view { self.new.view ≡ (after_update_loss self.old.view now).view }
@@ -143,7 +143,7 @@ impl Destination {
         self.broadcast_update()
     }
 
-    /// Reflects the level that all entries are at.
+    /// Reflects the level at which all entries are.
     fn reflect(&mut self, level: Level) -> Option<Broadcast>
         requires { IsLevel level }
         ensures view { self.new.view ≡ (reflected_level self.old.view level).view }

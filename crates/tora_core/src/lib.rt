@@ -2,8 +2,8 @@
 //!
 //! For each destination of its table, a core has a view: the node's own height, whether a route is required, and the
 //! heights that the neighbours sent. It takes inputs, each with its tick of 100 ms, and returns the packets to
-//! broadcast to every neighbour whose link is up (Park and Corson 1997, section 3). The published texts do not say
-//! where a query is answered and which entries a clear erases; those two rules are this project's choice.
+//! broadcast to every neighbour whose link is up (Park and Corson 1997, section 3). The published texts do not say when
+//! a query is answered and which entries a clear erases; those two rules are this project's choice.
 //!
 //! Only a new core and its text take memory. A core has at most 32 neighbours, or up to 255 with `Core::with_limits`,
 //! and 64 destinations.
@@ -87,7 +87,7 @@ pub enum Input {
     Need(Id),
 }
 
-/// An input as `up 2`, `down 2`, `need 4`, or `from 2 ` and the packet.
+/// Writes an input as `up 2`, `down 2`, `need 4`, or `from 2 ` and the packet.
 impl fmt::Display for Input {
     ghost use Rattle.std.specs.Prelude.{Some};
     ghost use Rattle.tora_core.specs.InputText.{written_input};
@@ -116,6 +116,6 @@ impl fmt::Display for Input {
     }
 }
 
-/// The packets that one input broadcasts, at most one for each destination, by ascending destination. Each goes to
+/// The packets to broadcast for one input, at most one for each destination, by ascending destination. Each goes to
 /// every neighbour whose link is up after the input.
 pub type Sends = ArrayVec<Packet, MOST_DESTINATIONS>;

@@ -84,14 +84,14 @@ fn is_marked(place: usize, up: &[bool]) -> bool
     up[place]
 }
 
-/// The place of a neighbour, from 0 on, if it is one of these.
+/// The place of a neighbour, counted from 0, if it has one.
 fn place_of_row(k: Id, places: &[Row]) -> Option<usize>
     ensures { result ≡ position (λ row. row.neighbour == k) places.now }
 {
     places.iter().position(|row| row.neighbour == k)
 }
 
-/// The entry of a neighbour whose link is up.
+/// The entry of a neighbour whose link is up; `None` if it is not up.
 pub fn entry_of(k: Id, up: &[bool], places: &[Row]) -> Option<Entry>
     requires ascending { IsAscending (neighbours_of places.now) }
     requires lengths { length up.now ≡ length places.now }

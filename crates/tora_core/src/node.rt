@@ -26,7 +26,7 @@ use tora_height::{Entry, Id};
 
 /// The core of a node: its links, and its view of each destination of its table.
 ///
-/// A core takes inputs by `step`, one after the other, each with the tick at which it came. Every input keeps two
+/// A core takes one input after another by `step`, each with the tick at which it came. Every input keeps two
 /// invariants: a route is required only if the height and every entry are NULL, and a node other than the destination
 /// that has a height has a lower neighbour.
 #[derive(Debug, Drop)]
@@ -37,7 +37,7 @@ pub struct Core {
     pub(crate) up: Vec<Id>,
     pub(crate) destinations: ArrayVec<Id, MOST_DESTINATIONS>,
     pub(crate) views: Vec<Destination>,
-    /// Guesses at the indexes of neighbours and destinations.
+    /// Guesses at the places of neighbours and destinations.
     pub(crate) hints: TableHints,
 }
 
@@ -96,7 +96,7 @@ impl Core {
         Core::with_limits(alloc, CoreLimits::STANDARD, me, neighbours, destinations)
     }
 
-    /// As `new`, but within these limits.
+    /// As `new`, but within the given limits.
     ///
     /// # Errors
     /// In this order: `TooMany` if there are more neighbours or destinations than the limits allow, `Repeated` within
@@ -124,10 +124,10 @@ impl Core {
         Core::with_erasure(alloc, Erasure::Plain, limits, me, neighbours, destinations)
     }
 
-    /// As `with_limits`, with this treatment of erased levels.
+    /// As `with_limits`, with this choice of how to treat erased levels.
     ///
     /// # Errors
-    /// Those of `with_limits`, in its order.
+    /// Those of `with_limits`, in the same order.
     pub fn with_erasure(
         alloc: Global,
         erasure: Erasure,
@@ -185,7 +185,7 @@ impl Core {
         self.me
     }
 
-    /// How the node treats erased levels.
+    /// The node's choice of how to treat erased levels.
     pub fn erasure(&self) -> Erasure
         ensures { result ≡ self.now.erasure }
     {
@@ -243,7 +243,7 @@ impl Core {
     /// if the input is refused.
     ///
     /// # Errors
-    /// Those of `step`.
+    /// Those of `step`, in the same order.
     pub fn step_into(&mut self, input: &Input, now: u64, sends: &mut Sends) -> Result<(), StepError>
         ensures refused { MatchOption (refusal_of self.old input.now) (IsOk result) (λ e. result ≡ Err e) }
         ensures unchanged { OnErr result (self.new ≡ self.old) }
@@ -268,7 +268,7 @@ impl Core {
         Ok(())
     }
 
-    /// Why an input is refused, if it is.
+    /// The cause for which an input is refused, if it is.
     fn refusal(&self, input: &Input) -> Option<StepError>
         ensures value { result ≡ refusal_of self.now input.now }
         ensures valid { IfNone result (IsInput input.now) }
@@ -294,13 +294,13 @@ impl Core {
         }
     }
 
-    /// Why an input over the link to `k` is refused, if it is. The input needs the link to be up if `is_up`, and not up
-    /// otherwise.
+    /// The cause for which an input over the link to `k` is refused, if it is. If `is_up`, the input requires that the
+    /// link is up, and otherwise that it is not up.
     fn fault_of_link(&self, k: Id, is_up: bool) -> Option<StepError>
         ensures { result ≡ link_fault self.now k is_up }
     {
-        // A link that is up is one to a neighbour. Its place in `up` is the neighbour's place if all links before it
-        // are up.
+        // Each link in `up` is to a neighbour. If all links before a link are up, its place in `up` is the neighbour's
+        // place.
         let at = self.hints.neighbours.place(k);
         if has_number_near(at, k, self.up.as_slice()) {
             if is_up {

@@ -1,6 +1,6 @@
 //! Guesses at the indexes of numbers in a list.
 //!
-//! A guess may be wrong, for instance if two numbers end in the same bits. A caller checks the number at the guessed
+//! A guess may be wrong, for instance if two numbers have the same last bits. A caller checks the number at the guessed
 //! index, and searches the list if it is another number.
 ghost use Rattle.std.specs.Prelude.{◌<◌};
 
@@ -28,7 +28,7 @@ fn kept(place: usize) -> u8 {
 }
 
 impl PlaceHints {
-    /// The guesses for the numbers of a list. Each is right, unless a later number ends in the same bits.
+    /// The guesses for the numbers of a list. A guess is right unless a later number has the same last bits.
     pub fn new(numbers: &[Id]) -> PlaceHints {
         let mut hints = PlaceHints { places: [0; 64] };
         for (place, n) in numbers.iter().enumerate() {

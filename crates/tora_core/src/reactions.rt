@@ -1,5 +1,5 @@
-//! What an input does to a destination (Park and Corson 1997, section 3): it updates the rows, and then its rule
-//! applies.
+//! The reaction of a view to an input (Park and Corson 1997, section 3): it updates the rows, and then applies its
+//! rule.
 ghost use Rattle.std.specs.Prelude.{◌≡◌, ◌≢◌, ◌==◌, ◌<◌, None, Some, MatchBool, true};
 ghost use Rattle.std.specs.List.{AllByRecursion};
 ghost use Rattle.tora_height.specs.Height.{destination_height};
@@ -18,7 +18,7 @@ use tora_height::{Entry, Height, Id, Level};
 use tora_packet::{Clear, Packet};
 
 impl Destination {
-    /// A route to the destination is needed.
+    /// Reacts to the need of a route to the destination.
     pub(crate) fn react_to_need(&mut self) -> Option<Broadcast>
         ensures view { self.new.view ≡ (outcome_of self.old.view (Input.Need self.old.view.destination) 0).view }
         ensures broadcast { result ≡ (outcome_of self.old.view (Input.Need self.old.view.destination) 0).broadcast }
@@ -27,7 +27,7 @@ impl Destination {
         if self.is_own() { None } else { self.on_need() }
     }
 
-    /// A packet about the destination came from the neighbour `k`, which is at `place` among the neighbours.
+    /// Reacts to a packet about the destination from the neighbour `k`, which is at `place` among the neighbours.
     pub(crate) fn react_to_packet(
         &mut self,
         k: Id,
@@ -48,7 +48,7 @@ impl Destination {
         }
     }
 
-    /// The link to neighbour `k`, which is at `place` among the neighbours, came up.
+    /// Reacts to the link to neighbour `k`, which is at `place` among the neighbours, coming up.
     pub(crate) fn react_to_link_up(&mut self, k: Id, place: usize) -> Option<Broadcast>
         requires place { IsOnlyPlace k place self.old.neighbours }
         requires down { AllByRecursion (λ (row : Row). row.neighbour ≢ k) self.old.view.rows }
@@ -68,7 +68,8 @@ impl Destination {
         }
     }
 
-    /// Removes the row of neighbour `k`, which is at `place` among the neighbours and whose link went down.
+    /// Reacts to the link to neighbour `k`, which is at `place` among the neighbours, going down: removes the
+    /// neighbour's row.
     pub(crate) fn react_to_link_down(&mut self, k: Id, place: usize, now: u64) -> Option<Broadcast>
         requires { IsOnlyPlace k place self.old.neighbours }
         ensures view { self.new.view ≡ (outcome_of self.old.view (Input.LinkDown k) now).view }
@@ -145,7 +146,7 @@ impl Destination {
         }
     }
 
-    /// An update that is older than the clear of its level only withdraws its sender's entry.
+    /// Reacts to an update that counts as older than the clear of its level: it only removes its sender's entry.
     fn on_outdated(&mut self, k: Id, now: u64) -> Option<Broadcast>
         ensures view { self.new.view ≡ (on_outdated self.old.view k now).view }
         ensures broadcast { result ≡ (on_outdated self.old.view k now).broadcast }
@@ -219,7 +220,7 @@ fn cleared_level(clear: &Clear) -> Level
     }
 }
 
-/// The first entry of a neighbour whose link came up: the zero height for the destination itself, NULL for any other.
+/// The first entry of a neighbour whose link came up: the zero height if it is the destination, and otherwise NULL.
 fn first_entry(me: Id, destination: Id, k: Id) -> Entry
     requires { 0 < k }
     ensures { MatchBool (me == destination) (result ≡ None)

@@ -1,4 +1,4 @@
-//! TORA's rules as a relation, and the proof that the computed rules and the relation agree.
+//! TORA's rules as a relation, and the proof that the relation agrees with the computed rules.
 ghost use Rattle.std.specs.Prelude.{◌≡◌, ◌↔◌, ℕ, ℤ, true, Option, None, Some, option_map, Contains};
 ghost use Rattle.tora_height.specs.Height.{Quintuple};
 ghost use Rattle.tora_height.specs.declared.level.Level.{Level};
@@ -14,7 +14,7 @@ ghost use Rattle.tora_core.specs.Reacts.{HasDownstream, IsFreshTime, IsFromUp, I
 ghost use Rattle.tora_core.specs.Reacts.{IsLeastKnown, IsNextHop, KnowsNone, Reacts};
 ghost use Rattle.tora_core.specs.Worked.{WorkedRows};
 
-/// The relation of TORA's rules, with one case for each line of them (Park and Corson 1997, section 3), holds for the
+/// The relation of TORA's rules has one case for each line of them (Park and Corson 1997, section 3). It holds for the
 /// result of the computed rules, and for no other result.
 pub fn rules_are_the_relation()
     ensures total { (v : View) (input : Input) (now : ℕ)
@@ -41,7 +41,7 @@ pub fn words_are_computed()
 {}
 
 /// If an accepted input concerns a view, the view reacts to it by the relation, and the packet sent for its destination
-/// is the broadcast of the view.
+/// is the view's broadcast.
 pub fn accepted_inputs_react()
     ensures { (c : CoreView) (input : Input) (now : ℕ) (v : View)
         → IsCore c → IsInput input → refusal_of c input ≡ None → Contains c.views v
@@ -50,7 +50,8 @@ pub fn accepted_inputs_react()
         × (next_packet input now v ≡ option_map (packet_of v.destination) broadcast) }
 {}
 
-/// Worked runs, computed: a route is found, lost, propagated, reflected and erased, at one node and on a line of four.
+/// Worked examples: a route is found and lost, and a level is propagated, reflected and erased, at one node and on a
+/// line of four.
 pub fn worked_rows_hold()
     ensures { WorkedRows }
 {}

@@ -1,4 +1,4 @@
-//! The rows of a view, read and changed.
+//! Reads and changes of a view's rows.
 ghost use Rattle.std.specs.Prelude.{◌≡◌, false, ◌<◌, ◌≤◌, ◌+◌, ◌^◌, ◌≤ℤ◌, pos, neg_ℤ, IfSome, fold, filter, nat_lt};
 ghost use Rattle.std.specs.Prelude.{position, length, slice_index_or, ◌==◌, None};
 ghost use Rattle.std.specs.List.{list_any, list_all};
@@ -139,7 +139,7 @@ fn tell_row(row: &mut Row)
     row.told = true;
 }
 
-/// Notes that an update goes to every up neighbour.
+/// Marks that an update was broadcast to every neighbour whose link is up.
 pub fn tell_all(rows: &mut [Row])
     ensures { rows.new ≡ all_told rows.old }
 {
@@ -190,7 +190,8 @@ pub fn is_entry_at(level: Level, entry: Entry) -> bool
     }
 }
 
-/// Erases the entry if it is at the level, unless it is that of the destination. Returns whether it was erased.
+/// Erases the entry of a row if it is at the level, unless the neighbour is the destination. Returns whether it was
+/// erased.
 fn clear_row(destination: Id, level: Level, row: &mut Row) -> bool
     ensures row { row.new ≡ cleared_row destination level row.old }
     ensures cleared { result ≡ is_cleared destination level row.old }
@@ -206,7 +207,7 @@ fn clear_row(destination: Id, level: Level, row: &mut Row) -> bool
     }
 }
 
-/// Erases the entries at a level, except that of the destination. Returns whether there were some.
+/// Erases the entries at a level, except that of the destination. Returns whether there were any.
 pub fn clear_level(destination: Id, level: Level, rows: &mut [Row]) -> bool
     ensures rows { rows.new ≡ all_cleared destination level rows.old }
     ensures cleared { result ≡ list_any (is_cleared destination level) rows.old }

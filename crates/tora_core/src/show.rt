@@ -27,7 +27,7 @@ impl fmt::Display for HeightText {
     }
 }
 
-/// A next hop by its number, and none as `-`.
+/// A next hop by its number, and `-` for none.
 #[derive(Clone, Copy)]
 struct HopText(Option<Id>);
 

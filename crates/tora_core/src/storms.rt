@@ -1,10 +1,11 @@
-// Nodes under the plain rules may never come to rest.
+// Nodes with `Erasure::Plain` may never come to rest.
 ghost use Rattle.std.specs.Prelude.{◌≡◌, ℕ, ◌^◌, ℤ, pos, neg_ℤ, ◌+ℤ◌, ◌≤ℤ◌};
 ghost use Rattle.tora_core.specs.Storms.{GoesOn};
 
-/// Under `Erasure::Plain`, three nodes with links to each other whose destination is cut off may send packets without
-/// end, with no change of a link, no loss and no need. Each receives a clear, a query and an update from both others
-/// and answers with the same, with delta one higher. Only the greatest delta, 2^30, ends it.
+/// With `Erasure::Plain`, three nodes with links to each other whose destination is cut off may send packets without
+/// end, although no link changes, no packet is lost and no route is needed. Each receives a clear, a query and an
+/// update from both others, and broadcasts the same three packets with delta one higher. It ends only at the greatest
+/// delta, 2^30.
 pub fn plain_nodes_may_never_rest()
     ensures { (now : ℕ) (delta : ℤ) → neg_ℤ (pos (2 ^ 30)) ≤ℤ delta → (delta +ℤ pos 2) ≤ℤ pos (2 ^ 30)
         → GoesOn now delta 1 2 3 × GoesOn now delta 2 1 3 × GoesOn now delta 3 1 2 }

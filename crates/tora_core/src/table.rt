@@ -20,7 +20,7 @@ use std::alloc::{AllocError, Global};
 use tora_height::Id;
 use tora_packet::Packet;
 
-/// The first views of the destinations, each with a place for each of these neighbours, which are in ascending order.
+/// New views of the destinations, each with a place for each of these neighbours, which are in ascending order.
 pub fn first_views(
     alloc: Global,
     erasure: Erasure,
@@ -41,7 +41,7 @@ pub fn first_views(
     Ok(views)
 }
 
-/// Guesses at the indexes of a table's neighbours and destinations.
+/// Guesses at the places of a table's neighbours and destinations.
 #[derive(Clone, Copy, Debug, PartialEq, Eq)]
 pub struct TableHints {
     pub neighbours: PlaceHints,
@@ -113,7 +113,7 @@ fn place_in(k: Id, neighbours: &[Id], hints: &PlaceHints) -> usize
     place_near(hints.place(k), k, neighbours).unwrap_or(neighbours.len())
 }
 
-/// Reports a link that came up to every view, at the neighbour's place.
+/// Passes a link that came up to every view; the neighbour is at `place`.
 fn link_up(views: &mut [Destination], k: Id, place: usize, sends: &mut Sends)
     requires may { All (λ t. CanTake (Input.LinkUp k) t.view) views.old }
     requires few { length views.old ≤ MOST_DESTINATIONS }
@@ -127,7 +127,7 @@ fn link_up(views: &mut [Destination], k: Id, place: usize, sends: &mut Sends)
     }
 }
 
-/// Reports a link that went down to every view; the neighbour is at `place`.
+/// Passes a link that went down to every view; the neighbour is at `place`.
 fn link_down(views: &mut [Destination], k: Id, place: usize, now: u64, sends: &mut Sends)
     requires may { All (λ t. CanTake (Input.LinkDown k) t.view) views.old }
     requires few { length views.old ≤ MOST_DESTINATIONS }
@@ -141,7 +141,7 @@ fn link_down(views: &mut [Destination], k: Id, place: usize, now: u64, sends: &m
     }
 }
 
-/// Reports a need to the view of its destination only. The rule reads no clock, so `now` may be any tick.
+/// Passes a need to the view of its destination only. The result does not depend on the tick `now`.
 fn step_need(
     d: Id,
     views: &mut [Destination],

@@ -1,4 +1,4 @@
-//! Withdrawal of the entry and the mark of a neighbour.
+//! Removal of a neighbour's entry and mark.
 ghost use Rattle.std.specs.Prelude.{◌≡◌};
 ghost use Rattle.tora_core.specs.View.{untold_row, withdrawn_row, without_entry, without_told};
 
@@ -7,7 +7,7 @@ use crate::rows::Row;
 use tora_height::Id;
 
 impl Links {
-    /// Withdraws the entry of neighbour `k`, unless it is the destination.
+    /// Removes the entry of neighbour `k`, unless it is the destination.
     pub fn withdraw(&mut self, destination: Id, k: Id)
         ensures { self.new ≡ record self.old { rows = without_entry destination k self.old.rows } }
     {
@@ -20,7 +20,7 @@ impl Links {
         self.least = place_of_least(self.places.as_slice());
     }
 
-    /// Notes that no update was broadcast to neighbour `k`.
+    /// Removes the mark that an update was broadcast to neighbour `k`.
     pub fn untell(&mut self, k: Id)
         ensures { self.new ≡ record self.old { rows = without_told k self.old.rows } }
     {

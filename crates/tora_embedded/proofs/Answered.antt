@@ -1,4 +1,4 @@
--- An item that is served with every cargo put: the results of its offers give the same serving.
+-- An item that is served with every outbound message put: the offers determine the serving.
 use Rattle.std.proofs.Common.{◌≡◌, ℕ, zero, suc, Bool, true, false, List, [], ◌∷◌, ◌++◌, length, Option, Some, None, nat_eq, ◌||◌, if◌then◌else◌, refl, sym, ap, ◌∙◌, subst, append_assoc, append-nil, eq-eqb}
 use Rattle.std.proofs.lemmas.Bool.{or_right}
 use Rattle.std.specs.Prelude.{slice_get, is_some}
@@ -21,7 +21,7 @@ use Rattle.tora_seat.proofs.Chains.{follows_split}
 use Rattle.tora_node.specs.CoreRuns.{answers_told, was_put}
 use Rattle.tora_router.specs.Router.{all_put}
 
--- ---- the neighbours of the core stay
+-- ---- the neighbours of the core do not change
 
 one_stays : (c : CoreView) (input : Input) (now : ℕ) → (core_after c input now).neighbours ≡ c.neighbours
 one_stays c input now = go (is_some (refusal_of c input))
@@ -34,7 +34,7 @@ pub all_stay : (c : CoreView) (inputs : List (Input × ℕ)) → (core_after_all
 all_stay c [] = refl
 all_stay c ((input, now) ∷ inputs) = all_stay (core_after c input now) inputs ∙ one_stays c input now
 
--- ---- answers
+-- ---- results of offers
 
 at_length : (before : List Offer) (o : Offer) (offers : List Offer) → slice_get (before ++ o ∷ offers) (length before) ≡ Some o
 at_length [] o offers = refl
@@ -48,7 +48,7 @@ told_follows before (o ∷ offers) = (
   subst (λ (all : List Offer). Follows (answers_told all) (before ++ o ∷ []) offers) (append_assoc before (o ∷ []) offers) (told_follows (before ++ o ∷ []) offers),
 )
 
--- each offer was put, for one of these neighbours
+-- each offer was put, and is for one of these neighbours
 abbrev pub ArePut : List ℕ → List Offer → Type 0
 ArePut ks [] = Unit {0}
 ArePut ks (o ∷ offers) = (o.put ≡ true) × (has_number o.to ks ≡ true) × ArePut ks offers
@@ -57,7 +57,7 @@ put_append : (ks : List ℕ) (xs ys : List Offer) → ArePut ks xs → ArePut ks
 put_append ks [] ys p q = q
 put_append ks (x ∷ xs) ys p q = (p.0, p.1, put_append ks xs ys p.2 q)
 
--- each of these numbers is one of those
+-- each of the second numbers is among the first
 abbrev AreAmong : List ℕ → List ℕ → Type 0
 AreAmong ks [] = Unit {0}
 AreAmong ks (j ∷ js) = (has_number j ks ≡ true) × AreAmong ks js
@@ -67,7 +67,7 @@ all_among ks [] inside = tt
 all_among ks (j ∷ js) inside = (inside j (ap (λ b. b || has_number j js) (eq-eqb j j refl)), all_among ks js (λ i e. inside i (or_right (nat_eq j i) (has_number i js) e)))
 
 module _ (ks : List ℕ) (told : Answers) where
-  -- one serving puts every cargo, and the other uses given results: if these are the same, both servings are the same
+  -- one serving puts every outbound message, the other uses given results: they are equal if the results agree
   record Same (before : List Offer) (near : List ℕ) (x y : Serving) : Type 0 where
     added : List Offer
     offers : x.offers ≡ before ++ added
@@ -75,7 +75,7 @@ module _ (ks : List ℕ) (told : Answers) where
     neighbours : x.seat.core.neighbours ≡ near
     same : Follows told before added → y ≡ x
 
-  -- both go on from here
+  -- both servings continue from here
   abbrev From : Serving → Serving → Serving → Type 0
   From v x y = Same v.offers v.seat.core.neighbours x y
 
@@ -228,7 +228,7 @@ module _ (ks : List ℕ) (seat : SeatState) (item : Item) where
   goes : Same ks (answers_told served.offers) [] seat.core.neighbours served (serving_of (answers_told served.offers) ks seat item)
   goes = serving_goes ks (answers_told served.offers) ks (all_among ks ks (λ j e. e)) (λ j e. e) seat item
 
-  -- every offer was put, for a neighbour
+  -- every offer was put, and is for a neighbour
   pub served_put : ArePut ks served.offers
   served_put = subst (ArePut ks) (sym goes.offers) goes.are_put
 
@@ -236,6 +236,6 @@ module _ (ks : List ℕ) (seat : SeatState) (item : Item) where
   pub served_told : serving_of (answers_told served.offers) ks seat item ≡ served
   served_told = goes.same (subst (Follows (answers_told served.offers) []) goes.offers (told_follows [] served.offers))
 
-  -- the neighbours of the core stay
+  -- the neighbours of the core do not change
   pub neighbours_stay : served.seat.core.neighbours ≡ seat.core.neighbours
   neighbours_stay = goes.neighbours

@@ -1,4 +1,4 @@
--- Each call of a router is parts of its node, one after another.
+-- Each call of a router is a list of parts of its node.
 use Rattle.std.proofs.Common.{◌≡◌, ℕ, zero, suc, ◌<◌, ◌≤◌, ◌⊎◌, Bool, true, false, true≢false, inl, inr, List, [], ◌∷◌, ◌++◌, length, Option, Some, None, Ok, Err, nat_eq, if◌then◌else◌, refl, sym, ap, ◌∙◌, subst, eqb-true, arith}
 use Rattle.std.specs.Option.{option_map_or}
 use Rattle.std.specs.Prelude.{slice_get, is_some, map}
@@ -48,7 +48,7 @@ is_number j k u = go (nat_eq j k) refl
     go true q e = eqb-true j k q
     go false q e = absurd (true≢false (sym (ap is_some e)))
 
--- the ends of a new router are first ends
+-- the ends of a new router are new ends
 module _ (t : Topology) (times : Times) (n : ℕ) (two : version_at t n ≡ Two) where
   new_links : (js : List ℕ) → AreEnds (end_in t times n (λ k. first_end)) js (map (new_link n times) js)
   new_links [] = tt
@@ -67,7 +67,7 @@ module _ (t : Topology) (times : Times) (n : ℕ) (once : has_repeat (neighbours
   abbrev Comes : RouterState → History → Network → Type 0
   Comes r h w = Reached t times n r h [] [] w
 
-  -- one call's step, and then another
+  -- the parts of one step of a call, and then those of another
   and_then : (r r' : RouterState) (h h' : History) (w : Network) → Comes r h w → ((x : Network) → IsHere r h x → Comes r' h' x) → Comes r' h' w
   and_then r r' h h' w a f = goes_on t times n r r' h h' [] [] [] [] w a f
 

@@ -1,4 +1,4 @@
--- The laws of running nodes, read of the hosts.
+-- The laws of running nodes, applied to the hosts.
 use Rattle.std.proofs.Common.{ℕ, List, [], sym, ap, ◌∙◌, subst}
 use Rattle.tora_arq.specs.declared.times.Times.{Times}
 use Rattle.tora_arq.specs.Lives.{reversed}

@@ -1,4 +1,4 @@
--- The calls of all routers are a run of parts, and its network has what they have.
+-- The calls of all routers are a run of parts, which leads to a network that agrees with the routers.
 use Rattle.std.proofs.Common.{◌≡◌, ℕ, Bool, true, false, List, [], ◌∷◌, ◌++◌, nat_eq, if◌then◌else◌, refl, sym, ap, ◌∙◌, subst, eqb-true, arith}
 use Rattle.tora_arq.specs.declared.times.Times.{Times}
 use Rattle.tora_world.specs.Topology.{Topology, other_ends, is_node}
@@ -11,7 +11,7 @@ use Rattle.tora_embedded.proofs.Nodes.{Node, node_of, IsNode, Reached, net, part
 use Rattle.tora_embedded.proofs.Calls.{tick_comes, datagram_comes, cut_comes, need_comes, poll_comes, change_comes, new_ends, new_comes}
 
 module _ (t : Topology) (times : Times) (routers : IsOfRouters t) where
-  -- the network is that of the hosts
+  -- the network agrees with the hosts
   abbrev Shows : Hosts → Network → Type 0
   Shows hosts w = (n : ℕ) → IsNode t times n (hosts n).router (hosts n).history [] [] (node_of w n)
 
@@ -42,7 +42,7 @@ module _ (t : Topology) (times : Times) (routers : IsOfRouters t) where
       go true q = subst (λ (m : ℕ). IsNode t times m host.router host.history [] [] (node_of a.after m)) (sym (eqb-true n c.node q)) a.node
       go false q = subst (λ (v : Node). IsNode t times n (hosts n).router (hosts n).history [] [] v) (sym (a.others n q)) (i n)
 
-  -- a run of parts leads there
+  -- a run of parts leads to this network
   pub record RunOf (hosts : Hosts) (w : Network) : Type 0 where
     pub after : Network
     pub parts : List Part

@@ -29,7 +29,7 @@ number_at k place [] e = not_none k e
 number_at k zero (x ∷ ks) e = ap (λ b. b || has_number k ks) (eq-eqb x k (ap (value_or x) e))
 number_at k (suc place) (x ∷ ks) e = or_right (nat_eq x k) (has_number k ks) (number_at k place ks e)
 
--- a number further on is another one
+-- a number further on in the list differs from the first
 other_first : (x k : ℕ) (ks : List ℕ) → has_repeat (x ∷ ks) ≡ false → has_number k ks ≡ true → nat_eq x k ≡ false
 other_first x k ks once i =
     false_from_ne_true (nat_eq x k) (λ q. true≢false (sym (subst (λ (y : ℕ). has_number y ks ≡ true) (sym (eqb-true x k q)) i) ∙ (or_parts (has_number x ks) (has_repeat ks) once).0))
@@ -69,7 +69,7 @@ sorted_in_order : (acc ns : List ℕ) → IsInOrder acc → IsInOrder (fold (λ 
 sorted_in_order acc [] h = h
 sorted_in_order acc (n ∷ ns) h = sorted_in_order (with_number n acc) ns (put_in_order n acc h)
 
--- a number that is above all goes to the end
+-- a number that is at least as great as all others goes to the end
 put_last : (k : ℕ) (ns : List ℕ) → AllByRecursion (λ (m : ℕ). m ≤ k) ns → with_number k ns ≡ ns ++ k ∷ []
 put_last k [] all = refl
 put_last k (n ∷ ns) all =
@@ -98,7 +98,7 @@ none_below : (ns : List ℕ) → AreBelow [] ns
 none_below [] = tt
 none_below (n ∷ ns) = (tt, none_below ns)
 
--- numbers that are in order stay so
+-- sorting a sorted list does not change it
 pub ascending_again : (ns : List ℕ) → ascending (ascending ns) ≡ ascending ns
 ascending_again ns = sorted_again [] (ascending ns) (none_below (ascending ns)) (sorted_in_order [] ns tt)
 
@@ -123,7 +123,7 @@ link_at end k place (x ∷ ks) [] h e = absurd h
 link_at end k zero (x ∷ ks) (link ∷ links) h e = (link, refl, h.0 ∙ ap end (ap (value_or x) e))
 link_at end k (suc place) (x ∷ ks) (link ∷ links) h e = link_at end k place ks links h.1 e
 
--- what is found among the links is found among the neighbours
+-- a search finds the same among the links as among the neighbours
 pub first_same : {A : Type 0} (end : ℕ → LinkEndView) (value : Link → Option A) (of : ℕ → Option A) → ((link : Link) (k : ℕ) → link.end ≡ end k → value link ≡ of k) → (ks : List ℕ) (links : List Link) → AreEnds end ks links → first_in value links ≡ first_in of ks
 first_same end value of g [] [] h = refl
 first_same end value of g [] (link ∷ links) h = absurd h
@@ -143,7 +143,7 @@ found_in {A} of (x ∷ ks) found e = go (of x) refl (first_in of ks) refl e (λ 
     go None h (Some further) t q more = let m = more further t in subst goal (ap (value_or found) q) (m.0, m.1, m.2)
     go None h None t q more = not_none found q
 
--- the end of k is another one, and k is none of these
+-- only the end of k changes, and k is none of these neighbours
 same_ends : (end end' : ℕ → LinkEndView) (k : ℕ) (ks : List ℕ) (links : List Link) → has_number k ks ≡ false → ((j : ℕ) → nat_eq j k ≡ false → end' j ≡ end j) → AreEnds end ks links → AreEnds end' ks links
 same_ends end end' k [] [] none others h = tt
 same_ends end end' k [] (link ∷ links) none others h = absurd h
@@ -152,7 +152,7 @@ same_ends end end' k (x ∷ ks) (link ∷ links) none others h =
     let p = or_parts (nat_eq x k) (has_number k ks) none in
     (h.0 ∙ sym (others x p.0), same_ends end end' k ks links p.1 others h.1)
 
--- the link to k is another one, whose end is that of k
+-- the link to k changes, and its new end is that of k
 pub changed_at : (end end' : ℕ → LinkEndView) (f : Link → Link) (k place : ℕ) (ks : List ℕ) (links : List Link) → has_repeat ks ≡ false → slice_get ks place ≡ Some k
     → ((link : Link) → link.end ≡ end k → (f link).end ≡ end' k) → ((j : ℕ) → nat_eq j k ≡ false → end' j ≡ end j) → AreEnds end ks links → AreEnds end' ks (at_place f place links)
 changed_at end end' f k place [] links once e g others h = not_none k e
@@ -172,7 +172,7 @@ told_at end f place (k ∷ ks) [] g h = absurd h
 told_at end f zero (k ∷ ks) (link ∷ links) g h = (g link ∙ h.0, h.1)
 told_at end f (suc place) (k ∷ ks) (link ∷ links) g h = (h.0, told_at end f place ks links g h.1)
 
--- the ends are the same at every neighbour
+-- the ends are equal at every neighbour
 pub ends_as : (end end' : ℕ → LinkEndView) (ks : List ℕ) (links : List Link) → ((k : ℕ) → end k ≡ end' k) → AreEnds end ks links → AreEnds end' ks links
 ends_as end end' [] [] same h = tt
 ends_as end end' [] (link ∷ links) same h = absurd h

@@ -1,4 +1,4 @@
--- One node of a network: the effect of a part of a run, and how it agrees with a router.
+-- One node of a network: the effect of a part of a run, and the agreement with a router.
 use Rattle.std.proofs.Common.{◌≡◌, ℕ, ◌<◌, Bool, true, false, List, [], ◌∷◌, ◌++◌, nat_eq, refl, sym, ap, ◌∙◌, subst, eq-eqb}
 use Rattle.tora_frame.specs.FrameParts.{FrameParts}
 use Rattle.tora_arq.specs.declared.times.Times.{Times}
@@ -41,7 +41,7 @@ node_of w n = record {
   steps = w.steps n;
 }
 
--- ---- parts, and then others
+-- ---- some parts, and then others
 
 pub parts-append : (ps qs : List Part) (w : Network) → after_parts (ps ++ qs) w ≡ after_parts qs (after_parts ps w)
 parts-append [] qs w = refl
@@ -51,9 +51,9 @@ pub run-append : (ps qs : List Part) (w : Network) → IsRun w ps → IsRun (aft
 run-append [] qs w r s = s
 run-append (p ∷ ps) qs w r s = (r.0, run-append ps qs (after_part w p) r.1 s)
 
--- ---- a router's node
+-- ---- the node of a router
 
--- the core with what it has exchanged
+-- the core, and what it has exchanged
 pub record IsCoreOf (ks : List ℕ) (seat : SeatState) (put : ℕ → List Cargo) (inputs : List (Input × ℕ)) (steps : ℕ → List Parcel) (seat' : SeatState) (put' : ℕ → List Cargo) (inputs' : List (Input × ℕ)) (steps' : ℕ → List Parcel) : Type 0 where
   pub seat_is : seat' ≡ seat
   pub neighbours : seat.core.neighbours ≡ ks
@@ -79,7 +79,7 @@ module _ (t : Topology) (times : Times) where
     abbrev pub end_in : (ℕ → EndState) → ℕ → LinkEndView
     end_in ends k = link_end_of (s k) (ends k)
 
-    -- the node is that of the router, where these items and the cargoes of these offers wait in its lanes
+    -- the node agrees with the router; these items and the outbound messages of these offers wait in its queues
     pub record IsNode (r : RouterState) (h : History) (items : List Item) (offers : List Offer) (v : Node) : Type 0 where
       pub core : IsCore ks r h v
       pub ends : AreEnds (end_in v.ends) ks r.links
@@ -88,7 +88,7 @@ module _ (t : Topology) (times : Times) where
       pub numbers : (k : ℕ) → v.numbers k < r.next_life
       pub frames : (k : ℕ) → v.frames k ≡ h.frames k
 
-    -- parts of the node lead there
+    -- parts of the node lead to this network
     pub record Reached (r : RouterState) (h : History) (items : List Item) (offers : List Offer) (w : Network) : Type 0 where
       pub after : Network
       pub parts : List Part
@@ -113,7 +113,7 @@ module _ (t : Topology) (times : Times) where
           others = λ m e. b.others m e ∙ a.others m e;
         }
 
-    -- one part does, which makes this of each node: of this one where the Bool is true, and nothing of the others
+    -- one part leads there; `made` is its effect on each node: on this node if the Bool is true, and otherwise none
     pub by_part : (r : RouterState) (h : History) (items : List Item) (offers : List Offer) (w after : Network) (p : Part) (made : ℕ → Bool → Node) → MayBe (net w) p → after_part (net w) p ≡ net after
         → ((m : ℕ) → node_of after m ≡ made m (nat_eq m n)) → ((m : ℕ) → made m false ≡ node_of w m) → IsNode r h items offers (made n true) → Reached r h items offers w
     by_part r h items offers w after p made may shows is others i = record {

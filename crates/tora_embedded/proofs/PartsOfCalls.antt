@@ -1,4 +1,4 @@
--- What a router does in a call, step after step, is parts of its node.
+-- The steps of a router's call are parts of its node.
 use Rattle.std.proofs.Common.{◌≡◌, ℕ, zero, suc, ◌<◌, ◌≤◌, Bool, true, false, ◌&&◌, List, [], ◌∷◌, ◌++◌, length, Some, nat_eq, nat_lt, if◌then◌else◌, refl, sym, ap, ap₂, ◌∙◌, subst, eqb-true, eq-eqb, arith}
 use Rattle.std.proofs.lemmas.Bool.{and_parts, leb-true}
 use Rattle.std.proofs.lemmas.Bool.Decides.{nat_tests}
@@ -33,7 +33,7 @@ use Rattle.tora_embedded.proofs.Answered.{ArePut, served_put, served_told, neigh
 use Rattle.tora_embedded.proofs.Neighbours.{turned, number_at, place_at, at_place_of, changed_at}
 use Rattle.tora_embedded.proofs.Nodes.{node_of, IsNode, Reached, net, end_in, s, stays, goes_on, by_part}
 
--- ---- one of many values is another one
+-- ---- one of many values changes
 
 pub put_here : {A : Type 0} (f : ℕ → A) (k : ℕ) (x : A) → put_one f k x k ≡ x
 put_here f k x = ap (λ b. if b then x else f k) (eq-eqb k k refl)
@@ -73,7 +73,7 @@ ticked_is number now link = go (may_open number link)
     go true = refl
     go false = refl
 
--- the number of an item does not matter
+-- the number of an item has no effect
 pub numbered : (answers : Answers) (ks : List ℕ) (seat : SeatState) (place number now : ℕ) (what : What) → serving_of answers ks seat (record { seat = place; number = number; now = now; what = what }) ≡ serving_of answers ks seat (item_at place now what)
 unfolding serving_of
 numbered answers ks seat place number now what = refl
@@ -241,7 +241,7 @@ module _ (t : Topology) (times : Times) (n : ℕ) (once : has_repeat (neighbours
       let r' : RouterState = record r { links = at_place (given o.cargo) (place_of o.to ks) r.links } in
       goes_on t times n r' (record r { links = after_offers ks (o ∷ offers) r.links }) h h [] [] offers [] w (takes_one r h w o offers p.0 p.1 i) (λ x j. takes offers r' h x p.2 j)
 
-  -- an item is served, and its cargoes are taken at once
+  -- an item is served, and its outbound messages are taken at once
   pub item_served : (r : RouterState) (h : History) (w : Network) (place number now : ℕ) (what : What) → IsNode t times n r h (record { seat = place; number = number; now = now; what = what } ∷ []) [] (node_of w n)
       → Reached t times n (after_item r (item_at place now what)) (with_serving h (serving r (item_at place now what))) [] [] w
   unfolding after_item

@@ -1,4 +1,4 @@
--- A need that is refused is of a destination that is not in the table.
+-- A need is refused only for a destination that is not in the table.
 use Rattle.std.proofs.Common.{◌≡◌, ℕ, suc, Bool, true, false, true≢false, List, [], ◌∷◌, ◌++◌, length, Result, Ok, Err, sym, ap, ap₂, ◌∙◌, subst}
 use Rattle.tora_arq.specs.declared.times.Times.{Times}
 use Rattle.tora_arq.specs.EndRange.{link_end_of}

@@ -1,4 +1,4 @@
--- Heights, entries, walks and rest of the world that hosts show are those of their network.
+-- Heights, entries, walks and rest are the same in the world of the hosts and in that of their network.
 use Rattle.std.proofs.Common.{◌≡◌, ℕ, Bool, true, false, true≢false, ◌||◌, List, [], ◌∷◌, Some, None, nat_eq, if◌then◌else◌, refl, sym, ap, ap₂, ◌∙◌, eqb-true}
 use Rattle.std.specs.Prelude.{option_map}
 use Rattle.tora_arq.specs.declared.times.Times.{Times}

@@ -25,7 +25,7 @@ pub data RouterCall : Type 0 where
   -- a new router is made, with the first number for its link ends
   New : (config : Config) (neighbours destinations : List ℕ) (first_life : ℕ) → RouterCall
   OnTick : (now : ℕ) → RouterCall
-  -- a datagram that is said to come from this neighbour, decoded
+  -- a datagram that the host received from this neighbour, decoded
   OnDatagram : (peer : ℕ) (reading : Result FrameParts FrameError) (now : ℕ) → RouterCall
   Need : (destination now : ℕ) → RouterCall
   Cut : (peer now : ℕ) → RouterCall
@@ -73,12 +73,12 @@ served_in (Cut k now) r =
 served_in (PollDatagram now) r = []
 served_in PollChange r = []
 
--- ---- the exchanges of a node
+-- ---- the record of a node
 
--- the history over all routers of a node, except the inputs, which are those of the last one
+-- the record of a node over all its routers, except the inputs, which are those of the last router
 pub record History : Type 0 where
   pub frames : ℕ → List FrameParts  -- for each neighbour, all frames that `poll_datagram` returned
-  pub put : ℕ → List Cargo  -- all cargoes that the core passed to the link end
+  pub put : ℕ → List Cargo  -- for each neighbour, all outbound messages that the core passed to the link end
   pub inputs : List (Input × ℕ)  -- the inputs that the core accepted
   pub steps : ℕ → List Parcel  -- for each neighbour, its packets that the core took
 
@@ -103,7 +103,7 @@ with_frame r h (Some found) =
       frames = put_one h.frames (peer_at found.0 r.links) (h.frames (peer_at found.0 r.links) ++ found.1 ∷ []);
     }
 
--- what a call adds to the history, apart from its items
+-- what a call adds to the record, apart from the items served
 abbrev pub beside : RouterCall → RouterState → History → History
 beside (New config neighbours destinations first_life) r h = record h { inputs = [] }
 beside (OnTick now) r h = h
@@ -115,7 +115,7 @@ beside PollChange r h = h
 
 -- ---- all nodes
 
--- the router of a node, and the node's history
+-- the router of a node, and the node's record
 pub record Host : Type 0 where
   pub router : RouterState
   pub history : History
@@ -144,7 +144,7 @@ abbrev pub after_calls : List HostedCall → Hosts → Hosts
 after_calls [] hosts = hosts
 after_calls (c ∷ calls) hosts = after_calls calls (after_call hosts c)
 
--- ---- the duties of a host
+-- ---- the conditions on a host
 
 -- the reading is one of these frames
 abbrev pub IsOneOf : List FrameParts → Result FrameParts FrameError → Type 0
@@ -157,9 +157,9 @@ IsRefused NoNeighbour = Unit {0}
 IsRefused (Bad error) = Unit {0}
 IsRefused (Seen verdict) = IsRefusal verdict
 
--- Life numbers rise over all routers of a node, and no forged datagram is accepted: a datagram of a neighbour is a
--- frame that a router of that neighbour returned for this node at any time before, however often it comes. Ticks,
--- needs, cuts and polls are any
+-- Session numbers rise over all routers of a node, and no forged datagram is accepted: a datagram of a neighbour is a
+-- frame that a router of that neighbour returned for this node at any time before, however often it arrives. Ticks,
+-- needs, cuts and polls are arbitrary.
 abbrev pub MayCall : Topology → Times → Hosts → ℕ → RouterCall → Type 0
 MayCall t times hosts n (New config neighbours destinations first_life) =
     (first_core_of config.erasure config.me neighbours destinations ≡ new_core t n) × (config.times ≡ times)

@@ -27,7 +27,7 @@ pub record IsOfRouters (t : Topology) : Type 0 where
   pub apart : (n : ℕ) → has_repeat (neighbours_of t n) ≡ false
   pub two : (n : ℕ) → version_at t n ≡ Two
 
--- this holds for the hosts after any calls, over any such topology and with any times of the link ends
+-- a statement holds for the hosts after any calls, over any such topology and with any times of the link ends
 abbrev pub AllHosts : (Topology → Times → Hosts → Type 0) → Type 0
 AllHosts Holds =
     (t : Topology) (times : Times) (calls : List HostedCall) → IsOfRouters t
@@ -43,7 +43,7 @@ AreEnds end [] (link ∷ links) = ⊥
 AreEnds end (k ∷ neighbours) [] = ⊥
 AreEnds end (k ∷ neighbours) (link ∷ links) = (link.end ≡ end k) × AreEnds end neighbours links
 
--- the network has the cores, link ends and histories of the routers, and nothing waits in its lanes
+-- the network has the cores, link ends and records of the routers, and nothing waits in its queues
 pub record IsNetworkOf (t : Topology) (times : Times) (hosts : Hosts) (w : Network) : Type 0 where
   pub topology : w.topology ≡ t
   pub times_are : w.times ≡ times
@@ -66,15 +66,15 @@ pub record AreAWorld (t : Topology) (times : Times) (hosts : Hosts) : Type 0 whe
 
 -- ---- consequences
 
--- the packets that the core of a passed to the link end of b in a life, as a's end writes it
+-- the packets that the core of a passed to the link end of b in a session, as a's end writes it
 abbrev pub packets_sent : Hosts → ℕ → ℕ → Life → List Packet
 packets_sent hosts a b life = packets_of life (parcels_in ((hosts a).history.put b))
 
--- the packets of a that the core of b took in a life, as b's end writes it
+-- the packets of a that the core of b took in a session, as b's end writes it
 abbrev pub packets_taken : Hosts → ℕ → ℕ → Life → List Packet
 packets_taken hosts b a life = packets_of life ((hosts b).history.steps a)
 
--- what was taken in a life is a prefix of what was sent in it
+-- what was taken in a session is a prefix of what was sent in it
 abbrev pub TakenBeginsSent : Hosts → Type 0
 TakenBeginsSent hosts =
     (a b : ℕ) (life : Life) → Begins (packets_taken hosts b a (reversed life)) (packets_sent hosts a b life)
@@ -87,7 +87,7 @@ CoresFollow t hosts = (n : ℕ) → (hosts n).router.seat.core ≡ core_after_al
 abbrev pub packets_broadcast : Topology → Hosts → ℕ → ℕ → List Packet
 packets_broadcast t hosts n k = broadcast_from k (new_core t n) (hosts n).history.inputs []
 
--- while a life is current at a core, all that the core broadcast since its link came up was sent in it
+-- while a session is current at a core, all that the core broadcast since its link came up was sent in it
 abbrev pub IsWithoutGap : Topology → Hosts → Type 0
 IsWithoutGap t hosts =
     IsWithinLimits t → (n k : ℕ) (life : Life) → is_link t n k ≡ true → (hosts n).router.seat.current k ≡ Some life
@@ -106,14 +106,14 @@ abbrev pub end_to : ℕ → List Link → EndState
 end_to k [] = first_end
 end_to k (link ∷ links) = if link.end.settings.peer == k then link.end.state else end_to k links
 
--- A world with the cores and link ends of the routers and with empty lanes. The rest is that of a first world, and no
--- definition below uses it
+-- A world with the cores and link ends of the routers and with empty queues. Everything else is that of a first world,
+-- and no definition below uses it.
 abbrev pub shown : Topology → Times → Hosts → World
 shown t times hosts = record (first_world t times) {
   seats = λ n. (hosts n).router.seat;
   ends = λ n k. end_to k (hosts n).router.links;
 }
 
--- this holds for that world, if the topology is not refused within some limits and has numbers of nodes
+-- a statement about that world holds if the topology is not refused within some limits and has valid node numbers
 abbrev pub HoldsOfSound : (World → Type 0) → Topology → Times → Hosts → Type 0
 HoldsOfSound Holds t times hosts = IsWithinLimits t → AreIds t → Holds (shown t times hosts)

@@ -13,7 +13,7 @@ use Rattle.tora_embedded.specs.Hosts.{Hosts, HostedCall, RouterCall, first_hosts
 use Rattle.tora_embedded.specs.Hosts.RouterCall.{New, OnTick, OnDatagram, Need, Cut, PollDatagram, PollChange}
 use Rattle.tora_embedded.specs.Laws.{packets_sent, packets_taken}
 
--- ---- calls that are read from the hosts before them; where there is nothing to read it is a poll for a change
+-- ---- calls that depend on the hosts before them; a call without its subject is replaced by a poll for a change
 
 abbrev pub Reads : Type 0
 Reads = Hosts → HostedCall
@@ -54,9 +54,9 @@ read_from hosts (next ∷ more) = next hosts ∷ read_from (after_call hosts (ne
 abbrev pub start : Hosts
 start = first_hosts pair times
 
--- ---- two lives
+-- ---- two sessions
 
--- the first HELLO of node 1 is lost, the next one and two more bind both ends; node 1's update comes twice
+-- the first HELLO of node 1 is lost, the next one and two more bind both ends; node 1's update arrives twice
 abbrev pub first_life : List Reads
 first_life =
     needs 1 2 ∷ ticks 1 0 ∷ ticks 2 0 ∷ polls 1 ∷ polls 1 ∷ hears 2 1 1 ∷ polls 2 ∷ hears 1 2 0 ∷ polls 1 ∷ hears 2 1 2
@@ -68,8 +68,8 @@ first_calls = read_from start first_life
 abbrev pub met : Hosts
 met = after_calls first_calls start
 
--- both routers are new, that of node 1 with a number that skips some. An old datagram comes first; the update comes
--- twice again
+-- both routers are new; the number of node 1's router skips some numbers. An old datagram arrives first; the update
+-- arrives twice again
 abbrev pub second_life : List Reads
 second_life =
     makes 1 2 5 ∷ makes 2 1 2 ∷ needs 1 2 ∷ ticks 1 0 ∷ ticks 2 0 ∷ hears 2 1 1 ∷ polls 1 ∷ hears 2 1 4 ∷ polls 2
@@ -85,13 +85,13 @@ met_again = after_calls second_calls met
 abbrev pub new_life : Life
 new_life = record { own = 5; peer = 2 }
 
--- in this life the update was sent and taken once, and node 1 has a route
+-- in this session the update was sent and taken once, and node 1 has a route
 pub record HasMet (life : Life) (hosts : Hosts) : Type 0 where
   pub sent : packets_sent hosts 1 2 life ≡ update ∷ []
   pub taken : packets_taken hosts 2 1 (reversed life) ≡ update ∷ []
   pub hop : hop_of (hosts 1).router.seat.core 2 ≡ Some 2
 
--- ---- the end of the second life
+-- ---- the end of the second session
 
 -- the host of node 1 reports that the radio lost its neighbour, and node 2 receives nothing for 60 ticks
 abbrev pub last_turns : List Reads
@@ -103,15 +103,15 @@ last_calls = read_from met_again last_turns
 abbrev pub left : Hosts
 left = after_calls last_calls met_again
 
--- the life is over at both cores, and node 1 has lost its route
+-- the session is over at both cores, and node 1 has lost its route
 pub record HasLeft (hosts : Hosts) : Type 0 where
   pub over : (hosts 1).router.seat.current 2 ≡ None
   pub other_over : (hosts 2).router.seat.current 1 ≡ None
   pub hop : hop_of (hosts 1).router.seat.core 2 ≡ None
 
--- ---- a host that breaks the rules: a life number is used again
+-- ---- a host that breaks the rules: a session number is used again
 
--- both routers are new, with the numbers of the first life, and its old datagram comes
+-- both routers are new, with the numbers of the first session, and its old datagram arrives
 abbrev pub numbers_again : List Reads
 numbers_again =
     makes 1 2 1 ∷ makes 2 1 1 ∷ ticks 1 0 ∷ ticks 2 0 ∷ polls 1 ∷ hears 2 1 4 ∷ polls 2 ∷ hears 1 2 1 ∷ polls 1

@@ -13,19 +13,19 @@ use tora_running::{
     running_nodes_keep_the_prefix_law, running_routes_at_rest_arrive, running_walks_arrive,
 };
 
-/// Embedded routers are a world: for any calls that hosts make, some run of running nodes leaves a network with the
-/// same cores, link ends and histories, and so some schedule of the free world leaves such a world.
+/// Embedded routers are a world: for any calls that hosts make, some run of running nodes leads to a network with the
+/// same cores, link ends and records. So some schedule of the free world leads to such a world.
 ///
-/// Hosts may lose, repeat, reorder and delay datagrams, but forge none that a link end would accept. Ticks are any. A
-/// new router starts with a life number above all that were used.
+/// Hosts may lose, repeat, reorder and delay datagrams, but must not forge one that a link end would accept. Ticks are
+/// arbitrary. A new router starts with a session number above all that were used.
 pub fn routers_are_a_world()
     ensures { AllHosts (λ t times hosts. AreAWorld t times hosts) }
 {
     running_nodes_are_a_world();
 }
 
-/// The prefix law of embedded routers: the packets that the core of a node has taken from a neighbour in a life are a
-/// prefix of those that the neighbour's core has sent in that life, over all routers of both nodes.
+/// The prefix law of embedded routers: the packets that the core of a node has taken from a neighbour in a session are
+/// a prefix of those that the neighbour's core has sent in that session, over all routers of both nodes.
 pub fn routers_keep_the_prefix_law()
     ensures { AllHosts (λ t times hosts. TakenBeginsSent hosts) }
 {
@@ -42,8 +42,8 @@ pub fn router_cores_follow()
     running_cores_follow();
 }
 
-/// The no-gap law of embedded routers: while a life is current at a core, all that the core has broadcast since its
-/// link came up was sent in that life, and nothing else.
+/// The no-gap law of embedded routers: while a session is current at a core, all that the core has broadcast since its
+/// link came up was sent in that session, and nothing else.
 pub fn routers_keep_the_no_gap_law()
     ensures { AllHosts (λ t times hosts. IsWithoutGap t hosts) }
 {
@@ -89,16 +89,16 @@ pub fn router_routes_at_rest_arrive()
 
 /// An example with two embedded routers, computed, so that the laws are not vacuous.
 pub fn worked_routers_hold()
-    // A datagram is lost and one comes twice; the update of node 1 is sent and taken once, and node 1 has a route.
+    // A datagram is lost and one arrives twice; the update of node 1 is sent and taken once, and node 1 has a route.
     ensures first { IsHosted pair times start first_calls }
     ensures met { HasMet life met }
-    // Both routers are new, and an old datagram comes first. In the second life the update is sent and taken once.
+    // Both routers are new, and an old datagram arrives first. In the second session the update is sent and taken once.
     ensures second { IsHosted pair times met second_calls }
     ensures met_again { HasMet new_life met_again }
     // The host of node 1 cuts the link, node 2 receives no frame for 60 ticks, and the route is lost.
     ensures last { IsHosted pair times met_again last_calls }
     ensures left { HasLeft left }
-    // Rising life numbers are needed: if new routers got the same numbers again, an old datagram would be taken a
+    // Rising session numbers are necessary: if new routers got the same numbers again, an old datagram would be taken a
     // second time.
     ensures numbers { TakesTwice given_again }
 {}

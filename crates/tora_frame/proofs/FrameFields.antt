@@ -1,4 +1,4 @@
--- The tests of frames, and what the fields between them are.
+-- The checks of frames, and the fields of bytes that pass them.
 use Rattle.std.proofs.Common.{◌≡◌, ◌⊎◌, ℕ, ◌+◌, ◌^◌, ◌<◌, ◌≤◌, Bool, true, false, cond, not, ltb, eqb, List, [], ◌∷◌, ◌++◌, length, get_or, take, drop, Option, Some, None, refl, sym, ◌∙◌, arith, inl, inr}
 use Rattle.std.specs.Prelude.{slice_range}
 use Rattle.std.specs.Int.{w16, to_be_bytes}
@@ -17,12 +17,12 @@ use Rattle.tora_frame.specs.declared.parts.Body.TheVariants.{Hello, Data, Ack}
 use Rattle.tora_frame.specs.FrameParts.{IsHeader, batch}
 use Rattle.tora_frame.specs.FrameGrammar.{u16_at, version_number, version_at, version_of, is_version, kind_at, is_kind, is_payload_length, layout_fault, is_bad_pair, is_bad_life, header_fault, fault_or, packets_inside, fault_inside, body_at, body_fault}
 
--- a check that found no fault, and the following ones
+-- a check that found no fault, and the checks after it
 pub next_test : (b : Bool) (e : FrameError) (x : Option FrameError) → cond b (Some e) x ≡ None → (b ≡ false) × (x ≡ None)
 next_test true e x h = absurd cc
 next_test false e x h = (refl, h)
 
--- two groups of tests without a fault
+-- two groups of checks without a fault
 pub neither : (a b : Option FrameError) → fault_or a b ≡ None → (a ≡ None) × (b ≡ None)
 neither None b h = (refl, h)
 neither (Some e) b h = absurd cc
@@ -32,11 +32,11 @@ neither (Some e) b h = absurd cc
 pub versions : (v : ℕ) → is_version v ≡ true → (v ≡ 1) ⊎ (v ≡ 2)
 versions v h = grind (arith, nat_tests)
 
--- the number of a version that was read
+-- the number of a version that was read from it
 pub version_back : (v : ℕ) → is_version v ≡ true → version_number (version_of v) ≡ v
 version_back v h = elim (versions v h) [ inl e ↦ rw e refl | inr e ↦ rw e refl ]
 
--- the version of an encoded number
+-- the version that is read from its number
 pub version_again : (v : Version) → version_of (version_number v) ≡ v
 version_again One = refl
 version_again Two = refl
@@ -47,7 +47,7 @@ is_version_number Two = refl
 
 -- ---- the layout
 
--- what bytes are whose version, kind and lengths have no fault
+-- bytes whose version, kind and lengths have no fault
 pub record IsLaidOut (bytes : List ℕ) : Type 0 where
   pub long : 28 ≤ length bytes
   pub version : is_version (version_at bytes) ≡ true
@@ -118,7 +118,7 @@ no_fault_in_ack bytes e h =
     let a : ltb (2 ^ 62) (u64_at 28 bytes) ≡ false = le-ltb _ _ h in
     rw (e, a) refl
 
--- numbers in their ranges: the packets decide
+-- if the numbers are in their ranges, the fault is that of the packets
 data_fault_inside : (bytes : List ℕ) → kind_at bytes ≡ 2 → 0 < u64_at 28 bytes → u64_at 28 bytes ≤ 2 ^ 62 → u64_at 36 bytes ≤ 2 ^ 62 → body_fault bytes ≡ fault_inside bytes
 unfolding body_fault
 data_fault_inside bytes e one number count =
@@ -163,7 +163,7 @@ unfolding u16_at
 length_back bytes fits h =
     sym (be_bytes_2 (slice_range bytes 2 4) _ (two_long bytes 2 h) (take_bytes (drop 2 bytes) 2 (drop_bytes bytes 2 fits)) refl)
 
--- bytes after the length do not change it
+-- bytes that follow do not change the payload length
 pub u16_at-append : (a rest : List ℕ) → 4 ≤ length a → u16_at 2 (a ++ rest) ≡ u16_at 2 a
 unfolding u16_at
 u16_at-append a rest h =

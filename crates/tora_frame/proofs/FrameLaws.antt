@@ -57,7 +57,7 @@ spelt_ack bytes fits s e =
     let parted = front bytes 3 8 (to_be_bytes w64 (u64_at 28 bytes)) fits s e n count in
     rw (body_at_ack bytes e) parted
 
--- the faults of a DATA frame that has none
+-- a DATA frame without a fault has no fault in its packets
 no_data_fault : (bytes : List ℕ) → kind_at bytes ≡ 2 → body_fault bytes ≡ None → fault_inside bytes ≡ None
 unfolding body_fault
 no_data_fault bytes e h = (next_test _ Fault.Number _ (rw e at h)).1
@@ -93,7 +93,7 @@ pub length_behind : (version : Version) (ps : List Packet) → length (batch_siz
 length_behind One ps = omega (arith, length-packets_spelling ps)
 length_behind Two ps = omega (arith, length-packets_spelling ps)
 
--- the bytes after the numbers of a DATA frame
+-- the bytes after the numbers of a DATA frame are the encoding of its packets
 abbrev Behind : List ℕ → Type 0
 Behind bytes = drop 44 bytes ≡ batch_size_spelling (version_of (version_at bytes)) (length (packets_inside bytes)) ++ packets_spelling (packets_inside bytes)
 
@@ -102,7 +102,7 @@ behind_one bytes fits v h =
     let inside = packet_spelt (drop 44 bytes) (drop_bytes bytes 44 fits) (no_fault_of_one bytes v h) in
     rw (one_inside bytes v, v) (inside ∙ sym (append-nil (packet_spelling (whole_packet_at (drop 44 bytes)))))
 
--- the four bytes with the count of packets
+-- the four bytes with the number of packets
 size_back : (bytes : List ℕ) → 48 ≤ length bytes → is_bad_batch_size bytes ≡ false → slice_range bytes 44 48 ≡ batch_size_at bytes ∷ 0 ∷ 0 ∷ 0 ∷ []
 size_back bytes h good =
     let a : get_or bytes 45 0 ≡ 0 = grind (arith, nat_tests) in
@@ -194,7 +194,7 @@ again_layout kind n h rest k p fits len =
       len = rw e (omega (arith, len));
     }
 
--- the first 28 bytes have no fault, and the rest decides
+-- if the first 28 bytes have no fault, the fault is that of the rest
 again_front : (kind n : ℕ) (h : Header) (rest : List ℕ) → IsHeader h → (kind ≡ 1) ⊎ (0 < h.heard) → IsLaidOut (spelled kind n h rest) → body_fault (spelled kind n h rest) ≡ None → frame_fault (spelled kind n h rest) ≡ None
 again_front kind n h rest ok heard s body =
     let a = no_layout_fault (spelled kind n h rest) s in

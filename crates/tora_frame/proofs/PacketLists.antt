@@ -44,7 +44,7 @@ all_and_none : (bytes : List ℕ) → bytes ++ drop (length bytes) bytes ≡ byt
 all_and_none [] = refl
 all_and_none (b ∷ bytes) = ap (λ (xs : List ℕ). b ∷ xs) (all_and_none bytes)
 
--- what a choice between a front and all has, each of them has
+-- a property of the front and of the whole list holds for either choice
 chosen : (P : List ℕ → Type 0) (b : Bool) (front all : List ℕ) → P front → P all → P (cond b front all)
 chosen P true front all h k = h
 chosen P false front all h k = k
@@ -60,7 +60,7 @@ unfolding first_packet
 first_bytes bytes fits =
     chosen IsBytes (begins_packet bytes) (take (length_of (kind_of bytes)) bytes) bytes (take_bytes bytes (length_of (kind_of bytes)) fits) fits
 
--- a packet before other bytes is the first
+-- a packet is the first of the bytes that begin with it
 first_again : (p : Packet) (rest : List ℕ) → first_packet (packet_spelling p ++ rest) ≡ packet_spelling p
 unfolding first_packet
 first_again (Qry q) rest = refl
@@ -81,7 +81,7 @@ no_refusal : (f : Option PacketError) → refused_packet f ≡ None → f ≡ No
 no_refusal None h = refl
 no_refusal (Some e) h = absurd cc
 
--- the packet in all of the bytes
+-- the packet that all of the bytes together are
 pub packet_spelt : (bytes : List ℕ) → IsBytes bytes → whole_packet_fault bytes ≡ None → bytes ≡ packet_spelling (whole_packet_at bytes)
 unfolding whole_packet_fault whole_packet_at
 packet_spelt bytes fits h = packets.spelt bytes fits (no_refusal (packet_fault bytes) h)
@@ -150,14 +150,14 @@ refused_as bytes e h = refused_by (packet_fault bytes) (packet_at bytes) e h
 
 -- ---- reading packet by packet
 
--- what is read where there is no fault, and the fault otherwise
+-- a value that is read if there is no fault, and the fault otherwise
 abbrev pub Reads : {A : Type 0} → Option FrameError → A → Result A FrameError → Type 0
 Reads f x r = MatchOption f (r ≡ Ok x) (λ e. r ≡ Err e)
 
 abbrev pub stopped : FrameError → Result (Unit {0}) FrameError
 stopped e = Err e
 
--- a refused packet is the fault of the packets from it on
+-- a packet that is refused is the fault of the packets from there on
 pub stops : (f g : Option FrameError) (q : Packet) (x : FrameError) → Reads f q (Err x) → MatchOption (fault_or f g) (IsOk (stopped x)) (λ e. stopped x ≡ Err e)
 stops None g q x h = absurd cc
 stops (Some e) g q x h = cc
@@ -166,7 +166,7 @@ pub goes_on : (f : Option FrameError) (q p : Packet) → Reads f q (Ok p) → (f
 goes_on None q p h = (refl, cc)
 goes_on (Some e) q p h = absurd cc
 
--- the first of the packets that are left
+-- the first of the remaining packets
 pub next_fault : (many done : ℕ) (rest : List ℕ) → done < many → packets_fault (many - done) rest ≡ fault_or (whole_packet_fault (first_packet rest)) (packets_fault (many - (done + 1)) (behind_first rest))
 unfolding packets_fault
 next_fault many done rest more =

@@ -29,7 +29,7 @@ body_kind Hello = 1
 body_kind (Data number count packets) = 2
 body_kind (Ack count) = 3
 
--- how many bytes packets have together
+-- how many bytes the packets have together
 abbrev pub packets_length : List Packet → ℕ
 packets_length packets = sum_by packet_length packets
 
@@ -52,7 +52,7 @@ header_spelling kind n h = version_number h.version ∷ kind ∷ to_be_bytes w16
     ++ to_be_bytes w64 h.life
     ++ to_be_bytes w64 h.heard
 
--- the count of packets: version 1 has none, version 2 has a byte and three zeros
+-- the number of packets: version 1 has none, version 2 has it in a byte, followed by three zeros
 abbrev pub batch_size_spelling : Version → ℕ → List ℕ
 batch_size_spelling One many = []
 batch_size_spelling Two many = many ∷ 0 ∷ 0 ∷ 0 ∷ []
@@ -80,7 +80,7 @@ pub record SpellsFrame (bytes : List ℕ) (frame : FrameParts) : Type 0 where
 
 -- ---- why bytes are not a frame: the first of eleven checks that fails
 
--- two bytes from an offset on
+-- the number in two bytes at an offset
 unfoldable pub u16_at : ℕ → List ℕ → ℕ
 u16_at i bytes = from_be_bytes w16 (slice_range bytes i (i + 2))
 
@@ -96,21 +96,21 @@ kind_at bytes = slice_index bytes 1
 abbrev pub is_kind : ℕ → Bool
 is_kind kind = (kind == 1) || (kind == 2) || (kind == 3)
 
--- in version 1 a number, a count and one packet; in version 2 a number, a count, the count of packets, three zeros, and
--- from one shortest to sixteen longest packets
+-- the payload length of a DATA frame: in version 1 two numbers and one packet; in version 2 two numbers, the number of
+-- packets, three zeros, and from one shortest to sixteen longest packets
 abbrev pub is_data_length : ℕ → ℕ → Bool
 is_data_length version n =
     if version == 1 then is_packet_length (n - PACKET_HEAD)
     else nat_le SHORTEST_BATCH n && nat_le n LONGEST_BATCH
 
--- none for a HELLO, a count for an ACK
+-- no bytes for a HELLO, and a count for an ACK
 abbrev pub is_payload_length : ℕ → ℕ → ℕ → Bool
 is_payload_length version kind n =
     if kind == 1 then n == 0
     else if kind == 2 then is_data_length version n
     else n == 8
 
--- tests 1 to 6: version, kind and lengths
+-- checks 1 to 6: version, kind and lengths
 unfoldable pub layout_fault : List ℕ → Option FrameError
 layout_fault bytes =
     if nat_lt (length bytes) 28 then Some Fault.Short
@@ -134,33 +134,33 @@ header_at bytes = record {
   heard = u64_at 20 bytes;
 }
 
--- not two different nodes
+-- the two nodes are equal, or one of them is 0
 abbrev pub is_bad_pair : Header → Bool
 is_bad_pair h = (h.sender == 0) || (h.receiver == 0) || (h.sender == h.receiver)
 
--- no life of the sender, or no life heard in a frame that is not a HELLO
+-- a session number is out of its range, or a frame that is not a HELLO has heard no session number
 abbrev pub is_bad_life : ℕ → Header → Bool
 is_bad_life kind h =
     (h.life == 0) || nat_lt (2 ^ 62) h.life || nat_lt (2 ^ 62) h.heard || (not (kind == 1) && (h.heard == 0))
 
--- tests 7 and 8: the nodes and the lives
+-- checks 7 and 8: the nodes and the session numbers
 unfoldable pub header_fault : ℕ → Header → Option FrameError
 header_fault kind h =
     if is_bad_pair h then Some Fault.Id
     else if is_bad_life kind h then Some Fault.Life
     else None
 
--- the first fault, else the next one
+-- the first fault; if there is none, the second
 abbrev pub fault_or : Option FrameError → Option FrameError → Option FrameError
 fault_or None next = next
 fault_or (Some e) next = Some e
 
--- why a frame is refused for its packet
+-- the fault of a frame because of the fault of its packet
 abbrev pub refused_packet : Option PacketError → Option FrameError
 refused_packet None = None
 refused_packet (Some e) = Some (Fault.Packet e)
 
--- why the bytes together are not a packet, and the packet if they are
+-- why the bytes together are not a packet; None if they are one
 unfoldable pub whole_packet_fault : List ℕ → Option FrameError
 whole_packet_fault bytes = refused_packet (packet_fault bytes)
 
@@ -179,7 +179,7 @@ unfoldable pub packets_at : ℕ → List ℕ → List Packet
 packets_at zero bytes = []
 packets_at (suc many) bytes = whole_packet_at (first_packet bytes) ∷ packets_at many (behind_first bytes)
 
--- how many packets a DATA frame of version 2 has
+-- the number of packets in a DATA frame of version 2
 abbrev pub batch_size_at : List ℕ → ℕ
 batch_size_at bytes = slice_index bytes 44
 
@@ -187,18 +187,18 @@ batch_size_at bytes = slice_index bytes 44
 abbrev pub is_batch_size_zero : List ℕ → Bool
 is_batch_size_zero bytes = is_zero_at 45 bytes && is_zero_at 46 bytes && is_zero_at 47 bytes
 
--- no packet or too many, a byte that is not zero, or a last packet whose number is out of its range
+-- the number of packets is 0 or too great, a reserved byte is not zero, or the last packet's number is too great
 abbrev pub is_bad_batch_size : List ℕ → Bool
 is_bad_batch_size bytes =
     (batch_size_at bytes == 0) || nat_lt 16 (batch_size_at bytes) || not (is_batch_size_zero bytes)
     || nat_lt (2 ^ 62) (u64_at 28 bytes + batch_size_at bytes - 1)
 
--- tests 10 and 11, in version 2: how many packets, and each of them
+-- checks 10 and 11, in version 2: the number of packets, and each packet
 unfoldable pub batch_fault : List ℕ → Option FrameError
 batch_fault bytes =
     if is_bad_batch_size bytes then Some Fault.Count else packets_fault (batch_size_at bytes) (drop 48 bytes)
 
--- in version 1 the packet, which takes up all of the bytes after the number and the count
+-- in version 1 the fault of the packet, which takes up all of the bytes after the number and the count
 abbrev pub fault_inside : List ℕ → Option FrameError
 fault_inside bytes = if version_at bytes == 1 then whole_packet_fault (drop 44 bytes) else batch_fault bytes
 
@@ -214,7 +214,7 @@ is_bad_number number count = (number == 0) || nat_lt (2 ^ 62) number || nat_lt (
 abbrev pub data_fault : List ℕ → Option FrameError
 data_fault bytes = if is_bad_number (u64_at 28 bytes) (u64_at 36 bytes) then Some Fault.Number else fault_inside bytes
 
--- test 9, the numbers, and the following tests
+-- check 9, the numbers, and the checks after it
 unfoldable pub body_fault : List ℕ → Option FrameError
 body_fault bytes =
     if kind_at bytes == 1 then None

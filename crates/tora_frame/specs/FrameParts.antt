@@ -11,11 +11,11 @@ use Rattle.tora_frame.specs.declared.parts.Header.{Header}
 use Rattle.tora_frame.specs.declared.parts.Body.{Body}
 use Rattle.tora_frame.specs.declared.parts.Body.TheVariants.{Hello, Data, Ack}
 
--- the number of a life of a link end
+-- a session number of a link end
 abbrev pub IsLifeNumber : ℕ → Type 0
 IsLifeNumber n = (0 < n) × (n ≤ 2 ^ 62)
 
--- two different nodes, the sender's life, and the receiver's life that the sender heard, 0 for none
+-- two different nodes, the sender's session number, and the receiver's session number that the sender heard, 0 for none
 pub record IsHeader (h : Header) : Type 0 where
   pub sender : IsId h.sender
   pub receiver : IsId h.receiver
@@ -32,7 +32,7 @@ abbrev pub IsBatchSize : Version → ℕ → Type 0
 IsBatchSize One many = many ≡ 1
 IsBatchSize Two many = (0 < many) × (many ≤ 16)
 
--- a DATA frame with the count c of packets accepted, and with these packets, numbered on from n
+-- a DATA frame with the count c of accepted packets, and with these packets, numbered from n on
 pub record IsData (h : Header) (n c : ℕ) (ps : List Packet) : Type 0 where
   pub heard : 0 < h.heard
   pub first : 0 < n
@@ -41,7 +41,7 @@ pub record IsData (h : Header) (n c : ℕ) (ps : List Packet) : Type 0 where
   pub many : IsBatchSize h.version (length ps)
   pub packets : AllByRecursion IsPacket ps
 
--- an ACK that heard the life h, with the count c of packets accepted
+-- an ACK with the heard session number h and the count c of accepted packets
 pub record IsAck (h c : ℕ) : Type 0 where
   pub heard : 0 < h
   pub count : c ≤ 2 ^ 62

@@ -12,15 +12,16 @@ use tora_packet::Packet;
 /// The body of a frame, like `Body`, with borrowed packets.
 #[derive(Clone, Copy, Debug)]
 pub enum BorrowedBody<'a> {
-    /// No content: the frame carries only the life numbers of its header.
+    /// No content: the frame carries only the session numbers of its header.
     Hello,
-    /// The number of the first packet, the count of packets that the sender has accepted in this life, and the packets.
+    /// The number of the first packet, the count of packets that the sender has accepted in this session, and the
+    /// packets.
     Data(u64, u64, &'a [Packet]),
-    /// The count of packets that the sender has accepted in this life.
+    /// The count of packets that the sender has accepted in this session.
     Ack(u64),
 }
 
-/// A frame, as `Frame`, that borrows its packets, so that making and moving it copies none of them.
+/// A frame like `Frame` that borrows its packets, so that making and moving it copies no packet.
 #[derive(Debug, Drop)]
 pub struct BorrowedFrame<'a> {
     header: Header,
@@ -55,8 +56,9 @@ impl<'a> BorrowedFrame<'a> {
         BorrowedFrame::of(header, BorrowedBody::Hello)
     }
 
-    /// A DATA frame: `number` is that of the first packet, the last one's is at most 2^62, and `count` is the count of
-    /// packets accepted, 0 to 2^62. There is one packet in version 1, and one to sixteen in version 2.
+    /// A DATA frame. `number` is the number of the first packet, and the number of the last packet is at most 2^62.
+    /// `count` is the count of accepted packets, 0 to 2^62. There is one packet in version 1, and one to sixteen in
+    /// version 2.
     pub fn data(header: Header, number: u64, count: u64, packets: &'a [Packet]) -> BorrowedFrame<'a>
         requires header { IsHeader header }
         requires heard { 0 < header.heard }
@@ -70,7 +72,7 @@ impl<'a> BorrowedFrame<'a> {
         BorrowedFrame::of(header, BorrowedBody::Data(number, count, packets))
     }
 
-    /// An ACK: `count` is the count of packets accepted, 0 to 2^62.
+    /// An ACK. `count` is the count of accepted packets, 0 to 2^62.
     pub fn ack(header: Header, count: u64) -> BorrowedFrame<'a>
         requires header { IsHeader header }
         requires heard { 0 < header.heard }
@@ -80,7 +82,7 @@ impl<'a> BorrowedFrame<'a> {
         BorrowedFrame::of(header, BorrowedBody::Ack(count))
     }
 
-    /// The version, the two nodes and the two life numbers of the frame.
+    /// The version, the two nodes and the two session numbers of the frame.
     pub fn header(&self) -> &Header
         ensures value { result.now ≡ self.now.header }
         ensures valid { IsFrame self.now }
@@ -88,7 +90,7 @@ impl<'a> BorrowedFrame<'a> {
         &self.header
     }
 
-    /// What the frame carries.
+    /// The body of the frame.
     pub fn body(&self) -> BorrowedBody<'a>
         ensures value { body_of result ≡ self.now.body }
         ensures valid { IsFrame self.now }

@@ -48,7 +48,7 @@ fn u64_at(bytes: &[u8], at: usize) -> u64
     ])
 }
 
-/// The version of a number, if it is one.
+/// The version with this number; `None` if there is none.
 fn version_of(number: u8) -> Option<Version>
     ensures { MatchBool (is_version number) (result ≡ Some (version_of number)) (result ≡ None) }
 {
@@ -111,7 +111,7 @@ fn read_layout(bytes: &[u8]) -> Result<Version, FrameError>
     Ok(version)
 }
 
-/// Reads the header, and checks its nodes and lives.
+/// Reads the header, and checks its nodes and session numbers.
 #[tactic(auto, unfolding(crate::specs::FrameGrammar::header_fault))]
 fn read_header(bytes: &[u8], version: Version) -> Result<Header, FrameError>
     requires len { 28 ≤ length bytes.now }
@@ -141,7 +141,7 @@ fn read_header(bytes: &[u8], version: Version) -> Result<Header, FrameError>
     Ok(header)
 }
 
-/// Reads and checks the number and the count of a DATA frame.
+/// Reads and checks the first packet number and the count of accepted packets of a DATA frame.
 fn read_numbers(bytes: &[u8]) -> Result<(u64, u64), FrameError>
     requires { 44 ≤ length bytes.now }
     ensures exact { MatchBool (is_bad_number (u64_at 28 bytes.now) (u64_at 36 bytes.now))
@@ -222,7 +222,7 @@ fn read_frame<'a>(bytes: &[u8], packets: &'a mut Packets) -> Result<BorrowedFram
 /// # Errors
 /// The first that applies, in this order: `Short` (under 28 bytes), `Version`, `Kind`, `Length`, `Short` (fewer bytes
 /// than the payload length says), `Long`, `Id`, `Life`, `Number`, in version 2 `Count`, and `Packet` for the first
-/// packet that is refused, or with `Long` if bytes are left after the last one.
+/// packet that is refused, or with `Long` if bytes are left after the last packet.
 pub fn decode(bytes: &[u8]) -> Result<Frame, FrameError>
     // The bytes are the encoding of the result.
     ensures found { IfOk result (SpellsFrame bytes.now) }
@@ -242,7 +242,7 @@ pub fn decode(bytes: &[u8]) -> Result<Frame, FrameError>
 /// have any packets.
 ///
 /// # Errors
-/// Those of `decode`.
+/// Those of `decode`, in the same order.
 pub fn decode_into<'a>(
     bytes: &[u8],
     packets: &'a mut Packets,

@@ -44,7 +44,7 @@ fn packets_length(packets: &[Packet]) -> usize
     len
 }
 
-/// Begins a frame with the header of a kind whose payload has this many bytes.
+/// Writes the header of a frame of this kind whose payload has this many bytes.
 #[inline(always)]
 fn put_header(kind: u8, len: u16, header: &Header, out: &mut Bytes)
     requires { out.old.items ≡ [] }
@@ -70,7 +70,7 @@ fn data_head_length(version: Version) -> usize
     }
 }
 
-/// Appends the count of packets, if the version has such a field.
+/// Appends the number of packets in the frame, if the version has such a field.
 fn put_batch_size(version: Version, many: usize, out: &mut Bytes)
     requires many { many ≤ MOST_PACKETS }
     requires room { array_vec_len out.old + 4 ≤ LONGEST_FRAME }
@@ -117,8 +117,8 @@ fn put_ack(header: &Header, count: u64, out: &mut Bytes)
     put(out, &count.to_be_bytes());
 }
 
-/// The bytes of a frame: 28 for a HELLO, 36 for an ACK, and for a DATA frame 44 (version 1) or 48 (version 2) and those
-/// of its packets.
+/// The bytes of a frame: 28 for a HELLO, 36 for an ACK, and for a DATA frame 44 (version 1) or 48 (version 2) plus the
+/// bytes of its packets.
 pub fn encode(frame: &Frame) -> ArrayVec<u8, LONGEST_FRAME>
     ensures spells { SpellsFrame result.items frame.now }
     ensures exact { result.items ≡ frame_spelling frame.now }

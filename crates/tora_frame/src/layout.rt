@@ -12,24 +12,25 @@ pub(crate) const DATA: u8 = 2;
 /// The kind of an ACK.
 pub(crate) const ACK: u8 = 3;
 
-/// The bytes of the header, before the payload.
+/// The length of the header in bytes.
 pub(crate) const HEADER_LENGTH: usize = 28;
 
-/// The bytes of a DATA frame of version 1 between its header and its packet: a number and a count.
+/// The bytes of a DATA frame of version 1 between its header and its packet: the packet number and the count of
+/// accepted packets.
 pub(crate) const PACKET_HEAD: usize = 16;
 
-/// The bytes of a DATA frame of version 2 between its header and its packets: a number, a count, how many packets there
-/// are, and three zeros.
+/// The bytes of a DATA frame of version 2 between its header and its packets: the first packet number, the count of
+/// accepted packets, the number of packets in the frame, and three zeros.
 pub(crate) const BATCH_HEAD: usize = 20;
 
-/// The bytes of a DATA frame of version 1 before its packet.
+/// The offset of the packet in a DATA frame of version 1, in bytes.
 pub(crate) const PACKET_OFFSET: usize = HEADER_LENGTH + PACKET_HEAD;
 
-/// The bytes of a DATA frame of version 2 before its packets.
+/// The offset of the packets in a DATA frame of version 2, in bytes.
 pub(crate) const BATCH_OFFSET: usize = HEADER_LENGTH + BATCH_HEAD;
 
-/// The least payload of a DATA frame of version 2 in bytes: with one packet, the shortest.
+/// The shortest payload of a DATA frame of version 2 in bytes: with one packet of the shortest kind.
 pub(crate) const SHORTEST_BATCH: usize = BATCH_HEAD + SHORTEST_PACKET;
 
-/// The greatest payload of a DATA frame of version 2 in bytes: with `MOST_PACKETS` packets of the longest kind.
+/// The longest payload of a DATA frame of version 2 in bytes: with `MOST_PACKETS` packets of the longest kind.
 pub(crate) const LONGEST_BATCH: usize = BATCH_HEAD + MOST_PACKETS * LONGEST_PACKET;

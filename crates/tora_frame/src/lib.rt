@@ -1,13 +1,13 @@
 //! The frames of a neighbour link and their bytes.
 //!
-//! A frame carries two life numbers: the sender's, and the one that the sender heard from the receiver. A HELLO carries
-//! nothing else. DATA frames carry numbered packets, and DATA and ACK frames carry a count of accepted packets. In
-//! version 1 a DATA frame carries one packet, in version 2 one to sixteen. Numbers are in network byte order. No call
-//! of this crate takes memory.
+//! A frame carries two session numbers: the sender's, and the one that the sender heard from the receiver. A HELLO
+//! carries nothing else. DATA frames carry numbered packets, and DATA and ACK frames carry a count of accepted packets.
+//! In version 1 a DATA frame carries one packet, in version 2 one to sixteen. Numbers are in network byte order. No
+//! call of this crate takes memory.
 //!
 //! ```rust
 //! let header = Header { version: Version::Two, sender: 1, receiver: 2, life: 5, heard: 9 };
-//! let frame = Frame::ack(header, 3); // three packets of this life were accepted
+//! let frame = Frame::ack(header, 3); // three packets of this session were accepted
 //! let bytes = encode(&frame);
 //! assert_eq!(rt; bytes.len(), 36);
 //! assert_eq!(rt; decode(&bytes), Ok(frame));
@@ -52,17 +52,17 @@ pub enum FrameError {
     /// The sender or the receiver is 0, or the two are equal.
     #[error("the sender or the receiver is 0, or the two are equal")]
     Id,
-    /// A life is out of its range.
+    /// A session number is out of its range.
     #[error("a life is out of its range")]
     Life,
-    /// The number of a packet, or a count of packets, is out of its range.
+    /// The number of a packet, or the count of accepted packets, is out of its range.
     #[error("a number or a count is out of its range")]
     Number,
-    /// The bytes of a packet are not a packet.
+    /// The bytes of a packet are not a packet, for this reason.
     #[error("the packet is refused: {0}")]
     Packet(#[source] PacketError),
-    /// The count of packets in a frame of version 2 is 0 or above 16, is not followed by three zero bytes, or puts the
-    /// number of the last packet out of its range.
+    /// The number of packets in a frame of version 2 is 0 or above 16, is not followed by three zero bytes, or makes
+    /// the number of the last packet too great.
     #[error("how many packets there are is out of its range")]
     Count,
 }

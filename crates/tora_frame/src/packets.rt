@@ -36,7 +36,8 @@ fn behind(bytes: &[u8], offset: usize) -> &[u8]
     rest
 }
 
-/// Decodes exactly `many` packets, one after another, which take up all of the bytes. An `Err` may leave some of them.
+/// Decodes exactly `many` packets, one after another, which take up all of the bytes. After an error, `packets` may
+/// have some of them.
 fn read_list(bytes: &[u8], many: usize, packets: &mut Packets) -> Result<(), FrameError>
     requires many { many ≤ MOST_PACKETS }
     requires empty { packets.old.items ≡ [] }
@@ -57,7 +58,7 @@ fn read_list(bytes: &[u8], many: usize, packets: &mut Packets) -> Result<(), Fra
     Ok(())
 }
 
-/// Reads and checks the count of packets of a frame of version 2 whose first packet has this number.
+/// Reads and checks the number of packets in a frame of version 2 whose first packet has this number.
 fn read_batch_size(bytes: &[u8], number: u64) -> Result<usize, FrameError>
     requires len { 48 ≤ length bytes.now }
     requires number { number ≡ u64_at 28 bytes.now }
@@ -108,8 +109,8 @@ fn read_one(bytes: &[u8], packets: &mut Packets) -> Result<(), FrameError>
     Ok(())
 }
 
-/// Reads and checks the packets of a DATA frame of this version whose first packet has this number. An `Err` may leave
-/// some of them.
+/// Reads and checks the packets of a DATA frame of this version whose first packet has this number. After an error,
+/// `packets` may have some of them.
 #[tactic(auto, unfolding(crate::specs::FrameGrammar::packets_inside))]
 pub fn read_packets(
     bytes: &[u8],

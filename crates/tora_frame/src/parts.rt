@@ -11,7 +11,7 @@ use std::marker::Model;
 use tora_height::Id;
 use tora_packet::Packet;
 
-/// The greatest number of a life or of a packet, and the greatest count of packets, 2^62.
+/// The greatest session number, the greatest packet number, and the greatest count of packets: 2^62.
 pub const GREATEST_NUMBER: u64 = 0x4000_0000_0000_0000;
 
 /// The most packets that a frame carries.
@@ -41,30 +41,30 @@ impl Version {
     }
 }
 
-/// The header of a frame: its version, its two nodes, and a life number of each end.
+/// The header of a frame: its version, its two nodes, and a session number of each end.
 #[derive(Clone, Copy, Debug, PartialEq, Eq, Hash)]
 pub struct Header {
     /// The version of the frame.
     pub version: Version,
-    /// The node that sends the frame.
+    /// The node that sends the frame, not 0.
     pub sender: Id,
-    /// The node that the frame is for. It is not the sender.
+    /// The node for which the frame is, neither 0 nor the sender.
     pub receiver: Id,
-    /// The life of the sender's link end, 1 to 2^62.
+    /// The session number of the sender's link end, 1 to 2^62.
     pub life: u64,
-    /// The life of the receiver's link end that the sender has heard, 1 to 2^62, or 0 for none.
+    /// The session number of the receiver's link end that the sender has heard, 1 to 2^62; 0 if it has heard none.
     pub heard: u64,
 }
 
 /// The body of a frame, after its header.
 #[derive(Debug, PartialEq, Eq, Hash, Drop)]
 pub enum Body {
-    /// No content: the frame carries only the life numbers of its header.
+    /// No content: the frame carries only the session numbers of its header.
     Hello,
-    /// The number of the first packet, 1 to 2^62, the count of packets that the sender has accepted in this life, 0 to
-    /// 2^62, and the packets, numbered on from the first: one in version 1, one to sixteen in version 2.
+    /// The number of the first packet, 1 to 2^62; the count of packets that the sender has accepted in this session, 0
+    /// to 2^62; and the packets, numbered on from the first: one in version 1, one to sixteen in version 2.
     Data(u64, u64, Packets),
-    /// The count of packets that the sender has accepted in this life, 0 to 2^62.
+    /// The count of packets that the sender has accepted in this session, 0 to 2^62.
     Ack(u64),
 }
 
@@ -115,8 +115,9 @@ impl Frame {
         Frame::of(header, Body::Hello)
     }
 
-    /// A DATA frame: `number` is that of the first packet, the last one's is at most 2^62, and `count` is the count of
-    /// packets accepted, 0 to 2^62. There is one packet in version 1, and one to sixteen in version 2.
+    /// A DATA frame. `number` is the number of the first packet, and the number of the last packet is at most 2^62.
+    /// `count` is the count of accepted packets, 0 to 2^62. There is one packet in version 1, and one to sixteen in
+    /// version 2.
     pub fn data(header: Header, number: u64, count: u64, packets: Packets) -> Frame
         requires header { IsHeader header }
         requires heard { 0 < header.heard }
@@ -130,8 +131,8 @@ impl Frame {
         Frame::of(header, Body::Data(number, count, packets))
     }
 
-    /// A DATA frame of either version with one packet, whose number is 1 to 2^62; `count` is the count of packets
-    /// accepted, 0 to 2^62.
+    /// A DATA frame of either version with one packet. `number` is the packet's number, 1 to 2^62, and `count` is the
+    /// count of accepted packets, 0 to 2^62.
     pub fn one(header: Header, number: u64, count: u64, packet: Packet) -> Frame
         requires header { IsHeader header }
         requires heard { 0 < header.heard }
@@ -144,7 +145,7 @@ impl Frame {
         Frame::data(header, number, count, packets)
     }
 
-    /// An ACK: `count` is the count of packets accepted, 0 to 2^62.
+    /// An ACK. `count` is the count of accepted packets, 0 to 2^62.
     pub fn ack(header: Header, count: u64) -> Frame
         requires header { IsHeader header }
         requires heard { 0 < header.heard }
@@ -154,7 +155,7 @@ impl Frame {
         Frame::of(header, Body::Ack(count))
     }
 
-    /// The version, the two nodes and the two life numbers of the frame.
+    /// The version, the two nodes and the two session numbers of the frame.
     pub fn header(&self) -> &Header
         ensures value { result.now ≡ self.now.header }
         ensures valid { IsFrame self.now }
@@ -162,7 +163,7 @@ impl Frame {
         &self.header
     }
 
-    /// What the frame carries.
+    /// The body of the frame.
     pub fn body(&self) -> &Body
         ensures value { result.now ≡ self.now.body }
         ensures valid { IsFrame self.now }

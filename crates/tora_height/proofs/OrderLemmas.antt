@@ -25,7 +25,7 @@ level tau oid r = record { tau = tau; oid = oid; r = r }
 same_parts : (t u o p q r : ℕ) → t ≡ u → o ≡ p → q ≡ r → level t o q ≡ level u p r
 same_parts t u o p q r e f g = rw (e, f, g) refl
 
--- levels that compare alike are one
+-- two levels that compare as equal are equal
 pub level_cmp-Equal : (a b : Level) → level_cmp a b ≡ Equal → a ≡ b
 level_cmp-Equal a b h =
     let tau : a.tau ≡ b.tau = grind (arith, nat_tests) in
@@ -40,7 +40,7 @@ lower_level-cmp a b h = grind (arith, nat_tests)
 pub cmp-lower_level : (a b : Level) → IsLowerLevel a b → level_cmp a b ≡ Less
 cmp-lower_level a b h = grind (arith, nat_tests)
 
--- the order of heights is that of levels, and then that within a level
+-- heights are ordered by level first, and then within the level
 height_cmp-level_cmp : (a b : Quintuple) → height_cmp a b ≡ ordering_then (level_cmp (level_of a) (level_of b)) (ordering_then (int_cmp a.delta b.delta) (nat_cmp a.id b.id))
 height_cmp-level_cmp a b = at (nat_cmp a.tau b.tau) (nat_cmp a.oid b.oid) (nat_cmp a.r b.r) (ordering_then (int_cmp a.delta b.delta) (nat_cmp a.id b.id))
   where

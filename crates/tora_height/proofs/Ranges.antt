@@ -1,11 +1,11 @@
--- The ranges of a height, and the test of them.
+-- The ranges of a height, and the checks of its parts.
 use Rattle.std.proofs.Common.{◌≡◌, None, arith}
 use Rattle.std.proofs.lemmas.Bool.Decides.{nat_tests}
 use Rattle.std.proofs.lemmas.Int.{ints}
 use Rattle.std.specs.Prelude.{◌<◌, ◌^◌}
 use Rattle.tora_height.specs.Height.{Quintuple, IsHeight, height_fault}
 
--- parts without a fault are a height, where the numbers of nodes fit
+-- parts without a fault are a height, if the node numbers fit into 32 bits
 pub no_fault_is_height : (h : Quintuple) → h.oid < 2 ^ 32 → h.id < 2 ^ 32 → height_fault h ≡ None → IsHeight h
 unfolding height_fault
 no_fault_is_height h oid id e =

@@ -15,7 +15,7 @@ pub record Quintuple : Type 0 where
 abbrev pub quintuple : ℕ → ℕ → ℕ → ℤ → ℕ → Quintuple
 quintuple tau oid r delta id = record { tau = tau; oid = oid; r = r; delta = delta; id = id }
 
--- the height of a destination, always
+-- the height of a destination for itself
 abbrev pub destination_height : ℕ → Quintuple
 destination_height d = quintuple 0 0 0 (pos 0) d
 
@@ -23,7 +23,7 @@ destination_height d = quintuple 0 0 0 (pos 0) d
 abbrev pub level_of : Quintuple → Level
 level_of h = record { tau = h.tau; oid = h.oid; r = h.r }
 
--- a reference level in range: time 0 and originator 0 only together
+-- a reference level in range: its time is 0 exactly if its originator is 0
 pub record IsLevel (l : Level) : Type 0 where
   pub tau : l.tau ≤ 2 ^ 62
   pub oid : l.oid < 2 ^ 32
@@ -31,7 +31,7 @@ pub record IsLevel (l : Level) : Type 0 where
   pub zero_tau : l.tau ≡ 0 → l.oid ≡ 0
   pub zero_oid : l.oid ≡ 0 → l.tau ≡ 0
 
--- a height in range: at level (0,0,0) no delta is negative
+-- a height in range; its delta is not negative at level (0,0,0)
 pub record IsHeight (h : Quintuple) : Type 0 where
   pub level : IsLevel (level_of h)
   pub delta_low : neg_ℤ (pos (2 ^ 30)) ≤ℤ h.delta
@@ -47,11 +47,11 @@ pub record IsHeightOf (node destination : ℕ) (h : Quintuple) : Type 0 where
   pub zero : node ≡ destination → h ≡ destination_height destination
   pub above : node ≢ destination → h.tau ≡ 0 → h.r ≡ 0 → pos 1 ≤ℤ h.delta
 
--- time 0 and originator 0 only together
+-- the time is 0 exactly if the originator is 0
 abbrev pub has_originator : Quintuple → Bool
 has_originator h = if h.tau == 0 then h.oid == 0 else nat_lt 0 h.oid
 
--- a negative delta at level (0,0,0)
+-- the delta is negative, at level (0,0,0)
 abbrev pub is_below_zero : Quintuple → Bool
 is_below_zero h = (h.tau == 0) && (h.r == 0) && int_lt h.delta (pos 0)
 

@@ -40,7 +40,7 @@ direction_by Less = Link.Down
 direction_by Equal = Link.Undirected
 direction_by Greater = Link.Up
 
--- the direction of a link, from the own height and the neighbour's entry, either of which may be NULL
+-- the direction of a link, from the own height and the neighbour's entry; either may be NULL
 abbrev pub link_status : Option Quintuple → Option Quintuple → Direction
 link_status own None = Link.Undirected
 link_status None (Some entry) = Link.Down

@@ -35,7 +35,7 @@ impl Height {
     ghost use Rattle.tora_height.specs.Height.{height_fault};
     ghost use Rattle.tora_height.specs.HeightOrder.{level_cmp, height_cmp};
 
-    /// The height of these parts.
+    /// The height with these parts.
     ///
     /// `tau` is a time in ticks of 100 ms, `oid` the node that defined the level, `r` its reflection bit, `delta` the
     /// order within the level, and `id` the node whose height it is.
@@ -91,7 +91,7 @@ impl Height {
         self.tau
     }
 
-    /// The node that defined the reference level, 0 for none.
+    /// The node that defined the reference level; 0 at the levels of time 0.
     pub fn oid(&self) -> u32
         ensures value { result ≡ self.now.oid }
         ensures ranges { IsHeight self.now }
@@ -157,7 +157,7 @@ impl Height {
     }
 }
 
-/// A height as `(tau,oid,r,delta,id)`.
+/// Writes a height as `(tau,oid,r,delta,id)`.
 impl fmt::Display for Height {
     ghost use Rattle.std.specs.Prelude.{Some};
     ghost use Rattle.tora_height.specs.HeightText.{written_height};

@@ -8,13 +8,13 @@ use std::fmt;
 pub struct Level {
     /// The time tag: when the level was defined, in ticks of 100 ms, 0 to 2^62.
     pub tau: u64,
-    /// The node that defined the level; 0 exactly where `tau` is 0.
+    /// The node that defined the level; 0 exactly if `tau` is 0.
     pub oid: u32,
     /// The reflection bit: 0 for an original level, 1 for a reflected one.
     pub r: u8,
 }
 
-/// A reference level as `tau,oid,r`.
+/// Writes a reference level as `tau,oid,r`.
 impl fmt::Display for Level {
     ghost use Rattle.std.specs.Prelude.{Some};
     ghost use Rattle.tora_height.specs.HeightText.{written_level};

@@ -51,7 +51,7 @@ sealed-opened key bytes h =
     let same : last_of bytes ≡ tag_of key (front_of bytes) = grind (arith, common_steps, both (nat_le 16 (length bytes)) (bytes_eq (last_of bytes) (tag_of key (front_of bytes))) h, bytes_eq-Decides (last_of bytes) (tag_of key (front_of bytes))) in
     rw (← same) (take-append-drop (length bytes - 16) bytes)
 
--- ---- lists of them
+-- ---- lists of messages
 
 pub through : (key : List ℕ) (messages : List (List ℕ)) → filter_map (opened key) (map (sealed key) messages) ≡ messages
 through key [] = refl
@@ -70,7 +70,7 @@ all_cons : {X : Type 0} (P : X → Type 0) (x : X) (xs : List X) → P x → All
 all_cons P x xs here all zero d below = here
 all_cons P x xs here all (suc k) d below = all k d (omega arith)
 
--- what was opened of a sealed message is that message
+-- if bytes are one of the sealed messages, all but their last 16 are that message
 opened_contained : (key bytes : List ℕ) (sent : List (List ℕ)) → Contains (map (sealed key) sent) bytes → Contains sent (front_of bytes)
 opened_contained key bytes sent (k, below, is) =
     let fewer : k < length sent = grind (arith, common_steps, below) in

@@ -17,7 +17,7 @@ masked_byte pad byte = bit_xor byte pad
 abbrev pub masked : ℕ → List ℕ → List ℕ
 masked pad block = map (masked_byte pad) block
 
--- the inner pad repeats the byte 0x36, and the outer one the byte 0x5c
+-- the HMAC-SHA-256 under the block of a key: the inner pad repeats the byte 0x36, the outer one the byte 0x5c
 unfoldable pub hmac_under : List ℕ → List ℕ → List ℕ
 hmac_under block message = sha256 (masked 0x5c block ++ sha256 (masked 0x36 block ++ message))
 
@@ -25,6 +25,6 @@ hmac_under block message = sha256 (masked 0x5c block ++ sha256 (masked 0x36 bloc
 abbrev pub hmac_of : List ℕ → List ℕ → List ℕ
 hmac_of key message = hmac_under (padded key) message
 
--- the first 16 bytes of it, for a key's block
+-- the first 16 bytes of the HMAC-SHA-256 of a message, under the block of a key
 unfoldable pub tag_of : List ℕ → List ℕ → List ℕ
 tag_of block message = take 16 (hmac_under block message)

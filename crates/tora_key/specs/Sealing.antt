@@ -6,7 +6,7 @@ use Rattle.tora_key.specs.Hmac.{tag_of}
 unfoldable pub sealed : List ℕ → List ℕ → List ℕ
 sealed key message = message ++ tag_of key message
 
--- all bytes except the last 16, and those 16
+-- all bytes except the last 16
 abbrev pub front_of : List ℕ → List ℕ
 front_of bytes = take (length bytes - 16) bytes
 
@@ -21,7 +21,7 @@ is_authentic key bytes = nat_le 16 (length bytes) && bytes_eq (last_of bytes) (t
 abbrev pub opened : List ℕ → List ℕ → Option (List ℕ)
 opened key bytes = if is_authentic key bytes then Some (front_of bytes) else None
 
--- the first list is the second one without some of its items
+-- the first list is a subsequence of the second
 pub data IsPart {A : Type 0} : List A → List A → Type 0 where
   part_end : IsPart [] []
   part_kept : {x : A} {xs ys : List A} → IsPart xs ys → IsPart (x ∷ xs) (x ∷ ys)

@@ -8,10 +8,10 @@ use sha2::{Digest, Sha256};
 use std::alloc::AllocError;
 use std::marker::Model;
 
-/// The bytes of a block of SHA-256.
+/// The length of a block of SHA-256, in bytes.
 const BLOCK: usize = 64;
 
-/// The bytes of a tag: half of the digest (RFC 2104, section 5).
+/// The length of a tag in bytes: half of the digest (RFC 2104, section 5).
 pub const TAG: usize = 16;
 
 const INNER_PAD: u8 = 0x36;
@@ -44,7 +44,7 @@ impl Model for Key {
 }
 
 impl Key {
-    /// The key of these bytes. If there are more than 64, their digest is used, as the RFC says.
+    /// The key made of these bytes. If there are more than 64, their digest is used, as the RFC says.
     #[tactic(auto, unfolding(crate::specs::Hmac::padded))]
     pub fn new(bytes: &[u8]) -> Key
         ensures { result ≡ padded bytes.now }
@@ -108,7 +108,7 @@ fn block_with(bytes: &[u8]) -> [u8; BLOCK]
     block
 }
 
-// The digest of the bytes that a hasher has taken, followed by a message.
+// The digest of the bytes that a hasher has taken and of the message after them.
 fn digest_behind(hasher: &Sha256, message: &[u8]) -> [u8; 32]
     ensures { (front : List ℕ) → Holds256 hasher.now front → result ≡ sha256 (front ++ message.now) }
 {
@@ -135,7 +135,7 @@ pub fn hmac(key: &[u8], message: &[u8]) -> [u8; 32]
     Key::new(key).hmac(message)
 }
 
-/// Whether two tags are the same. It reads all bytes of both, whatever the first difference.
+/// Whether two tags are equal. It reads all bytes of both, wherever the first difference is.
 pub fn is_same(a: &[u8], b: &[u8]) -> bool
     requires a { length a.now ≡ 16 }
     requires b { length b.now ≡ 16 }

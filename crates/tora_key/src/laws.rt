@@ -4,10 +4,9 @@ ghost use Rattle.tora_key.specs.Sealing.{sealed, is_authentic, opened, IsPart};
 
 /// A link with a key passes on only tagged messages.
 ///
-/// `through`: tagged messages come through unchanged and in order. `tagged`: the messages that come through, each with
-/// its tag appended again, are a subsequence of what arrived. `unforged`: if nobody but the tagger of `sent` makes
-/// authentic bytes, each message that comes through is one of `sent`; it may come several times, since a tag does not
-/// show repetition.
+/// `through`: tagged messages pass unchanged and in order. `tagged`: the messages that pass, each with its tag appended
+/// again, are a subsequence of what arrived. `unforged`: if nobody but the tagger of `sent` makes authentic bytes, each
+/// message that passes is one of `sent`. A message may pass several times, since a tag does not show repetition.
 pub fn keyed_links_give_what_was_tagged()
     ensures through { (key : List ℕ) (messages : List (List ℕ)) → filter_map (opened key) (map (sealed key) messages)
         ≡ messages }

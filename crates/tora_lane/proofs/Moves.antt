@@ -1,4 +1,4 @@
--- Each step keeps the rule of the lane into the core.
+-- Each step keeps the rule of the queue into the core.
 use Rattle.std.proofs.Common.{◌≡◌, ◌≢◌, ◌⊎◌, ℕ, zero, suc, ◌+◌, ◌<◌, ◌==◌, cond, true, false, List, [], ◌∷◌, ◌++◌, length, set, Option, Some, None, refl, sym, ap, ◌∙◌, subst, ⊎_elim, inl, inr, arith, append_assoc, length-append, eq-eqb, ne_eqb}
 use Rattle.std.proofs.lemmas.List.{append-nil}
 use Rattle.std.proofs.lemmas.List.Elements.{filter-append}
@@ -36,7 +36,7 @@ all_set F views pass w mine others j u e =
     ⊎_elim (λ (x : (j ≡ pass) × (w ≡ u)). subst (λ (y : ℕ × LaneView). F y.0 y.1) (λ i. (sym x.0 i, x.1 i)) mine)
     (λ (x : (j ≢ pass) × (get_elem? views j ≡ some u)). others j u x.0 x.1) (at_set views pass j w u e)
 
--- what another pass knows stays, where only the lists of seats that this pass has change
+-- a step that changes only the seats of one pass keeps what another pass knows
 fits_else : (core : ℕ) (port : ℕ → Option ℕ) (put now : ℕ → List Item) (taken : List Item) (pass j : ℕ) (v : LaneView) → j ≢ pass → ((t : ℕ) → port t ≢ Some pass → now t ≡ put t)
     → Fits core port put taken j v → Fits core port now taken j v
 fits_else core port put now taken pass j (Seat t own) apart same f = (f.0, f.1 ∙ sym (same t (λ e. apart (cc (f.0, e)))))
@@ -94,7 +94,7 @@ puts n pass s own x seat number items views room h at =
     )
 
 -- ---- a receive
--- what another pass knows stays, where only the core's list changes
+-- a step that changes only the core's list keeps what another pass knows
 fits_taken : (core : ℕ) (port : ℕ → Option ℕ) (put : ℕ → List Item) (taken now : List Item) (pass j : ℕ) (v : LaneView) → j ≢ pass → pass ≡ core → Fits core port put taken j v → Fits core port put now j v
 fits_taken core port put taken now pass j (Seat t own) apart is f = f
 fits_taken core port put taken now pass j (Core made took known) apart is f = absurd (apart (f.0 ∙ sym is))
@@ -134,7 +134,7 @@ at_end [] a b (suc j) e = absurd (some-ne-none b (sym e))
 at_end (x ∷ xs) a b zero e = inl e
 at_end (x ∷ xs) a b (suc j) e = ⊎_elim (λ t. inl t) (λ t. inr (ap suc t.0, t.1)) (at_end xs a b j e)
 
--- the seat s has the port p from now on
+-- the ports, if the seat s has the port p
 abbrev with_port : (ℕ → Option ℕ) → ℕ → Option ℕ → ℕ → Option ℕ
 with_port port s p t = cond (t == s) p (port t)
 
@@ -177,7 +177,7 @@ forks pass made took known items views h at =
           (at_end vs (Seat made []) u j e);
     }
 
--- ---- a seat is taken in
+-- ---- the port of a seat is closed
 fits_less : (core : ℕ) (port : ℕ → Option ℕ) (put : ℕ → List Item) (taken : List Item) (pass other s j : ℕ) (v : LaneView) → j ≢ pass → pass ≡ core → port s ≡ Some other → j ≢ other
     → Fits core port put taken j v → Fits core (with_port port s None) put taken j v
 fits_less core port put taken pass other s j (Seat t own) apart is there away f = (with_port_else port s t None (λ (e : t ≡ s). away (let here = f.0 in let same = ap port e in cc)) ∙ f.0, f.1)
@@ -223,7 +223,7 @@ learns pass made took known s own items views h at =
     let last = mine.3 zero s own refl in
     (last.0, ap (λ l. items_of s (l ++ items)) mine.1 ∙ h.in_order s ∙ sym last.2)
 
--- ---- the same for a known view
+-- ---- the same steps, for a view that is known
 pub puts_as : (n pass : ℕ) (v : LaneView) (s : ℕ) (own : List Item) (x : Item) → v ≡ Seat s own → x.seat ≡ s → x.number ≡ length own + 1 → Pushes KeepsLanes n pass v x (λ w. w ≡ after_put v x)
 puts_as n pass v s own x is seat number = subst (λ u. Pushes KeepsLanes n pass u x (λ w. w ≡ after_put u x)) (sym is) (puts n pass s own x seat number)
 

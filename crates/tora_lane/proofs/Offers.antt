@@ -1,4 +1,4 @@
--- Offers of cargoes to the lanes to the neighbours.
+-- Offers of outbound messages to the queues to the neighbours.
 use Rattle.std.proofs.Common.{◌≡◌, ◌≢◌, ◌⊎◌, ℕ, zero, suc, ◌+◌, ◌<◌, ◌≤◌, ◌==◌, ◌&&◌, cond, Bool, true, false, List, [], ◌∷◌, ◌++◌, length, Some, refl, sym, ap, ◌∙◌, subst, ⊎_elim, arith, get_or}
 use Rattle.std.specs.Prelude.{slice_get, slice_set, if◌then◌else◌}
 use Rattle.std.proofs.lemmas.List.{append-nil, set-get_or, length-set}
@@ -12,7 +12,7 @@ use Rattle.tora_lane.specs.declared.limits.TheConstants.{OUT_LANE_ROOM}
 use Rattle.tora_lane.specs.Out.{SendEnd, with_sent}
 use Rattle.tora_lane.specs.Offering.{DidOffer, sent_by, sent_at, OffersAreSent}
 
--- a cargo that is returned changes nothing
+-- a message that is returned changes nothing
 pub handed_back : (ends : List SendEnd) (place : ℕ) (end new : SendEnd) (cargo : Cargo) → place < length ends → end ≡ get_or ends place end → new ≡ end → (length end.sent < OUT_LANE_ROOM → ⊥)
     → DidOffer ends place cargo false (slice_set ends place new)
 handed_back ends place end new cargo within is same full = (
@@ -22,7 +22,7 @@ handed_back ends place end new cargo within is same full = (
   ap (λ e. slice_set ends place e) (same ∙ is) ∙ set-get_or ends place end,
 )
 
--- what is found after one element was written
+-- the element that was written is found at its place
 got_here : (ends : List SendEnd) (place : ℕ) (new : SendEnd) → place < length ends → slice_get (slice_set ends place new) place ≡ Some new
 got_here [] place new h = absurd (omega arith)
 got_here (x ∷ xs) zero new h = refl
@@ -59,12 +59,12 @@ and_false : (b : Bool) → (b && false) ≡ false
 and_false true = refl
 and_false false = refl
 
--- as many lanes as before
+-- as many queues as before
 same_count : (before after : List SendEnd) (place : ℕ) (cargo : Cargo) (put : Bool) → DidOffer before place cargo put after → length after ≡ length before
 same_count before after place cargo false did = ap length did.3
 same_count before after place cargo true did = ap length did.3 ∙ length-set before place (with_sent did.0 cargo)
 
--- what is sent by one offer
+-- what one offer sends
 one_offer : (ns : List ℕ) (before after : List SendEnd) (to : ℕ) (cargo : Cargo) (put : Bool) (k : ℕ) → DidOffer before (place_of to ns) cargo put after → length before ≤ length ns → place_of k ns < length ns
     → sent_at after (place_of k ns) ≡ sent_at before (place_of k ns) ++ (if (to == k) && put then cargo ∷ [] else [])
 one_offer ns before after to cargo false k did few within =
@@ -85,7 +85,7 @@ one_offer ns before after to cargo true k did few within =
     ∙ sym (append-nil (sent_at before p)) ∙ sym (ap (λ b. sent_at before p ++ (if b && true then cargo ∷ [] else [])) t.0))
     (eqb_tells to k)
 
--- what is sent by all offers
+-- what all offers send
 pub offers_are_sent : OffersAreSent
 offers_are_sent ns before after [] h few = (ap length h, λ k within. ap (λ e. sent_at e (place_of k ns)) h ∙ sym (append-nil (sent_at before (place_of k ns))))
 offers_are_sent ns before after (o ∷ offers) h few =

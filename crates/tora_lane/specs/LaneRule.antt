@@ -1,5 +1,5 @@
--- The rule of the lane into the core: for each seat, the items that the core has taken, followed by those in the lane,
--- are those that the seat has put.
+-- The rule of the queue into the core: for each seat, the items that the core has taken, followed by those in the
+-- queue, are the items that the seat has put.
 use Rattle.std.specs.Prelude.{◌≡◌, ℕ, suc, ◌+◌, ◌<◌, ◌≤◌, ◌==◌, List, [], ◌∷◌, ◌++◌, length, Option, Some, None, slice_get}
 use Rattle.std.specs.List.{filter}
 use mathlib.Core.Option.{some}
@@ -26,14 +26,14 @@ abbrev pub AreSettled : ℕ → (ℕ → Option ℕ) → (ℕ → List Item) →
 AreSettled made port put known =
     (k s : ℕ) (own : List Item) → slice_get known k ≡ Some (s, own) → (s < made) × (port s ≡ None) × (own ≡ put s)
 
--- the knowledge of the holder of a pass is true
+-- what the holder of a pass knows is true
 abbrev pub Fits : ℕ → (ℕ → Option ℕ) → (ℕ → List Item) → List Item → ℕ → LaneView → Type 0
 Fits core port put taken pass (Seat s own) = (port s ≡ Some pass) × (own ≡ put s)
 Fits core port put taken pass (Core made took known) = (pass ≡ core) × (took ≡ taken) × AreUnmade made port put
     × AreSettled made port put known
 Fits core port put taken pass Spent = Unit {0}
 
--- there is a pass of the core and one for each open port, which know what each seat has put and the core has taken
+-- each seat's items are in order and numbered without gaps, and what each holder of a pass knows is true
 pub record KeepsLanes (items : List Item) (views : List LaneView) : Type 0 where
   pub core : ℕ
   pub port : ℕ → Option ℕ
@@ -53,7 +53,7 @@ after_take (Seat s own) x = Seat s own
 after_take (Core made took known) x = Core made (took ++ x ∷ []) known
 after_take Spent x = Spent
 
--- the item is of a seat that was made, and has the next number of its seat
+-- the item is of a seat that exists, and has the next number of its seat
 abbrev pub IsNext : LaneView → Item → Type 0
 IsNext (Seat s own) x = Unit {0}
 IsNext (Core made took known) x = (x.seat < made) × (x.number ≡ length (items_of x.seat took) + 1)
@@ -73,7 +73,7 @@ abbrev pub with_settled : LaneView → LaneView → LaneView
 with_settled (Core made took known) (Seat s own) = Core made took ((s, own) ∷ known)
 with_settled v w = v
 
--- for the seat that was closed last, the items taken, followed by those in the lane, are those put
+-- for the seat that was closed last, the items taken, followed by those in the queue, are the items put
 abbrev pub LastSettled : LaneView → List Item → Type 0
 LastSettled (Core made took ((s, own) ∷ known)) items = (s < made) × (items_of s (took ++ items) ≡ own)
 LastSettled (Core made took []) items = Unit {0}

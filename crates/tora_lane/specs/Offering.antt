@@ -1,4 +1,4 @@
--- Offers of cargoes to the lanes to the neighbours.
+-- Offers of outbound messages to the queues to the neighbours.
 use Rattle.std.specs.Prelude.{◌≡◌, ℕ, ◌<◌, ◌≤◌, Bool, true, false, List, [], ◌∷◌, ◌++◌, length, Option, Some, None, slice_get, slice_set}
 use Rattle.tora_seat.specs.declared.cargo.Cargo.{Cargo}
 use Rattle.tora_seat.specs.Serving.{Offer, put_to}
@@ -6,8 +6,8 @@ use Rattle.tora_seat.specs.Offers.{AreOffered, place_of}
 use Rattle.tora_lane.specs.declared.limits.TheConstants.{OUT_LANE_ROOM, MOST_IN_ALL}
 use Rattle.tora_lane.specs.Out.{SendEnd, with_sent}
 
--- A cargo that was put is the last one of the lane at the place, and the rest is unchanged. A cargo that was not put
--- changed nothing, and at least as many cargoes as the lane holds were sent before
+-- A message that was put is the last one of the queue at the place, and nothing else changed. A message that was not
+-- put changed nothing, and at least as many messages as the queue holds were sent before.
 abbrev pub DidOffer : List SendEnd → ℕ → Cargo → Bool → List SendEnd → Type 0
 DidOffer before place cargo true after =
     (end : SendEnd) × (slice_get before place ≡ Some end) × (length end.sent < MOST_IN_ALL)
@@ -20,12 +20,12 @@ abbrev pub sent_by : Option SendEnd → List Cargo
 sent_by None = []
 sent_by (Some end) = end.sent
 
--- what was sent into the lane at a place
+-- what was sent into the queue at a place
 abbrev pub sent_at : List SendEnd → ℕ → List Cargo
 sent_at ends place = sent_by (slice_get ends place)
 
--- After offers to the lanes of these neighbours the count of lanes is the same, and each lane has sent what it had sent
--- before, followed by what was put for its neighbour
+-- After offers to the queues of these neighbours there are as many queues as before, and each has sent what it had sent
+-- before, followed by what was put for its neighbour.
 abbrev pub OffersAreSent : Type 0
 OffersAreSent =
     (neighbours : List ℕ) (before after : List SendEnd) (offers : List Offer)

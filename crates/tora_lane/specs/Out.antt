@@ -1,4 +1,4 @@
--- What a contract sees of a lane to a neighbour.
+-- What contracts see of a queue to a neighbour.
 use Rattle.std.specs.Prelude.{◌≡◌, ℕ, List, [], ◌∷◌, ◌++◌}
 use denote.RawPtr.{Ptr}
 use Rattle.rtrb.specs.declared.producer.Producer.{Producer}
@@ -6,7 +6,7 @@ use Rattle.rtrb.specs.declared.consumer.Consumer.{Consumer}
 use Rattle.rtrb.specs.Ring.{sent, received, known_items}
 use Rattle.tora_seat.specs.declared.cargo.Cargo.{Cargo}
 
--- which ring it is
+-- the identity of a ring
 pub record Ring : Type 0 where
   pub words : Ptr
   pub slots : Ptr
@@ -17,7 +17,7 @@ pub record SendEnd : Type 0 where
   pub ring : Ring
   pub sent : List Cargo
 
--- all that the end has received, and the following ones that it has seen in the lane, oldest first
+-- all that the end has received, and the following ones that it has seen in the queue, oldest first
 pub record ReceiveEnd : Type 0 where
   pub ring : Ring
   pub received : List Cargo
@@ -34,10 +34,10 @@ module _ {A P : Type 0} where
     found = known_items c;
   }
 
--- the two ends of one lane
+-- the two ends of one queue
 abbrev pub AreEndsOf : SendEnd → ReceiveEnd → Type 0
 AreEndsOf s r = s.ring ≡ r.ring
 
--- the end after it has sent one cargo more
+-- the end after it has sent one more outbound message
 abbrev pub with_sent : SendEnd → Cargo → SendEnd
 with_sent end cargo = record end { sent = end.sent ++ cargo ∷ [] }

@@ -1,10 +1,10 @@
-//! Why lanes can't be made.
+//! Why lanes cannot be made.
 ghost use Rattle.std.specs.Prelude.{◌≡◌};
 ghost use Rattle.tora_lane.specs.Errors.{lane_error_number};
 
 use thiserror::Error;
 
-/// Why lanes can't be made.
+/// Why lanes cannot be made.
 #[derive(Clone, Copy, Debug, PartialEq, Eq, Hash, Error)]
 pub enum LaneError {
     /// There is not enough memory.

@@ -1,10 +1,10 @@
 //! The lanes (queues) between the core's thread and the neighbours' threads.
 //!
-//! Each lane is first-in, first-out, and contracts say so. The lane into the core is a channel: for each seat, the
-//! items that the core took, followed by those in the lane, are the items that the seat put, numbered from 1 without
-//! gaps. The lane to a neighbour is a ring with one producer and one consumer: the received cargoes, followed by the
-//! waiting ones, are the cargoes sent. A call on the lane into the core may wait. A call on the lane to a neighbour
-//! never waits and takes no memory.
+//! Each lane is a first-in, first-out queue, and contracts say so. The queue into the core is a channel: for each seat,
+//! the items that the core took, followed by those in the queue, are the items that the seat put, numbered from 1
+//! without gaps. The queue to a neighbour is a ring with one producer and one consumer: the outbound messages received,
+//! followed by those in the queue, are the outbound messages sent. A call on the queue into the core may wait. A call
+//! on the queue to a neighbour never waits and takes no memory.
 //!
 //! ```rust
 //! let Lanes { mut core, mut links, mut outs, .. } = lanes(rt, alloc, 1)?;

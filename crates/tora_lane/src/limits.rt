@@ -1,15 +1,15 @@
-//! The limits of lanes.
+//! The limits of lanes (queues).
 use tora_core::MOST_NEIGHBOURS;
 use tora_seat::{MOST_CARGOES, MOST_ITEMS};
 
 /// The most links of a node.
 pub const MOST_LINKS: usize = MOST_NEIGHBOURS;
 
-/// How many items the lane into the core can hold.
+/// How many items the queue into the core can hold.
 pub const CORE_LANE_ROOM: usize = MOST_ITEMS;
 
-/// How many cargoes the lane to a neighbour can hold.
+/// How many outbound messages the queue to a neighbour can hold.
 pub const OUT_LANE_ROOM: usize = MOST_CARGOES;
 
-/// How many items a seat puts at most, and how many cargoes a lane to a neighbour takes at most, in all: 2^61.
+/// The most items that a seat ever puts, and the most outbound messages that a queue to a neighbour ever takes: 2^61.
 pub const MOST_IN_ALL: u64 = 1 << 61;

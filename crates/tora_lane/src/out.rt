@@ -1,4 +1,4 @@
-//! The lane to a neighbour's thread.
+//! The queue to a neighbour's thread.
 ghost use Rattle.std.specs.Prelude.{◌≡◌, ◌+◌, ◌^◌, ◌<◌, ◌≤◌, ◌++◌, ◌∷◌, [], List, length, IsOk, IsErr, OnOk, IfOk};
 ghost use Rattle.std.specs.Prelude.{IfErr, IfSome, IfNone};
 ghost use Rattle.tora_lane.specs.Out.{AreEndsOf, with_sent};
@@ -11,7 +11,7 @@ use std::alloc::{AllocError, Global};
 use std::marker::Model;
 use tora_seat::Cargo;
 
-/// The core's end of the lane to a neighbour. Contracts see all that it has sent, oldest first.
+/// The core's end of the queue to a neighbour. Contracts see all that it has sent, oldest first.
 #[derive(Drop)]
 pub struct OutPut {
     producer: Producer<Cargo>,
@@ -32,8 +32,8 @@ impl Model for OutPut {
         × (o.count ≡ length (sent o.producer)) × (o.count ≤ 2 ^ 61) };
 }
 
-/// The neighbour's end of the lane from the core. Contracts see all that it has received, oldest first, and which of
-/// the following cargoes it has seen in the lane.
+/// The neighbour's end of the queue from the core. Contracts see all that it has received, oldest first, and which of
+/// the following outbound messages it has seen in the queue.
 #[derive(Drop)]
 pub struct OutTake {
     consumer: Consumer<Cargo>,
@@ -47,18 +47,18 @@ impl Model for OutTake {
     ghost view = { λ o. receive_end o.consumer };
 }
 
-/// How many cargoes went through a lane to a neighbour, and how many are left in it.
+/// How many outbound messages went through a queue to a neighbour, and how many are left in it.
 #[derive(Clone, Copy, Debug, PartialEq, Eq, Hash)]
 pub struct OutEnd {
-    /// How many cargoes were sent.
+    /// How many outbound messages were sent.
     pub sent: u64,
     /// How many of them were received.
     pub received: u64,
-    /// How many of them are left in the lane.
+    /// How many of them are left in the queue.
     pub waiting: u64,
 }
 
-// A lane with nothing in it.
+// An empty queue to a neighbour.
 pub(crate) fn out_lane(alloc: Global) -> Result<(OutPut, OutTake), AllocError>
     ensures { IfOk result (λ r. AreEndsOf r.0 r.1 × (r.0.sent ≡ []) × (r.1.received ≡ []) × (r.1.found ≡ [])) }
 {
@@ -68,12 +68,12 @@ pub(crate) fn out_lane(alloc: Global) -> Result<(OutPut, OutTake), AllocError>
 }
 
 impl OutPut {
-    /// Puts a cargo at the back of the lane. It never waits, and takes no memory.
+    /// Puts an outbound message at the back of the queue. It never waits, and takes no memory.
     ///
     /// # Errors
     ///
-    /// The cargo is returned and nothing changes if the lane is full, which needs at least `OUT_LANE_ROOM` sent
-    /// cargoes, and always once `MOST_IN_ALL` were sent.
+    /// The message is returned and nothing changes if the queue is full. It is never full before `OUT_LANE_ROOM`
+    /// messages were sent, and always once `MOST_IN_ALL` were sent.
     pub fn send(&mut self, cargo: Cargo) -> Result<(), Cargo>
         ensures put { OnOk result (self.new ≡ with_sent self.old cargo) }
         ensures back { IfErr result (λ c. (c ≡ cargo) × (self.new ≡ self.old)) }
@@ -94,10 +94,10 @@ impl OutPut {
 }
 
 impl OutTake {
-    /// Takes the oldest cargo of the lane, or `None` if it sees none. It never waits, and takes no memory.
+    /// Takes the oldest outbound message, or returns `None` if it sees none. It never waits, and takes no memory.
     ///
-    /// It looks into the lane when it has taken all cargoes that it saw before, and then sees all that are visible to
-    /// this thread. No clause says when a cargo that another thread has sent becomes visible.
+    /// It looks into the queue only after it has taken all messages that it saw before, and then sees all that are
+    /// visible to this thread. No clause says when a message that another thread has sent becomes visible.
     pub fn take(&mut self) -> Option<Cargo>
         ensures lane { self.new.ring ≡ self.old.ring }
         ensures taken { IfSome result (λ c. self.new.received ≡ self.old.received ++ c ∷ []) }
@@ -112,8 +112,9 @@ impl OutTake {
     }
 }
 
-/// Closes a lane whose two threads have ended, and returns the counts of its cargoes. The received cargoes, followed by
-/// those left in the lane, are all that were sent. Cargoes that were seen but not received are the first ones left.
+/// Closes a queue whose two threads have ended, and returns the counts of its outbound messages. The messages received,
+/// followed by those left in the queue, are all that were sent. Messages that were seen but not received are the first
+/// ones left.
 pub fn settle_out(put: OutPut, take: OutTake) -> OutEnd
     requires { AreEndsOf put take }
     ensures { (waiting : List Cargo) × (take.received ++ waiting ≡ put.sent) × IsPrefix take.found waiting

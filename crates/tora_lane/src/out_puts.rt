@@ -1,13 +1,13 @@
-//! The lanes from a core to its neighbours, as the seat offers cargoes to them.
+//! The queues from a core to its neighbours, as the seat offers outbound messages to them.
 ghost use Rattle.std.specs.Prelude.{◌≡◌, length};
 
 use crate::out::OutPut;
 use tora_seat::{Cargo, OutLanes};
 
-/// The core's ends of the lanes to its neighbours, one for each, in ascending order of the neighbours.
+/// The core's ends of the queues to its neighbours, one for each, in ascending order of the neighbours.
 #[derive(Drop)]
 pub struct OutPuts {
-    /// The ends.
+    /// The ends, in ascending order of the neighbours.
     pub ends: Vec<OutPut>,
 }
 

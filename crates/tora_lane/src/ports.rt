@@ -1,4 +1,4 @@
-//! The lane into the core: an in port for each seat, and the core's port.
+//! The queue into the core: a port for each seat, and the core's port.
 ghost use Rattle.std.specs.Prelude.{◌≡◌, ◌+◌, ◌^◌, ◌<◌, ◌≤◌, ◌++◌, ◌∷◌, [], true, false, List, length, IsErr, OnOk};
 ghost use Rattle.std.specs.Prelude.{OnErr, IfOk};
 ghost use Rattle.crossbeam_channel.specs.Ends.{sends_on};
@@ -15,7 +15,8 @@ use std::sync::Wait;
 use thiserror::Error;
 use tora_seat::{Item, What};
 
-/// The other side of the lane has ended, or the seat is used up. A port that has returned it always returns it.
+/// The other side of the queue has ended, or the seat has put all the items that it may put. A port that has returned
+/// `Gone` always returns it.
 #[derive(Clone, Copy, Debug, PartialEq, Eq, Hash, Error)]
 #[error("the lane has ended")]
 pub struct Gone;
@@ -26,7 +27,7 @@ type Receiver = RuledReceiver<Item, LaneView, LaneRule>;
 
 type LanePass = Pass<Item, LaneView>;
 
-/// The port of one seat of the lane into the core. Contracts see its lane, its seat, all that it has put, and whether
+/// The port of one seat of the queue into the core. Contracts see its queue, its seat, all that it has put, and whether
 /// it has returned `Gone`.
 #[derive(Drop)]
 pub struct InPort {
@@ -53,7 +54,7 @@ impl Model for InPort {
         × (p.count ≤ 2 ^ 61) };
 }
 
-/// The core's port of the lane into the core. Contracts see its lane, the count of seats, all that it has taken, and
+/// The core's port of the queue into the core. Contracts see its queue, the count of seats, all that it has taken, and
 /// whether it has returned `Gone`.
 #[derive(Drop)]
 pub struct CorePort {
@@ -86,7 +87,7 @@ impl Model for CorePort {
         ≡ length (items_of s (took_of (lane_view p.pass)))) };
 }
 
-/// The core's port after its end: the ports of seats can still be closed. Contracts see what they see of the port.
+/// The core's port after it has ended: the ports of seats can still be closed. Contracts see what they saw of the port.
 #[derive(Drop)]
 pub struct Settling {
     pass: LanePass,
@@ -124,18 +125,18 @@ pub struct Settled {
     pub put: u64,
     /// How many of them the core has taken.
     pub taken: u64,
-    /// How many of them are left in the lane.
+    /// How many of them are left in the queue.
     pub left: u64,
 }
 
 impl InPort {
-    /// Puts an item at the back of the lane into the core, with the next number of the seat. It may wait.
+    /// Puts an item at the back of the queue into the core, with the next number of the seat. It may wait.
     ///
     /// `now` is the tick of 100 ms at which it is put.
     ///
     /// # Errors
     ///
-    /// `Gone` if the core's port has ended, or if the seat has put `MOST_IN_ALL` items. Nothing is put then.
+    /// `Gone` if the core's port has ended, or if the seat has put `MOST_IN_ALL` items. Then nothing is put.
     pub fn put<R: Wait>(&mut self, rt: &R, now: u64, what: What) -> Result<(), Gone>
         ensures lane { (self.new.lane ≡ self.old.lane) × (self.new.seat ≡ self.old.seat) }
         ensures put { OnOk result (self.new.put ≡ self.old.put ++ new_item self.old.seat (length self.old.put + 1) now
@@ -168,7 +169,7 @@ impl InPort {
     }
 }
 
-// A lane with no seat, and its sender.
+// A queue with no seat, and its sender.
 pub(crate) fn core_lane(alloc: Global) -> Result<(CorePort, Sender), AllocError>
     ensures { IfOk result (λ r. (r.0 ≡ new_core r.0.lane 0) × IsChannelOf r.0.lane (sends_on r.1)) }
 {
@@ -186,7 +187,7 @@ pub(crate) fn core_lane(alloc: Global) -> Result<(CorePort, Sender), AllocError>
 }
 
 impl CorePort {
-    // Makes the port of the next seat. It is called before anything is taken.
+    // Makes the port of the next seat. It is called before any item is taken.
     pub(crate) fn new_seat(&mut self, sender: &Sender) -> Result<InPort, AllocError>
         requires channel { IsChannelOf self.old.lane (sends_on sender.now) }
         requires empty { self.old.taken ≡ [] }
@@ -207,11 +208,11 @@ impl CorePort {
         })
     }
 
-    /// Takes the first item of the lane into the core, which has the next number of its seat. It may wait.
+    /// Takes the first item of the queue into the core, which has the next number of its seat. It may wait.
     ///
     /// # Errors
     ///
-    /// `Gone` if the ports of all seats have ended. Nothing is taken then.
+    /// `Gone` if the ports of all seats have ended. Then nothing is taken.
     pub fn take<R: Wait>(&mut self, rt: &R) -> Result<Item, Gone>
         ensures lane { (self.new.lane ≡ self.old.lane) × (self.new.seats ≡ self.old.seats) }
         ensures taken { IfOk result (λ x. (self.new.taken ≡ self.old.taken ++ x ∷ []) × (x.seat < self.old.seats)
@@ -236,7 +237,7 @@ impl CorePort {
     }
 
     /// Closes the port of a seat whose thread has ended, and returns the counts of its items. The items that the core
-    /// took from this seat, followed by those left in the lane, are all that the seat put.
+    /// took from this seat, followed by those left in the queue, are all that the seat put.
     pub fn settle<R: Wait>(&mut self, _rt: &R, port: InPort) -> Settled
         requires { IsPortOf self.old port }
         ensures same { self.new ≡ self.old }

@@ -1,4 +1,4 @@
-//! The rule of the lane into the core. The types here are for proofs only.
+//! The rule of the queue into the core. The types here are for proofs only.
 use crossbeam_channel::protocol::{Join, Lesson, Outcome, Protocol, Split};
 use std::collections::LinkedList;
 use tora_seat::Item;
@@ -9,11 +9,11 @@ pub enum LaneView {
     Seat(usize, LinkedList<Item>),
     /// The core: the count of seats, what it has taken, and what each closed seat has put.
     Core(usize, LinkedList<Item>, LinkedList<(usize, LinkedList<Item>)>),
-    /// A pass that was given up.
+    /// A pass that is no longer used.
     Spent,
 }
 
-/// The rule of the lane: for each seat, the items taken, followed by those in the lane, are the items put.
+/// The rule of the queue: for each seat, the items taken, followed by those in the queue, are the items put.
 pub struct LaneRule;
 
 impl Protocol<Item, LaneView> for LaneRule {
@@ -65,7 +65,7 @@ impl Split<LaneView> for NewSeat {
     ghost right = { new_seat };
 }
 
-/// The core closes the port of a seat, and learns what became of its items.
+/// The core closes the port of a seat, and learns which of its items were taken and which are left.
 pub struct Settles;
 
 impl Join<LaneView> for Settles {

@@ -1,4 +1,4 @@
--- What a write of a slot leaves of both.
+-- The effect of the write of a slot on both slots.
 use Rattle.std.proofs.Common.{◌≡◌, ◌≤◌, ◌<◌, ◌^◌, ◌+◌, ◌-◌, inl, inr, ℕ, List, [], ◌∷◌, ◌++◌, length, take, drop, refl, sym, ◌∙◌, ap, subst, arith, length-append, length-take, append_assoc, ◌⊎◌, nat_le, zero, suc, min, if◌then◌else◌}
 use Rattle.std.proofs.lemmas.Bool.Decides.{nat_tests}
 use Rattle.std.proofs.lemmas.List.{take_at, drop_at, take_all, drop_all, drop-drop}
@@ -79,13 +79,13 @@ torn_covers : (owner : Owner) (slot : Slot) (old new : List ℕ) → drop 32 old
 torn_covers owner slot old new tag torn =
     record { value = subst (λ (k : ℕ). k ≤ file_value new) (torn_keeps slot old new torn) (kept_below slot new); tag = torn_tag slot old new torn ∙ tag }
 
--- after the write of a slot, whatever a crash leaves of it
+-- the property of the images after the write of a slot, which a crash may tear
 pub images_keep : (owner : Owner) (slot : Slot) (file : List ℕ) (at n : ℕ) (old : List ℕ → Type 0) → at ≡ place_of slot → n ≡ 16 → drop 32 file ≡ tag_of owner → IsOnlyImage file old → (c : List ℕ) → IsTornFrom at n old c → Covers owner (kept_bound slot file) c
 images_keep owner slot file at n old here is tag only c from =
     let torn : Torn (place_of slot) 16 file c = subst (λ (f : List ℕ). Torn (place_of slot) 16 f c) (only from.0 from.1) (subst (λ (k : ℕ). Torn (place_of slot) k from.0 c) is (subst (λ (p : ℕ). Torn p n from.0 c) here from.2)) in
     torn_covers owner slot file c tag torn
 
--- once it is on the disk
+-- the file after the slot is on the disk
 pub replaced : (slot : Slot) (bound at : ℕ) (file bytes new : List ℕ) (images : List ℕ → Type 0) → at ≡ place_of slot → bytes ≡ slot_of bound → bound < 2 ^ 64 → place_of slot ≤ length file → Holds file at bytes new → IsOnlyImage new images → IsReplaced slot bound file new images
 replaced slot bound at file bytes new images here is below le holds only =
     let long : length bytes ≡ 16 = ap length is ∙ length-slot_of bound in
@@ -117,7 +117,7 @@ drop_min n l = elim (le_or_lt n (length l)) [
   | inr lt ↦ drop_all (min (length l) n) l (omega arith) ∙ sym (drop_all n l (omega arith))
 ]
 
--- a read into a longer buffer gives the whole file
+-- a read that does not fill the buffer returns the whole file
 pub read_whole : (seen buf new : List ℕ) (n : ℕ) → IsRead seen 0 buf n new → n < length buf → (take n new ≡ seen) × (n ≡ length seen)
 read_whole seen buf new n read short =
     let none : drop 0 seen ≡ seen = drop_none seen in
@@ -126,7 +126,7 @@ read_whole seen buf new n read short =
     let whole : take (length buf) (drop 0 seen) ≡ seen = ap (λ (l : List ℕ). take (length buf) l) none ∙ take_all (length buf) seen (omega (arith, count, short)) in
     (ap (λ (l : List ℕ). take n l) (read.bytes ∙ ap (λ (l : List ℕ). l ++ drop n buf) whole) ∙ take_at seen (drop n buf) n (sym is), is)
 
--- and otherwise it is longer
+-- a read that fills the buffer shows that the file is longer
 pub read_long : (seen buf new : List ℕ) (n m : ℕ) → IsRead seen 0 buf n new → m < n → m < length seen
 read_long seen buf new n m read lt =
     let none : drop 0 seen ≡ seen = drop_none seen in

@@ -1,4 +1,4 @@
--- A draw from a life file in memory keeps what it is to keep.
+-- A draw from a life file in memory keeps the invariant.
 use Rattle.std.proofs.Common.{◌≡◌, inl, inr, ℕ, ◌+◌, ◌^◌, ◌≤◌, max, Bool, true, false, List, length, refl, sym, ◌∙◌, ap, subst, arith, Result, Ok, Err, OnOk, IsFalse, nat_le, nat_lt, ◌==◌, if◌then◌else◌}
 use Rattle.std.proofs.lemmas.Bool.Decides.{nat_tests}
 use Rattle.tora_life.specs.declared.disk.DiskError.{DiskError}
@@ -115,7 +115,7 @@ module _ (owner : Owner) (numbers : Numbers) (s : State) (whole : IsWhole s) (ke
       )
 
 module _ (owner : Owner) (numbers : Numbers) (s : State) (whole : IsWhole s) (kept : IsKeptOn owner numbers s) where
-  -- a number that was reserved before
+  -- the next number is reserved already
   in_hand : IsFalse numbers.failed → false ≡ (numbers.drawn == value_of numbers) → IsKeptOn owner (record numbers { drawn = numbers.drawn + 1 }) s
   in_hand sound not =
       let less : numbers.drawn + 1 ≤ value_of numbers = grind (arith, nat_tests, kept.room) in
@@ -158,7 +158,7 @@ answer_is numbers false true false (Ok u) (Err e) n is = absurd (cc)
 answer_is numbers false true false (Ok u) (Ok v) n is = cc
 answer_is numbers false false none written synced n is = cc
 
--- what is drawn is the number after the last one
+-- the number drawn is the one after the last number
 pub drawn_is : (numbers : Numbers) (s : State) (n : ℕ) → draw_answer numbers s ≡ Ok n → n ≡ numbers.drawn + 1
 drawn_is numbers s n is =
     answer_is numbers numbers.failed (numbers.drawn == value_of numbers) (nat_lt (2 ^ 62) (value_of numbers + 16)) (slot_answer numbers s) (sync_answer (slot_state numbers s)) n is

@@ -1,4 +1,4 @@
--- The calls of a disk in memory that open a life file determine the result and the disk's state.
+-- The calls of a disk in memory with which a life file is opened determine the result and the disk's state.
 use Rattle.std.proofs.Common.{◌≡◌, ℕ, Bool, true, false, List, Result, Ok, Err, is_ok, MatchResult, sym, ◌∙◌, ap, replicate}
 use Rattle.tora_life.specs.declared.disk.DiskError.{DiskError}
 use Rattle.tora_life.specs.declared.migration.Version.{Version}

@@ -1,4 +1,4 @@
--- What a life file becomes by its migration.
+-- The effect of the migration on a life file.
 use Rattle.std.proofs.Common.{◌≡◌, ◌≤◌, ◌<◌, ◌^◌, ◌+◌, ◌-◌, inl, inr, ℕ, zero, suc, Bool, true, false, List, [], ◌∷◌, ◌++◌, length, take, drop, replicate, max, get_or, refl, sym, ◌∙◌, ap, subst, arith, length-append, length-take, append_assoc, append-nil, if◌then◌else◌, nat_lt, Result, Ok, Err}
 use Rattle.std.proofs.lemmas.Bool.Decides.{nat_tests}
 use Rattle.std.proofs.lemmas.List.{take_at, drop_at, take_all, drop_all, take-take, drop-take, length-replicate, length-drop, take-append-drop}
@@ -81,7 +81,7 @@ agree (x ∷ xs) [] i le lt = absurd (omega arith)
 agree (x ∷ xs) (a ∷ l) zero le lt = absurd (omega arith)
 agree (x ∷ xs) (a ∷ l) (suc i) le lt = agree xs l i (omega arith) (omega arith)
 
--- two numbers that end in the same byte are no complements
+-- two numbers whose last bytes are equal are not complements
 uneven : (xs ys : List ℕ) → get_or xs 7 0 ≡ get_or ys 7 0 → number_of xs + number_of ys ≡ 2 ^ 64 - 1 → ⊥
 unfolding number_of
 uneven xs ys same is = omega (arith, same, is)
@@ -208,7 +208,7 @@ module _ (owner : Owner) (file : List ℕ) where
   pub migrated_value : file_value (migrated owner file) ≡ file_value file
   migrated_value = λ i. max (migrated_slot_0 i) (migrated_slot_1 i)
 
-  -- the first 32 bytes, as far as they are there
+  -- the first 32 bytes, as far as the file has them
   front : take 32 file ≡ one ++ two
   front = elim (le_or_lt 16 (length file)) [
     | inl le ↦
@@ -236,7 +236,7 @@ module _ (owner : Owner) (file : List ℕ) where
         )
   ]
 
-  -- the contents of the file stay
+  -- the migration keeps the contents of the file
   pub migration_keeps : take (migration_place file) (migrated owner file) ≡ take (migration_place file) file
   migration_keeps =
       ap (λ (l : List ℕ). take (migration_place file) l) goes_on.1 ∙ take_at (take 32 file) goes_on.0 (migration_place file) (omega (arith, length-take 32 file)) ∙ sym (take_min 32 file)
@@ -251,7 +251,7 @@ module _ (owner : Owner) (file : List ℕ) where
       holds ∙ ap (λ (l : List ℕ). take (migration_place file) file ++ migration_bytes owner file ++ l) none ∙ append-nil (take (migration_place file) file ++ migration_bytes owner file)
       ∙ ap (λ (l : List ℕ). l ++ migration_bytes owner file) (sym migration_keeps) ∙ take-append-drop (migration_place file) (migrated owner file)
 
-  -- a file that has its tag stays
+  -- a file with its tag is unchanged
   pub tagged_stays : drop 32 file ≡ tag_of owner → migrated owner file ≡ file
   tagged_stays is =
       let long : length file ≡ 64 = tagged_length owner file is in

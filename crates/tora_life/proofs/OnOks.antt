@@ -1,4 +1,4 @@
--- Two facts of one result.
+-- Two facts about one result.
 use Rattle.std.proofs.Common.{Result, Ok, Err, OnOk}
 
 pub both_ok : {T E A B C : Type 0} → (r : Result T E) → (A → B → C) → OnOk r A → OnOk r B → OnOk r C

@@ -20,7 +20,7 @@ read_numbers file first second drawn a b d =
     let d' : drawn ≡ file_value file = d ∙ (λ i. max (a' i) (b' i)) in
     λ i. record { first = a' i; second = b' i; drawn = d' i; failed = false }
 
--- the invariant of an opened file, of which these bytes were read
+-- the invariant of an opened file, from the bytes that were read
 pub opened_kept : {D : Type 0} (tells : D → Bool) (seen : D → List ℕ) (may_leave : D → List ℕ → Type 0) (owner : Owner) (numbers : Numbers) (disk : D) (bytes : List ℕ) → numbers.drawn ≡ value_of numbers → (IsTrue (tells disk) → numbers ≡ numbers_of bytes) → (IsTrue (tells disk) → seen disk ≡ migrated owner bytes) → (IsTrue (tells disk) → IsOnlyImage (seen disk) (may_leave disk))
     → IsKept tells seen may_leave owner numbers disk
 opened_kept tells seen may_leave owner numbers disk bytes used is whole only = record {
@@ -50,7 +50,7 @@ read_version owner seen buf n read = elim (le_or_lt 65 n) [
   | inr lt ↦ ap (version_of owner) (read_whole seen (replicate 65 0) buf n read lt).0
 ]
 
--- a file that opens was read whole
+-- if a file opens, the whole of it was read
 pub read_all : (owner : Owner) (seen buf : List ℕ) (n : ℕ) (v : Version) → IsRead seen 0 (replicate 65 0) n buf → version_of owner (take n buf) ≡ Ok v → take n buf ≡ seen
 read_all owner seen buf n v read is =
     let fits : length seen ≤ 64 = version_fits owner seen v (sym (read_version owner seen buf n read) ∙ is) in

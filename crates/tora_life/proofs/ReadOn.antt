@@ -19,7 +19,7 @@ module _ (there old buf : List ℕ) (count : ℕ) (long : length buf ≡ length 
   before : take count buf ≡ take count there
   before = ap (take count) so_far ∙ take_at (take count there) (drop count old) count front
 
-  -- what is left of the buffer
+  -- the rest of the buffer
   pub left_is : mid_of count (length buf - count) buf ≡ drop count old
   left_is = take_all (length buf - count) (drop count buf) (omega (arith, length-drop count buf)) ∙ back
 
@@ -40,7 +40,7 @@ module _ (there old buf : List ℕ) (count : ℕ) (long : length buf ≡ length 
       ∙ ap (λ (l : List ℕ). take count buf ++ l) (take-append-drop (length buf - count) (drop count buf))
       ∙ take-append-drop count buf
 
--- the read ends where nothing is left, or nothing fits
+-- the read ends if no bytes are left, or none fit
 pub ends_read : (seen : List ℕ) (at : ℕ) (old : List ℕ) (count : ℕ) (new : List ℕ) → count ≤ length old → count ≤ length (drop at seen)
     → (length (drop count old) ≡ 0) ⊎ (length (drop count (drop at seen)) ≡ 0) → IsSoFar (drop at seen) old count new → IsRead seen at old count new
 ends_read seen at old count new fits within end so_far = ⊎_elim
@@ -54,11 +54,11 @@ ends_read seen at old count new fits within end so_far = ⊎_elim
     })
     end
 
--- the buffer after the bytes read
+-- the bytes after those that were read
 pub behind : (seen : List ℕ) (at count place : ℕ) → place ≡ at + count → drop place seen ≡ drop count (drop at seen)
 behind seen at count place is = ap (λ (n : ℕ). drop n seen) is ∙ sym (drop-drop count at seen)
 
--- one read more, of a reader with these bytes
+-- one more read, from a reader with these bytes
 module _ (seen : List ℕ) (at : ℕ) (old buf : List ℕ) (count place n : ℕ) (sub : List ℕ) (long : length buf ≡ length old) (few : count ≤ length buf) (within : count ≤ length (drop at seen)) (so_far : IsSoFar (drop at seen) old count buf) (is : place ≡ at + count)
     (part : IsReadInPart seen place (mid_of count (length buf - count) buf) n sub) where
   there : List ℕ
@@ -81,6 +81,6 @@ module _ (seen : List ℕ) (at : ℕ) (old buf : List ℕ) (count place n : ℕ)
       (subst₂ (λ (l m : List ℕ). (length l ≡ 0) ⊎ (length m ≡ 0)) left next (part.some none))
       (subst (λ (k : ℕ). IsSoFar (drop at seen) old k (put_mid count (length buf - count) buf sub)) (omega arith) more_read.1)
 
--- a place within the bytes needs no more than 64 bits
+-- an offset within the bytes fits into 64 bits
 pub place_is : (seen : List ℕ) (at count place : ℕ) → place ≡ min (at + count) 18446744073709551615 → count ≤ length (drop at seen) → length seen < 2 ^ 64 → at < 2 ^ 64 → place ≡ at + count
 place_is seen at count place is within size fits = omega (arith, length-drop at seen)

@@ -1,4 +1,4 @@
--- Each read of a reader as a step of those that read on.
+-- Each read is a step of a read that continues.
 use Rattle.std.proofs.Common.{◌≡◌, ◌≢◌, inl, inr, ℕ, suc, ◌+◌, ◌-◌, ◌<◌, ◌≤◌, ◌==◌, min, Bool, List, ◌++◌, length, take, drop, Result, Ok, Err, MatchBool, refl, sym, ◌∙◌, ap, subst, arith, rules, eqb-true}
 use Rattle.std.proofs.lemmas.Bool.{false_from_ne_true}
 use Rattle.std.proofs.lemmas.List.{take_all, drop_all, append-nil, length-drop}
@@ -8,7 +8,7 @@ use Rattle.std.specs.IoError.{error_kind}
 use borrow.Rule.Slice.PartMut.{put_mid, mid_of}
 use Rattle.tora_life.specs.WholeRead.{ReadsOn}
 
--- no read is left
+-- no more reads are allowed
 pub none_left : {F : Type 0} (read : F → ℕ → List ℕ → Result ℕ Error → List ℕ → F → Type 0) (left at : ℕ) (reader : F) (count : ℕ) (buf : List ℕ) (error : Error) → left ≡ 0 → ReadsOn read left at reader count buf (Err error) reader buf
 unfolding ReadsOn
 none_left read left at reader count buf error none = subst (λ (n : ℕ). ReadsOn read n at reader count buf (Err error) reader buf) (sym none) (search rules)
@@ -41,14 +41,14 @@ module _ {F : Type 0} (read : F → ℕ → List ℕ → Result ℕ Error → Li
   ends n none did = now (Ok count) between (put_mid count (length buf - count) buf bytes)
       (Ok 0, bytes, between, step (Ok 0) (subst (λ (m : ℕ). read reader place (mid_of count (length buf - count) buf) (Ok m) bytes between) none did), (refl, refl, put_is))
 
-  -- something was read, and more is
+  -- a read returned bytes, and reading continues
   pub goes_on : (n : ℕ) → n ≢ 0 → read reader place (mid_of count (length buf - count) buf) (Ok n) bytes between
       → (answer : Result ℕ Error) (after : F) (new : List ℕ) → ReadsOn read (most - (k + 1)) at between (count + n) (put_mid count (length buf - count) buf bytes) answer after new → ReadsOn read (most - k) at reader count buf answer after new
   unfolding ReadsOn
   goes_on n some did answer after new onward = now answer after new
       (Ok n, bytes, between, step (Ok n) did, not_none _ _ n some (subst (λ (l : List ℕ). ReadsOn read (most - (k + 1)) at between (count + n) l answer after new) put_is onward))
 
-  -- a read was interrupted, and is made again
+  -- a read was interrupted, and is repeated
   pub again : (error : Error) → error_kind error ≡ Interrupted → read reader place (mid_of count (length buf - count) buf) (Err error) bytes between
       → (answer : Result ℕ Error) (after : F) (new : List ℕ) → ReadsOn read (most - (k + 1)) at between count (put_mid count (length buf - count) buf bytes) answer after new → ReadsOn read (most - k) at reader count buf answer after new
   unfolding ReadsOn

@@ -1,4 +1,4 @@
--- Drawn life numbers rise over each run of a life file in memory.
+-- Drawn session numbers rise over each run of a life file in memory.
 use Rattle.std.proofs.Common.{◌≡◌, ◌⊎◌, inl, inr, ℕ, ◌+◌, ◌-◌, ◌<◌, ◌≤◌, min, Bool, true, false, List, [], ◌∷◌, ◌++◌, length, take, drop, replicate, refl, sym, ◌∙◌, ap, subst, arith, length-take, Result, Ok, Err, OnOk, if◌then◌else◌, Option}
 use Rattle.std.proofs.lemmas.List.{take_at, length-replicate}
 use Rattle.tora_life.specs.declared.disk.DiskError.{DiskError}
@@ -29,17 +29,17 @@ use Rattle.tora_life.proofs.Draws.{Goes, draw_keeps, drawn_is}
 abbrev zeros : List ℕ
 zeros = replicate 65 0
 
--- a disk of which a crash leaves what it reads as
+-- a disk whose only image is what a read returns
 module _ (n : ℕ) (owner : Owner) (t : State) (whole : IsWhole t) (one : IsOnlyImage (seen_of t) (MayLeave t)) (above : n ≤ file_value (seen_of t)) where
   unopened : (u : State) → IsWhole u → ((c : List ℕ) → MayLeave u c → MayLeave t c) → IsFloor n (Unopened owner u)
   unopened u w back = record { whole = w; images = λ c may. subst (λ (l : List ℕ). n ≤ file_value l) (sym (one c (back c may))) above }
 
-  -- what was read of it is its whole file
+  -- the read returned the whole file
   module _ (file : List ℕ) (is : file ≡ seen_of t) (fits : length file ≤ 64) where
     above_file : n ≤ file_value file
     above_file = subst (λ (l : List ℕ). n ≤ file_value l) (sym is) above
 
-    -- it has its tag once it is migrated
+    -- the file has its tag after the migration
     opens : (u : State) → IsWhole u → seen_of u ≡ migrated owner file → IsOnlyImage (seen_of u) (MayLeave u) → IsFloor n (Opened owner (numbers_of file) u)
     opens u w seen only = record {
       whole = w;
@@ -111,7 +111,7 @@ module _ (n : ℕ) (owner : Owner) (s : State) (floor : IsFloorOfDisk n s) where
   pub opened_floor : IsFloor n (opened owner s)
   opened_floor = open_floor s.sync_fails
 
--- only the disk
+-- the floor depends only on the disk
 pub below : (n : ℕ) (disk : LifeDisk) → IsFloor n disk → IsFloorOfDisk n (state_in disk)
 below n (Opened owner numbers s) floor = record { whole = floor.whole; images = λ c may. omega (arith, (floor.kept.images refl c may).value, floor.drawn) }
 below n (Unopened owner s) floor = floor
@@ -136,7 +136,7 @@ armed_floor : (n : ℕ) (call : DiskCall) (disk : LifeDisk) → IsFloor n disk �
 armed_floor n call (Opened owner numbers s) floor = record { whole = armed_whole s floor.whole call; kept = armed_kept call owner numbers s floor.kept; drawn = floor.drawn }
 armed_floor n call (Unopened owner s) floor = record { whole = armed_whole s floor.whole call; images = λ c may. floor.images c (armed_images call s c may) }
 
--- what an event does: it draws nothing and keeps the floor, or it draws a number above it, which is the new floor
+-- an event draws nothing and keeps the floor, or draws a number above it, which is the new floor
 abbrev Step : ℕ → List ℕ → LifeDisk → Type 0
 Step n [] after = IsFloor n after
 Step n (x ∷ []) after = (n < x) × IsFloor x after
@@ -201,7 +201,7 @@ rises n disk (event ∷ events) floor run =
     go n (x ∷ []) after events rest is = (is.0, rest x is.1)
     go n (x ∷ y ∷ more) after events rest is = absurd is
 
--- an event draws one number at most
+-- an event draws at most one number
 number_of_answer : (r : Result ℕ LifeError) → (number_in r ≡ []) ⊎ ((x : ℕ) × (number_in r ≡ x ∷ []))
 number_of_answer (Ok x) = inr (x, refl)
 number_of_answer (Err e) = inl refl

@@ -1,4 +1,4 @@
--- One byte more is torn.
+-- One more byte is torn.
 use Rattle.std.proofs.Common.{◌≡◌, ℕ, zero, suc, ◌+◌, ◌%◌, ◌<◌, ◌≤◌, Bool, true, false, List, [], ◌∷◌, length, take, get_or, refl, sym, ◌∙◌, ap, subst, arith, length-take, if◌then◌else◌, Option, Some, None, inl, inr}
 use Rattle.std.proofs.Math.ListN.{set}
 use Rattle.tora_life.specs.TornBytes.{torn_over}
@@ -24,7 +24,7 @@ torn_same i torn (m ∷ ms) [] j lt is le = absurd (omega arith)
 torn_same i torn (m ∷ ms) (b ∷ bytes) zero lt is le = ap (λ (v : Bool). (if v then get_or torn (i % 16) 0 else b) ∷ bytes) (sym is)
 torn_same i torn (m ∷ ms) (b ∷ bytes) (suc j) lt is le = ap (λ (l : List ℕ). (if m then get_or torn (i % 16) 0 else b) ∷ l) (torn_same (i + 1) torn ms bytes j (omega arith) is (omega arith))
 
--- what is torn is an image
+-- the torn file is an image
 pub torn_image : (i : ℕ) (torn : List ℕ) (ms : List Bool) (bytes : List ℕ) (k : ℕ) → k ≤ length ms → length ms ≤ length bytes → IsImage (take k bytes) ms (take (length ms) (torn_over i torn ms bytes))
 torn_image i torn [] bytes zero le fits = omega arith
 torn_image i torn [] bytes (suc k) le fits = absurd (omega arith)
@@ -40,14 +40,14 @@ crash_left (Some torn) s whole =
     inr (subst (λ (n : ℕ). IsImage (synced_of s) (marks_of s) (take n (torn_over 0 torn (marks_of s) s.synced))) marks
     (torn_image 0 torn (marks_of s) s.synced s.synced_len (omega (arith, marks, whole.synced_len)) (omega (arith, marks, whole.reach, whole.synced))))
 
--- and nothing is left of it that wasn't before
+-- every image after a crash was an image before it
 pub crash_images : (torn : Option (List ℕ)) (s : State) → IsWhole s → (c : List ℕ) → MayLeave (after_crash torn s) c → MayLeave s c
 crash_images None s whole c (inl seen) = subst (λ (l : List ℕ). MayLeave s l) (sym seen) (crash_left None s whole)
 crash_images None s whole c (inr image) = inr image
 crash_images (Some torn) s whole c (inl seen) = subst (λ (l : List ℕ). MayLeave s l) (sym seen) (crash_left (Some torn) s whole)
 crash_images (Some torn) s whole c (inr image) = inr image
 
--- to arm a call changes no bytes
+-- arming a call changes no bytes
 pub armed_images : (call : DiskCall) (s : State) (c : List ℕ) → MayLeave (armed call s) c → MayLeave s c
 armed_images Read s c left = left
 armed_images Write s c left = left
@@ -74,7 +74,7 @@ crash_whole (Some torn) s whole = record {
   written = whole.written;
 }
 
--- one turn of the loop
+-- one step of the loop
 pub turn_true : (torn : List ℕ) (ms : List Bool) (before bytes after : List ℕ) (j : ℕ) → bytes ≡ torn_over 0 torn (take j ms) before → after ≡ set bytes j (get_or torn (j % 16) 0) → j < length ms → get_or ms j false ≡ true → length ms ≤ length before → after ≡ torn_over 0 torn (take (j + 1) ms) before
 turn_true torn ms before bytes after j so_far is lt marked le =
     let e : j ≡ 0 + j = omega arith in

@@ -1,4 +1,4 @@
--- The calls of a disk in memory keep it whole.
+-- The calls of a disk in memory keep its invariant.
 use Rattle.std.proofs.Common.{◌≡◌, ℕ, ◌+◌, ◌-◌, ◌≤◌, max, Bool, true, false, List, length, replicate, refl, ◌∙◌, arith, length-append, nat_lt, if◌then◌else◌}
 use Rattle.std.proofs.lemmas.List.{length-replicate}
 use Rattle.std.proofs.lemmas.Bool.Decides.{nat_tests}

@@ -25,7 +25,7 @@ WritesAndSyncs {D = D} writes syncs at bytes old ok new =
     × MatchResult written (λ _. (synced : Result (Unit {0}) DiskError) × syncs between synced new
     × (is_ok synced ≡ ok)) (λ _. (new ≡ between) × (is_ok written ≡ ok))
 
--- the bytes that a read into 65 bytes returned: the whole file if it has at most 64
+-- the file that a read into 65 bytes returned: the whole file, if it has at most 64 bytes
 abbrev pub file_read : Result ℕ DiskError → List ℕ → List ℕ
 file_read (Ok count) bytes = take count bytes
 file_read (Err _) bytes = []
@@ -34,12 +34,12 @@ abbrev pub version_read : Owner → Result ℕ DiskError → List ℕ → Result
 version_read owner (Ok count) bytes = version_of owner (take count bytes)
 version_read owner (Err _) bytes = Err Disk
 
--- the result of opening a file that was read, if its migration succeeds or fails
+-- the result of opening a file that was read; the flag says whether a migration, if there is one, succeeded
 abbrev pub answer_after : Bool → List ℕ → Result Numbers LifeError
 answer_after ok file = if ok then Ok (numbers_of file) else Err Disk
 
--- after the file was read: no more call if it has its tag or is refused; otherwise one write up to the end of its tag,
--- and a sync
+-- after the file was read: no further call if it has its tag or is refused; otherwise one write up to the end of its
+-- tag, and a sync
 abbrev pub Migrates : {D : Type 0} → (D → ℕ → List ℕ → Result (Unit {0}) DiskError → D → Type 0)
     → (D → Result (Unit {0}) DiskError → D → Type 0) → Owner → List ℕ → Result Version LifeError → D
     → Result Numbers LifeError → D → Type 0

@@ -10,7 +10,7 @@ pub record FuseView (D : Type 0) : Type 0 where
   pub fuse : Fuse
   pub failures : ℕ
 
--- a call that fails on purpose makes no call of the disk, any other is that call; failed ones are counted
+-- a call that fails on purpose makes no call of the inner disk, any other makes that call; failed calls are counted
 abbrev pub GoesThroughFuse : {D T : Type 0} → (Result T DiskError → D → Type 0) → FuseView D → Result T DiskError
     → FuseView D → Type 0
 GoesThroughFuse call f answer after =
@@ -22,7 +22,7 @@ GoesThroughFuse call f answer after =
       failures = failures_after answer f.failures;
     }))
 
--- a read that fails on purpose leaves the buffer
+-- a read that fails on purpose leaves the buffer unchanged
 abbrev pub ReadsThroughFuse : {D : Type 0} → (D → ℕ → List ℕ → Result ℕ DiskError → List ℕ → D → Type 0) → FuseView D
     → ℕ → List ℕ → Result ℕ DiskError → List ℕ → FuseView D → Type 0
 ReadsThroughFuse read f at old answer new after =

@@ -1,5 +1,5 @@
--- A life file on a disk in memory: the results and effects of its calls, as functions of its numbers and the state of
--- the disk.
+-- A life file on a disk in memory: the results and effects of its calls, as functions of its numbers and the disk's
+-- state.
 use Rattle.std.specs.Prelude.{ℕ, ◌+◌, ◌^◌, List, Result, Ok, Err, if◌then◌else◌, ◌==◌, nat_lt, true, replicate}
 use Rattle.tora_life.specs.declared.numbers.Numbers.{Numbers}
 use Rattle.tora_life.specs.declared.numbers.LifeError.{LifeError}
@@ -15,26 +15,26 @@ use Rattle.tora_life.specs.Numbers.{value_of, lesser_slot, numbers_of, IsKept}
 use Rattle.tora_life.specs.Calls.{place_of, file_read, version_read}
 use Rattle.tora_life.specs.State.{read_answer, bytes_read, after_read, write_answer, after_write, sync_answer, after_sync, seen_of, MayLeave}
 
--- the first if the device call succeeded, the second if it failed
+-- the first value if the call of the disk succeeded, the second if it failed
 abbrev pub by_result : {A T : Type 0} → Result T DiskError → A → A → A
 by_result (Ok _) ok err = ok
 by_result (Err _) ok err = err
 
--- the read of `open`, and what it leaves in the buffer
+-- the count of bytes that the read of `open` returns
 abbrev pub count_read : State → Result ℕ DiskError
 count_read s = read_answer s 0 (replicate 65 0)
 
 abbrev pub buffer_read : State → List ℕ
 buffer_read s = bytes_read s 0 (replicate 65 0)
 
--- the write of a migration
+-- the result of the write of a migration
 abbrev pub migration_answer : Owner → List ℕ → State → Result (Unit {0}) DiskError
 migration_answer owner file s = write_answer s (migration_place file) (migration_bytes owner file)
 
 abbrev pub migration_state : Owner → List ℕ → State → State
 migration_state owner file s = after_write s (migration_place file) (migration_bytes owner file)
 
--- once a file was read
+-- the result after a file was read, by its version
 abbrev pub version_answer : Owner → List ℕ → Result Version LifeError → State → Result Numbers LifeError
 version_answer owner file (Err error) s = Err error
 version_answer owner file (Ok Tagged) s = Ok (numbers_of file)
@@ -62,7 +62,7 @@ open_state owner s =
     let bytes = buffer_read synced in by_result (sync_answer s) (version_state owner (file_read count bytes)
     (version_read owner count bytes) (after_read synced)) synced
 
--- the write of a draw that reserves numbers
+-- the result of the write of a draw that reserves numbers
 abbrev pub slot_answer : Numbers → State → Result (Unit {0}) DiskError
 slot_answer numbers s = write_answer s (place_of (lesser_slot numbers)) (slot_of (value_of numbers + 16))
 

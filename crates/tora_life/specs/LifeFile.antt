@@ -8,8 +8,8 @@ use Rattle.tora_life.specs.Tags.{tag_of}
 unfoldable pub number_of : List ℕ → ℕ
 number_of bytes = from_be_bytes w64 bytes
 
--- the bound in a slot: eight bytes and their bitwise complement, which add up to 2^64 - 1. A slot that is not
--- complementary, or is incomplete, counts as 0
+-- the bound in a slot: eight bytes, and then their bitwise complement, so that the two add up to 2^64 - 1. A slot that
+-- is not complementary, or is incomplete, counts as 0
 unfoldable pub slot_bound : List ℕ → ℕ
 slot_bound slot =
     if nat_le 16 (length slot) && (number_of (take 8 slot) + number_of (take 8 (drop 8 slot)) == 2 ^ 64 - 1)
@@ -20,7 +20,7 @@ abbrev pub slot_value : List ℕ → ℕ → ℕ
 slot_value file zero = slot_bound (take 16 file)
 slot_value file (suc i) = slot_value (drop 16 file) i
 
--- the value of a file is the greater of its two slots
+-- the value of a file: the greater of the bounds in its two slots
 abbrev pub file_value : List ℕ → ℕ
 file_value file = max (slot_value file 0) (slot_value file 1)
 
@@ -28,7 +28,7 @@ file_value file = max (slot_value file 0) (slot_value file 1)
 unfoldable pub slot_of : ℕ → List ℕ
 slot_of bound = to_be_bytes w64 bound ++ to_be_bytes w64 (2 ^ 64 - 1 - bound)
 
--- a file that opens for its owner, has its tag, and draws only numbers above n
+-- the file opens for its owner, has the owner's tag, and draws only numbers above n
 pub record Covers (owner : Owner) (n : ℕ) (file : List ℕ) : Type 0 where
   pub value : n ≤ file_value file
   pub tag : drop 32 file ≡ tag_of owner

@@ -27,7 +27,7 @@ abbrev pub opened_as : Owner → Result Numbers LifeError → State → LifeDisk
 opened_as owner (Ok numbers) s = Opened owner numbers s
 opened_as owner (Err _) s = Unopened owner s
 
--- a disk once its life file is opened for an owner
+-- a disk after its life file was opened for an owner
 abbrev pub opened : Owner → State → LifeDisk
 opened owner s = opened_as owner (open_answer owner s) (open_state owner s)
 
@@ -38,12 +38,12 @@ pub data LifeEvent : Type 0 where
   Arm : DiskCall → LifeEvent
   Restart : State → LifeEvent
 
--- a crash of the new disk leaves only files that a crash of the old one may have left
+-- a crash of the old disk may leave every file that a crash of the new one may leave
 pub record IsLeftBy (old new : State) : Type 0 where
   pub whole : IsWhole new
   pub images : (c : List ℕ) → MayLeave new c → MayLeave old c
 
--- a crash may leave any disk that is possible for this one
+-- the event is possible; a restart is possible with every disk that a crash of this disk may leave
 abbrev pub MayHappen : LifeEvent → LifeDisk → Type 0
 MayHappen Draw disk = ⊤
 MayHappen (Arm call) disk = ⊤
@@ -77,7 +77,7 @@ abbrev pub drawn_numbers : LifeDisk → List LifeEvent → List ℕ
 drawn_numbers disk [] = []
 drawn_numbers disk (event ∷ events) = drawn_by event disk ++ drawn_numbers (after_event event disk) events
 
--- each of these is greater than n, and than each one before it
+-- each of these numbers is greater than n, and than each one before it
 abbrev pub RisesAbove : ℕ → List ℕ → Type 0
 RisesAbove n [] = ⊤
 RisesAbove n (x ∷ xs) = (n < x) × RisesAbove x xs
@@ -91,7 +91,7 @@ pub record IsFloorOfDisk (n : ℕ) (s : State) : Type 0 where
   pub whole : IsWhole s
   pub images : (c : List ℕ) → MayLeave s c → n ≤ file_value c
 
--- no number up to n is ever drawn again
+-- no number up to n is drawn again
 abbrev pub IsFloor : ℕ → LifeDisk → Type 0
 IsFloor n (Opened owner numbers s) = IsFloorOfOpen n owner numbers s
 IsFloor n (Unopened owner s) = IsFloorOfDisk n s

@@ -22,17 +22,17 @@ abbrev pub version_of : Owner → List ℕ → Result Version LifeError
 version_of owner file = if nat_lt 64 (length file) then Err Damaged
     else if bytes_eq (drop 32 file) (tag_of owner) then Ok Tagged else version_by (tag_read (drop 32 file))
 
--- a slot filled up to sixteen bytes: zeros in its first half, and in its second half the bytes of the first. So it is
--- not complementary, and counts as 0. A whole slot stays as it is
+-- a slot filled up to sixteen bytes: zeros in its first half, and the bytes of the first half in its second. So it is
+-- not complementary, and counts as 0. A complete slot is unchanged
 unfoldable pub slot_filled : List ℕ → List ℕ
 slot_filled slot =
     let first = take 8 slot ++ replicate (8 - length slot) 0 in first ++ drop 8 slot ++ drop (length slot - 8) first
 
--- the file of an owner after the migration: the first 32 bytes filled up, and the tag
+-- the file of an owner after the migration: the first 32 bytes, filled up, and the tag
 abbrev pub migrated : Owner → List ℕ → List ℕ
 migrated owner file = slot_filled (take 16 file) ++ slot_filled (take 16 (drop 16 file)) ++ tag_of owner
 
--- the offset from which it is written: 32, or the end of the file if that is lower
+-- the offset from which a migration writes: 32, or the end of the file if that is lower
 abbrev pub migration_place : List ℕ → ℕ
 migration_place file = min (length file) 32
 

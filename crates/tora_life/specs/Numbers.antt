@@ -9,7 +9,7 @@ use Rattle.tora_life.specs.declared.tags.Owner.{Owner}
 use Rattle.tora_life.specs.Disk.{IsOnlyImage}
 use Rattle.tora_life.specs.LifeFile.{slot_value, file_value, Covers}
 
--- the value: no number above it is drawn before a greater bound is on the disk
+-- the value of a life file: no number above it is drawn before a greater bound is on the disk
 abbrev pub value_of : Numbers → ℕ
 value_of numbers = max numbers.first numbers.second
 
@@ -26,13 +26,13 @@ numbers_of file = record {
 abbrev pub lesser_slot : Numbers → Slot
 lesser_slot numbers = if nat_le numbers.first numbers.second then First else Second
 
--- a draw has to reserve sixteen more numbers, and can
+-- the next draw has to reserve sixteen more numbers, and can
 pub record Reserves (numbers : Numbers) : Type 0 where
   pub sound : IsFalse numbers.failed
   pub used_up : numbers.drawn ≡ value_of numbers
   pub left : value_of numbers + 16 ≤ 2 ^ 62
 
--- it has to reserve numbers, and can't
+-- the next draw has to reserve numbers, and cannot
 pub record IsSpent (numbers : Numbers) : Type 0 where
   pub sound : IsFalse numbers.failed
   pub used_up : numbers.drawn ≡ value_of numbers
@@ -42,7 +42,7 @@ abbrev pub with_bound : Slot → ℕ → Numbers → Numbers
 with_bound First bound numbers = record numbers { first = bound }
 with_bound Second bound numbers = record numbers { second = bound }
 
--- the numbers with sixteen more reserved
+-- the numbers after sixteen more were reserved
 abbrev pub reserved : Numbers → Numbers
 reserved numbers = with_bound (lesser_slot numbers) (value_of numbers + 16) numbers
 
@@ -60,11 +60,11 @@ numbers_after (Err Foreign) numbers = numbers
 pub record IsKept {D : Type 0} (tells : D → Bool) (seen : D → List ℕ) (may_leave : D → List ℕ
     → Type 0) (owner : Owner) (numbers : Numbers) (disk : D) : Type 0 where
   pub room : numbers.drawn ≤ value_of numbers
-  -- a number that is left to draw is at most 2^62
+  -- if numbers are left to draw, the value is at most 2^62
   pub reach : numbers.drawn < value_of numbers → value_of numbers ≤ 2 ^ 62
-  -- whatever a crash leaves opens for the owner, and draws only numbers above those drawn
+  -- every file that a crash leaves opens for the owner, and draws only numbers above those drawn
   pub images : IsTrue (tells disk) → (c : List ℕ) → may_leave disk c → Covers owner numbers.drawn c
-  -- unless a call has failed, the bounds are those in the file, and the whole file is on the disk
+  -- if no call has failed, the bounds are those in the file, and the whole file is on the disk
   pub only : IsTrue (tells disk) → IsFalse numbers.failed → IsOnlyImage (seen disk) (may_leave disk)
   pub first : IsTrue (tells disk) → IsFalse numbers.failed → numbers.first ≡ slot_value (seen disk) 0
   pub second : IsTrue (tells disk) → IsFalse numbers.failed → numbers.second ≡ slot_value (seen disk) 1

@@ -14,20 +14,20 @@ seen_of s = take s.len s.bytes
 abbrev pub synced_of : State → List ℕ
 synced_of s = take s.synced_len s.synced
 
--- which bytes were written since the last sync, up to where the furthest write reached
+-- marks for the bytes that were written since the last sync, up to the end of the furthest write
 abbrev pub marks_of : State → List Bool
 marks_of s = take s.reach s.written
 
 -- a crash keeps the bytes that were not written, may change the others, and may end the file anywhere from its old end
--- to the furthest write
+-- to the end of the furthest write
 abbrev pub IsImage : List ℕ → List Bool → List ℕ → Type 0
 IsImage [] marks file = length file ≤ length marks
 IsImage (s ∷ synced) marks [] = ⊥
 IsImage (s ∷ synced) [] (x ∷ file) = (x ≡ s) × IsImage synced [] file
 IsImage (s ∷ synced) (m ∷ marks) (x ∷ file) = (IsFalse m → x ≡ s) × IsImage synced marks file
 
--- what a crash may leave: the bytes that a read returns, or the file of the last sync with the bytes written since then
--- torn
+-- what a crash may leave: the bytes that a read returns, or the file of the last sync with torn bytes where it was
+-- written since
 abbrev pub MayLeave : State → List ℕ → Type 0
 MayLeave s file = (file ≡ seen_of s) ⊎ IsImage (synced_of s) (marks_of s) file
 
@@ -40,11 +40,11 @@ pub record IsWhole (s : State) : Type 0 where
   pub synced : length s.synced ≡ 80
   pub written : length s.written ≡ 80
 
--- bytes of the file, and zeros after them
+-- the bytes of the file, followed by zeros up to 80 bytes
 abbrev pub filled : List ℕ → List ℕ
 filled file = file ++ replicate (80 - length file) 0
 
--- a disk that has a file on it, nothing written since, and no call armed to fail
+-- a disk with this file, nothing written since a sync, and no call armed to fail
 abbrev pub fresh_state : List ℕ → State
 fresh_state file = record {
   bytes = filled file;
@@ -60,7 +60,7 @@ fresh_state file = record {
   failures = 0;
 }
 
--- the list with these items written over it at an offset
+-- a list with these items written over it at an offset
 abbrev pub over : {A : Type 0} → ℕ → List A → List A → List A
 over at new old = take at old ++ new ++ drop (at + length new) old
 
@@ -68,11 +68,11 @@ over at new old = take at old ++ new ++ drop (at + length new) old
 abbrev pub failures_more : ℕ → ℕ
 failures_more failures = min (failures + 1) (2 ^ 64 - 1)
 
--- a read of a buffer's length from a place on: how many bytes there are and fit
+-- a read into a buffer, from an offset on: as many bytes as there are and fit
 abbrev pub read_answer : State → ℕ → List ℕ → Result ℕ DiskError
 read_answer s at buf = if s.read_fails then Err (record {}) else Ok (min (length buf) (length (drop at (seen_of s))))
 
--- the buffer after it: those bytes, followed by its old contents
+-- the buffer after a read: the bytes read, followed by its old contents
 abbrev pub bytes_read : State → ℕ → List ℕ → List ℕ
 bytes_read s at buf = if s.read_fails then buf else take (length buf) (drop at (seen_of s))
     ++ drop (min (length buf) (length (drop at (seen_of s)))) buf
@@ -85,11 +85,11 @@ after_read s = if s.read_fails then record s { read_fails = false; failures = fa
 abbrev pub marked : State → ℕ → ℕ → State
 marked s at n = record s { written = over at (replicate n true) s.written; reach = max s.reach (at + n) }
 
--- a write past 80 bytes fails, and so does an armed one
+-- a write past 80 bytes fails, and so does an armed write
 abbrev pub write_answer : State → ℕ → List ℕ → Result (Unit {0}) DiskError
 write_answer s at bytes = if nat_lt 80 (at + length bytes) || s.write_fails then Err (record {}) else Ok tt
 
--- a write past 80 bytes marks nothing; an armed one marks its range and keeps the old bytes
+-- a write past 80 bytes marks nothing; an armed write marks its range and keeps the old bytes
 abbrev pub after_write : State → ℕ → List ℕ → State
 after_write s at bytes =
     if nat_lt 80 (at + length bytes) then record s { write_fails = false; failures = failures_more s.failures }
@@ -103,7 +103,7 @@ after_write s at bytes =
 abbrev pub sync_answer : State → Result (Unit {0}) DiskError
 sync_answer s = if s.sync_fails then Err (record {}) else Ok tt
 
--- a successful sync puts all bytes on the disk, and none counts as written any more
+-- a successful sync puts all bytes on the disk, and then no byte counts as written
 abbrev pub after_sync : State → State
 after_sync s =
     if s.sync_fails then record s { sync_fails = false; failures = failures_more s.failures }
@@ -115,7 +115,7 @@ armed Read s = record s { read_fails = true }
 armed Write s = record s { write_fails = true }
 armed Sync s = record s { sync_fails = true }
 
--- what was written since the last sync is torn, or lost; it still counts as written
+-- the bytes written since the last sync are torn, or lost; they still count as written
 abbrev pub after_crash : Option (List ℕ) → State → State
 after_crash (Some torn) s = record s { bytes = torn_over 0 torn (marks_of s) s.synced; len = s.reach }
 after_crash None s = record s { bytes = s.synced; len = s.synced_len }

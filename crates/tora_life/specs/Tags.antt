@@ -17,14 +17,14 @@ word_of bytes = from_be_bytes w32 bytes
 unfoldable pub long_of : List ℕ → ℕ
 long_of bytes = from_be_bytes w64 bytes
 
--- the second half of a tag is the complement of the first: the beginning, the node and the peer, bit by bit
+-- the second half of a tag is the complement of the first: the beginning, the node and the peer each add up to all ones
 abbrev pub is_complementary : List ℕ → Bool
 is_complementary tag =
     (long_of (take 8 (drop 16 tag)) == 2 ^ 64 - 1 - long_of (take 8 tag)) &&
     (word_of (take 4 (drop 24 tag)) == 2 ^ 32 - 1 - word_of (take 4 (drop 8 tag)))
     && (word_of (take 4 (drop 28 tag)) == 2 ^ 32 - 1 - word_of (take 4 (drop 12 tag)))
 
--- the owner that the 32 bytes of a tag name; absent if there are fewer bytes, or they aren't complementary
+-- the owner named by the tag in 32 bytes; absent if there are fewer bytes, or the halves are not complementary
 unfoldable pub tag_read : List ℕ → Tag
 tag_read tag =
     if nat_lt (length tag) 32 then Absent

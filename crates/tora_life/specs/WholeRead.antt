@@ -6,7 +6,7 @@ use Rattle.std.specs.IoError.{error_kind}
 
 -- Continues reading into a buffer: old reader, bytes read so far, old buffer, result, new reader and new buffer. Each
 -- read fills the rest of the buffer. It ends at the first read of no bytes and at the first error other than an
--- interruption; after a bounded number of reads there is an error.
+-- interruption. After a bounded number of reads it ends with an error.
 unfoldable pub ReadsOn : {F : Type 0} → (F → ℕ → List ℕ → Result ℕ Error → List ℕ → F → Type 0) → ℕ → ℕ → F → ℕ → List ℕ
     → Result ℕ Error → F → List ℕ → Type 0
 ReadsOn read zero at reader count buf answer after new = IsErr answer × (after ≡ reader) × (new ≡ buf)

@@ -1,4 +1,4 @@
-//! The earlier states of a disk, for contracts only. It takes no memory.
+//! The earlier states of a disk, which only contracts see. They take no memory.
 ghost use Rattle.std.specs.Prelude.{◌≡◌, List, [], ◌∷◌, ◌++◌};
 ghost use Rattle.std.specs.Borrow.{ftrue};
 ghost use Rattle.tora_life.specs.declared.state.State.{State};
@@ -6,7 +6,7 @@ ghost use Rattle.tora_life.specs.declared.state.State.{State};
 use crate::state::State;
 use std::marker::Model;
 
-/// The state before each call, oldest first. It takes no memory.
+/// The states of a disk before each of its calls, oldest first. It takes no memory.
 #[derive(Debug, Drop)]
 pub(crate) struct CallRecord {
     pub ghost states: { List State },

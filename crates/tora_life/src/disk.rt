@@ -5,7 +5,7 @@ ghost use Rattle.tora_life.specs.Disk.{Holds, Torn, Follows, IsOnlyImage, Elapse
 
 use thiserror::Error;
 
-/// A call of a disk has failed, and was counted.
+/// A call of a disk failed. The disk has counted it.
 #[derive(Clone, Copy, Debug, PartialEq, Eq, Hash, Error)]
 #[error("a call of the disk failed")]
 pub struct DiskError;
@@ -13,12 +13,12 @@ pub struct DiskError;
 /// One file on a disk, as bytes from offset 0 on, which nobody else writes.
 ///
 /// A disk may make its bytes visible to contracts, as `MemDisk` does and `FileDisk` does not. Contracts then know what
-/// a read returns and the images that a crash may leave: between two syncs each written range may hold any bytes, and
-/// may be cut anywhere past the old end of the file; all other bytes stay. After a successful sync the only image is
-/// what a read returns. A failed call may have done its work, or a part of it.
+/// a read returns, and which files a crash may leave (the images): between two syncs each written range may hold any
+/// bytes, and may be cut anywhere past the old end of the file; all other bytes stay. After a successful sync the only
+/// image is what a read returns. A failed call may have had its whole effect, or a part of it.
 ///
-/// A crash may come at any moment, also inside a call: `left_since` is what a crash at some moment since an earlier
-/// moment may have left.
+/// A crash may come at any moment, also inside a call. `left_since` describes the files that a crash at some moment
+/// since an earlier moment may have left.
 ///
 /// Each disk counts its failed calls. The count stops at 2^64 - 1.
 pub trait Disk {
@@ -28,13 +28,13 @@ pub trait Disk {
     /// The bytes that a read returns.
     ghost seen: { Self → List ℕ };
 
-    /// The images, which are the files that a crash at this moment may leave.
+    /// The images: the files that a crash at this moment may leave.
     ghost may_leave: { Self → List ℕ → Type 0 };
 
-    /// The moment, as a number that never falls.
+    /// The moment, a number that never falls.
     ghost moment: { Self → ℕ };
 
-    /// The files that a crash at some moment since this one may have left, during a call or between two.
+    /// The files that a crash at some moment since the given one may have left, during a call or between two calls.
     ghost left_since: { Self → ℕ → List ℕ → Type 0 };
 
     /// How many calls have failed; the count stops at 2^64 - 1.
@@ -50,7 +50,7 @@ pub trait Disk {
     ghost syncs: { Self → Result (Unit {0}) DiskError → Self → Type 0 };
 
     /// Reads from the offset `at` on into the front of `buf`, as many bytes as there are and fit. Returns their count,
-    /// which is 0 at the end of the file and past it. The rest of `buf` stays.
+    /// which is 0 at or past the end of the file. The rest of `buf` is unchanged.
     fn read(&mut self, at: usize, buf: &mut [u8]) -> Result<usize, DiskError>
         ensures call { reads self.old at buf.old result buf.new self.new }
         ensures failures { failures self.new ≡ failures_after result (failures self.old) }
@@ -63,8 +63,9 @@ pub trait Disk {
             → Elapses (moment self.old) (moment self.new) (left_since self.old) (left_since self.new)
             (may_leave self.new) };
 
-    /// Writes `bytes` from the offset `at` on, over what is there and past the end of the file; `at` must not be beyond
-    /// the end. Until a sync, a crash may leave any bytes in that range, even if the write failed.
+    /// Writes `bytes` from the offset `at` on, replacing old bytes and extending the file if necessary. `at` must not
+    /// be beyond the end of the file. Until a sync, a crash may leave any bytes in that range, even if the write
+    /// failed.
     fn write_at(&mut self, at: usize, bytes: &[u8]) -> Result<(), DiskError>
         requires { IsTrue (tells self.old) → at ≤ length (seen self.old) }
         ensures call { writes self.old at bytes.now result self.new }
@@ -79,7 +80,7 @@ pub trait Disk {
             → Elapses (moment self.old) (moment self.new) (left_since self.old) (left_since self.new)
             (may_leave self.new) };
 
-    /// Puts all written bytes on the disk: after `Ok` a crash leaves what a read returns.
+    /// Makes all written bytes durable: after `Ok` a crash leaves what a read returns.
     fn sync(&mut self) -> Result<(), DiskError>
         ensures call { syncs self.old result self.new }
         ensures failures { failures self.new ≡ failures_after result (failures self.old) }
@@ -94,9 +95,9 @@ pub trait Disk {
     /// What a read returns is one of the images.
     ghost seen_may_stay: { (disk : Self) → IsTrue (tells disk) → may_leave disk (seen disk) };
 
-    /// What a crash may leave now, crashes since any earlier moment may have left, too.
+    /// A crash since any earlier moment may have left every file that a crash may leave now.
     ghost counts_now: { (disk : Self) (t : ℕ) (c : List ℕ) → t ≤ moment disk → may_leave disk c → left_since disk t c };
 
-    /// Since this moment, crashes may have left only what a crash may leave now.
+    /// A crash may leave now every file that a crash since the present moment may have left.
     ghost only_now: { (disk : Self) (c : List ℕ) → left_since disk (moment disk) c → may_leave disk c };
 }

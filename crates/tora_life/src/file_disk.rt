@@ -1,4 +1,4 @@
-//! A life file's disk over a file of the operating system.
+//! A disk over a file of the operating system.
 ghost use Rattle.std.specs.Prelude.{◌≡◌};
 ghost use Rattle.tora_life.specs.Disk.{failures_after};
 ghost use Rattle.tora_life.specs.FileDisk.{Answers, OpensFile, SyncsFolder, folder_of};
@@ -11,12 +11,12 @@ use std::io;
 use std::marker::Model;
 use std::path::Path;
 
-/// A file of the operating system as a disk. It is read and written at places, and synced with its length.
+/// A file of the operating system as a disk. It is read and written at offsets, and a sync includes its length.
 ///
-/// Contracts do not see its bytes. They say which system calls it makes, which numbers are drawn, when each error comes
-/// and that failed calls are counted, but not what a crash leaves. That the file keeps what was synced, and that nobody
-/// else writes it, are premises of the program. The file is locked while its disk lives, so that no second node on this
-/// machine draws from it; a killed process leaves no lock.
+/// Contracts do not see its bytes. They say which system calls it makes, which numbers are drawn, when each error
+/// occurs and that failed calls are counted, but not what a crash leaves. That the file keeps what was synced, and that
+/// nobody else writes it, are premises of the program. The file is locked while its disk exists, so that no second node
+/// on this machine draws from it. The lock of a killed process is released.
 #[derive(Debug, Drop)]
 pub struct FileDisk<F = File> {
     file: F,
@@ -31,7 +31,7 @@ impl<F> Model for FileDisk<F> {
     ghost view = { λ d. record { file = d.file; failures = d.failures } };
 }
 
-/// The folder of the file at a path; `.` if the path names none.
+/// The folder of the file at a path; `.` if the path has no folder.
 fn folder_of(path: &str) -> &str
     ensures { result.now ≡ folder_of path.now }
 {
@@ -81,7 +81,7 @@ impl<F: SystemFile> FileDisk<F> {
         }
     }
 
-    /// The result of a call, which is counted if it failed.
+    /// Counts a call that failed, and returns its result.
     fn counted<T: Drop>(&mut self, answer: io::Result<T>) -> Result<T, DiskError>
         ensures failures { self.new ≡ record self.old { failures = failures_after result self.old.failures } }
         ensures value { Answers answer result }

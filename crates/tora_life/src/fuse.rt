@@ -2,7 +2,7 @@
 ghost use Rattle.std.specs.Prelude.{◌≡◌, ◌-◌, not, Some};
 ghost use Rattle.tora_life.specs.Fuse.{is_blown, after_call};
 
-/// How many calls fail once a fuse has blown.
+/// How many calls of a blown fuse fail.
 #[derive(Clone, Copy, Debug, PartialEq, Eq, Hash)]
 pub enum FuseMode {
     /// One call fails.
@@ -11,16 +11,16 @@ pub enum FuseMode {
     Always,
 }
 
-/// Decides for each call of a device whether it succeeds, for devices that fail on purpose.
+/// Decides for each call of a device whether it succeeds. It is for devices that fail on purpose.
 #[derive(Clone, Copy, Debug, PartialEq, Eq, Hash)]
 pub struct Fuse {
     pub mode: FuseMode,
-    /// How many calls pass until one fails; `None` if none will fail.
+    /// How many calls succeed before one fails; `None` if none will fail.
     pub left: Option<u64>,
 }
 
 impl Fuse {
-    /// A fuse that lets `k` calls pass.
+    /// A fuse that lets `k` calls succeed.
     pub fn new(k: u64, mode: FuseMode) -> Fuse
         ensures { result ≡ record { mode = mode; left = Some k } }
     {
@@ -30,7 +30,7 @@ impl Fuse {
         }
     }
 
-    /// Returns whether the next call passes, and counts that call.
+    /// Returns whether the next call succeeds, and counts that call.
     pub fn passes(&mut self) -> bool
         ensures answer { result ≡ not (is_blown self.old) }
         ensures left { self.new ≡ after_call self.old }

@@ -5,10 +5,11 @@ use crate::disk::{Disk, DiskError};
 use crate::fuse::{Fuse, FuseMode};
 use std::marker::Model;
 
-/// For tests only: a disk around another one. A given number of calls pass, and then one fails, or all do.
+/// For tests only: a disk around another disk. A given number of calls pass, and then one call fails, or all following
+/// calls fail.
 ///
 /// A call that the fuse fails is counted, and makes no call of the inner disk. Failed calls of the inner disk are
-/// counted too. The count begins at 0. Contracts see its bytes if they see those of the inner disk.
+/// counted too. The count begins at 0. Contracts see the bytes if they see those of the inner disk.
 #[derive(Drop)]
 pub struct FuseDisk<D: Disk> {
     disk: D,

@@ -1,4 +1,4 @@
-//! The law of the life file over all runs.
+//! The laws of the life file over all runs.
 ghost use Rattle.std.specs.Prelude.{◌≡◌, ◌≢◌, ◌⊎◌, ◌^◌, ◌<◌, ◌≤◌, ℕ, List, [], ◌∷◌, ◌++◌, length, Option, Err};
 ghost use Rattle.tora_life.specs.declared.tags.Owner.{Owner};
 ghost use Rattle.tora_life.specs.declared.numbers.LifeError.TheVariants as LifeErrors;
@@ -10,22 +10,23 @@ ghost use Rattle.tora_life.specs.Tags.{tag_of, tag_read};
 ghost use Rattle.tora_life.specs.LifeRun.{LifeDisk, LifeEvent, Draw, MayHappen, IsLeftBy, IsRun, IsFloor, RisesAbove};
 ghost use Rattle.tora_life.specs.LifeRun.{opened, state_in, after_event, drawn_by, drawn_numbers};
 
-/// Drawn life numbers rise across crashes. The function does nothing: its contract is a law.
+/// Drawn session numbers rise across crashes. The function does nothing: its contract is a law.
 ///
-/// In every run of draws, failing calls of the disk, and crashes that leave whatever the disk may have left, each
-/// number drawn is greater than all numbers drawn before it and than the value of the first file. That file may be any:
-/// of version 1, torn while it was migrated, or with a tag. A crash inside a draw counts as a crash after a draw whose
-/// write or sync was armed to fail: the same bytes may be torn.
+/// A run consists of draws, failing calls of the disk, and crashes, which leave any file that the disk may leave. In
+/// every run each number drawn is greater than all numbers drawn before it and than the value of the first file. That
+/// file may be any: of version 1, torn while it was migrated, or with a tag. A crash inside a draw counts as a crash
+/// after a draw whose write or sync was armed to fail, because the same bytes may be torn.
 ///
-/// The law is stated over the functions that `open` and `draw` of a `LifeFile` over a `MemDisk` compute, as their
-/// clauses on the calls of the disk say. Its proof uses a floor, a number such that neither it nor a smaller one is
-/// drawn again. The other clauses are its steps, for a law over many life files.
+/// The law is about the functions that `open` and `draw` of a `LifeFile` over a `MemDisk` compute. Its proof uses a
+/// floor: a number such that neither it nor a smaller one is drawn again. The other clauses are steps of the proof, for
+/// a law about many life files.
 pub fn drawn_life_numbers_rise()
     ensures rise { (owner : Owner) (file : List ℕ) (events : List LifeEvent) → length file ≤ 80
         → IsRun (opened owner (fresh_state file)) events → RisesAbove (file_value file)
         (drawn_numbers (opened owner (fresh_state file)) events) }
 
-    // The value of the file is the first floor, and a number drawn is the next. No event lowers the floor.
+    // The value of the file is the first floor, and a number that is drawn is the next floor. No event lowers the
+    // floor.
     ensures first { (owner : Owner) (file : List ℕ) → length file ≤ 80
         → IsFloor (file_value file) (opened owner (fresh_state file)) }
     ensures draw { (n x : ℕ) (disk : LifeDisk) → IsFloor n disk → drawn_by Draw disk ≡ x ∷ []
@@ -44,7 +45,7 @@ pub fn drawn_life_numbers_rise()
 
 /// A tag names its owner. The function does nothing: its contract is a law.
 ///
-/// The bytes of an owner's tag are read as the tag of that owner, no other bytes are, and a file with the tag of
+/// The bytes of an owner's tag are read as the tag of that owner, and no other bytes are. A file with the tag of
 /// another owner is foreign. So a file that was copied to another node or another link is refused.
 pub fn tags_name_their_owners()
     ensures read { (owner : Owner) → owner.node < 2 ^ 32 → owner.peer < 2 ^ 32

@@ -1,4 +1,4 @@
-//! Life numbers that rise across crashes.
+//! Session numbers (life numbers) that rise across crashes.
 //!
 //! Each end of a link has its own life file. A number drawn from it is greater than every number drawn before, also
 //! after a crash at any moment that tears any unsynced bytes. The file stores a bound, and no number above the bound is

@@ -17,7 +17,7 @@ use crate::writing::replace_slot;
 use std::marker::Model;
 use thiserror::Error;
 
-/// Why a life file did not open, and its disk. `?` converts it to a `LifeError` if only the error is wanted.
+/// Why a life file did not open, and its disk. `?` converts it to a `LifeError`, without the disk.
 #[derive(Debug, Drop, Error)]
 #[error("the life file did not open: {error}")]
 pub struct OpenFault<D> {
@@ -42,12 +42,13 @@ impl<D: Drop> From<OpenFault<D>> for LifeError {
 /// It belongs to one end of a link: its two slots are followed by a tag with the node and the peer, so that a file that
 /// was copied to another node is refused before a number is drawn from it.
 ///
-/// Its value is the greater of the two bounds in its slots. Numbers are reserved sixteen at a time: once all numbers up
+/// Its value is the greater of the two bounds in its slots. Numbers are reserved sixteen at a time: when all numbers up
 /// to the value v are drawn, v + 16 is written to the slot with the smaller bound (slot 0 at a tie) and synced, and
-/// only then v + 1 to v + 16 are drawn. The other slot is untouched meanwhile, so a torn write can't lower the value.
+/// only then v + 1 to v + 16 are drawn. The other slot is not written meanwhile, so a torn write cannot lower the
+/// value.
 ///
 /// Contracts see its disk, its owner and its numbers. If they see the bytes of the disk, `IsKept` holds: whatever a
-/// crash leaves opens for the owner, and has a value at least the greatest number drawn.
+/// crash leaves opens for the owner, and its value is at least the greatest number drawn.
 #[derive(Debug, Drop)]
 pub struct LifeFile<D: Disk> {
     disk: D,
@@ -68,25 +69,25 @@ impl<D: Disk> Model for LifeFile<D> {
 }
 
 impl<D: Disk> LifeFile<D> {
-    /// Opens the life file of the node `me` for its link to `peer`, both not 0 and not the same: a sync, and then one
+    /// Opens the life file of the node `me` for its link to `peer`, which are different and not 0: a sync, and then one
     /// read of 65 bytes. The first number to draw is the one after the file's value, 1 for an empty file. The sync
-    /// comes first because bytes that are read but not on the disk could be lost in a crash.
+    /// comes first because a crash could lose bytes that are read but not on the disk.
     ///
     /// A file without a tag is of version 1, or was torn while it was migrated. It is migrated: one write from offset
-    /// 32, or from its end if that is lower, to the end of the tag, and then a sync. Incomplete slots are filled up so
-    /// that they count as 0, as before. No file that a crash leaves meanwhile has a smaller value.
+    /// 32, or from the file's end if that is lower, to the end of the tag, and then a sync. Incomplete slots are filled
+    /// up so that they count as 0, as before. No file that a crash leaves meanwhile has a smaller value.
     ///
     /// # Errors
     ///
-    /// The error returns the disk. In this order: `Disk` if the sync or the read fails; `Damaged` for a file longer
-    /// than 64 bytes or with a tag of another kind; `Foreign` for one with the tag of another node or another peer;
-    /// `Disk` if the write of the migration or its sync fails. At `Damaged` and `Foreign` nothing was written.
+    /// The error returns the disk. In this order: `Disk` if the sync or the read fails; `Damaged` if the file is longer
+    /// than 64 bytes or has a tag of another kind; `Foreign` if it has the tag of another node or another peer; `Disk`
+    /// if the write of the migration or its sync fails. At `Damaged` and `Foreign` nothing was written.
     pub fn open(disk: D, me: u32, peer: u32) -> Result<LifeFile<D>, OpenFault<D>>
         requires me { 0 < me }
         requires peer { 0 < peer }
         requires distinct { me ≢ peer }
 
-        // The only image of the file is the first 32 bytes that were read, filled up, and the tag.
+        // The only image of the file is its first 32 bytes, filled up, followed by the tag.
         ensures numbers { IsTrue (D.tells disk) → IfOk result (λ file. file.numbers ≡ numbers_of (D.seen disk)) }
         ensures owner { IfOk result (λ file. file.owner ≡ record { node = me; peer = peer }) }
         ensures seen { IsTrue (D.tells disk) → IfOk result (λ file.
@@ -97,7 +98,7 @@ impl<D: Disk> LifeFile<D> {
         ensures sound { IfOk result (λ file. IsFalse file.numbers.failed) }
 
         // A crash at any moment of the call leaves one of the images from before the call, or a file whose value is at
-        // least that of the bytes read.
+        // least that of the file that was read.
         ensures any_moment { IsTrue (D.tells disk) → IfOk result (λ file.
             LeavesOnly D.moment D.left_since disk file.disk (λ c. D.may_leave disk c
             ⊎ (file_value (D.seen disk) ≤ file_value c))) }
@@ -137,8 +138,8 @@ impl<D: Disk> LifeFile<D> {
         }
     }
 
-    /// Returns the disk, without a call of it. Whatever a crash leaves on it has a value at least the greatest number
-    /// drawn.
+    /// Returns the disk, without a call of it. Any file that a crash leaves on it has a value of at least the greatest
+    /// number drawn.
     pub fn close(self) -> D
         ensures disk { result ≡ self.disk }
         ensures kept { IsKept D.tells D.seen D.may_leave self.owner self.numbers result }
@@ -152,8 +153,8 @@ impl<D: Disk> LifeFile<D> {
     }
 
     /// Draws the next number: the one after the last number drawn, or after the value with which the file was opened.
-    /// After `Ok` a crash leaves only files that draw greater numbers. If the reserved numbers are used up it writes
-    /// one slot and syncs; otherwise it makes no call of the disk.
+    /// After `Ok` a crash leaves only files that draw greater numbers. If the reserved numbers are used up, the call
+    /// writes one slot and syncs; otherwise it makes no call of the disk.
     ///
     /// # Errors
     ///
@@ -166,8 +167,8 @@ impl<D: Disk> LifeFile<D> {
         ensures failures { OnOk result (D.failures self.new.disk ≡ D.failures self.old.disk) }
         ensures within { IfOk result (λ n. n ≤ 2 ^ 62) }
 
-        // After `Ok(n)` the value of each image is at least n. At each moment until then it is at least the numbers
-        // drawn before.
+        // After `Ok(n)` the value of each image is at least n. At each moment before that it is at least the greatest
+        // number drawn before.
         ensures after { IsTrue (D.tells self.old.disk) → IfOk result (λ n. (c : List ℕ) → D.may_leave self.new.disk c
             → Covers self.old.owner n c) }
         ensures any_moment { IsTrue (D.tells self.old.disk) → LeavesOnly D.moment D.left_since self.old.disk

@@ -10,10 +10,10 @@ use std::marker::Model;
 /// crashed. It takes no memory.
 ///
 /// A write past 80 bytes fails, marks nothing as written, and uses up an armed write. A write that is armed to fail
-/// keeps the old bytes, but its range counts as written: a later crash tears it. A crash is no sync: a second crash
+/// keeps the old bytes, but its range counts as written: a later crash tears it. A crash does not sync: a second crash
 /// again tears all that was written since the last successful sync.
 ///
-/// Contracts see its state, and the states before each of its calls, for the clauses of `Disk` that speak of each
+/// Contracts see its state, and the states before each of its calls, because some clauses of `Disk` are about each
 /// moment of a call. The earlier states take no memory.
 #[derive(Debug, Drop)]
 pub struct MemDisk {
@@ -47,7 +47,7 @@ impl MemDisk {
         }
     }
 
-    /// A disk with a file of these bytes on it, all synced, and no call armed. `None` for more than 80 bytes.
+    /// A disk with a file of these bytes, all synced, and no call armed. `None` if there are more than 80 bytes.
     pub fn of(bytes: &[u8]) -> Option<MemDisk>
         ensures some { IfSome result (λ disk. disk.state ≡ fresh_state bytes.now) }
         ensures seen { IfSome result (λ disk. seen_of disk.state ≡ bytes.now) }
@@ -64,8 +64,8 @@ impl MemDisk {
         })
     }
 
-    /// Makes the next call of this kind fail. It stays armed until then, also over a crash. Arming a call twice is the
-    /// same as arming it once.
+    /// Makes the next call of this kind fail. The call stays armed until then, also across a crash. Arming it twice has
+    /// the same effect as once.
     pub fn arm(&mut self, call: DiskCall)
         ensures { self.new.state ≡ armed call self.old.state }
     {

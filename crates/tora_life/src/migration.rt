@@ -18,7 +18,7 @@ pub enum Version {
 ///
 /// # Errors
 ///
-/// `Damaged` for over 64 bytes or a tag of another kind, `Foreign` for the tag of another owner.
+/// `Damaged` if there are over 64 bytes or the tag is of another kind, `Foreign` if the tag is of another owner.
 pub fn found_version(owner: Owner, file: &[u8]) -> Result<Version, LifeError>
     ensures { result ≡ version_of owner file.now }
 {
@@ -33,7 +33,7 @@ pub fn found_version(owner: Owner, file: &[u8]) -> Result<Version, LifeError>
     version_by_tag(Tag::read(tag))
 }
 
-/// The version, or the error, that a tag says.
+/// The version, or the error, for a file with this tag.
 fn version_by_tag(tag: Tag) -> Result<Version, LifeError>
     ensures { result ≡ version_by tag }
 {
@@ -44,7 +44,7 @@ fn version_by_tag(tag: Tag) -> Result<Version, LifeError>
     }
 }
 
-/// A slot filled up to its sixteen bytes, so that it counts as 0. A whole slot stays as it is.
+/// A slot filled up to sixteen bytes, so that it counts as 0. A complete slot is unchanged.
 #[tactic(auto, unfolding(crate::specs::Migration::slot_filled))]
 fn filled_slot(slot: &[u8]) -> [u8; 16]
     requires { length slot.now ≤ 16 }
@@ -61,7 +61,7 @@ fn filled_slot(slot: &[u8]) -> [u8; 16]
     filled
 }
 
-/// The file of an owner after the migration: its first 32 bytes filled up, and the tag.
+/// The file of an owner after the migration: its first 32 bytes, filled up, and the tag.
 pub fn migrated_bytes(owner: Owner, file: &[u8]) -> [u8; 64]
     ensures { result ≡ migrated owner file.now }
 {

@@ -41,14 +41,14 @@ impl LifeError {
     }
 }
 
-/// The greatest number that is ever drawn, 2^62.
+/// The greatest number that may be drawn, 2^62.
 pub const LAST_NUMBER: u64 = 1 << 62;
 
 /// How many numbers a write reserves.
 pub const RESERVED: u64 = 16;
 
-/// The bounds in the two slots, the last number drawn (the file's value if none was drawn since it was opened), and
-/// whether a draw has returned `Disk`.
+/// The numbers of an open life file: the bounds in its two slots, the last number drawn (the file's value if none was
+/// drawn since it was opened), and whether a draw has returned `Disk`.
 #[derive(Clone, Copy, Debug)]
 pub struct Numbers {
     pub first: u64,
@@ -83,7 +83,7 @@ impl Numbers {
         self.first.max(self.second)
     }
 
-    /// The slot with the smaller bound, the first one at a tie.
+    /// The slot with the smaller bound; the first one at a tie.
     pub fn lesser(self) -> Slot
         ensures { result ≡ lesser_slot self }
     {
@@ -94,7 +94,7 @@ impl Numbers {
         }
     }
 
-    /// The numbers after sixteen more are reserved and their bound is on the disk.
+    /// The numbers after sixteen more were reserved and the new bound is on the disk.
     pub fn with_more(self) -> Numbers
         requires { value_of self + 16 ≤ 2 ^ 62 }
         ensures { result ≡ reserved self }

@@ -46,7 +46,7 @@ pub fn open_file<D: Disk>(disk: &mut D, owner: Owner) -> Result<Numbers, LifeErr
     }
 }
 
-/// Opens a life file that was read and is of this version.
+/// Opens a life file of this version after it was read.
 fn open_version<D: Disk>(
     disk: &mut D,
     owner: Owner,

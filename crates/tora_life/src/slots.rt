@@ -23,8 +23,8 @@ impl Slot {
     }
 }
 
-/// The bound in a slot: 8 bytes in network byte order, and then their bitwise complement. 0 if these differ, or there
-/// are fewer than 16 bytes.
+/// The bound in a slot: 8 bytes in network byte order, followed by their bitwise complement. It is 0 if the second half
+/// is not the complement, or if there are fewer than 16 bytes.
 #[tactic(auto, unfolding(crate::specs::LifeFile::slot_bound, crate::specs::LifeFile::number_of))]
 pub fn bound_of(slot: &[u8]) -> u64
     ensures { result ≡ slot_bound slot.now }

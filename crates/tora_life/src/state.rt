@@ -13,8 +13,9 @@ pub enum DiskCall {
     Sync,
 }
 
-/// The state of a disk in memory: the file is the first `len` of `bytes`, and was the first `synced_len` of `synced` at
-/// the last sync. `written` marks the bytes that were written since, up to `reach`, where the furthest write ended.
+/// The state of a disk in memory. The file is the first `len` bytes of `bytes`; at the last sync it was the first
+/// `synced_len` bytes of `synced`. `written` marks the bytes that were written since, up to `reach`, the end of the
+/// furthest write.
 #[derive(Clone, Copy, Debug)]
 pub struct State {
     pub bytes: [u8; 80],

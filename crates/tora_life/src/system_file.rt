@@ -8,7 +8,7 @@ use std::io;
 use std::os::unix::fs::FileExt;
 
 /// An open file of the system. Contracts see each call: its arguments, its result, and the file after it. Only a real
-/// call gives evidence of a call. No clause here says that a file keeps what was synced.
+/// call gives evidence of a call. No clause says that a file keeps what was synced.
 pub trait SystemFile: ReadFrom + Drop {
     /// A write of all bytes: old file, offset, bytes, result, new file.
     ghost did_write_all_at: { Self → ℕ → List ℕ → Result (Unit {0}) Error → Self → Type 0 };
@@ -39,8 +39,8 @@ impl SystemFile for File {
     }
 }
 
-/// The files of the system. Contracts see each call, as with `SystemFile`. Each call leads to the next state, so
-/// contracts also see the order of the calls. Every `Files` with files of the system implements it.
+/// The files of the system. Contracts see each call, as with `SystemFile`, and the order of the calls, because each
+/// call leads to the next state. Every `Files` with files of the system implements it.
 pub trait SystemFiles: Drop {
     /// An open file.
     type File: SystemFile;
@@ -65,7 +65,7 @@ pub trait SystemFiles: Drop {
     fn open_folder_at(&mut self, path: &str) -> io::Result<Self::File>
         ensures { did_open_folder self.old path.now result self.new };
 
-    /// Locks a file for as long as it is open. It does not wait for another holder of the lock.
+    /// Locks a file for as long as it is open. It does not wait if the file is locked already.
     fn lock(&mut self, file: &mut Self::File) -> io::Result<()>
         ensures { did_lock self.old file.old result file.new self.new };
 

@@ -11,13 +11,13 @@ pub struct Owner {
     pub peer: u32,
 }
 
-/// What the bytes after the two slots of a life file are.
+/// The tag of a life file, or what the bytes after its two slots are instead.
 #[derive(Clone, Copy, Debug, PartialEq, Eq, Hash)]
 pub enum Tag {
-    /// No tag: fewer than 32 bytes, or the last 16 aren't the complement of the first 16. The file is of version 1, or
-    /// was torn while it was migrated.
+    /// No tag: fewer than 32 bytes, or the second 16 are not the complement of the first 16. The file is of version 1,
+    /// or was torn while it was migrated.
     Absent,
-    /// A tag of another kind: complementary bytes with another beginning.
+    /// A tag of another kind: complementary bytes that begin differently.
     Strange,
     /// The tag of this owner.
     Of(Owner),
@@ -27,8 +27,8 @@ pub enum Tag {
 const BEGINNING: u64 = 0x544f_5241_4c49_4632;
 
 impl Tag {
-    /// The tag in 32 bytes: the beginning "TORALIF2", the node and the peer (4 bytes each, in network byte order), and
-    /// then the complement of these 16 bytes. Bytes after the 32 are ignored.
+    /// Reads the tag in 32 bytes: the beginning "TORALIF2", the node and the peer (4 bytes each, in network byte
+    /// order), and then the complement of these 16 bytes. Bytes after the 32 are ignored.
     #[tactic(auto, unfolding(crate::specs::Tags::tag_read))]
     pub fn read(bytes: &[u8]) -> Tag
         ensures { result ≡ tag_read bytes.now }
@@ -81,7 +81,7 @@ fn word_at(bytes: &[u8], at: usize) -> u32
     }
 }
 
-/// The tag of an owner.
+/// The tag of an owner in 32 bytes.
 #[tactic(auto, unfolding(crate::specs::Tags::tag_of))]
 pub fn tag_bytes(owner: Owner) -> [u8; 32]
     ensures { result ≡ tag_of owner }

@@ -10,7 +10,7 @@ use std::os::unix::fs::FileExt;
 
 /// Bytes that are read from an offset on, any number of them at a time.
 ///
-/// Contracts may see its bytes, but not those of a file of the operating system. They always see its calls.
+/// Contracts may see the bytes, but not those of a file of the operating system. They always see the calls.
 pub trait ReadFrom {
     /// Whether contracts see the bytes.
     ghost tells: { Self → Bool };
@@ -21,12 +21,12 @@ pub trait ReadFrom {
     /// A read: old reader, offset, buffer, result, new buffer, new reader.
     ghost did_read_at: { Self → ℕ → List ℕ → Result ℕ Error → List ℕ → Self → Type 0 };
 
-    /// Reads some of the bytes from the offset `at` on into the front of `buf`, at least one if there is one and one
-    /// fits. Returns their count. The rest of `buf` stays.
+    /// Reads some of the bytes from the offset `at` on into the front of `buf`; at least one, if there is one and it
+    /// fits. Returns their count. The rest of `buf` is unchanged.
     ///
     /// # Errors
     ///
-    /// Those of the operating system. Nothing was read.
+    /// Those of the operating system. Then nothing was read.
     fn read_from(&mut self, at: u64, buf: &mut [u8]) -> io::Result<usize>
         ensures call { did_read_at self.old at buf.old result buf.new self.new }
         ensures tells { tells self.new ≡ tells self.old }

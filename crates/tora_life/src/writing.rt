@@ -33,8 +33,8 @@ fn write_through<D: Disk>(disk: &mut D, at: usize, bytes: &[u8]) -> Result<(), D
     }
 }
 
-/// Writes a bound to a slot on the disk: one write, and then a sync. Even if a call fails, the other slot and the tag
-/// stay.
+/// Writes a bound to a slot on the disk: one write, and then a sync. The other slot and the tag are unchanged, even if
+/// a call fails.
 pub fn replace_slot<D: Disk>(disk: &mut D, slot: Slot, bound: u64) -> Result<(), DiskError>
     requires only { IsTrue (D.tells disk.old) → IsOnlyImage (D.seen disk.old) (D.may_leave disk.old) }
     requires place { IsTrue (D.tells disk.old) → place_of slot ≤ length (D.seen disk.old) }
@@ -52,9 +52,9 @@ pub fn replace_slot<D: Disk>(disk: &mut D, slot: Slot, bound: u64) -> Result<(),
     write_through(disk, slot.place(), &slot_bytes(bound))
 }
 
-/// Migrates the life file of an owner to version 2: one write from offset 32, or from its end if that is lower, to the
-/// end of the tag, and then a sync. An incomplete slot counts as 0 before and after, and a whole one stays, so no file
-/// that a crash leaves meanwhile has a smaller value.
+/// Migrates the life file of an owner to version 2: one write from offset 32, or from the file's end if that is lower,
+/// to the end of the tag, and then a sync. An incomplete slot counts as 0 before and after, and a complete one is
+/// unchanged, so no file that a crash leaves meanwhile has a smaller value.
 pub fn migrate<D: Disk>(disk: &mut D, owner: Owner, file: &[u8]) -> Result<(), DiskError>
     requires file { IsTrue (D.tells disk.old) → file.now ≡ D.seen disk.old }
     requires fits { length file.now ≤ 64 }

@@ -1,4 +1,4 @@
--- A turn out of its stages.
+-- A turn is made of its stages.
 use Rattle.std.proofs.Common.{◌≡◌, ℕ, ◌≤◌, Bool, false, List, [], ◌∷◌, ◌++◌, length, Option, None, Result, Ok, Err, refl, sym, ap, ◌∙◌, subst, IsTrue}
 use Rattle.std.proofs.lemmas.List.{append-nil}
 use Rattle.std.specs.Prelude.{map}
@@ -25,7 +25,7 @@ abbrev pub turn_of : ℕ → Option ℕ → List Cargo → List FrameParts → L
 turn_of now opened cargoes sent answers answer buffer intake told refused beat =
     record { now = now; opened = opened; cargoes = cargoes; sent = sent; answers = answers; answer = answer; buffer = buffer; intake = intake; told = told; refused = refused; beat = beat }
 
--- the traffic of one turn
+-- what one turn exchanges
 pub traffic_of : (o n : Outside) (t : Turn)
     → AreDrawn o.drawn (list_of t.opened) n.drawn
     → n.puts ≡ o.puts ++ entries_of t

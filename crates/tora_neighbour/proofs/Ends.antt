@@ -1,4 +1,4 @@
--- Why a thread has ended, out of why its last turn was the last one.
+-- The cause of the last turn is the cause for which the thread ended.
 use Rattle.std.proofs.Common.{◌≡◌, ℕ, Bool, sym, ◌∙◌, subst}
 use Rattle.tora_life.specs.declared.numbers.Numbers.{Numbers}
 use Rattle.tora_life.specs.declared.numbers.LifeError.TheVariants as Fault

@@ -1,4 +1,4 @@
--- The parts of a turn, one step further.
+-- The parts of a turn, after one more step.
 use Rattle.std.proofs.Common.{◌≡◌, ℕ, ◌≤◌, List, [], ◌∷◌, ◌++◌, take, drop, Bool, IsTrue, Some, None, refl, sym, ap, ◌∙◌, subst, append_assoc}
 use Rattle.std.proofs.lemmas.List.{append-nil, map-append}
 use Rattle.std.specs.Prelude.{map, slice_get}
@@ -29,14 +29,14 @@ pub due_more : (s : Settings) (e : EndState) (now : ℕ) (frames : List FramePar
 due_more s e now [] frame due next = (next, tt)
 due_more s e now (first ∷ frames) frame due next = (due.0, due_more s (after_transmit s e now) now frames frame due.1 next)
 
--- one more of a list, in what is kept of it
+-- a list that grew by some items grows by one more
 pub one_more : {A : Type 0} (a b c xs : List A) (x : A) → b ≡ a ++ xs → c ≡ b ++ x ∷ [] → c ≡ a ++ (xs ++ x ∷ [])
 one_more a b c xs x first second = second ∙ ap (λ ys. ys ++ x ∷ []) first ∙ append_assoc a xs (x ∷ [])
 
 pub none_more : {A : Type 0} (a b c xs : List A) → b ≡ a ++ xs → c ≡ b ++ [] → c ≡ a ++ xs
 none_more a b c xs first second = second ∙ append-nil b ∙ first
 
--- the first event, and what is left behind it
+-- the first event, and the events after it
 pub event_first : (events : List LinkEvent) (event : LinkEvent) → slice_get events 0 ≡ Some event → events ≡ event ∷ drop 1 events
 event_first [] event is = absurd (cc)
 event_first (first ∷ events) event is = ap (λ x. x ∷ events) (cc)
@@ -45,7 +45,7 @@ pub no_event : (events : List LinkEvent) → slice_get events 0 ≡ None → eve
 no_event [] is = refl
 no_event (first ∷ events) is = absurd (cc)
 
--- what was told so far, and what is left
+-- the events that were put so far, and those that are left
 pub record ToldSoFar (e : EndState) (before : List Put) (now : ℕ) (here : EndState) (after : List Put) : Type 0 where
   pub told : List LinkEvent
   pub events : e.events ≡ told ++ here.events
@@ -55,7 +55,7 @@ pub record ToldSoFar (e : EndState) (before : List Put) (now : ℕ) (here : EndS
 abbrev pub told_none : (e : EndState) (puts : List Put) (now : ℕ) → ToldSoFar e puts now e puts
 told_none e puts now = record { told = []; events = refl; same = refl; puts = sym (append-nil puts) }
 
--- one event is given, and put
+-- one more event is returned by the end, and put
 abbrev pub told_more : (e : EndState) (before : List Put) (now : ℕ) (here : EndState) (mid : List Put) (event : LinkEvent) (there : EndState) (after : List Put)
     → ToldSoFar e before now here mid → slice_get here.events 0 ≡ Some event → there ≡ record here { events = drop 1 here.events } → after ≡ mid ++ entry_of now event ∷ [] → ToldSoFar e before now there after
 told_more e before now here mid event there after h first next put =
@@ -78,7 +78,7 @@ told_all e before now here there after h none next =
       after_is = next ∙ (λ i. record (h.same i) { events = sym (ap (λ (x : EndState). x.events) next) i });
     }
 
--- an event is given, and refused
+-- an event is returned by the end, and refused
 pub told_some : (e : EndState) (before : List Put) (now : ℕ) (here : EndState) (event : LinkEvent) (there : EndState) (after : List Put)
     → (h : ToldSoFar e before now here after) → slice_get here.events 0 ≡ Some event → there ≡ record here { events = drop 1 here.events } → Tells e h.told (Some event) there
 told_some e before now here event there after h first next =
@@ -130,6 +130,6 @@ came_one size coming rest count buffer room h = record {
   readings_are = ap (λ reading. reading ∷ []) (ap frame_reading h.2.bytes ∙ reading_of_cut size h.0 room);
 }
 
--- none is
+-- no datagram is received
 pub came_none : (coming rest : List (List ℕ)) → rest ≡ coming → Came coming [] rest
 came_none coming rest same = record { given = []; coming_is = sym same; readings_are = refl }

@@ -1,4 +1,4 @@
--- Only an open changes the last life of an end.
+-- Only an opening changes the number of an end's last session.
 use Rattle.std.proofs.Common.{◌≡◌, ◌⊎◌, ℕ, ◌<◌, List, [], ◌∷◌, Option, Some, None, Ok, Err, refl, ◌∙◌, ⊎_elim}
 use Rattle.tora_frame.specs.FrameParts.{FrameParts}
 use Rattle.tora_arq.specs.Settings.{Settings}
@@ -11,7 +11,7 @@ use Rattle.tora_neighbour.specs.Intake.{Reading, after_came}
 use Rattle.tora_seat.specs.Between.{after_cargo}
 use Rattle.tora_neighbour.specs.Turns.{after_cargoes, after_frames}
 
--- what the crate of link ends says of every call
+-- the law of link ends: a call leaves the number of the last session, or opens the end with a greater number
 abbrev pub NumberLaw : Type 0
 NumberLaw = EveryCall (λ s e call after. (after.last_life ≡ e.last_life) ⊎ (OpensWith after.last_life call × (e.last_life < after.last_life)))
 

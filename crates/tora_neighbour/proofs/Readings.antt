@@ -1,4 +1,4 @@
--- A datagram that is longer than every frame reads the same, cut or not.
+-- A datagram that is longer than every frame has the same reading whether it is cut or not.
 use Rattle.std.proofs.Common.{◌≡◌, Bool, true, false, ℕ, ◌+◌, ◌≤◌, ◌<◌, List, [], ◌∷◌, ◌++◌, length, take, drop, Some, None, Err, refl, sym, ap, ◌∙◌, arith, length-append, ⊎_elim}
 use Rattle.std.proofs.lemmas.Bool.{cases_lt, le-ltb, lt-ltb}
 use Rattle.std.proofs.lemmas.Bool.Decides.{nat_tests}
@@ -8,7 +8,7 @@ use Rattle.tora_frame.specs.declared.FrameError.{FrameError}
 use Rattle.tora_frame.specs.declared.FrameError.TheVariants as Fault
 use Rattle.tora_frame.specs.FrameGrammar.{frame_reading, layout_fault, version_at, is_version, kind_at, u16_at, is_kind, is_payload_length}
 
--- the fault of bytes that are longer than every frame
+-- the error of bytes that are longer than every frame
 abbrev long_fault : ℕ → ℕ → ℕ → FrameError
 long_fault version kind n =
     if not (is_version version) then Fault.Version
@@ -20,7 +20,7 @@ long_fault version kind n =
 length_most : (v k n : ℕ) → is_payload_length v k n ≡ true → n ≤ 532
 length_most v k n h = grind (arith, nat_tests)
 
--- the tests of a length that is long, by the answers to the others
+-- the layout fault of more than 560 bytes, from the results of the other checks
 layout_by : (version kind payload : Bool) (l n : ℕ) → 561 ≤ l → (payload ≡ true → n ≤ 532)
     → (if nat_lt l 28 then Some Fault.Short
     else if not version then Some Fault.Version
@@ -55,7 +55,7 @@ reading_of_longer (a ∷ b ∷ c ∷ []) ys long = absurd (omega arith)
 reading_of_longer (a ∷ b ∷ c ∷ d ∷ rest) ys long =
     reading_of_long (a ∷ b ∷ c ∷ d ∷ (rest ++ ys)) (omega (arith, length-append rest ys, long)) ∙ sym (reading_of_long (a ∷ b ∷ c ∷ d ∷ rest) long)
 
--- cut to a buffer that every frame fits
+-- the reading of bytes that are cut to a buffer larger than every frame
 pub reading_of_cut : (n : ℕ) (bytes : List ℕ) → 561 ≤ n → frame_reading (take n bytes) ≡ frame_reading bytes
 reading_of_cut n bytes room =
     ⊎_elim

@@ -1,4 +1,4 @@
--- Receives of a wire that waits: with a datagram that was there, or behind a wait.
+-- Receives of a waking wire: of a datagram that had come before, or after a wait.
 use Rattle.std.proofs.Common.{◌≡◌, true, false, refl, Bool, List, ℕ, Option, Result}
 use Rattle.std.specs.Prelude.{MatchBool}
 use Rattle.std.specs.declared.io.Error.{Error}

@@ -1,4 +1,4 @@
--- Turns one after another, and their traffic.
+-- Turns one after another, and what they exchange.
 use Rattle.std.proofs.Common.{◌≡◌, ℕ, List, [], ◌∷◌, ◌++◌, Option, refl, sym, ap, ◌∙◌, subst, append_assoc}
 use Rattle.std.proofs.lemmas.List.{append-nil, map-append}
 use Rattle.std.proofs.lemmas.Grind.{flat_map-append}
@@ -18,7 +18,7 @@ pub turns_more : (s : Settings) (e : EndState) (ts : List Turn) (mid : EndState)
 turns_more s e [] mid t after run turn = (after, subst (λ (x : EndState). IsTurn s x t after) run turn, refl)
 turns_more s e (u ∷ ts) mid t after run turn = (run.0, run.1, turns_more s run.0 ts mid t after run.2 turn)
 
--- what goes on behind what was there
+-- a list that grew by the items of some turns grows by those of further turns
 behind : {A B : Type 0} (g : B → List A) (a b c : List A) (ts us : List B) → b ≡ a ++ flat_map g ts → c ≡ b ++ flat_map g us → c ≡ a ++ flat_map g (ts ++ us)
 behind g a b c ts us first second =
     second ∙ ap (λ xs. xs ++ flat_map g us) first ∙ append_assoc a (flat_map g ts) (flat_map g us) ∙ ap (λ xs. a ++ xs) (sym (flat_map-append g ts us))
@@ -50,7 +50,7 @@ traffic_more a b c ts us first second = record {
       (came_more a.coming b.coming c.coming (readings_come ts) (readings_come us) (first.came (second.tells yes)) (second.came yes));
 }
 
--- nothing goes on in no turn
+-- without a turn nothing is exchanged
 pub no_traffic : (a : Outside) → Traffic a [] a
 no_traffic a = record {
   drawn = refl;

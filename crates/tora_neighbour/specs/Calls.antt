@@ -1,5 +1,5 @@
--- The calls of its hub and its wire that a neighbour's thread makes, in their order: in whole turns, and in the last
--- one.
+-- The calls of its hub and its wire that a neighbour's thread makes, in their order: in whole turns and in the last
+-- turn.
 use Rattle.std.specs.Prelude.{◌≡◌, ◌⊎◌, ℕ, Bool, MatchBool, List, [], ◌∷◌, length, Option, Some, None, Result, Ok, Err}
 use Rattle.tora_frame.specs.FrameParts.{FrameParts}
 use Rattle.tora_frame.specs.FrameGrammar.{frame_spelling}
@@ -17,18 +17,18 @@ use Rattle.tora_neighbour.specs.declared.ending.BrokenAt.TheVariants.{Send, Rece
 use Rattle.tora_neighbour.specs.Turns.{Turn}
 use Rattle.tora_seat.specs.Between.{what_of}
 
--- these cargoes are taken, one after another
+-- these outbound messages are taken, one after another
 abbrev pub TakesSome : {H : Type 0} → (H → Option Cargo → H → Type 0) → H → List Cargo → H → Type 0
 TakesSome take h [] after = after ≡ h
 TakesSome {H = H} take h (cargo ∷ cargoes) after = (between : H) × take h (Some cargo) between
     × TakesSome take between cargoes after
 
--- until none is there, or as many were taken as a lane holds
+-- outbound messages are taken until none is left, or as many as a queue holds were taken
 abbrev pub TakesAll : {H : Type 0} → (H → Option Cargo → H → Type 0) → H → List Cargo → H → Type 0
 TakesAll {H = H} take h cargoes after = (between : H) × TakesSome take h cargoes between
     × (take between None after ⊎ ((length cargoes ≡ MOST_CARGOES) × (after ≡ between)))
 
--- these frames are sent, one after another, with these answers
+-- these frames are sent, one after another, with these results
 abbrev pub SendsSome : {W : Type 0} → (W → List ℕ → Result (Unit {0}) WireError → W → Type 0) → W → List FrameParts
     → List (Result (Unit {0}) WireError) → W → Type 0
 SendsSome send w [] [] after = after ≡ w
@@ -37,7 +37,7 @@ SendsSome send w (frame ∷ frames) [] after = ⊥
 SendsSome {W = W} send w (frame ∷ frames) (answer ∷ answers) after = (between : W)
     × send w (frame_spelling frame) answer between × SendsSome send between frames answers after
 
--- one receive, with this answer and this in its buffer then: what came in is what these say (`came_in`)
+-- one receive with this result, which leaves this buffer; `came_in` says which datagram was received
 abbrev pub ReceivesOnce : {W : Type 0} → (W → Result (Option ℕ) WireError → List ℕ → W → Type 0) → W
     → Option (Result (Option ℕ) WireError) → List ℕ → W → Type 0
 ReceivesOnce receive w None buffer after = ⊥
@@ -77,21 +77,21 @@ AreCalls {H = H} {W = W} take put send receive h w (t ∷ turns) h_after w_after
 
 -- ---- the last turn
 
--- these events are put, one after another, and the next one is refused, if there is one
+-- these events are put, one after another, and the next one, if there is one, is refused
 abbrev pub PutsUpTo : {H : Type 0} → (H → ℕ → What → Result (Unit {0}) Gone → H → Type 0) → ℕ → H → List LinkEvent
     → Option LinkEvent → H → Type 0
 PutsUpTo put now h told None after = PutsSome put now h told after
 PutsUpTo {H = H} put now h told (Some event) after = (between : H) × PutsSome put now h told between × (gone : Gone)
     × put between now (what_of event) (Err gone) after
 
--- and where none is refused the beat behind them is
+-- these events are put, and then the next event is refused; if there is none, the beat after the events is refused
 abbrev pub PutsNoMore : {H : Type 0} → (H → ℕ → What → Result (Unit {0}) Gone → H → Type 0) → ℕ → H → List LinkEvent
     → Option LinkEvent → H → Type 0
 PutsNoMore {H = H} put now h told None after = (between : H) × PutsSome put now h told between × (gone : Gone)
     × put between now Says.Beat (Err gone) after
 PutsNoMore put now h told (Some event) after = PutsUpTo put now h told (Some event) after
 
--- the calls of a wire up to the one that breaks it
+-- the calls of the wire, up to its hundredth failure in a row
 abbrev pub ExchangesUpTo : {W : Type 0} → (W → List ℕ → Result (Unit {0}) WireError → W → Type 0)
     → (W → Result (Option ℕ) WireError → List ℕ → W → Type 0) → W → List FrameParts → List (Result (Unit {0}) WireError)
     → Option (Result (Option ℕ) WireError) → List ℕ → BrokenAt → W → Type 0

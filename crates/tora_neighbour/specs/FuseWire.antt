@@ -1,4 +1,4 @@
--- What contracts see of a wire whose calls fail on purpose, and what its calls make of it.
+-- What contracts see of a wire whose calls fail on purpose, and the effect of its calls.
 use Rattle.std.specs.Prelude.{◌≡◌, ℕ, Bool, false, MatchBool, List, Option, Result, IsErr}
 use Rattle.tora_life.specs.declared.fuse.Fuse.{Fuse}
 use Rattle.tora_life.specs.Fuse.{is_blown, after_call}
@@ -8,10 +8,10 @@ use Rattle.tora_neighbour.specs.Datagrams.{failures_after}
 pub record FuseView (W : Type 0) : Type 0 where
   pub wire : W
   pub fuse : Fuse
-  pub told : Bool  -- whether each datagram to be sent was handed to the wire
+  pub told : Bool  -- whether every datagram sent so far was passed to the inner wire
   pub failures : ℕ
 
--- a call that fails on purpose makes no call of the wire; any other is that call
+-- a call that fails on purpose makes no call of the inner wire, any other makes that call; failed calls are counted
 abbrev pub SendsThroughFuse : {W : Type 0} → (W → List ℕ → Result (Unit {0}) WireError → W → Type 0) → FuseView W
     → List ℕ → Result (Unit {0}) WireError → FuseView W → Type 0
 SendsThroughFuse send f bytes answer after =

@@ -1,4 +1,4 @@
--- What a link end makes of a datagram. Its reading is the frame that it spells, or why it spells none.
+-- How a link end receives a datagram. The reading of a datagram is its frame, or why it is not one.
 use Rattle.std.specs.Prelude.{ℕ, List, take, Option, Some, None, Result, Ok, Err}
 use Rattle.tora_frame.specs.declared.FrameError.{FrameError}
 use Rattle.tora_frame.specs.FrameParts.{FrameParts}
@@ -12,7 +12,7 @@ use Rattle.tora_neighbour.specs.declared.wire.WireError.{WireError}
 abbrev pub Reading : Type 0
 Reading = Result FrameParts FrameError
 
--- a frame is handed to the end; bytes that spell none are not
+-- a frame is passed to the end, other bytes are not
 abbrev pub intake_of : Settings → EndState → ℕ → Reading → Intake
 intake_of s e now (Ok frame) = Seen (verdict_of s e frame now)
 intake_of s e now (Err error) = Bad error
@@ -21,7 +21,7 @@ abbrev pub after_reading : Settings → EndState → ℕ → Reading → EndStat
 after_reading s e now (Ok frame) = after_frame s e frame now
 after_reading s e now (Err error) = e
 
--- the same, where a datagram came or none did
+-- the result of passing on a datagram, if one was received
 abbrev pub intake_in : Settings → EndState → ℕ → Option Reading → Option Intake
 intake_in s e now None = None
 intake_in s e now (Some reading) = Some (intake_of s e now reading)
@@ -30,8 +30,7 @@ abbrev pub after_came : Settings → EndState → ℕ → Option Reading → End
 after_came s e now None = e
 after_came s e now (Some reading) = after_reading s e now reading
 
--- what came in by a receive, if one was made: what the bytes spell that it has put at the front of its buffer, as many
--- as it answered, or nothing
+-- the reading of the datagram that a receive returned, if one was made: n bytes at the front of the buffer, or nothing
 abbrev pub came_in : Option (Result (Option ℕ) WireError) → List ℕ → Option Reading
 came_in None buffer = None
 came_in (Some (Ok (Some n))) buffer = Some (frame_reading (take n buffer))

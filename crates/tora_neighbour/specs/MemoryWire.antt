@@ -1,4 +1,4 @@
--- What contracts see of a wire in memory, and what its calls make of it.
+-- What contracts see of a wire in memory, and the effect of its calls.
 use Rattle.std.specs.Prelude.{◌≡◌, ◌⊎◌, ℕ, ◌+◌, ◌-◌, ◌^◌, ◌<◌, ◌≤◌, min, Bool, false, List, [], ◌∷◌, ◌++◌, length, take, Option, Some, None, Result, Ok, Err}
 use Rattle.std.specs.declared.vec.Vec.{Vec}
 use Rattle.tora_neighbour.specs.declared.memory_wire.Sent.{Sent}
@@ -18,14 +18,14 @@ bytes_of v = v.items
 abbrev pub sent_of : Sent → List ℕ
 sent_of s = take s.len s.bytes
 
--- a datagram of at most 560 bytes is kept where fewer than n are, and any other send fails
+-- a datagram of at most 560 bytes is stored if fewer than n are stored; any other send fails
 abbrev pub SendsToMemory : ℕ → MemoryWireView → List ℕ → Result (Unit {0}) WireError → MemoryWireView → Type 0
 SendsToMemory n w bytes (Ok done) after = (length bytes ≤ 560) × (length w.tries < n)
     × (after ≡ record w { tries = w.tries ++ bytes ∷ [] })
 SendsToMemory n w bytes (Err error) after = ((560 < length bytes) ⊎ (n ≤ length w.tries))
     × (after ≡ record w { tells = false; failures = min (w.failures + 1) (2 ^ 64 - 1) })
 
--- the first datagram is received, and none only where all were received
+-- the first datagram is received; none only if all were received
 abbrev pub ReceivesFromMemory : MemoryWireView → Result (Option ℕ) WireError → List ℕ → MemoryWireView → Type 0
 ReceivesFromMemory w (Ok (Some n)) buffer after = (datagram : List ℕ) × (w.coming ≡ datagram ∷ after.coming)
     × IsCut datagram (length buffer) n buffer × (after ≡ record w { coming = after.coming })

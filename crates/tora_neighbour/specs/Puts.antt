@@ -1,4 +1,4 @@
--- What a neighbour's thread puts.
+-- The items that a neighbour's thread puts, without seat and number.
 use Rattle.std.specs.Prelude.{ℕ}
 use Rattle.tora_seat.specs.declared.what.What.{What}
 use Rattle.tora_seat.specs.declared.item.Item.{Item}
@@ -7,6 +7,6 @@ use Rattle.tora_neighbour.specs.declared.hub.Put.{Put}
 abbrev pub put_of : ℕ → What → Put
 put_of now what = record { now = now; what = what }
 
--- what an item says that was put
+-- the tick and the content of an item
 abbrev pub put_in : Item → Put
 put_in x = put_of x.now x.what

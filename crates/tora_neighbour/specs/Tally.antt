@@ -1,4 +1,4 @@
--- What is counted of the datagrams that come in.
+-- Counts of the received datagrams.
 use Rattle.std.specs.Prelude.{ℕ, ◌+◌, ◌-◌, ◌^◌, ◌==◌, min, if◌then◌else◌, Option, Some, None}
 use Rattle.tora_frame.specs.declared.FrameError.{FrameError}
 use Rattle.tora_frame.specs.declared.FrameError.TheVariants as Fault
@@ -28,11 +28,11 @@ first_tally = record {
   count = 0;
 }
 
--- one more, and 2^64 - 1 from there on
+-- a count after one more; it stops at 2^64 - 1
 abbrev pub one_more : ℕ → ℕ
 one_more n = min (n + 1) (2 ^ 64 - 1)
 
--- one count is one more: that of the verdict
+-- adds 1 to the count of this verdict
 abbrev pub with_verdict : Verdict → Tally → Tally
 with_verdict Accepted t = record t { accepted = one_more t.accepted }
 with_verdict Repeated t = record t { repeated = one_more t.repeated }
@@ -41,7 +41,7 @@ with_verdict Stale t = record t { stale = one_more t.stale }
 with_verdict Foreign t = record t { foreign = one_more t.foreign }
 with_verdict Busy t = record t { busy = one_more t.busy }
 
--- one count is one more: that of the fault
+-- adds 1 to the count of this error
 abbrev pub with_fault : FrameError → Tally → Tally
 with_fault Fault.Short t = record t { short = one_more t.short }
 with_fault Fault.Long t = record t { long = one_more t.long }
@@ -54,12 +54,12 @@ with_fault Fault.Number t = record t { number = one_more t.number }
 with_fault (Fault.Packet e) t = record t { packet = one_more t.packet }
 with_fault Fault.Count t = record t { count = one_more t.count }
 
--- once a datagram was taken in
+-- the tally after a datagram was passed to the end
 abbrev pub counted : Intake → Tally → Tally
 counted (Bad error) t = with_fault error t
 counted (Seen verdict) t = with_verdict verdict t
 
--- once a datagram was taken in, if one came
+-- the tally after a receive, which may have returned no datagram
 abbrev pub counted_in : Option Intake → Tally → Tally
 counted_in None t = t
 counted_in (Some intake) t = counted intake t
@@ -72,7 +72,7 @@ count_of_verdict Stale t = t.stale
 count_of_verdict Foreign t = t.foreign
 count_of_verdict Busy t = t.busy
 
--- by the number of the fault, and 0 for any other number
+-- the count of the error with this number; 0 for any other number
 abbrev pub count_of_fault : ℕ → Tally → ℕ
 count_of_fault n t =
     if n == 1 then t.short

@@ -1,4 +1,4 @@
--- What goes between a neighbour's thread and its file, its hub and its wire in the turns of a run.
+-- What a neighbour's thread exchanges with its life file, its hub and its wire in the turns of a run.
 use Rattle.std.specs.Prelude.{◌≡◌, ℕ, suc, Bool, List, [], ◌∷◌, ◌++◌, map, IsTrue, if◌then◌else◌}
 use Rattle.std.specs.List.{flat_map}
 use Rattle.tora_frame.specs.FrameParts.{FrameParts}
@@ -14,12 +14,12 @@ use Rattle.tora_neighbour.specs.Puts.{put_of}
 use Rattle.tora_neighbour.specs.Intake.{Reading}
 use Rattle.tora_neighbour.specs.Turns.{Turn, came_of}
 
--- what the file, the hub and the wire tell of themselves
+-- what contracts see of the file, the hub and the wire
 pub record Outside : Type 0 where
   pub drawn : ℕ  -- the last number drawn
   pub puts : List Entry
   pub takes : List Cargo
-  pub tells : Bool  -- whether the wire tells
+  pub tells : Bool  -- whether contracts see the wire's datagrams
   pub coming : List (List ℕ)
   pub tries : List (List ℕ)
 
@@ -35,7 +35,7 @@ outside puts takes tells coming tries link hub =
       tries = tries link.wire;
     }
 
--- an event, as it is put
+-- the item that an event is put as
 abbrev pub entry_of : ℕ → LinkEvent → Entry
 entry_of now event = put_of now (what_of event)
 
@@ -44,11 +44,11 @@ beat_of beat now = if beat then put_of now Put.Beat ∷ [] else []
 
 -- ---- all turns together
 
--- the numbers that the end was opened with
+-- the numbers with which the end was opened
 abbrev pub numbers_opened : List Turn → List ℕ
 numbers_opened turns = flat_map (λ t. list_of t.opened) turns
 
--- what was put in a turn: its events, and its beat behind them
+-- what was put in a turn: its events, and then its beat
 abbrev pub entries_of : Turn → List Entry
 entries_of t = map (entry_of t.now) t.told ++ beat_of t.beat t.now
 
@@ -61,18 +61,18 @@ cargoes_taken turns = flat_map (λ t. t.cargoes) turns
 abbrev pub frames_sent : List Turn → List FrameParts
 frames_sent turns = flat_map (λ t. t.sent) turns
 
--- what the datagrams that came spell
+-- the readings of the datagrams that were received
 abbrev pub readings_come : List Turn → List Reading
 readings_come turns = flat_map (λ t. list_of (came_of t)) turns
 
--- ---- what they have to do with what is told
+-- ---- how the turns relate to what contracts see
 
--- each of these numbers is the next one after the last drawn
+-- each of these numbers is 1 above the number drawn before it
 abbrev pub AreDrawn : ℕ → List ℕ → ℕ → Type 0
 AreDrawn drawn [] after = after ≡ drawn
 AreDrawn drawn (n ∷ numbers) after = (n ≡ suc drawn) × AreDrawn n numbers after
 
--- what came is what the datagrams given spell
+-- these are the readings of the first datagrams to come, and the rest is still to come
 pub record Came (coming : List (List ℕ)) (readings : List Reading) (rest : List (List ℕ)) : Type 0 where
   pub given : List (List ℕ)
   pub coming_is : coming ≡ given ++ rest

@@ -5,11 +5,11 @@ use crate::wire::{Wire, WireError};
 use std::marker::Model;
 use tora_life::{Fuse, FuseMode};
 
-/// For tests alone, a wire around another one: so many calls pass, and then one fails, or all do.
+/// For tests only: a wire around another wire. A given number of calls pass, and then one call fails, or all following
+/// calls fail.
 ///
-/// A call that fails so is counted, and makes no call of the wire inside; a datagram that was to be sent by it did not
-/// go out, and from then on contracts are told no datagrams. Calls that the wire inside fails are counted too. The
-/// count begins at 0.
+/// A call that the fuse fails is counted, and makes no call of the inner wire. Failed calls of the inner wire are
+/// counted too. The count begins at 0. After a send that the fuse failed, contracts see no datagrams any more.
 #[derive(Drop)]
 pub struct FuseWire<W: Wire> {
     wire: W,
@@ -27,7 +27,7 @@ impl<W: Wire> Model for FuseWire<W> {
 }
 
 impl<W: Wire> FuseWire<W> {
-    /// A wire over which `k` calls pass, sends and receives together.
+    /// A wire around `wire` that lets `k` calls pass, sends and receives together.
     pub fn new(wire: W, k: u64, mode: FuseMode) -> FuseWire<W>
         ensures { result
             ≡ record { wire = wire; fuse = record { mode = mode; left = Some k }; told = true; failures = 0 } }
@@ -40,7 +40,7 @@ impl<W: Wire> FuseWire<W> {
         }
     }
 
-    /// The wire inside.
+    /// The inner wire.
     pub fn into_inner(self) -> W
         ensures { result ≡ self.wire }
     {

@@ -1,4 +1,4 @@
-//! What a neighbour's thread puts, and where its cargoes come from.
+//! The hub of a neighbour's thread: where it puts items, and where it takes outbound messages.
 ghost use Rattle.std.specs.Prelude.{◌≡◌, ◌++◌, ◌∷◌, [], true, Bool, ℕ, Option, Result, List, OnOk, OnErr};
 ghost use Rattle.tora_arq.specs.LinkFacts.{list_of};
 ghost use Rattle.tora_seat.specs.declared.cargo.Cargo.{Cargo};
@@ -10,33 +10,34 @@ ghost use Rattle.tora_neighbour.specs.declared.hub.Put.{Put};
 use std::sync::Wait;
 use tora_lane::{Cargo, Gone, What};
 
-/// What was put by a neighbour's thread, and its tick.
+/// An item that a neighbour's thread put, without its seat and number.
 #[derive(Clone, Copy, Debug, PartialEq, Eq, Hash)]
 pub struct Put {
     /// The tick of 100 ms at which it was put.
     pub now: u64,
-    /// What was put.
+    /// The content of the item.
     pub what: What,
 }
 
-/// The seat of a neighbour's thread: it puts what the link tells, and takes the cargoes for the link.
+/// The hub of a neighbour's thread: the thread puts what the link reports, and takes the outbound messages for the
+/// link.
 pub trait Hub {
-    /// What was put since the hub was made, the first of it first.
+    /// The items that were put since the hub was made, oldest first.
     ghost puts: { Self → List Put };
 
-    /// The cargoes that were taken since the hub was made, the first of them first.
+    /// The outbound messages that were taken since the hub was made, oldest first.
     ghost takes: { Self → List Cargo };
 
-    /// Whether `put` has answered `Gone`.
+    /// Whether `put` has returned `Gone`.
     ghost gone: { Self → Bool };
 
-    /// What a put made of a hub: tick, what was put, answer, new hub.
+    /// A put: old hub, tick, content, result, new hub.
     ghost did_put: { Self → ℕ → What → Result (Unit {0}) Gone → Self → Type 0 };
 
-    /// What a take made of a hub: answer, new hub.
+    /// A take: old hub, result, new hub.
     ghost did_take: { Self → Option Cargo → Self → Type 0 };
 
-    /// Puts something. It may wait. From `Gone` on nothing is put any more.
+    /// Puts an item. It may wait. Once it has returned `Gone`, nothing is put any more.
     fn put<R: Wait>(&mut self, rt: &R, now: u64, what: What) -> Result<(), Gone>
         ensures call { did_put self.old now what result self.new }
         ensures put { OnOk result (puts self.new ≡ puts self.old ++ put_of now what ∷ []) }
@@ -45,7 +46,7 @@ pub trait Hub {
         ensures gone { OnErr result (gone self.new ≡ true) }
         ensures takes { takes self.new ≡ takes self.old };
 
-    /// Takes the next cargo, if one waits.
+    /// Takes the next outbound message, if there is one.
     fn take<R: Wait>(&mut self, rt: &R) -> Option<Cargo>
         ensures call { did_take self.old result self.new }
         ensures taken { takes self.new ≡ takes self.old ++ list_of result }

@@ -1,4 +1,4 @@
-//! A datagram that comes in.
+//! How a received datagram is passed to the link end.
 ghost use Rattle.std.specs.Prelude.{◌≡◌};
 ghost use Rattle.tora_frame.specs.FrameGrammar.{frame_reading};
 ghost use Rattle.tora_neighbour.specs.Intake.{intake_of, after_reading};
@@ -8,19 +8,19 @@ use crate::tally::Tally;
 use tora_arq::{LinkEnd, Verdict};
 use tora_frame::{FrameError, Packets, decode_into};
 
-/// What a link end made of a datagram.
+/// The result of passing a datagram to a link end.
 #[derive(Clone, Copy, Debug, PartialEq, Eq, Hash)]
 pub enum Intake {
-    /// Its bytes spell no frame, for this reason. The end did not see it.
+    /// The bytes are not a frame, for this reason. The end did not receive it.
     Bad(FrameError),
-    /// It spells a frame, on which this is the verdict of the end.
+    /// The bytes are a frame, and this is the end's verdict on it.
     Seen(Verdict),
 }
 
-/// Takes in a datagram of any bytes at the tick `now`, of 100 ms.
+/// Passes a datagram of any bytes to the end at the tick `now`, in units of 100 ms.
 ///
-/// Where the bytes spell a frame, the end is as after `LinkEnd::on_frame` of it; otherwise the end is unchanged.
-/// Exactly one count of the tally is one more. It takes no memory.
+/// If the bytes are a frame, the effect on the end is that of `LinkEnd::on_frame`; otherwise the end is unchanged.
+/// Exactly one count of the tally rises by 1. It takes no memory.
 pub fn take_in(end: &mut LinkEnd, tally: &mut Tally, datagram: &[u8], now: u64) -> Intake
     ensures intake { result ≡ intake_of end.old.settings end.old.state now (frame_reading datagram.now) }
     ensures end { end.new

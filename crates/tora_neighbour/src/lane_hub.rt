@@ -3,13 +3,13 @@ use crate::hub::Hub;
 use std::sync::Wait;
 use tora_lane::{Cargo, Gone, InPort, OutTake, What};
 
-/// The hub over the lanes: the port of the link's seat, and the lane of its cargoes. It takes a cargo without waiting,
-/// and none where none is there.
+/// The hub over the lanes: the port of the link's seat, and the queue of its outbound messages. It never waits for an
+/// outbound message.
 #[derive(Drop)]
 pub struct LaneHub {
-    /// The port.
+    /// The port of the link's seat.
     pub port: InPort,
-    /// The lane.
+    /// The queue of outbound messages.
     pub outs: OutTake,
 }
 

@@ -7,8 +7,8 @@ use std::marker::Model;
 use std::sync::Wait;
 use tora_lane::{Cargo, Gone, What};
 
-/// For tests alone, a hub that gives its cargoes in turn, and keeps what is put, up to a room. From then on it answers
-/// `Gone`.
+/// For tests only: a hub that returns given outbound messages in order, and stores up to a given number of items. If it
+/// is full, a put returns `Gone`, and so does every later put.
 #[derive(Drop)]
 pub struct ListHub {
     kept: Vec<Put>,
@@ -37,11 +37,10 @@ impl Model for ListHub {
 }
 
 impl ListHub {
-    /// A hub with these cargoes to be taken, which keeps up to `room` things that are put. It makes room for them at
-    /// once.
+    /// A hub that returns these outbound messages and stores up to `room` items. It allocates room for them at once.
     ///
     /// # Errors
-    /// Want of memory.
+    /// Out of memory.
     pub fn new(alloc: Global, room: usize, cargoes: Vec<Cargo>) -> Result<ListHub, AllocError>
         ensures { IfOk result
             (λ h. h ≡ record { puts = []; room = room; takes = []; cargoes = cargoes.items; gone = false }) }
@@ -55,7 +54,7 @@ impl ListHub {
         })
     }
 
-    /// What was put, the first of it first.
+    /// The items that were put, oldest first.
     pub fn kept(&self) -> &[Put]
         ensures { result.now ≡ self.now.puts }
     {

@@ -7,7 +7,7 @@ use arrayvec::ArrayVec;
 use std::alloc::Global;
 use std::marker::Model;
 
-/// The most bytes of a datagram that a wire in memory keeps.
+/// The greatest length of a datagram that a wire in memory stores, in bytes.
 pub const LONGEST: usize = 560;
 
 /// A datagram that was sent.
@@ -43,9 +43,8 @@ fn kept(bytes: &[u8]) -> Sent
     }
 }
 
-/// For tests alone, a wire that gives its datagrams in turn, and then none. It keeps up to N datagrams that are sent,
-/// of at most 560 bytes each, and takes no memory for them. Any other send fails, and from then on it tells contracts
-/// no datagrams.
+/// For tests only: a wire that returns given datagrams in order, and then none. It stores up to N sent datagrams of at
+/// most 560 bytes each, and takes no memory for them. Any other send fails, and after that contracts see no datagrams.
 #[derive(Drop)]
 pub struct MemWire<const N: usize> {
     coming: Vec<Vec<u8>>,
@@ -72,7 +71,7 @@ impl<const N: usize> Model for MemWire<N> {
 }
 
 impl<const N: usize> MemWire<N> {
-    /// A wire with these datagrams to come, of any length.
+    /// A wire that returns these datagrams, which may have any length.
     pub fn new(datagrams: Vec<Vec<u8>>) -> MemWire<N>
         ensures { result ≡ record { tells = true; coming = map bytes_of datagrams.items; tries = []; failures = 0 } }
     {

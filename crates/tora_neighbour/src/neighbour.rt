@@ -19,7 +19,7 @@ use crate::wire::Wire;
 use std::sync::Wait;
 use tora_life::Disk;
 
-/// The fault that the thread answers.
+/// The fault that the thread returns.
 fn fault_of(ending: Ending) -> Option<LinkFault>
     ensures { result ≡ fault_of ending }
 {
@@ -30,23 +30,23 @@ fn fault_of(ending: Ending) -> Option<LinkFault>
     }
 }
 
-/// Runs the link to a neighbour, whose end was never opened, at the ticks of its clock: each turn reads its own. It
-/// may wait, and no clause says that it returns.
+/// Runs the link to a neighbour, whose end was never opened. Each turn reads its own tick from the clock. It may wait,
+/// and no clause says that it returns.
 ///
 /// In each turn, with one tick of 100 ms, it
-/// 1. draws a number for a closed end, and opens it;
-/// 2. hands the tick to the end;
-/// 3. takes the cargoes that wait, at most as many as a lane holds, and submits or cuts each in its own life (a packet
-///    of another life than the bound one is dropped);
-/// 4. sends each frame that is due, until none is;
-/// 5. receives once, and takes in the datagram that came, if one did;
+/// 1. draws a number for a closed end, and opens the end;
+/// 2. passes the tick to the end;
+/// 3. takes the waiting outbound messages, at most as many as a queue holds, and submits or cuts each in its own
+///    session (a packet of a session that is not bound is dropped);
+/// 4. sends due frames until none is due;
+/// 5. receives once, and passes a received datagram to the end;
 /// 6. puts each event of the end;
-/// 7. puts a beat in the first turn, and where ten ticks have passed since the last one.
+/// 7. puts a beat in the first turn, and if ten ticks have passed since the last beat.
 ///
-/// It ends where the life file draws no number (`Life`), where a hundred calls of the wire in a row have failed
-/// (`Wire`; it makes no further call of the wire, cuts the bound life, if there is one, and puts the events that are
-/// left), and where the hub answers `Gone` (no fault). A failed send counts as a try of its frame; a failed receive
-/// gives nothing.
+/// It ends if the life file draws no number (`Life`), if a hundred calls of the wire in a row failed (`Wire`), or if
+/// the hub returns `Gone` (no fault). At `Wire` it makes no further call of the wire, cuts the bound session if there
+/// is one, and puts the events that are left. A failed send counts as a try of its frame; a failed receive returns no
+/// datagram.
 pub fn run_neighbour<R: Wait, D: Disk, W: Wire, C: Clock, H: Hub>(
     rt: &R,
     link: Link<D, W>,

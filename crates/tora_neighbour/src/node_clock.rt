@@ -1,4 +1,4 @@
-//! The clock of a node, which runs out once its core has ended.
+//! The clock of a node, which returns the last tick once its core has ended.
 ghost use Rattle.std.specs.Prelude.{◌≡◌, ◌≤◌, ◌⊎◌, ◌-◌, ◌^◌};
 ghost use Rattle.std.specs.Duration.{as_nanos};
 ghost use Rattle.tora_neighbour.specs.SystemTicks.{IsTickRead};
@@ -7,23 +7,22 @@ use crate::clock::{Clock, SystemClock, tick_of};
 use std::sync::atomic::{AtomicBool, Ordering};
 use std::time::{Duration, UNIX_EPOCH};
 
-/// The milliseconds of a tick.
+/// The milliseconds in a tick.
 const TICK: u64 = 100;
 
-/// How many milliseconds of a tick are left at a moment, which is told in milliseconds: from 1 to 100.
+/// The milliseconds until the next tick, from 1 to 100, at a moment in milliseconds.
 fn rest_of_tick(moment: u128) -> u64
     ensures { result ≤ TICK }
 {
     TICK - (moment % 100) as u64
 }
 
-/// The clock of a node: Unix time in ticks of 100 ms, and the last tick that there is, 2^64 - 1, once its core has
-/// ended.
+/// The clock of a node: Unix time in ticks of 100 ms, and the last tick, 2^64 - 1, once the core has ended.
 ///
-/// The thread of a link ends where the core takes nothing any more and a put is refused. By the last tick a beat is
-/// due, so that its next turn is its last. All threads of a node share it by reference, and each reference is a clock.
-/// Contracts see that each tick is the last one or that of a reading of the system's clock, and not which of the two:
-/// that the core has ended is told by another thread.
+/// A link's thread ends when a put is refused because the core takes no more items. At the last tick a beat is due, so
+/// the thread's next turn is its last one. All threads of a node share the clock by reference, and each reference is a
+/// clock. Contracts see that each tick is the last tick or that of a reading of the system's clock, but not which of
+/// the two, because another thread reports the core's end.
 #[derive(Drop)]
 pub struct NodeClock<R> {
     rt: R,
@@ -31,7 +30,7 @@ pub struct NodeClock<R> {
 }
 
 impl<R: SystemClock> NodeClock<R> {
-    /// The clock that this runtime reads, of a node whose core has not ended.
+    /// A clock that reads the time through this runtime, for a node whose core has not ended.
     pub fn new(rt: R) -> NodeClock<R> {
         NodeClock {
             rt,
@@ -39,12 +38,12 @@ impl<R: SystemClock> NodeClock<R> {
         }
     }
 
-    /// The core has ended: from now on it is the last tick.
+    /// Notes that the core has ended: from now on the clock returns the last tick.
     pub fn end(&self) {
         self.has_ended.store(true, Ordering::SeqCst);
     }
 
-    /// How long it is until the next tick begins: 100 ms at most, and no time at all once the core has ended.
+    /// The time until the next tick begins: at most 100 ms, and 0 once the core has ended.
     pub fn until_next_tick(&self) -> Duration
         ensures { as_nanos result ≤ 100_000_000 }
     {

@@ -1,4 +1,4 @@
-//! Counts of what was made of the datagrams that came in.
+//! Counts of the received datagrams of a link.
 ghost use Rattle.std.specs.Prelude.{◌≡◌};
 ghost use Rattle.tora_neighbour.specs.Tally.{first_tally, with_verdict, with_fault, counted, count_of_verdict};
 ghost use Rattle.tora_neighbour.specs.Tally.{count_of_fault};
@@ -7,9 +7,10 @@ use crate::intake::Intake;
 use tora_arq::Verdict;
 use tora_frame::FrameError;
 
-/// How many datagrams of one link came to each verdict, and to each fault of their bytes.
+/// Counts of a link's received datagrams: one count for each verdict, and one for each error of bytes that are not a
+/// frame.
 ///
-/// Each datagram that `take_in` is given adds 1 to exactly one of the counts, which stays at 2^64 - 1 once there.
+/// Each datagram that is passed to `take_in` adds 1 to exactly one count. A count stops at 2^64 - 1.
 #[derive(Clone, Copy, Debug, PartialEq, Eq, Hash)]
 pub struct Tally {
     accepted: u64,
@@ -30,7 +31,7 @@ pub struct Tally {
     count: u64,
 }
 
-/// A tally of no datagram.
+/// A tally whose counts are all 0.
 impl Default for Tally {
     ghost use Rattle.std.specs.Prelude.{◌≡◌};
     ghost use Rattle.tora_neighbour.specs.Tally.{first_tally};
@@ -43,7 +44,7 @@ impl Default for Tally {
 }
 
 impl Tally {
-    /// A tally of no datagram: each count is 0.
+    /// A tally whose counts are all 0.
     pub fn new() -> Tally
         ensures { result ≡ first_tally }
     {
@@ -67,7 +68,7 @@ impl Tally {
         }
     }
 
-    /// How many frames came to this verdict, at most 2^64 - 1.
+    /// The number of frames with this verdict, at most 2^64 - 1.
     pub fn of_verdict(&self, verdict: Verdict) -> u64
         ensures { result ≡ count_of_verdict verdict self.now }
     {
@@ -81,8 +82,8 @@ impl Tally {
         }
     }
 
-    /// How many datagrams spelt no frame for the fault with this number (`FrameError::number`, 1 to 10), at most 2^64 -
-    /// 1. It is 0 for any other number.
+    /// The number of datagrams that were not a frame because of the error with this number (`FrameError::number`, 1 to
+    /// 10), at most 2^64 - 1. It is 0 for any other number.
     pub fn of_bad(&self, n: u8) -> u64
         ensures { result ≡ count_of_fault n self.now }
     {
@@ -131,7 +132,7 @@ impl Tally {
         }
     }
 
-    /// Adds 1 to the count of what was made of a datagram.
+    /// Counts the result of passing a datagram to the end.
     pub(crate) fn add(&mut self, intake: Intake)
         ensures { self.new ≡ counted intake self.old }
     {

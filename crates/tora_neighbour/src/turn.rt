@@ -18,18 +18,18 @@ use crate::wire::Wire;
 use std::sync::Wait;
 use tora_life::Disk;
 
-/// What a thread counts over its turns.
+/// What a thread carries from one turn to the next.
 #[derive(Clone, Copy, Debug, PartialEq, Eq, Hash)]
 pub struct Course {
-    /// How many calls of the wire have failed in a row.
+    /// The number of the wire's last calls in a row that failed.
     pub row: u64,
     /// The tick of the last beat.
     pub last_beat: Option<u64>,
-    /// What was made of the datagrams that came.
+    /// The counts of the received datagrams.
     pub tally: Tally,
 }
 
-/// One turn, with one tick.
+/// Makes one turn at one tick.
 pub fn turn<R: Wait, D: Disk, W: Wire, H: Hub>(
     rt: &R,
     now: u64,

@@ -29,13 +29,13 @@ use tora_lane::Gone;
 use tora_life::{Disk, LifeError, LifeFile};
 use tora_seat::{MOST_CARGOES, hand_in, what_of};
 
-/// The most bytes of a datagram that are received. No frame is longer.
+/// The size of the receive buffer in bytes. No frame is longer.
 pub const MOST_BYTES: usize = 2048;
 
-/// How many calls of a wire in a row fail until the link is given up.
+/// How many calls of the wire in a row must fail before the link is given up.
 pub const MOST_FAILURES: u64 = 100;
 
-/// The hundredth call of the wire in a row has failed.
+/// A hundred calls of the wire in a row failed.
 #[derive(Clone, Copy, Debug, PartialEq, Eq, Hash)]
 pub struct Broken;
 
@@ -71,7 +71,7 @@ pub fn open_closed<D: Disk>(
     }
 }
 
-/// Takes the cargoes that wait, at most as many as a lane holds (`MOST_CARGOES`).
+/// Takes the waiting outbound messages, at most as many as a queue holds (`MOST_CARGOES`).
 pub fn take_cargoes<R: Wait, H: Hub>(rt: &R, end: &mut LinkEnd, hub: &mut H)
     ensures taken { (cargoes : List Cargo) × (length cargoes ≤ MOST_CARGOES)
         × (end.new ≡ record end.old { state = after_cargoes end.old.state cargoes })
@@ -87,7 +87,7 @@ pub fn take_cargoes<R: Wait, H: Hub>(rt: &R, end: &mut LinkEnd, hub: &mut H)
     }
 }
 
-/// Puts the events of the end, until one is refused.
+/// Puts the events of the end until one is refused.
 pub fn put_events<R: Wait, H: Hub>(
     rt: &R,
     end: &mut LinkEnd,
@@ -110,7 +110,7 @@ pub fn put_events<R: Wait, H: Hub>(
     Ok(())
 }
 
-/// Counts one more failure in a row.
+/// Adds 1 to the count of failures in a row.
 pub fn count_failure(row: &mut u64) -> Result<(), Broken>
     requires { row.old < MOST_FAILURES }
     ensures ok { OnOk result (row.new < MOST_FAILURES) }
@@ -124,7 +124,7 @@ pub fn count_failure(row: &mut u64) -> Result<(), Broken>
     Ok(())
 }
 
-/// Sends a datagram, and counts where it fails.
+/// Sends a datagram, and counts a failure.
 pub fn try_send<W: Wire>(wire: &mut W, row: &mut u64, bytes: &[u8]) -> Result<(), Broken>
     requires { row.old < MOST_FAILURES }
     ensures call { (answer : Result (Unit {0}) WireError) × W.did_send wire.old bytes.now answer wire.new
@@ -146,7 +146,7 @@ pub fn try_send<W: Wire>(wire: &mut W, row: &mut u64, bytes: &[u8]) -> Result<()
     }
 }
 
-/// Sends each frame that is due. One list of packets and one buffer of bytes serve them all.
+/// Sends each due frame. All frames use the same list of packets and the same buffer of bytes.
 pub fn send_frames<R: Wait, W: Wire>(
     rt: &R,
     end: &mut LinkEnd,
@@ -187,7 +187,7 @@ pub fn send_frames<R: Wait, W: Wire>(
     unreachable!()
 }
 
-/// Receives once, and takes in the datagram that came, if one did.
+/// Receives once, and passes a received datagram to the end.
 pub fn receive<W: Wire>(
     end: &mut LinkEnd,
     wire: &mut W,

@@ -1,4 +1,4 @@
-//! The stages of a turn: it begins, exchanges datagrams, and tells its events.
+//! The stages of a turn: it begins, exchanges datagrams, and puts events.
 ghost use Rattle.std.specs.Prelude.{◌≡◌, [], ◌∷◌, ◌++◌, ◌+◌, ℕ, ◌≤◌, ◌<◌, List, Option, Result, Err, Some, None};
 ghost use Rattle.std.specs.Prelude.{length, map, true, false, IsTrue, IfErr, OnOk, OnErr, if◌then◌else◌};
 ghost use Rattle.tora_frame.specs.FrameParts.{FrameParts};
@@ -36,10 +36,10 @@ use tora_lane::{Gone, What};
 use tora_life::{Disk, LifeError, LifeFile};
 use tora_seat::cut_bound;
 
-/// How many ticks of 100 ms lie between two beats, at most where turns come each tick.
+/// The number of ticks of 100 ms after which the next beat is due.
 pub const BEAT_TICKS: u64 = 10;
 
-/// Opens a closed end, hands the tick to it, and takes the cargoes for it.
+/// Opens a closed end, passes the tick to it, and takes the outbound messages for it.
 pub fn begin<R: Wait, D: Disk, H: Hub>(
     rt: &R,
     end: &mut LinkEnd,
@@ -72,7 +72,7 @@ pub fn begin<R: Wait, D: Disk, H: Hub>(
     Ok(())
 }
 
-/// Sends each frame that is due, and then receives once.
+/// Sends each due frame, and then receives once.
 pub fn exchange<R: Wait, W: Wire>(
     rt: &R,
     end: &mut LinkEnd,
@@ -110,7 +110,7 @@ pub fn exchange<R: Wait, W: Wire>(
     Ok(())
 }
 
-/// Cuts the bound life, and puts the events that are left.
+/// Cuts the bound session, and puts the events that are left.
 pub fn give_up<R: Wait, H: Hub>(rt: &R, end: &mut LinkEnd, hub: &mut H, now: u64)
     ensures settings { end.new.settings ≡ end.old.settings }
     ensures takes { H.takes hub.new ≡ H.takes hub.old }
@@ -126,7 +126,7 @@ pub fn give_up<R: Wait, H: Hub>(rt: &R, end: &mut LinkEnd, hub: &mut H, now: u64
     }
 }
 
-/// Puts a beat where one is due.
+/// Puts a beat if one is due.
 pub fn put_beat<R: Wait, H: Hub>(
     rt: &R,
     hub: &mut H,
@@ -153,7 +153,7 @@ pub fn put_beat<R: Wait, H: Hub>(
     Ok(())
 }
 
-/// Puts the events of the end, and then a beat where one is due.
+/// Puts the events of the end, and then a beat if one is due.
 pub fn tell<R: Wait, H: Hub>(
     rt: &R,
     end: &mut LinkEnd,

@@ -1,4 +1,4 @@
-//! Sockets that are waited for, whose calls contracts tell.
+//! Sockets that can wait, with calls that contracts see.
 ghost use Rattle.std.specs.Prelude.{◌≤◌, ℕ, Bool, List, Result, IfOk, length};
 ghost use Rattle.std.specs.declared.io.Error.{Error};
 ghost use Rattle.std.specs.declared.net.SocketAddr.{SocketAddr as Address};
@@ -10,43 +10,43 @@ use std::io;
 use std::net::{Net, SocketAddr};
 use std::time::Duration;
 
-/// What the socket is registered under.
+/// The token of the socket at the poller.
 const SOCKET: Token = Token(0);
 
-/// What the wake-up is registered under.
+/// The token of the wake-up at the poller.
 const WAKE_UP: Token = Token(1);
 
-/// The most events of one wait: one of the socket and one of the wake-up.
+/// The most events of one wait: one for the socket and one for the wake-up.
 const MOST_EVENTS: usize = 2;
 
-/// A socket for datagrams that is waited for, whose calls contracts tell: what each was given, how it was answered, and
-/// the socket after it. Only a real call gives one.
+/// A socket for datagrams that can wait. Contracts see each call: its arguments, its result, and the socket after it.
+/// Only a real call gives evidence of a call.
 pub trait WaitedSocket {
-    /// What sending a datagram made of it: bytes, address, answer, socket after it.
+    /// A send: old socket, bytes, address, result, new socket.
     ghost did_send_to: { Self → List ℕ → Address → Result ℕ Error → Self → Type 0 };
 
-    /// What receiving a datagram made of it: buffer, answer, new buffer, socket after it.
+    /// A receive: old socket, old buffer, result, new buffer, new socket.
     ghost did_receive_from: { Self → List ℕ → Result (ℕ × Address) Error → List ℕ → Self → Type 0 };
 
-    /// What waiting made of it: whether a datagram may have come, and the socket after it.
+    /// A wait: old socket, whether a datagram may have come, new socket.
     ghost did_wait: { Self → Result Bool Error → Self → Type 0 };
 
-    /// Sends a datagram to an address, and answers how many of its bytes.
+    /// Sends a datagram to an address, and returns how many of its bytes were sent.
     fn send_datagram(&mut self, bytes: &[u8], to: SocketAddr) -> io::Result<usize>
         ensures { did_send_to self.old bytes.now to result self.new };
 
-    /// Receives a datagram into the front of a buffer, cut to it, and answers how many bytes and from where. It waits
-    /// for none.
+    /// Receives a datagram into the front of a buffer, cut to the buffer's size, and returns the count of bytes and the
+    /// sender. It does not wait.
     fn receive_datagram(&mut self, buf: &mut [u8]) -> io::Result<(usize, SocketAddr)>
         ensures call { did_receive_from self.old buf.old result buf.new self.new }
         ensures count { IfOk result (λ came. came.0 ≤ length buf.old) };
 
-    /// Waits for a datagram or a wake-up, so long at most. Answers whether a datagram may have come.
+    /// Waits for a datagram or a wake-up, at most `longest`. Returns whether a datagram may have come.
     fn wait(&mut self, longest: Duration) -> io::Result<bool>
         ensures { did_wait self.old result self.new };
 }
 
-/// A UDP socket, and what tells that a datagram has come or a wake-up.
+/// A UDP socket with a poller, which waits for a datagram or a wake-up.
 #[derive(Drop)]
 pub struct PolledSocket {
     poll: Poll,
@@ -55,7 +55,7 @@ pub struct PolledSocket {
 }
 
 impl PolledSocket {
-    /// Binds an address. What the waker wakes is a wait for this socket.
+    /// Binds the socket to an address. The waker ends a wait of this socket.
     pub(crate) fn bind<N: Net>(
         net: &N,
         alloc: Global,
@@ -75,7 +75,7 @@ impl PolledSocket {
         Ok((polled, waker))
     }
 
-    /// The address at which datagrams come, with the port that the system gave where none was asked for.
+    /// The address of the socket, with the port that the system chose if 0 was requested.
     pub fn local_addr(&self) -> io::Result<SocketAddr> {
         self.socket.local_addr()
     }

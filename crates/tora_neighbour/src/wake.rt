@@ -1,19 +1,20 @@
 //! Waking the thread of a neighbour.
 
-/// Ends the wait of a neighbour's thread for its wire, so that it takes the cargoes that are in its lane.
+/// Wakes a neighbour's thread that waits for its wire, so that it takes the outbound messages in its queue.
 ///
-/// No contract speaks of it: where a call does nothing, a cargo waits as long as the wire does, and none is lost.
+/// No contract depends on it: if a call does nothing, an outbound message stays in the queue until the wire's wait
+/// ends, and none is lost.
 pub trait Wake {
-    /// Ends the wait that is under way, or else the next one. It waits for nobody.
+    /// Ends the current wait, or the next one if there is none. It does not wait.
     fn wake(&self);
 
-    /// The core has ended, and nothing is taken any more that is put into its lane. It wakes, and waits for nobody.
+    /// Wakes the thread because the core has ended, and takes no more items from its queue. It does not wait.
     fn end(&self) {
         self.wake();
     }
 }
 
-/// Wakes nobody, as for a wire that waits for its socket alone.
+/// Wakes nobody, for a wire that cannot be woken.
 impl Wake for () {
     fn wake(&self) {}
 }

@@ -1,4 +1,4 @@
-//! A wire over UDP between two addresses, and what wakes it.
+//! A wire over UDP between two addresses, and its waker.
 ghost use Rattle.std.specs.Prelude.{◌≡◌, ◌≤◌, ◌+◌, ◌-◌, ◌^◌, ◌↔◌, min, true, false, [], length, IfOk, IfSome, IsTrue};
 ghost use Rattle.tora_neighbour.specs.WakingWire.{IsLost, Takes, Waits};
 
@@ -14,8 +14,7 @@ use std::io::ErrorKind;
 use std::marker::Model;
 use std::net::{Net, SocketAddr};
 
-/// Ends the wait of the wire that it was made with, and the clock of the node with its core. A wake-up that fails is
-/// passed over.
+/// Wakes the wire with which it was made, and reports the core's end to the node's clock. A failed wake-up is ignored.
 #[derive(Drop)]
 pub struct SocketWaker<'a, R> {
     waker: Waker,
@@ -33,16 +32,16 @@ impl<'a, R: SystemClock> Wake for SocketWaker<'a, R> {
     }
 }
 
-/// A wire over a UDP socket between two addresses. It tells contracts no datagrams. It doesn't look at who sent one.
+/// A wire over a UDP socket between two addresses. Contracts do not see its datagrams. It does not check the sender of
+/// a datagram.
 ///
-/// A receive gives a datagram that has come, and waits for none. Where there is none, it waits for one or for a
-/// wake-up, at most until the clock's next tick of 100 ms begins, and no time at all once the core of the node has
-/// ended. A wait that a wake-up or a signal has ended or that was in vain gives no datagram; one of no bytes is a
-/// datagram too.
+/// A receive returns a datagram that has come, without waiting. If there is none, it waits for a datagram or a wake-up,
+/// at most until the clock's next tick of 100 ms, and not at all once the node's core has ended. If the wait ends
+/// without a datagram, the receive returns none. A datagram of no bytes is a datagram too.
 ///
-/// A send waits for nothing, and one that takes fewer bytes than it is given has failed. Where the system has no room
-/// for the datagram, or no way leads to the other end, as long as an interface is down, the datagram is lost, and the
-/// call has not failed.
+/// A send never waits. It fails if fewer bytes are sent than were given. If the system has no room for the datagram, or
+/// has no route to the other end, for instance because an interface is down, the datagram is lost and the send
+/// succeeds.
 #[derive(Drop)]
 pub struct WakingWire<'a, R, S = PolledSocket> {
     socket: S,
@@ -61,8 +60,8 @@ impl<'a, R, S> Model for WakingWire<'a, R, S> {
     ghost view = { λ w. record { socket = w.socket; remote = w.remote; has_more = w.has_more; failures = w.failures } };
 }
 
-/// Whether a datagram that could not be sent for this reason is lost as the network loses datagrams: the system has no
-/// room for it now, or no way leads to the other end for now.
+/// Whether a datagram that the system did not send for this reason counts as lost in the network: the system has no
+/// room for it now, or has no route to the other end now.
 fn is_lost(kind: ErrorKind) -> bool
     ensures { IsTrue result ↔ IsLost kind }
 {
@@ -76,8 +75,9 @@ fn is_lost(kind: ErrorKind) -> bool
 }
 
 impl<'a, R: SystemClock> WakingWire<'a, R> {
-    /// Binds the local address, and sends to the remote one. The socket is not connected. `clock` is that of the node,
-    /// and tells when a tick begins; the waker ends it. It takes memory once.
+    /// Binds a socket to the local address; the wire sends to the remote one. The socket is not connected. `clock` is
+    /// the node's clock: it says when a tick begins, and the waker reports the core's end to it. Only this call takes
+    /// memory.
     pub fn bind<N: Net>(
         net: &N,
         alloc: Global,
@@ -100,21 +100,21 @@ impl<'a, R: SystemClock> WakingWire<'a, R> {
         Ok((wire, SocketWaker { waker, clock }))
     }
 
-    /// The address at which datagrams come, with the port that the system gave where none was asked for.
+    /// The address of the socket, with the port that the system chose if 0 was requested.
     pub fn local_addr(&self) -> io::Result<SocketAddr> {
         self.socket.local_addr()
     }
 }
 
 impl<'a, R: SystemClock, S: WaitedSocket> WakingWire<'a, R, S> {
-    /// Counts a call that has failed.
+    /// Counts a failed call.
     fn count(&mut self)
         ensures { self.new ≡ record self.old { failures = min (self.old.failures + 1) (2 ^ 64 - 1) } }
     {
         self.failures = self.failures.saturating_add(1);
     }
 
-    /// A datagram that has come, if there is one.
+    /// Receives a datagram that has come, if there is one.
     fn take(&mut self, buf: &mut [u8]) -> Result<Option<usize>, WireError>
         ensures takes { Takes S.did_receive_from self.old result buf.new self.new }
         ensures count { IfOk result (λ n. IfSome n (λ k. k ≤ length buf.old)) }
@@ -135,7 +135,7 @@ impl<'a, R: SystemClock, S: WaitedSocket> WakingWire<'a, R, S> {
         }
     }
 
-    /// Waits for a datagram or a wake-up, and then takes a datagram where one may have come.
+    /// Waits for a datagram or a wake-up, and then receives a datagram if one may have come.
     fn wait(&mut self, buf: &mut [u8]) -> Result<Option<usize>, WireError>
         ensures waits { Waits S.did_receive_from S.did_wait self.old result buf.new self.new }
         ensures count { IfOk result (λ n. IfSome n (λ k. k ≤ length buf.old)) }

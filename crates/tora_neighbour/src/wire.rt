@@ -1,4 +1,4 @@
-//! What datagrams go over.
+//! Wires: what carries the datagrams of a link.
 ghost use Rattle.std.specs.Prelude.{◌≡◌, ◌++◌, ◌∷◌, [], ◌≤◌, ℕ, Bool, Option, Result, List, IsTrue, IfOk, IfSome};
 ghost use Rattle.std.specs.Prelude.{length};
 ghost use Rattle.tora_neighbour.specs.declared.wire.WireError.{WireError};
@@ -6,35 +6,35 @@ ghost use Rattle.tora_neighbour.specs.Datagrams.{failures_after, IsReceived};
 
 use thiserror::Error;
 
-/// A call of a wire has failed, and is counted.
+/// A call of a wire failed. The wire has counted it.
 #[derive(Clone, Copy, Debug, PartialEq, Eq, Hash, Error)]
 #[error("a call of the wire failed")]
 pub struct WireError;
 
-/// A way for datagrams to one neighbour and from it. Datagrams may be lost, repeated and reordered.
+/// A way for datagrams to and from one neighbour. Datagrams may be lost, repeated and reordered.
 ///
-/// A wire either tells contracts its datagrams, as `MemWire` does, or tells none. One that tells may stop, and never
-/// begins again. Each wire counts its failed calls. The count stays at 2^64 - 1 once there.
+/// A wire may make its datagrams visible to contracts, as `MemWire` does. It may stop doing so at any call, and then
+/// never does again. Each wire counts its failed calls; the count stops at 2^64 - 1.
 pub trait Wire {
-    /// Whether contracts are told the datagrams.
+    /// Whether contracts see the datagrams.
     ghost tells: { Self → Bool };
 
-    /// The datagrams that are still to come, the next of them first.
+    /// The datagrams that are not yet received, next one first.
     ghost coming: { Self → List (List ℕ) };
 
-    /// The datagrams that `send` was given, the first of them first, whether it has failed or not.
+    /// The datagrams that were passed to `send`, oldest first, including those of failed sends.
     ghost tries: { Self → List (List ℕ) };
 
-    /// How often a call has failed, and 2^64 - 1 from there on.
+    /// The count of failed calls; it stops at 2^64 - 1.
     ghost failures: { Self → ℕ };
 
-    /// What a send made of a wire: bytes, answer, new wire.
+    /// A send: old wire, bytes, result, new wire.
     ghost did_send: { Self → List ℕ → Result (Unit {0}) WireError → Self → Type 0 };
 
-    /// What a receive made of a wire: answer, new buffer, new wire.
+    /// A receive: old wire, result, new buffer, new wire.
     ghost did_receive: { Self → Result (Option ℕ) WireError → List ℕ → Self → Type 0 };
 
-    /// Sends a datagram. Where it fails, the datagram may have gone out or not.
+    /// Sends a datagram. If the call fails, the datagram may nevertheless have been sent.
     fn send(&mut self, bytes: &[u8]) -> Result<(), WireError>
         ensures call { did_send self.old bytes.now result self.new }
         ensures failures { failures self.new ≡ failures_after result (failures self.old) }
@@ -42,8 +42,8 @@ pub trait Wire {
         ensures tried { IsTrue (tells self.new) → tries self.new ≡ tries self.old ++ bytes.now ∷ [] }
         ensures coming { IsTrue (tells self.new) → coming self.new ≡ coming self.old };
 
-    /// Receives a datagram into the front of `buf`, cut to it, and answers how many bytes it wrote. `None` where no
-    /// datagram is there. A call that fails receives none.
+    /// Receives a datagram into the front of `buf`, cut to the size of `buf`, and returns how many bytes it wrote;
+    /// `None` if there is no datagram. A failed call receives nothing.
     fn receive(&mut self, buf: &mut [u8]) -> Result<Option<usize>, WireError>
         ensures call { did_receive self.old result buf.new self.new }
         ensures failures { failures self.new ≡ failures_after result (failures self.old) }
@@ -54,7 +54,7 @@ pub trait Wire {
             → IsReceived (coming self.old) (length buf.old) result buf.new (coming self.new) };
 }
 
-/// A wire that is lent: each call is one of the wire itself, which its owner has back once the link has ended.
+/// A borrowed wire: each call is a call of the wire itself, and its owner has it back when the link has ended.
 impl<W: Wire> Wire for &mut W {
     ghost tells = { λ w. W.tells w.now };
 

@@ -16,18 +16,18 @@ use Rattle.tora_packet.specs.declared.PacketError.TheVariants as errors
 abbrev made : Quintuple → Result Quintuple HeightError
 made h = Ok h
 
--- what was made of parts is these parts
+-- a value that was made of these parts has these parts
 pub made_is : (p h : Quintuple) → MatchOption (height_fault p) (made h ≡ made p) (λ e. made h ≡ Err e) → h ≡ p
 made_is p h = elim (height_fault p) as (λ f. MatchOption f (made h ≡ made p) (λ e. made h ≡ Err e) → h ≡ p) [ None ↦ λ e. cc | Some x ↦ λ e. absurd cc ]
 
--- a signed number that is passed on is the number
+-- a signed number is the same after its conversion to an unsigned one and back
 pub passed : (n : ℕ) (z : ℤ) → z ≡ to_z w32 n → n < 2 ^ 32 → to_z w32 (of_z w32 z) ≡ to_z w32 n
 passed n z e small = rw e (omega (arith, ints))
 
 abbrev pub IsBytes : List ℕ → Type 0
 IsBytes bytes = (i : ℕ) → get_or bytes i 0 < 256
 
--- a check that found no fault, and the following ones
+-- a check that found no fault, and the checks after it
 next_test : (b : Bool) (e : PacketError) (x : Option PacketError) → cond b (Some e) x ≡ None → (b ≡ false) × (x ≡ None)
 next_test true e x h = absurd cc
 next_test false e x h = (refl, h)
@@ -36,7 +36,7 @@ not_false : (b : Bool) → not b ≡ false → b ≡ true
 not_false true h = refl
 not_false false h = absurd cc
 
--- what bytes without a fault are
+-- bytes without a fault
 pub record IsSound (bytes : List ℕ) : Type 0 where
   pub long : 2 ≤ length bytes
   pub version : get_or bytes 0 0 ≡ 1

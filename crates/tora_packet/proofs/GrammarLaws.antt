@@ -19,7 +19,7 @@ use Rattle.tora_packet.specs.declared.PacketError.{PacketError}
 use Rattle.tora_packet.specs.declared.lengths.TheConstants.{SHORTEST_PACKET, LONGEST_PACKET}
 use Rattle.tora_packet.proofs.Fields.{IsBytes, IsSound, sound, no_fault, step, number_back, wide_back, number_fits, four_at, joined}
 
--- a packet has as many bytes as its kind
+-- the encoding of a packet has the length of its kind
 pub length-packet_spelling : (p : Packet) → length (packet_spelling p) ≡ packet_length p
 length-packet_spelling (Qry q) = refl
 length-packet_spelling (Upd u) = refl

@@ -31,7 +31,7 @@ packet_length (Qry q) = QUERY_LENGTH
 packet_length (Upd u) = UPDATE_LENGTH
 packet_length (Clr c) = CLEAR_LENGTH
 
--- some kind of packet has this length
+-- packets of some kind have this length
 abbrev pub is_packet_length : ℕ → Bool
 is_packet_length n = (n == QUERY_LENGTH) || (n == UPDATE_LENGTH) || (n == CLEAR_LENGTH)
 
@@ -42,7 +42,7 @@ pub record SpellsPacket (bytes : List ℕ) (packet : Packet) : Type 0 where
 
 -- ---- why bytes are not a packet: the first of seven checks that fails
 
--- the number in four bytes (and in eight) at an offset
+-- the number in four bytes at an offset
 unfoldable pub u32_at : ℕ → List ℕ → ℕ
 u32_at i bytes = from_be_bytes w32 (slice_range bytes i (i + 4))
 
@@ -108,11 +108,11 @@ packet_reading bytes = packet_or (packet_fault bytes) (packet_at bytes)
 
 -- ---- the first of several packets
 
--- bytes that begin as a packet: with version 1 and a known kind
+-- the bytes begin with version 1 and a known kind
 abbrev pub begins_packet : List ℕ → Bool
 begins_packet bytes = (slice_index bytes 0 == 1) && is_kind (kind_of bytes)
 
--- the bytes of the first packet: at most the length of its kind, if they begin as a packet does
+-- the bytes of the first packet: at most the length of its kind, if the bytes begin as a packet does, and otherwise all
 unfoldable pub first_packet : List ℕ → List ℕ
 first_packet bytes = if begins_packet bytes then take (length_of (kind_of bytes)) bytes else bytes
 

@@ -11,7 +11,7 @@ pub record UpdateParts : Type 0 where
   pub destination : ℕ
   pub height : Quintuple
 
--- the height is one of another node than the destination, so above it
+-- the height is that of another node than the destination, and so is above the destination's height
 pub record IsUpdate (u : UpdateParts) : Type 0 where
   pub destination : IsId u.destination
   pub height : IsHeight u.height
@@ -35,13 +35,13 @@ pub record IsClear (c : ClearParts) : Type 0 where
 abbrev pub clear_of : ℕ → ℕ → ℕ → ClearParts
 clear_of destination tau oid = record { destination = destination; tau = tau; oid = oid }
 
--- ---- what is refused
+-- ---- parts that are refused
 
--- not a height, the destination's own height, or one that is not above that
+-- the height is out of range, is the destination's own, or is not above the destination's
 unfoldable pub is_bad_update : ℕ → Quintuple → Bool
 is_bad_update destination h =
     is_some (height_fault h) || (h.id == destination) || ((h.tau == 0) && (h.r == 0) && int_lt h.delta (pos 1))
 
--- not a reflected level
+-- the time tag or the originator of the level is out of range
 unfoldable pub is_bad_clear : ℕ → ℕ → Bool
 is_bad_clear tau oid = (tau == 0) || nat_lt (2 ^ 62) tau || (oid == 0)

@@ -19,7 +19,7 @@ fn put<const N: usize>(out: &mut ArrayVec<u8, N>, bytes: &[u8])
     };
 }
 
-/// Appends the version, the kind and the destination, with which each packet begins.
+/// Appends the version, the kind, two zeros and the destination, with which each packet begins.
 fn begin<const N: usize>(kind: u8, destination: Id, out: &mut ArrayVec<u8, N>)
     requires { array_vec_len out.old + 8 ≤ N }
     ensures items { out.new.items ≡ out.old.items ++ 1 ∷ kind ∷ 0 ∷ 0 ∷ to_be_bytes w32 destination }
@@ -59,7 +59,7 @@ fn append_clear<const N: usize>(clear: &Clear, out: &mut ArrayVec<u8, N>)
     put(out, &clear.oid().to_be_bytes());
 }
 
-/// Appends the bytes of a packet, as many as `encoded_length` says. There must be room for the longest.
+/// Appends the bytes of a packet; `encoded_length` returns their number. There must be room for the longest packet.
 pub fn append<const N: usize>(packet: &Packet, out: &mut ArrayVec<u8, N>)
     requires { array_vec_len out.old + LONGEST_PACKET ≤ N }
     ensures { out.new.items ≡ out.old.items ++ packet_spelling packet.now }
@@ -71,7 +71,7 @@ pub fn append<const N: usize>(packet: &Packet, out: &mut ArrayVec<u8, N>)
     }
 }
 
-/// The bytes of a packet, as many as `encoded_length` says.
+/// The bytes of a packet; `encoded_length` returns their number.
 pub fn encode(packet: &Packet) -> ArrayVec<u8, LONGEST_PACKET>
     ensures spells { SpellsPacket result.items packet.now }
     ensures exact { result.items ≡ packet_spelling packet.now }

@@ -31,7 +31,7 @@ impl Query {
     /// The query for a destination.
     ///
     /// # Errors
-    /// `Height` where `destination` is 0.
+    /// `Height` if `destination` is 0.
     pub fn new(destination: Id) -> Result<Query, PacketError>
         ensures exact { MatchBool (destination == 0) (result ≡ Err PacketError.Height) (result ≡ Ok destination) }
         ensures valid { IfOk result IsId }
@@ -50,7 +50,7 @@ impl Query {
         Query { destination }
     }
 
-    /// The destination that the query asks for.
+    /// The destination to which a route is needed.
     pub fn destination(&self) -> Id
         ensures value { result ≡ self.now }
         ensures valid { IsId self.now }
@@ -59,7 +59,7 @@ impl Query {
     }
 }
 
-/// An update: the height of the node that sends it, for a destination that is another node.
+/// An update: the height of the sending node, which is not the destination.
 #[derive(Clone, Copy, Debug, PartialEq, Eq, Hash)]
 pub struct Update {
     destination: Id,
@@ -82,7 +82,7 @@ impl Update {
     /// The update of a height.
     ///
     /// # Errors
-    /// `Height` where `destination` is 0 or the height's own node, or `delta` is below 1 at level (0,0,0).
+    /// `Height` if `destination` is 0 or the height's own node, or if `delta` is below 1 at level (0,0,0).
     #[tactic(auto, using(tora_height::proofs::Ranges::height_has_no_fault), unfolding(crate::specs::PacketParts::is_bad_update))]
     pub fn new(destination: Id, height: Height) -> Result<Update, PacketError>
         ensures exact { MatchBool ((destination == 0) || is_bad_update destination height)
@@ -103,7 +103,7 @@ impl Update {
         })
     }
 
-    /// The update of a height whose node is not the destination.
+    /// The update of a height whose node is not the destination. The caller ensures the ranges.
     pub fn of(destination: Id, height: Height) -> Update
         requires { IsUpdate (update_of destination height) }
         ensures { result ≡ update_of destination height }
@@ -114,7 +114,7 @@ impl Update {
         }
     }
 
-    /// The destination that the height is for.
+    /// The destination of the height.
     pub fn destination(&self) -> Id
         ensures value { result ≡ self.now.destination }
         ensures valid { IsUpdate self.now }
@@ -131,7 +131,7 @@ impl Update {
     }
 }
 
-/// A clear: the erasing of the reflected level (`tau`, `oid`, 1).
+/// A clear: it erases the reflected level (`tau`, `oid`, 1).
 #[derive(Clone, Copy, Debug, PartialEq, Eq, Hash)]
 pub struct Clear {
     destination: Id,
@@ -152,10 +152,11 @@ impl Model for Clear {
 }
 
 impl Clear {
-    /// The clear of a reflected level: `tau` is its time tag in ticks of 100 ms, `oid` the node that defined it.
+    /// The clear of a reflected level. `tau` is the level's time tag in ticks of 100 ms, `oid` the node that defined
+    /// it.
     ///
     /// # Errors
-    /// `Height` where `destination`, `tau` or `oid` is 0, or `tau` is above 2^62.
+    /// `Height` if `destination`, `tau` or `oid` is 0, or if `tau` is above 2^62.
     #[tactic(auto, unfolding(crate::specs::PacketParts::is_bad_clear))]
     pub fn new(destination: Id, tau: u64, oid: Id) -> Result<Clear, PacketError>
         ensures exact { MatchBool ((destination == 0) || is_bad_clear tau oid)
@@ -172,7 +173,7 @@ impl Clear {
         })
     }
 
-    /// The clear of a reflected level, without a check.
+    /// The clear of a reflected level. The caller ensures the ranges.
     pub fn of(destination: Id, tau: u64, oid: Id) -> Clear
         requires { IsClear (clear_of destination tau oid) }
         ensures { result ≡ clear_of destination tau oid }

@@ -1,16 +1,16 @@
-//! How many bytes packets have, and where the first of several packets ends.
+//! The lengths of packets in bytes, and the end of the first of several packets.
 ghost use Rattle.std.specs.Prelude.{◌≡◌, ◌≤◌, length, take};
 ghost use Rattle.tora_packet.specs.PacketGrammar.{packet_length, is_packet_length, first_packet, behind_first};
 
 use crate::Packet;
 
-/// The bytes of a query.
+/// The length of a query in bytes.
 pub const QUERY_LENGTH: usize = 8;
 
-/// The bytes of an update.
+/// The length of an update in bytes.
 pub const UPDATE_LENGTH: usize = 32;
 
-/// The bytes of a clear.
+/// The length of a clear in bytes.
 pub const CLEAR_LENGTH: usize = 20;
 
 /// The length of the shortest packet, a query, in bytes.
@@ -19,7 +19,7 @@ pub const SHORTEST_PACKET: usize = QUERY_LENGTH;
 /// The length of the longest packet, an update, in bytes.
 pub const LONGEST_PACKET: usize = UPDATE_LENGTH;
 
-/// How many bytes a packet has, as `encode` gives them.
+/// The length of a packet's encoding in bytes.
 #[inline(always)]
 pub fn encoded_length(packet: &Packet) -> usize
     ensures length { result ≡ packet_length packet.now }
@@ -40,7 +40,8 @@ pub fn is_packet_length(len: usize) -> bool
     len == QUERY_LENGTH || len == UPDATE_LENGTH || len == CLEAR_LENGTH
 }
 
-/// The length in bytes of the first packet; at most that of its kind, if the bytes begin as a packet does.
+/// The length in bytes of the first packet. If the bytes begin as a packet does, it is at most the length of the
+/// packet's kind; otherwise all bytes count.
 #[inline(always)]
 #[tactic(auto, unfolding(crate::specs::PacketGrammar::first_packet))]
 fn first_length(bytes: &[u8]) -> usize
@@ -60,8 +61,8 @@ fn first_length(bytes: &[u8]) -> usize
     }
 }
 
-/// Splits off the first of several packets, by the length of its kind. If the bytes don't begin as a packet does, or
-/// are too few, they all count as the first packet.
+/// Splits off the first of several packets, by the length of its kind. If the bytes do not begin as a packet does, or
+/// are too few, all of them count as the first packet.
 #[inline(always)]
 pub fn cut_packet(bytes: &[u8]) -> (&[u8], &[u8])
     ensures first { result.0.now ≡ first_packet bytes.now }

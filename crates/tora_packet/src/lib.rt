@@ -47,7 +47,7 @@ pub enum PacketError {
     /// The kind is not 1 (QRY), 2 (UPD) or 3 (CLR).
     #[error("the kind is not 1, 2 or 3")]
     Kind,
-    /// A byte that has to be zero is not.
+    /// A byte that has to be zero is not zero.
     #[error("a byte that has to be zero is not")]
     Reserved,
     /// The destination, the height or the level is out of range.
@@ -78,7 +78,7 @@ pub enum Packet {
     Qry(Query),
     /// The height of the sender.
     Upd(Update),
-    /// The erasing of a reflected level.
+    /// An order to erase a reflected level.
     Clr(Clear),
 }
 
@@ -86,7 +86,7 @@ impl Packet {
     /// The query for a destination.
     ///
     /// # Errors
-    /// `Height` where `destination` is 0.
+    /// `Height` if `destination` is 0.
     pub fn qry(destination: Id) -> Result<Packet, PacketError>
         ensures { MatchBool (destination == 0) (result ≡ Err PacketError.Height) (result ≡ Ok (Packet.Qry destination)) }
     {
@@ -109,7 +109,8 @@ impl Packet {
     }
 }
 
-/// A packet as `QRY 4`, `UPD 4 (0,0,0,1,3)` or `CLR 4 7,3`: the destination, and the height, or the level's `tau,oid`.
+/// Writes a packet as `QRY 4`, `UPD 4 (0,0,0,1,3)` or `CLR 4 7,3`: the destination, and the height, or the level's
+/// `tau,oid`.
 impl fmt::Display for Packet {
     ghost use Rattle.std.specs.Prelude.{Some};
     ghost use Rattle.tora_packet.specs.PacketText.{written_packet};
@@ -137,7 +138,7 @@ impl fmt::Display for Packet {
     }
 }
 
-/// The query for 1.
+/// The query for destination 1.
 impl Default for Packet {
     ghost use Rattle.tora_packet.specs.declared.Packet.TheVariants.{Qry};
     ghost use Rattle.std.specs.Prelude.{◌≡◌};

@@ -1,5 +1,5 @@
--- The life file that the free world has for an end of a running node: it is changed before each draw, so that just the
--- number is drawn that the node has drawn.
+-- The life file of the free world for an end of a running node: it is changed before each draw, so that it draws
+-- exactly the number that the node has drawn.
 use Rattle.std.proofs.Common.{◌≡◌, ℕ, suc, ◌<◌, ◌≤◌, ◌^◌, List, [], ◌∷◌, length, Ok, refl, sym, ap, ◌∙◌, subst, arith, eqb-true}
 use Rattle.std.proofs.lemmas.Bool.{cond_both}
 use Rattle.std.specs.Prelude.{◌==◌, Result}
@@ -18,7 +18,7 @@ use Rattle.tora_life.specs.LifeRun.LifeDisk.{Opened, Unopened}
 use Rattle.tora_life.specs.LifeRun.LifeEvent.{Draw}
 use Rattle.tora_world.specs.FreeWorld.{MayBecome}
 
--- of the laws of life files: the first floor, and what a file may become
+-- the laws of life files that are used: the first floor, and what a file may become
 pub record FileLaws : Type 0 where
   pub first : (owner : Owner) (file : List ℕ) → length file ≤ 80 → IsFloor (file_value file) (opened owner (fresh_state file))
   pub any : (before after : LifeDisk) → ((n : ℕ) → IsFloor n before → IsFloor n after) → MayBecome before after
@@ -28,7 +28,7 @@ abbrev pub IsUnder : ℕ → LifeDisk → Type 0
 IsUnder m (Opened owner numbers s) = numbers.drawn ≤ m
 IsUnder m (Unopened owner s) = ⊥
 
--- a file in which all numbers are set aside, and the next one is that after m
+-- a file with all numbers up to m reserved and drawn, whose next number is the one after m
 abbrev full : List ℕ
 full = slot_of (2 ^ 62)
 

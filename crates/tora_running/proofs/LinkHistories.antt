@@ -1,5 +1,5 @@
--- In a run in which a node is not started, the parts of one of its links are made of that link's end, one after
--- another, and the items that its core has served are served one after another.
+-- In a run in which a node is not started, the parts of each of its links are parts of that link's end, one after
+-- another, and its core serves its items one after another.
 use Rattle.std.proofs.Common.{◌≡◌, ℕ, Bool, true, false, List, [], ◌∷◌, nat_eq, if◌then◌else◌, ◌&&◌, refl, sym, ap, ap₂, ◌∙◌, subst, eqb-true}
 use Rattle.std.proofs.lemmas.Bool.{and_parts}
 use Rattle.tora_arq.specs.Settings.{Settings}
@@ -63,7 +63,7 @@ part_settings w (Serves n item offers) a b = refl
 part_settings w (Asks n now what) a b = refl
 
 module _ (n k : ℕ) where
-  -- from this end on, with these settings
+  -- the parts of a link, from this end on, with these settings
   abbrev Made : Settings → EndState → List Part → EndState → Type 0
   Made s e parts after = AreLinkParts s e (parts_of_link n k parts) after
 
@@ -95,7 +95,7 @@ module _ (n k : ℕ) where
           )
       go false q later = subst (λ e. Made (settings_at w n k) e parts after) (ends_are false q) later
 
--- and the items that its core has served are served one after another
+-- the core has served its items one after another
 pub core_parts : (n : ℕ) (parts : List Part) (w : Network) → IsRun w parts → IsNotStarted n parts → AreServed (neighbours_at w n) (w.seats n) (served_in n parts) ((after_parts parts w).seats n)
 core_parts n [] w run others = refl
 core_parts n (Starts m ∷ parts) w run others =

@@ -1,4 +1,4 @@
--- A part of the thread of a link is an event of the free world, or two.
+-- A part of the thread of a link is one or two events of the free world.
 use Rattle.std.proofs.Common.{◌≡◌, ℕ, zero, suc, ◌<◌, ◌≤◌, ◌^◌, true, false, ◌⊎◌, inl, inr, ⊎_elim, List, [], ◌∷◌, ◌++◌, Some, None, Ok, Err, nat_eq, if◌then◌else◌, refl, sym, ap, ap₂, ◌∙◌, subst, arith}
 use Rattle.std.proofs.lemmas.Bool.{cond_both}
 use Rattle.std.specs.Prelude.{is_some, not, drop, slice_get, IsTrue}
@@ -69,13 +69,13 @@ put_same f n k = λ i a b. put_cases (λ a b v. v ≡ f a b) f n k (f n k) refl 
 
 -- ---- frames
 
--- a frame of an end has its node and the neighbour in the header
+-- a frame of an end has the end's node and neighbour in its header
 ends_of_frame : (s : Settings) (e : EndState) (f : FrameParts) (phase : Phase) → IsFrameSentIn s e f phase → (f.header.sender ≡ s.me) × (f.header.receiver ≡ s.peer)
 ends_of_frame s e f Closed h = absurd h
 ends_of_frame s e f (Unbound own) h = (ap (λ (x : FrameParts). x.header.sender) h, ap (λ (x : FrameParts). x.header.receiver) h)
 ends_of_frame s e f (Bound life) h = (ap (λ (x : FrameParts). x.header.sender) h.0, ap (λ (x : FrameParts). x.header.receiver) h.0)
 
--- of the laws of link ends: what a frame that was sent is, and that a frame that was refused changes nothing
+-- the laws of link ends that are used: which frames an end sends, and that a frame that is refused changes nothing
 pub record FrameLaws : Type 0 where
   pub sent : (s : Settings) (e : EndState) (call : LinkCall) (f : FrameParts) → frame_sent_by s e call ≡ Some f → IsFrameSent s e f
   pub foreign : (s : Settings) (e : EndState) (f : FrameParts) (now : ℕ) → verdict_of s e f now ≡ Foreign → after_frame s e f now ≡ e
@@ -189,7 +189,7 @@ module _ (w : World) (numbers : ℕ → ℕ → ℕ) (frames : ℕ → ℕ → L
       heard : ℕ → ℕ → World
       heard a j = with_end w a j (after_frame (settings w a j) (w.ends a j) frame now)
 
-  -- no event
+  -- a refused frame is no event
   refuse_leads : FrameLaws → (now : ℕ) (frame : FrameParts) → net.IsRefusal (verdict_of (settings w n k) (w.ends n k) frame now) → Leads (Hears now (Ok frame))
   unfolding after_schedule
   refuse_leads laws now frame refused =

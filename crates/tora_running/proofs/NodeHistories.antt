@@ -26,27 +26,27 @@ module _ (me : ℕ) where
         tally_is = h.tally_is;
       }
 
-  -- what its parts hear
+  -- the datagrams that the parts of a link receive
   pub hears : (k : ℕ) (fault : _) (tally : Tally) → (h : IsLinkRun me k fault tally) → HearsItsWire me k tally (h.turns ++ h.last ∷ [])
   hears k fault tally h =
       let past = history_of k fault tally h in
       record { history = past; turns_are = refl; heard = past.exchange.heard }
 
-  -- of a node that ended without a fault
+  -- the histories of a node that ended without a fault
   pub faultless_have : (ks : List ℕ) (tallies : List Tally) → AreFaultless (map (name_of me) ks) tallies → HaveHistories me ks tallies
   faultless_have [] [] h = tt
   faultless_have [] (tally ∷ tallies) h = absurd h
   faultless_have (k ∷ ks) [] h = absurd h
   faultless_have (k ∷ ks) (tally ∷ tallies) h = (history_of k None tally h.0, faultless_have ks tallies h.1)
 
-  -- and of any other whose threads were started
+  -- the histories of any other node whose threads were started
   pub runs_have : (ks : List ℕ) (outcomes : _) → AreLinkRuns (map (name_of me) ks) outcomes → HaveHistories me ks (map (λ o. o.tally) outcomes)
   runs_have [] [] h = tt
   runs_have [] (outcome ∷ outcomes) h = absurd h
   runs_have (k ∷ ks) [] h = absurd h
   runs_have (k ∷ ks) (outcome ∷ outcomes) h = (history_of k outcome.fault outcome.tally h.0, runs_have ks outcomes h.1)
 
-  -- and what a link exchanged with the core
+  -- what a link exchanged with the core
   pub exchanged_has : (xs : List _) (place peer : ℕ) (outcome : _) → LinkExchanged me xs place peer outcome → HasExchanged me xs place peer outcome.tally
   exchanged_has xs place peer outcome h =
       let past = history_of peer outcome.fault outcome.tally h.run in

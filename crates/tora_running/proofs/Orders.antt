@@ -1,4 +1,4 @@
--- A run of parts is an order of the threads' histories that keeps lanes, datagrams and numbers.
+-- A run of parts is an order of the threads' histories that keeps queues, datagrams and numbers.
 use Rattle.std.proofs.Common.{◌≡◌, ℕ, Bool, true, false, true≢false, List, [], ◌∷◌, nat_eq, if◌then◌else◌, ◌&&◌, refl, sym, ap, ap₂, ◌∙◌, subst, eqb-true}
 use Rattle.std.proofs.lemmas.Bool.{and_parts, eq-eqb}
 use Rattle.tora_arq.specs.Settings.{Settings}
@@ -13,7 +13,7 @@ use Rattle.tora_running.specs.Network.Part.{Starts, OfLink, Serves, Asks}
 use Rattle.tora_running.specs.Orders.{Lives, with_start, with_first, link_lives, core_lives, WereMade, WereServed, AllWere, AreHistories, MayCome, IsOrder}
 use Rattle.tora_running.proofs.LinkHistories.{beside_ends, beside_seats, beside_topology, part_settings}
 
--- what a history is of one end and of one seat
+-- a history follows the definition of one end, or of one seat
 abbrev Made : Settings → EndState → Lives LinkPart → Type 0
 Made s e l = WereMade s e l.present × AllWere (WereMade s first_end) l.later
 
@@ -23,12 +23,12 @@ Served ks first s l = WereServed ks s l.present × AllWere (WereServed ks first)
 here : (n k : ℕ) → (nat_eq n n && nat_eq k k) ≡ true
 here n k = ap₂ (λ x y. x && y) (eq-eqb n n refl) (eq-eqb k k refl)
 
--- ---- what a part leaves
+-- ---- what a part leaves unchanged
 
 ends_are : (w : Network) (m j : ℕ) (part : LinkPart) (n k : ℕ) → (after_part w (OfLink m j part)).ends n k ≡ (if nat_eq n m && nat_eq k j then end_after (settings_at w m j) (w.ends m j) part else w.ends n k)
 ends_are w m j part n k = ap (λ (f : ℕ → ℕ → EndState). f n k) (beside_ends (with_part w m j part) m j part)
 
--- where it is the end's own, that end's
+-- the end after a part, if it is the part's own end
 own_end : (w : Network) (m j : ℕ) (part : LinkPart) (n k : ℕ) (b : Bool) → (nat_eq n m && nat_eq k j) ≡ b →
     (if b then end_after (settings_at w m j) (w.ends m j) part else w.ends n k) ≡ (if b then end_after (settings_at w n k) (w.ends n k) part else w.ends n k)
 own_end w m j part n k true q =
@@ -83,7 +83,7 @@ module _ (ks : List ℕ) (first s : SeatState) where
   on_served x true l told h = ((h.0.0, (told refl, h.0.1)), h.1)
   on_served x false l told h = h
 
--- a part of a link leaves each core, and the effect of a start on it, unchanged
+-- a part of a link does not change a core, nor the effect of a start on it
 core_beside : (w : Network) (m j : ℕ) (part : LinkPart) (n : ℕ) (l : Lives ServedItem) →
     Served (neighbours_at (after_part w (OfLink m j part)) n) (first_seat (after_part w (OfLink m j part)).topology n) ((after_part w (OfLink m j part)).seats n) l ≡ Served (neighbours_at w n) (first_seat w.topology n) (w.seats n) l
 core_beside w m j part n l =
@@ -110,7 +110,7 @@ later w (Serves m item offers) parts h = record {
   cores = λ n. subst (λ x. Served (neighbours_at w n) (first_seat w.topology n) x (core_lives n parts)) (sym (own_seat w m (record { item = item; offers = offers }) n (nat_eq n m) refl)) (served_on (neighbours_at w n) (first_seat w.topology n) (w.seats n) (record { item = item; offers = offers }) (nat_eq n m) (core_lives n parts) (h.cores n));
 }
 
--- if the following parts are allowed, and this one is, then all are
+-- if this part is allowed, and so are the following ones, all are
 earlier : (w : Network) (part : Part) (parts : List Part) → MayBe w part → AreHistories (after_part w part) parts → AreHistories w (part ∷ parts)
 earlier w (Starts m) parts may h = record {
   links = λ n k. started_made (settings_at w n k) (w.ends n k) (nat_eq n m) (link_lives n k parts) (h.links n k);
@@ -143,7 +143,7 @@ earlier w (Serves m item offers) parts may h = record {
 
 -- ---- both directions
 
--- the first part is allowed, by its thread's definition and by the order
+-- the first part is allowed by its thread's definition and by the order
 first_may : (w : Network) (part : Part) (parts : List Part) → AreHistories w (part ∷ parts) → MayCome w part → MayBe w part
 first_may w (Starts m) parts h may = may
 first_may w (Asks m now what) parts h may = may

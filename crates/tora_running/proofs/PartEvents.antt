@@ -1,4 +1,4 @@
--- A part of a run that is an event of the free world, or two.
+-- A part of a run is one or two events of the free world.
 use Rattle.std.proofs.Common.{◌≡◌, ℕ, Bool, true, false, true≢false, List, [], ◌∷◌, ◌++◌, Some, None, if◌then◌else◌, refl, sym, ap, ◌∙◌, subst}
 use Rattle.std.specs.Prelude.{is_some, not, drop}
 use Rattle.tora_frame.specs.FrameParts.{FrameParts}
@@ -20,7 +20,7 @@ use Rattle.tora_running.specs.Network.{Network, served_at, IsFront, after_part}
 use Rattle.tora_running.specs.Network.Part.{Starts, Serves, Asks}
 use Rattle.tora_running.proofs.LifeFiles.{IsUnder}
 
--- the network as it is read from a world, with the numbers drawn and the frames that went out
+-- the network that agrees with a world, these drawn numbers and these sent frames
 abbrev pub network_of : World → (ℕ → ℕ → ℕ) → (ℕ → ℕ → List FrameParts) → Network
 network_of w numbers frames = record {
   topology = w.topology;
@@ -37,7 +37,7 @@ network_of w numbers frames = record {
   steps = w.steps;
 }
 
--- a frame that went out from n to k
+-- the frame was sent from n to k
 pub record WentOut (datagrams : List FrameParts) (n k : ℕ) (f : FrameParts) : Type 0 where
   pub sender : f.header.sender ≡ n
   pub receiver : f.header.receiver ≡ k
@@ -47,8 +47,8 @@ pub record IsUnarmed (arms : Arms) : Type 0 where
   pub sending : arms.sending ≡ Goes
   pub receive : arms.receive ≡ false
 
--- what the network does not show: no call is armed to fail, no file has drawn a greater number, and every frame is a
--- datagram
+-- the conditions that the network does not show: no call is armed to fail, no file has drawn a greater number, and
+-- every frame is a datagram
 pub record AreBeside (arms : ℕ → Arms) (files : ℕ → ℕ → LifeDisk) (datagrams : List FrameParts) (numbers : ℕ → ℕ → ℕ) (frames : ℕ → ℕ → List FrameParts) : Type 0 where
   pub unarmed : (n : ℕ) → IsUnarmed (arms n)
   pub under : (n k : ℕ) → IsUnder (numbers n k) (files n k)
@@ -57,7 +57,7 @@ pub record AreBeside (arms : ℕ → Arms) (files : ℕ → ℕ → LifeDisk) (d
 abbrev pub IsBeside : World → (ℕ → ℕ → ℕ) → (ℕ → ℕ → List FrameParts) → Type 0
 IsBeside w numbers frames = AreBeside w.arms w.files w.datagrams numbers frames
 
--- from this world on a schedule leads to one that shows the network
+-- some schedule leads from this world to one that agrees with the network
 pub record Reaches (w : World) (network : Network) : Type 0 where
   pub es : Schedule
   pub numbers : ℕ → ℕ → ℕ
@@ -65,7 +65,7 @@ pub record Reaches (w : World) (network : Network) : Type 0 where
   pub shows : network ≡ network_of (after_schedule es w) numbers frames
   pub other : IsBeside (after_schedule es w) numbers frames
 
--- one event does
+-- one event leads there
 pub by_one : (w : World) (event : FreeEvent) (c : Choice) (after : World) (numbers : ℕ → ℕ → ℕ) (frames : ℕ → ℕ → List FrameParts) → free_by c w event ≡ after → IsBeside after numbers frames → Reaches w (network_of after numbers frames)
 unfolding after_schedule
 by_one w event c after numbers frames e b = record {
@@ -76,7 +76,7 @@ by_one w event c after numbers frames e b = record {
   other = subst (λ x. IsBeside x numbers frames) (sym e) b;
 }
 
--- two events do
+-- two events lead there
 pub by_two : (w : World) (one two : FreeEvent) (c : Choice) (after : World) (numbers : ℕ → ℕ → ℕ) (frames : ℕ → ℕ → List FrameParts) → free_by c (free_by c w one) two ≡ after → IsBeside after numbers frames → Reaches w (network_of after numbers frames)
 unfolding after_schedule
 by_two w one two c after numbers frames e b = record {
@@ -132,7 +132,7 @@ module _ (w : World) (numbers : ℕ → ℕ → ℕ) (frames : ℕ → ℕ → L
       c : Choice
       c = at_tick 0 offers
 
-      -- the lane after the item
+      -- the network after the item was served
       served : List Item → Network
       served items = record (network_of w numbers frames) {
         seats = put_one w.seats n v.seat;

@@ -1,4 +1,4 @@
--- Every run of parts is a schedule of the free world, which binds each end at least as often.
+-- Every run of parts is a schedule of the free world, which binds each end at least as often as the run.
 use Rattle.std.proofs.Common.{◌≡◌, ℕ, ◌+◌, ◌≤◌, ◌&&◌, Bool, true, false, if◌then◌else◌, List, [], ◌∷◌, ◌++◌, refl, sym, ap, ◌∙◌, subst, arith}
 use Rattle.std.specs.Prelude.{not}
 use Rattle.tora_frame.specs.FrameParts.{FrameParts}
@@ -18,7 +18,7 @@ use Rattle.tora_running.proofs.LinkPartEvents.{FrameLaws, link_leads}
 
 -- ---- how often a schedule binds an end
 
--- whether it is bound now, and was not before
+-- 1 if the end is bound now and was not before, and otherwise 0
 abbrev turned : Bool → Bool → ℕ
 turned now before = if now && not before then 1 else 0
 
@@ -63,7 +63,7 @@ module _ (files : FileLaws) (law : FrameLaws) where
   part_leads w numbers frames b (Serves n item offers) may = serve_leads w numbers frames b n item offers may.0 may.1
   part_leads w numbers frames b (Asks n now what) may = ask_leads w numbers frames b n now what may.1
 
-  -- and so is a run, in which no end is bound more often
+  -- a schedule for the whole run, which binds no end less often
   record RunLeads (parts : List Part) (w : World) (network : Network) : Type 0 where
     reaches : Reaches w (after_parts parts network)
     binds : (n k : ℕ) (life : Life) → times_bound n k life parts network ≤ world.times_bound n k life reaches.es w

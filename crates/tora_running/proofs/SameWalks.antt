@@ -1,5 +1,5 @@
--- Heights, entries, hops and walks depend only on the topology and the cores, and whether a world is at rest also on
--- ends and lanes.
+-- Heights, entries, hops and walks depend only on the topology and the cores. Whether a world is at rest depends on
+-- ends and queues as well.
 use Rattle.std.proofs.Common.{◌≡◌, ℕ, zero, suc, inl, inr, ⊎_elim, List, [], ◌∷◌, length, Option, Some, None, if◌then◌else◌, refl, sym, ap, ap₂, ◌∙◌, subst}
 use Rattle.std.specs.Prelude.{◌==◌, ◌≤◌, option_map}
 use Rattle.tora_height.specs.Height.{Quintuple}

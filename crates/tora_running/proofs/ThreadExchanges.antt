@@ -1,4 +1,4 @@
--- The parts of a link's thread exchange with its file, its lanes and its wire what its turns do.
+-- The parts of a link's thread exchange with its file, its queues and its wire what its turns exchange.
 use Rattle.std.proofs.Common.{◌≡◌, ℕ, Bool, true, false, IsFalse, List, [], ◌∷◌, ◌++◌, map, flat_map, Option, Some, None, Result, refl, sym, ap, ap₂, ◌∙◌, append-nil}
 use Rattle.std.proofs.lemmas.List.Concat.{flat_map-append}
 use Rattle.tora_frame.specs.FrameParts.{FrameParts}
@@ -35,7 +35,7 @@ module _ {A : Type 0} (f : LinkPart → List A) where
       ∙ ap (λ (l : List A). flat_map f (parts_heard t.now (came_of t)) ++ l) (flat_map-append f (parts_told t.now t.told) (parts_of_beat t.now t.beat))
       )
 
-  -- where nothing of it is exchanged
+  -- parts that exchange nothing of this kind
   none_opened : ((number now : ℕ) → f (Opens number now) ≡ []) → (now : ℕ) (o : Option ℕ) → flat_map f (parts_opened now o) ≡ []
   none_opened h now None = refl
   none_opened h now (Some number) = ap (λ (l : List A). l ++ []) (h number now)
@@ -61,7 +61,7 @@ module _ {A : Type 0} (f : LinkPart → List A) where
   none_beaten h now true = ap (λ (l : List A). l ++ []) (h now)
   none_beaten h now false = refl
 
-  -- a prefix of it, and nothing of it after that
+  -- the parts that begin a turn exchange all that there is of this kind, and the following ones nothing
   ends_begun : (t : Turn) (xs : List A) → flat_map f (parts_begun t) ≡ xs → flat_map f (parts_heard t.now (came_of t)) ≡ [] → flat_map f (parts_told t.now t.told) ≡ [] → flat_map f (parts_of_beat t.now t.beat) ≡ [] → flat_map f (parts_of t) ≡ xs
   ends_begun t xs b h e p = whole t ∙ ap₂ (λ (l m : List A). l ++ m) b (ap₂ (λ (l m : List A). l ++ m) h (ap₂ (λ (l m : List A). l ++ m) e p)) ∙ append-nil xs
 
@@ -71,7 +71,7 @@ module _ {A : Type 0} (f : LinkPart → List A) where
   ends_broken : (t : Turn) (xs : List A) → f Breaks ≡ [] → flat_map f (parts_begun t) ≡ xs → flat_map f (parts_told t.now t.told) ≡ [] → flat_map f (parts_begun t ++ Breaks ∷ parts_told t.now t.told) ≡ xs
   ends_broken t xs k b e = broken t ∙ ap₂ (λ (l m : List A). l ++ m) b (ap₂ (λ (l m : List A). l ++ m) k e) ∙ append-nil xs
 
-  -- ---- and in a run
+  -- ---- one kind of exchange in a run
 
   module _ (g : Turn → List A) (turn : (t : Turn) → flat_map f (parts_of t) ≡ g t) where
     turns_do : (turns : List Turn) → flat_map f (parts_of_turns turns) ≡ flat_map g turns
@@ -112,7 +112,7 @@ number_turn t =
 number_broken : (t : Turn) → came_of t ≡ None → IsFalse t.beat → flat_map number_in (parts_begun t ++ Breaks ∷ parts_told t.now t.told) ≡ list_of t.opened
 number_broken t none silent = ends_broken number_in t (list_of t.opened) refl (number_begun t) (none_told number_in (λ now event. refl) t.now t.told)
 
--- ---- cargoes
+-- ---- outbound messages
 
 cargo_begun : (t : Turn) → flat_map cargo_in (parts_begun t) ≡ t.cargoes
 cargo_begun t =
@@ -150,7 +150,7 @@ sent_turn t =
 sent_broken : (t : Turn) → came_of t ≡ None → IsFalse t.beat → flat_map sent_in (parts_begun t ++ Breaks ∷ parts_told t.now t.told) ≡ t.sent
 sent_broken t none silent = ends_broken sent_in t t.sent refl (sent_begun t) (none_told sent_in (λ now event. refl) t.now t.told)
 
--- ---- what came
+-- ---- datagrams that were received
 
 -- nothing is received or put before the receive
 none_begun : {A : Type 0} (f : LinkPart → List A) → ((number now : ℕ) → f (Opens number now) ≡ []) → ((now : ℕ) → f (Ticks now) ≡ []) → ((cargo : Cargo) → f (Takes cargo) ≡ []) → ((now : ℕ) (frame : FrameParts) (sending : _) → f (Sends now frame sending) ≡ [])
@@ -174,7 +174,7 @@ heard_turn t =
 heard_broken : (t : Turn) → came_of t ≡ None → IsFalse t.beat → flat_map heard_in (parts_begun t ++ Breaks ∷ parts_told t.now t.told) ≡ list_of (came_of t)
 heard_broken t none silent = ends_broken heard_in t [] refl (heard_begun t) (none_told heard_in (λ now event. refl) t.now t.told) ∙ sym (ap (λ (o : Option Reading). list_of o) none)
 
--- ---- what was put
+-- ---- items that were put
 
 put_begun : (t : Turn) → flat_map put_in (parts_begun t) ≡ []
 put_begun t = none_begun put_in (λ number now. refl) (λ now. refl) (λ cargo. refl) (λ now frame sending. refl) t

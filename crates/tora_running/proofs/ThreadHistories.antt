@@ -1,4 +1,4 @@
--- What the threads are proved to do is a list of parts.
+-- The proved behaviour of the threads is a list of parts.
 use Rattle.std.proofs.Common.{◌≡◌, ℕ, Bool, true, false, List, [], ◌∷◌, ◌++◌, Option, Some, None, Result, refl, sym, ap, ◌∙◌, subst, append-nil, append_assoc}
 use Rattle.std.proofs.lemmas.Bool.{cond_both}
 use Rattle.std.specs.Prelude.{slice_get, drop}
@@ -31,7 +31,7 @@ use Rattle.tora_running.specs.Parts.LinkPart.{Ticks, Takes, Breaks}
 use Rattle.tora_running.specs.Histories.{parts_opened, parts_taken, parts_sent, parts_heard, parts_told, parts_of_beat, parts_begun, parts_of, parts_of_turns, parts_of_last, IsAfterRefused, parts_served}
 
 module _ (s : Settings) where
-  -- parts, and then others
+  -- some parts, and then others
   both : (ps qs : List LinkPart) (e between after : EndState) → AreLinkParts s e ps between → AreLinkParts s between qs after → AreLinkParts s e (ps ++ qs) after
   both [] qs e between after h g = subst (λ x. AreLinkParts s x qs after) h g
   both (p ∷ ps) qs e between after h g = (h.0, both ps qs (end_after s e p) between after h.1 g)
@@ -62,7 +62,7 @@ module _ (s : Settings) where
   beaten e now true = (tt, refl)
   beaten e now false = refl
 
-  -- ---- a poll that gives no frame leaves the end as it is
+  -- ---- a poll that returns no frame leaves the end unchanged
 
   abbrev Stays : EndState → Option FrameParts × EndState → Type 0
   Stays e x = x.0 ≡ None → x.1 ≡ e
@@ -91,13 +91,13 @@ module _ (s : Settings) where
       both (parts_opened t.now t.opened) (Ticks t.now ∷ (parts_taken t.cargoes ++ parts_sent t.now t.sent t.answers)) e (after_opening e t.opened t.now) (when_sent s e t) (opened e t.now t.opened h.opening)
       (tt, both (parts_taken t.cargoes) (parts_sent t.now t.sent t.answers) (when_ticked s e t) (when_served s e t) (when_sent s e t) (taken t.cargoes (when_ticked s e t)) (sent (when_served s e t) t.now t.sent t.answers h.due))
 
-  -- the events of which one may have been refused
+  -- the events, of which the last may have been refused
   events_told : (e : EndState) (now : ℕ) (events : List LinkEvent) (refused : Option LinkEvent) (after : EndState) → turns.Tells e events refused after → (between : EndState) × AreLinkParts s e (parts_told now events) between × IsAfterRefused between refused after
   events_told e now events None after h = (record e { events = h.left }, told e now events h.left (h.events ∙ ap (λ (xs : List LinkEvent). xs ++ h.left) (append-nil events)), h.after_is)
   events_told e now events (Some event) after h =
       (record e { events = event ∷ h.left }, told e now events (event ∷ h.left) (h.events ∙ append_assoc events (event ∷ []) h.left), (refl, h.after_is))
 
-  -- up to the events, and then whether a beat was put
+  -- the parts of a turn: up to its events, and then a beat, if one was put
   turn_parts : (e : EndState) (t : Turn) (after : EndState) → Begins s e t → frame_due s (when_sent s e t) t.now ≡ None → turns.Tells (when_heard s e t) t.told t.refused after →
       (between : EndState) × AreLinkParts s e (parts_of t) between × IsAfterRefused between t.refused after
   turn_parts e t after begins none tells =
@@ -119,7 +119,7 @@ module _ (s : Settings) where
   turns_are e [] after h = h
   turns_are e (t ∷ ts) after h = both (parts_of t) (parts_of_turns ts) e h.0 after (whole e t h.0 h.1) (turns_are h.0 ts after h.2)
 
-  -- the wire is broken at this end
+  -- the wire fails at this end
   broken : (e before : EndState) (t : Turn) (after : EndState) → AreLinkParts s e (parts_begun t) before → turns.EndsBroken before t after →
       (between : EndState) × AreLinkParts s e (parts_begun t ++ Breaks ∷ parts_told t.now t.told) between × IsAfterRefused between t.refused after
   broken e before t after begins h =

@@ -1,4 +1,4 @@
--- The laws of the free world, read of a network.
+-- The laws of the free world, applied to a network.
 use Rattle.std.proofs.Common.{◌≡◌, ℕ, true, List, [], Some, sym, ap, ap₂, ◌∙◌, subst}
 use Rattle.tora_arq.specs.declared.life.Life.{Life}
 use Rattle.tora_arq.specs.declared.times.Times.{Times}

@@ -1,4 +1,4 @@
--- What the parts of a link's thread exchange with its file, its lanes and its wire.
+-- What the parts of a link's thread exchange with its file, its queues and its wire.
 use Rattle.std.specs.Prelude.{◌≡◌, ℕ, List, [], ◌∷◌}
 use Rattle.std.specs.List.{flat_map}
 use Rattle.tora_frame.specs.FrameParts.{FrameParts}
@@ -12,7 +12,7 @@ use Rattle.tora_neighbour.specs.Turns.{Turn}
 use Rattle.tora_running.specs.Parts.{LinkPart}
 use Rattle.tora_running.specs.Parts.LinkPart.{Opens, Ticks, Takes, Sends, Hears, Tells, Beats, Breaks}
 
--- the number that the end is opened with
+-- the number with which the end is opened
 abbrev pub number_in : LinkPart → List ℕ
 number_in (Opens number now) = number ∷ []
 number_in (Ticks now) = []
@@ -23,7 +23,7 @@ number_in (Tells now event) = []
 number_in (Beats now) = []
 number_in Breaks = []
 
--- the cargo that is taken
+-- the outbound message that is taken
 abbrev pub cargo_in : LinkPart → List Cargo
 cargo_in (Takes cargo) = cargo ∷ []
 cargo_in (Opens number now) = []
@@ -56,7 +56,7 @@ heard_in (Tells now event) = []
 heard_in (Beats now) = []
 heard_in Breaks = []
 
--- what is put into the lane into the core
+-- the item that is put into the queue into the core
 abbrev pub put_in : LinkPart → List Put
 put_in (Tells now event) = entry_of now event ∷ []
 put_in (Beats now) = put_of now Told.Beat ∷ []

@@ -78,7 +78,7 @@ abbrev pub parts_served : ℕ → List ServedItem → List Part
 parts_served n [] = []
 parts_served n (x ∷ xs) = Serves n x.item x.offers ∷ parts_served n xs
 
--- ---- the history of one thread, out of a run of all
+-- ---- the history of one thread in a run of all threads
 
 -- the node is not started in this run
 abbrev pub IsNotStarted : ℕ → List Part → Type 0
@@ -97,7 +97,7 @@ parts_of_link n k (Starts m ∷ parts) = parts_of_link n k parts
 parts_of_link n k (Serves m item offers ∷ parts) = parts_of_link n k parts
 parts_of_link n k (Asks m now what ∷ parts) = parts_of_link n k parts
 
--- what the core's thread of n has served
+-- the items that the core's thread of n has served
 abbrev pub served_in : ℕ → List Part → List ServedItem
 served_in n [] = []
 served_in n (Serves m item offers ∷ parts) = if n == m then record { item = item; offers = offers } ∷ served_in n parts

@@ -18,7 +18,7 @@ use Rattle.tora_world.specs.Rest.{IsAtRest, EntriesAreHeights, LacksHeight, IsRe
 use Rattle.tora_world.specs.Walks.{height_at, IsExact, Arrives, AreIds}
 use Rattle.tora_running.specs.Network.{Network, Part, first_network, after_part, after_parts, IsRun, packets_sent, packets_taken}
 
--- this holds for the network after any run of parts, over any topology and with any times of the link ends
+-- a statement holds for the network after any run of parts, over any topology and with any times of the link ends
 abbrev pub EveryNetwork : (Topology → Times → Network → Type 0) → Type 0
 EveryNetwork Holds =
     (t : Topology) (times : Times) (parts : List Part) → IsRun (first_network t times) parts
@@ -42,11 +42,11 @@ pub record IsWorldOf (network : Network) (w : World) : Type 0 where
 abbrev pub IsOfWorld : Topology → Times → Network → Type 0
 IsOfWorld t times network = (es : Schedule) × IsWorldOf network (after_schedule es (first_world t times))
 
--- what was taken in a life is a prefix of what was sent in it
+-- what was taken in a session is a prefix of what was sent in it
 abbrev pub TakenBeginsSent : Network → Type 0
 TakenBeginsSent w = (a b : ℕ) (life : Life) → Begins (packets_taken w b a (reversed life)) (packets_sent w a b life)
 
--- how many parts of a run bind the end of n towards k to this life
+-- how many parts of a run bind the end of n towards k to this session
 abbrev pub times_bound : ℕ → ℕ → Life → List Part → Network → ℕ
 times_bound n k life [] w = 0
 times_bound n k life (part ∷ parts) w =
@@ -68,7 +68,7 @@ CoresFollow t w = (n : ℕ) → (w.seats n).core ≡ core_after_all (new_core t 
 abbrev pub packets_broadcast : Topology → Network → ℕ → ℕ → List Packet
 packets_broadcast t w n k = broadcast_from k (new_core t n) (w.inputs n) []
 
--- while a life is current at a core, all that the core broadcast since its link came up was sent in it
+-- while a session is current at a core, all that the core broadcast since its link came up was sent in it
 abbrev pub IsWithoutGap : Topology → Network → Type 0
 IsWithoutGap t w =
     IsWithinLimits t → (n k : ℕ) (life : Life) → is_link t n k ≡ true → (w.seats n).current k ≡ Some life
@@ -92,7 +92,7 @@ shown w = record (first_world w.topology w.times) {
 abbrev pub RefusesOnlyNeeds : Network → Type 0
 RefusesOnlyNeeds w = OnlyNeedsAreRefused (shown w)
 
--- this holds for that world, if the topology is not refused within some limits and has numbers of nodes
+-- a statement about that world holds if the topology is not refused within some limits and has valid node numbers
 abbrev pub HoldsOfSound : (World → Type 0) → Topology → Network → Type 0
 HoldsOfSound Holds t w = IsWithinLimits t → AreIds t → Holds (shown w)
 
@@ -100,7 +100,7 @@ HoldsOfSound Holds t w = IsWithinLimits t → AreIds t → Holds (shown w)
 abbrev pub WalksArrive : World → Type 0
 WalksArrive w = (d n : ℕ) (height : Quintuple) → IsExact w d → height_at w n d ≡ Some (Some height) → Arrives w n d
 
--- at rest, each entry is NULL or the neighbour's height, or the neighbour has none
+-- at rest, each entry is NULL or the neighbour's height, or the neighbour has no height
 abbrev pub RestingEntriesAreHeights : World → Type 0
 RestingEntriesAreHeights w = IsAtRest w → EntriesAreHeights w
 

@@ -28,15 +28,15 @@ use Rattle.tora_running.specs.Parts.LinkPart.{Opens, Ticks, Takes, Sends, Hears,
 
 pub record Network : Type 0 where
   pub topology : Topology
-  pub times : Times  -- those of every link end
-  pub seats : ℕ → SeatState  -- of each node, its core with the lives of its neighbours
-  pub ends : ℕ → ℕ → EndState  -- of each node and each neighbour, the link end
+  pub times : Times  -- the times of every link end
+  pub seats : ℕ → SeatState  -- for each node, its core with the sessions of its links
+  pub ends : ℕ → ℕ → EndState  -- for each node and each neighbour, the link end
   pub numbers : ℕ → ℕ → ℕ  -- the last number that was drawn for each link end
-  pub items : ℕ → List Item  -- the lane into each core
+  pub items : ℕ → List Item  -- the queue into each core
   pub counts : ℕ → ℕ → ℕ  -- how many items each seat of a node has put since the node's last start
-  pub cargoes : ℕ → ℕ → List Cargo  -- the lane from each core to each neighbour
+  pub cargoes : ℕ → ℕ → List Cargo  -- the queue from each core to each neighbour
   pub frames : ℕ → ℕ → List FrameParts  -- all frames that were sent from a node to a neighbour
-  pub put : ℕ → ℕ → List Cargo  -- all cargoes that were ever put into each such lane
+  pub put : ℕ → ℕ → List Cargo  -- all outbound messages that were ever put into each such queue
   pub inputs : ℕ → List (Input × ℕ)  -- the inputs that each core accepted since its node's last start
   pub steps : ℕ → ℕ → List Parcel  -- the packets that were ever taken from each neighbour
 
@@ -57,24 +57,24 @@ first_network t times = record {
   steps = λ n k. [];
 }
 
--- the packets that the core of a put into the lane to b in a life, as a's end writes it
+-- the packets that the core of a put into the queue to b in a session, as a's end writes it
 abbrev pub packets_sent : Network → ℕ → ℕ → Life → List Packet
 packets_sent w a b life = packets_of life (parcels_in (w.put a b))
 
--- the packets of a that the core of b took in a life, as b's end writes it
+-- the packets of a that the core of b took in a session, as b's end writes it
 abbrev pub packets_taken : Network → ℕ → ℕ → Life → List Packet
 packets_taken w b a life = packets_of life (w.steps b a)
 
 -- ---- parts
 
 pub data Part : Type 0 where
-  -- a node is started, for the first time or after its process has ended, at whatever moment that was
+  -- a node is started, for the first time or after its process has ended at any moment
   Starts : (n : ℕ) → Part
-  -- the thread of n's link to k
+  -- a part of the thread of n's link to k
   OfLink : (n k : ℕ) (part : LinkPart) → Part
-  -- the core's thread takes an item and serves it, and these cargoes are offered
+  -- the core's thread takes an item and serves it, and these outbound messages are offered
   Serves : (n : ℕ) (item : Item) (offers : List Offer) → Part
-  -- a user asks for something
+  -- a user puts an item
   Asks : (n now : ℕ) (what : What) → Part
 
 -- ---- their effect on the network
@@ -89,7 +89,7 @@ neighbours_at w n = neighbours_of w.topology n
 abbrev pub seat_of : Network → ℕ → ℕ → ℕ
 seat_of w n k = place_of k (neighbours_at w n)
 
--- the core, the ends and the lanes of n are new; the record of what was drawn, sent and taken stays
+-- the core, the ends and the queues of n are new; the record of what was drawn, sent and taken is unchanged
 abbrev pub after_start : Network → ℕ → Network
 after_start w n = record w {
   seats = put_one w.seats n (first_seat w.topology n);
@@ -100,7 +100,7 @@ after_start w n = record w {
   inputs = put_one w.inputs n [];
 }
 
--- one more item in the lane into the core of n
+-- one more item in the queue into the core of n
 abbrev pub with_item : Network → ℕ → ℕ → ℕ → What → Network
 with_item w n seat now what = record w {
   items = put_one w.items n (w.items n ++ record {
@@ -112,7 +112,7 @@ with_item w n seat now what = record w {
   counts = put_at w.counts n seat (suc (w.counts n seat));
 }
 
--- the effect of a part of a link's thread, apart from that on the end
+-- the effect of a part of a link's thread, except that on the end
 abbrev pub beside : Network → ℕ → ℕ → LinkPart → Network
 beside w n k (Opens number now) = record w { numbers = put_at w.numbers n k number }
 beside w n k (Ticks now) = w
@@ -133,7 +133,7 @@ with_part w n k part = record w { ends = put_at w.ends n k (end_after (settings_
 abbrev pub served_at : Network → ℕ → Item → List Offer → Serving
 served_at w n item offers = serving_told (neighbours_at w n) (w.seats n) (record { item = item; offers = offers })
 
--- the first item of the lane was taken and served
+-- the network after the first item of the queue was taken and served
 abbrev pub after_serving : Network → ℕ → Serving → Network
 after_serving w n v = record w {
   seats = put_one w.seats n v.seat;
@@ -154,14 +154,14 @@ abbrev pub after_parts : List Part → Network → Network
 after_parts [] w = w
 after_parts (part ∷ parts) w = after_parts parts (after_part w part)
 
--- ---- where they may be made
+-- ---- the conditions under which parts may be made
 
--- this item is at the front of the lane
+-- this item is the first of the queue
 abbrev pub IsFront : {A : Type 0} → A → List A → Type 0
 IsFront x [] = ⊥
 IsFront x (y ∷ ys) = x ≡ y
 
--- the end refused the frame: it is foreign, of another life, or was not looked at
+-- the end refused the frame: it is foreign, of another session, or was not examined
 abbrev pub IsRefusal : Verdict → Type 0
 IsRefusal Stale = Unit {0}
 IsRefusal Foreign = Unit {0}
@@ -176,7 +176,7 @@ IsNotForged w n k now (Ok frame) = IsIn frame (w.frames k n) ⊎ IsRefusal
     (verdict_of (settings_at w n k) (w.ends n k) frame now)
 IsNotForged w n k now (Err error) = Unit {0}
 
--- numbers rise over all starts of a node, lanes keep their order, and no wire delivers a forged datagram that the end
+-- numbers rise over all starts of a node, queues keep their order, and no wire delivers a forged datagram that the end
 -- accepts
 abbrev pub IsGiven : Network → ℕ → ℕ → LinkPart → Type 0
 IsGiven w n k (Opens number now) = (w.numbers n k < number) × (number ≤ 2 ^ 62)

@@ -18,8 +18,8 @@ use Rattle.tora_seat.specs.declared.item.Item.{Item}
 use Rattle.tora_running.specs.Parts.{LinkPart, AreLinkParts}
 use Rattle.tora_running.specs.Exchanges.{ExchangeTheSame, cargo_in, heard_in, put_in}
 
--- The thread of the link from one node to another has made these parts of a new end, one after another; they exchange
--- what the turns with this tally exchange
+-- The thread of the link from one node to another has made these parts of a new end, one after another. They exchange
+-- what the turns with this tally exchange.
 pub record HasHistory (me peer : ℕ) (tally : Tally) : Type 0 where
   pub parts : List LinkPart
   pub between : EndState
@@ -28,21 +28,21 @@ pub record HasHistory (me peer : ℕ) (tally : Tally) : Type 0 where
   pub exchange : ExchangeTheSame parts turns
   pub tally_is : tally ≡ tally_after first_tally turns
 
--- the link to each of these neighbours has such a thread, in the same order
+-- the link to each of these neighbours has such a history, in the same order
 abbrev pub HaveHistories : ℕ → List ℕ → List Tally → Type 0
 HaveHistories me [] [] = Unit {0}
 HaveHistories me [] (tally ∷ tallies) = ⊥
 HaveHistories me (k ∷ ks) [] = ⊥
 HaveHistories me (k ∷ ks) (tally ∷ tallies) = HasHistory me k tally × HaveHistories me ks tallies
 
--- Its parts receive exactly the datagrams that the receives of these turns returned in their buffers, in order
+-- The parts receive exactly the datagrams that the receives of these turns returned in their buffers, in order.
 pub record HearsItsWire (me peer : ℕ) (tally : Tally) (turns : List Turn) : Type 0 where
   pub history : HasHistory me peer tally
   pub turns_are : history.turns ≡ turns
   pub heard : flat_map heard_in history.parts ≡ readings_come turns
 
--- The parts of the link at a place exchange with the core: the items put are those of their seat that the core served,
--- followed by some that were left; the cargoes taken, followed by some that waited, are those put for the peer
+-- The items put by the parts of the link at a place are the items of its seat that the core served, followed by those
+-- that were left. The outbound messages taken, followed by those left in the queue, are those put for the peer.
 pub record HasExchanged (me : ℕ) (xs : List ServedItem) (place peer : ℕ) (tally : Tally) : Type 0 where
   pub history : HasHistory me peer tally
   pub left : List Item

@@ -1,4 +1,4 @@
--- The histories of threads, start after start, and what an order of all their parts has to keep.
+-- The histories of threads, for all starts of their nodes, and the conditions on an order of all their parts.
 use Rattle.std.specs.Prelude.{ℕ, ◌==◌, ◌&&◌, IsTrue, if◌then◌else◌, List, [], ◌∷◌}
 use Rattle.tora_arq.specs.Settings.{Settings}
 use Rattle.tora_arq.specs.LinkEnd.{EndState, first_end}
@@ -11,9 +11,9 @@ use Rattle.tora_running.specs.Parts.{LinkPart, AreLinkParts}
 use Rattle.tora_running.specs.Network.{Network, Part, settings_at, neighbours_at, IsFront, IsGiven, after_part}
 use Rattle.tora_running.specs.Network.Part.{Starts, OfLink, Serves, Asks}
 
--- ---- the actions of one thread, start after start of its node
+-- ---- the actions of one thread, for all starts of its node
 
--- the actions up to the next start, and then those from each start to the one after it
+-- the actions before the next start, and then those after each start up to the one after it
 pub record Lives (A : Type 0) : Type 0 where
   pub present : List A
   pub later : List (List A)
@@ -27,7 +27,7 @@ with_start l = record { present = []; later = l.present ∷ l.later }
 abbrev pub with_first : {A : Type 0} → A → Lives A → Lives A
 with_first x l = record { present = x ∷ l.present; later = l.later }
 
--- the thread of n's link to k
+-- the parts of the thread of n's link to k
 abbrev pub link_lives : ℕ → ℕ → List Part → Lives LinkPart
 link_lives n k [] = no_lives
 link_lives n k (Starts m ∷ parts) = if n == m then with_start (link_lives n k parts) else link_lives n k parts
@@ -36,7 +36,7 @@ link_lives n k (OfLink m j part ∷ parts) = if (n == m) && (k == j) then with_f
 link_lives n k (Serves m item offers ∷ parts) = link_lives n k parts
 link_lives n k (Asks m now what ∷ parts) = link_lives n k parts
 
--- the core's thread of n
+-- the items of the core's thread of n
 abbrev pub core_lives : ℕ → List Part → Lives ServedItem
 core_lives n [] = no_lives
 core_lives n (Starts m ∷ parts) = if n == m then with_start (core_lives n parts) else core_lives n parts
@@ -45,7 +45,7 @@ core_lives n (Serves m item offers ∷ parts) = if n == m then with_first (recor
     (core_lives n parts) else core_lives n parts
 core_lives n (Asks m now what ∷ parts) = core_lives n parts
 
--- ---- as the contracts of the threads describe them: parts of an end, or served items, one after another
+-- ---- the contracts of the threads: parts of an end, or served items, one after another
 
 abbrev pub WereMade : Settings → EndState → List LinkPart → Type 0
 WereMade s e parts = (after : EndState) × AreLinkParts s e parts after
@@ -53,7 +53,7 @@ WereMade s e parts = (after : EndState) × AreLinkParts s e parts after
 abbrev pub WereServed : List ℕ → SeatState → List ServedItem → Type 0
 WereServed neighbours s xs = (after : SeatState) × AreServed neighbours s xs after
 
--- the same from a new end or a new seat, in each of these
+-- the contract holds from a new end or a new seat on, after each start
 abbrev pub AllWere : {A : Type 0} → (List A → Type 0) → List (List A) → Type 0
 AllWere Was [] = Unit {0}
 AllWere Was (one ∷ more) = Was one × AllWere Was more
@@ -64,8 +64,8 @@ pub record AreHistories (w : Network) (parts : List Part) : Type 0 where
   pub cores : (n : ℕ) → WereServed (neighbours_at w n) (w.seats n) (core_lives n parts).present
       × AllWere (WereServed (neighbours_at w n) (first_seat w.topology n)) (core_lives n parts).later
 
--- ---- their order: the nodes and links are those of the network, lanes are first-in, first-out, no datagram is
--- forged that its end would accept, numbers rise, and users put no items about lives
+-- ---- their order: the nodes and links are those of the network, queues are first-in, first-out, no datagram is forged
+-- that its end would accept, numbers rise, and users put no items about sessions
 
 abbrev pub MayCome : Network → Part → Type 0
 MayCome w (Starts n) = IsTrue (is_node w.topology n)

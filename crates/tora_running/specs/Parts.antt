@@ -1,4 +1,4 @@
--- What the thread of a link does with its end, part after part.
+-- What the thread of a link does with its end, in parts.
 use Rattle.std.specs.Prelude.{◌≡◌, ℕ, ◌<◌, IsTrue, List, [], ◌∷◌, Some}
 use Rattle.tora_frame.specs.FrameParts.{FrameParts}
 use Rattle.tora_arq.specs.declared.link_event.LinkEvent.{LinkEvent}
@@ -15,20 +15,20 @@ pub data LinkPart : Type 0 where
   -- a closed end is opened with a number that was drawn for it
   Opens : (number now : ℕ) → LinkPart
   Ticks : (now : ℕ) → LinkPart
-  -- a cargo is taken from the lane out of the core
+  -- an outbound message is taken from the queue out of the core
   Takes : (cargo : Cargo) → LinkPart
   -- the first frame due is passed to a send, with this outcome
   Sends : (now : ℕ) (frame : FrameParts) (sending : Sending) → LinkPart
   -- a receive of the wire returns a datagram: its frame, or why it is not one
   Hears : (now : ℕ) (reading : Reading) → LinkPart
-  -- the first event of the end is put into the lane into the core
+  -- the first event of the end is put into the queue into the core
   Tells : (now : ℕ) (event : LinkEvent) → LinkPart
-  -- a beat is put there
+  -- a beat is put into that queue
   Beats : (now : ℕ) → LinkPart
-  -- the wire is broken: the bound life is cut, if there is one
+  -- the wire has failed: the bound session is cut, if there is one
   Breaks : LinkPart
 
--- the end after it
+-- the end after the part
 abbrev pub end_after : Settings → EndState → LinkPart → EndState
 end_after s e (Opens number now) = after_open e number now
 end_after s e (Ticks now) = after_tick s e now

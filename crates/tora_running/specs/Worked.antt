@@ -1,6 +1,6 @@
--- Two running nodes, computed: a run in which a datagram is lost, a lane returns a packet, both nodes are killed, a
--- route is found in a second life of their link, and is lost with it: a wire breaks, and the other end receives nothing
--- any more.
+-- Two running nodes, computed: a run in which a datagram is lost, a queue returns a packet, both nodes are killed, and
+-- a route is found in a second session of their link. Then a wire fails, the other end receives nothing any more, and
+-- the route is lost with the session.
 use Rattle.std.specs.Prelude.{◌≡◌, ℕ, Bool, true, false, List, [], ◌∷◌, length, slice_get, Option, Some, None, Ok}
 use Rattle.tora_frame.specs.FrameParts.{FrameParts, frame_of}
 use Rattle.tora_frame.specs.declared.parts.Version.TheVariants.{One}
@@ -22,7 +22,7 @@ use Rattle.tora_running.specs.Parts.LinkPart.{Opens, Ticks, Takes, Sends, Hears,
 use Rattle.tora_running.specs.Network.{Network, Part, first_network, settings_at, neighbours_at, after_part, after_parts, packets_sent, packets_taken}
 use Rattle.tora_running.specs.Network.Part.{Starts, OfLink, Serves, Asks}
 
--- ---- parts that are read from the network before them; where there is nothing to read it is a beat
+-- ---- parts that depend on the network before them; a part without its subject is replaced by a beat
 
 abbrev pub Reads : Type 0
 Reads = Network → Part
@@ -62,7 +62,7 @@ part_served w n put [] = OfLink n n (Beats 0)
 part_served w n put (item ∷ items) = Serves n item (serving_of (λ offers k. put) (neighbours_at w n) (w.seats n)
     item).offers
 
--- each cargo is put into its lane, or each is returned
+-- every outbound message is put into its queue, or every one is returned
 abbrev pub serves : ℕ → Bool → Reads
 serves n put w = part_served w n put (w.items n)
 
@@ -103,16 +103,16 @@ read_from w (next ∷ more) = next w ∷ read_from (after_part w (next w)) more
 abbrev pub start : Network
 start = first_network pair times
 
--- the first HELLO of node 1 is lost, the second one and two more bind both ends; the lane returns node 1's update when
--- the life comes up
+-- the first HELLO of node 1 is lost, the second one and two more bind both ends; the queue returns node 1's update when
+-- the session comes up
 abbrev pub first_life : List Reads
 first_life =
     starts 1 ∷ starts 2 ∷ needs 1 2 ∷ serves 1 true ∷ opens 1 2 1 ∷ opens 2 1 1 ∷ sends 1 2 IsLost ∷ sends 1 2 Goes
     ∷ hears 2 1 0 ∷ sends 2 1 Goes ∷ hears 1 2 0 ∷ sends 1 2 Goes ∷ hears 2 1 1
     ∷ tells 1 2 ∷ tells 2 1 ∷ serves 2 true ∷ serves 1 false ∷ []
 
--- both nodes are killed, and started again; node 1 has drawn some numbers that it did not use. An old datagram comes
--- first
+-- both nodes are killed, and started again; node 1 has drawn some numbers that it did not use. The first datagram that
+-- arrives is an old one
 abbrev pub second_life : List Reads
 second_life =
     starts 1 ∷ starts 2 ∷ needs 1 2 ∷ serves 1 true ∷ opens 1 2 5 ∷ opens 2 1 2 ∷ hears 2 1 1 ∷ sends 1 2 Goes
@@ -135,14 +135,14 @@ met = after_parts second_parts parted
 abbrev pub new_life : Life
 new_life = record { own = 5; peer = 2 }
 
--- the lane returned the update: its life is cut, and nothing was sent in it
+-- the queue returned the update: its session is cut, and nothing was sent in it
 pub record HandsBack (w : Network) : Type 0 where
   pub bound : (w.ends 1 2).phase ≡ Bound life
   pub over : (w.seats 1).current 2 ≡ None
   pub cut : (w.seats 1).pending 2 ≡ Some life
   pub none : packets_sent w 1 2 life ≡ []
 
--- in the second life the update arrives, once, and node 1 has a route
+-- in the second session the update arrives once, and node 1 has a route
 pub record HasMet (w : Network) : Type 0 where
   pub bound : (w.ends 1 2).phase ≡ Bound new_life
   pub other : (w.ends 2 1).phase ≡ Bound (reversed new_life)
@@ -151,10 +151,10 @@ pub record HasMet (w : Network) : Type 0 where
   pub none : packets_taken w 2 1 life ≡ []
   pub hop : hop_of (w.seats 1).core 2 ≡ Some 2
 
--- ---- the end of that life
+-- ---- the end of that session
 
--- a beat comes, and node 1 is asked for its text; an acknowledgement is sent though its send failed; a frame of another
--- node is refused. Then the wire of node 1 breaks, and node 2 receives nothing for 60 ticks
+-- a beat arrives, and a user requests node 1's text; an acknowledgement is sent although its send failed; a frame of
+-- another node is refused. Then the wire of node 1 fails, and node 2 receives nothing for 60 ticks
 abbrev pub last_turns : List Reads
 last_turns =
     beats 1 2 10 ∷ serves 1 true ∷ shows 1 ∷ serves 1 true ∷ sends 2 1 IsGone ∷ hears 1 2 2 ∷ hears_strange 1 2
@@ -167,7 +167,7 @@ last_parts = read_from met last_turns
 abbrev pub left : Network
 left = after_parts last_parts met
 
--- both lives have ended, at the ends and at the cores, nothing waits in the lanes, and node 1 has lost its route
+-- both sessions have ended, at the ends and at the cores, nothing waits in the queues, and node 1 has lost its route
 pub record HasLeft (w : Network) : Type 0 where
   pub closed : (w.ends 1 2).phase ≡ Closed
   pub other : (w.ends 2 1).phase ≡ Closed
@@ -178,10 +178,10 @@ pub record HasLeft (w : Network) : Type 0 where
   pub gone : length (w.frames 2 1) ≡ 3
   pub hop : hop_of (w.seats 1).core 2 ≡ None
 
--- ---- not a run: a number is drawn again
+-- ---- not a run, because a number is drawn again
 
--- the update is taken in the life of the numbers 1 and 1; both nodes are started again and draw the same numbers, and
--- its old datagram comes
+-- the update is taken in the session with the numbers 1 and 1; both nodes are started again and draw the same numbers,
+-- and the old datagram arrives again
 abbrev pub numbers_again : List Reads
 numbers_again =
     starts 1 ∷ starts 2 ∷ needs 1 2 ∷ serves 1 true ∷ opens 1 2 1 ∷ opens 2 1 1 ∷ sends 1 2 Goes ∷ hears 2 1 0

@@ -35,12 +35,12 @@ use tora_world::{
     no_gap_law, only_needs_are_refused, prefix_law, routes_at_rest_arrive,
 };
 
-/// Running nodes are a world: for any parts that their threads make, some schedule of the free world leaves a world
-/// with the same cores, link ends and lanes, in which the same was sent, taken and accepted.
+/// Running nodes are a world: for any parts that their threads make, some schedule of the free world leads to a world
+/// with the same cores, link ends, queues, and records of what was sent, taken and accepted.
 ///
-/// A run of parts must satisfy only this: the thread's definition allows each part, lanes keep their order, no wire
-/// delivers a forged datagram that its end accepts, and the numbers drawn for a link end rise. Ticks, results of lanes,
-/// losses, repeated datagrams and the moments of starts are any.
+/// A run of parts must satisfy only this: the thread's definition allows each part, queues keep their order, no wire
+/// delivers a forged datagram that its end accepts, and the numbers drawn for a link end rise. Ticks, results of
+/// queues, losses, repeated datagrams and the moments of starts are arbitrary.
 pub fn running_nodes_are_a_world()
     ensures { EveryNetwork (λ t times w. IsOfWorld t times w) }
 {
@@ -50,14 +50,15 @@ pub fn running_nodes_are_a_world()
     life_files_become_what_crashes_leave();
 }
 
-/// The prefix law of running nodes: the packets that the core of a node has taken from a neighbour in a life are a
-/// prefix of those that the neighbour's core has sent in that life, over all starts of both nodes.
+/// The prefix law of running nodes: the packets that the core of a node has taken from a neighbour in a session are a
+/// prefix of those that the neighbour's core has sent in that session, over all starts of both nodes.
 pub fn running_nodes_keep_the_prefix_law()
     ensures prefix { EveryNetwork (λ t times w. TakenBeginsSent w) }
-    // Each end binds each pair of life numbers at most once.
+    // Each end binds each pair of session numbers at most once.
     ensures once { BindsOnce }
-    // The condition on received datagrams concerns only the wires, and no thread: the parts of a link's thread receive
-    // only the datagrams that its calls of the wire returned, as `run_node` says (`LinkRan`).
+    // The condition on received datagrams is a condition on the wires only, not on the threads: the parts of a link's
+    // thread receive only the datagrams that its calls of the wire returned, as the contract of `run_node` says
+    // (`LinkRan`).
     ensures heard { (me peer : ℕ) (fault : Option LinkFault) (tally : Tally) (run : IsLinkRun me peer fault tally)
         → HearsItsWire me peer tally (run.turns ++ run.last ∷ []) }
 {
@@ -78,8 +79,8 @@ pub fn running_cores_follow()
     prefix_law();
 }
 
-/// The no-gap law of running nodes: while a life is current at a core, all that the core has broadcast since its link
-/// came up was sent in that life, and nothing else.
+/// The no-gap law of running nodes: while a session is current at a core, all that the core has broadcast since its
+/// link came up was sent in that session, and nothing else.
 pub fn running_nodes_keep_the_no_gap_law()
     ensures { EveryNetwork (λ t times w. IsWithoutGap t w) }
 {
@@ -124,7 +125,7 @@ pub fn running_cores_refuse_only_needs()
 }
 
 /// The parts are those of the threads: the proved behaviour of a link's thread and of a core's thread is a sequence of
-/// parts, turn after turn and item after item, that the definitions allow.
+/// parts that the definitions allow, turn after turn and item after item.
 pub fn histories_are_of_the_threads()
     // Whole turns of a link's thread are parts of its end, one after another.
     ensures turns { (s : Settings) (e : EndState) (turns : List Turn) (after : EndState) → AreTurns s e turns after
@@ -139,13 +140,13 @@ pub fn histories_are_of_the_threads()
         → IsTurnRun s e turns last ending after
         → (between : EndState) × AreLinkParts s e (parts_of_turns turns ++ parts_of_last ending last) between
         × IsAfterRefused between last.refused after }
-    // These parts exchange with the thread's file, lanes and wire what `Traffic` says of its turns: the numbers drawn,
-    // the cargoes taken, the frames sent, the datagrams received, and the items put.
+    // These parts exchange with the thread's file, queues and wire what `Traffic` says of its turns: the numbers drawn,
+    // the outbound messages taken, the frames sent, the datagrams received, and the items put.
     ensures exchanges { (s : Settings) (e : EndState) (turns : List Turn) (last : Turn) (ending : Ending)
         (after : EndState) → IsTurnRun s e turns last ending after
         → ExchangeTheSame (parts_of_turns turns ++ parts_of_last ending last) (turns ++ last ∷ []) }
     // The items that a core's thread has served one after another, as the contract of `run_core` describes them, are a
-    // run of parts if they wait in its lane, and the run leaves the same seat.
+    // run of parts if they wait in its queue, and the run leads to the same seat.
     ensures served { (w : Network) (n : ℕ) (xs : List ServedItem) (rest : List Item) (after : SeatState)
         → is_node w.topology n ≡ true
         → w.items n ≡ items_served xs ++ rest → AreServed (neighbours_at w n) (w.seats n) xs after
@@ -159,11 +160,11 @@ pub fn histories_are_of_the_threads()
         → AreServed (neighbours_at w n) (w.seats n) (served_in n parts) ((after_parts parts w).seats n) }
 {}
 
-/// A run of parts is exactly an order of the threads' actions: histories of the threads, start after start of each
-/// node, and an order of all their parts that keeps lanes, datagrams and numbers (`IsOrder`). So the laws of running
+/// A run of parts is exactly an order of the threads' actions: the histories of the threads, for all starts of each
+/// node, and an order of all their parts that keeps queues, datagrams and numbers (`IsOrder`). So the laws of running
 /// nodes assume only that order, besides the contracts of the threads.
 pub fn runs_are_orders_of_histories()
-    // If each thread made its parts as its definition says, in any such order, all laws of runs hold.
+    // If the parts of each thread follow its definition, any such order of them is a run, for which all laws hold.
     ensures runs { (w : Network) (parts : List Part) → AreHistories w parts → IsOrder w parts → IsRun w parts }
     // Conversely, each run is such an order.
     ensures orders { (w : Network) (parts : List Part) → IsRun w parts → AreHistories w parts × IsOrder w parts }
@@ -171,15 +172,16 @@ pub fn runs_are_orders_of_histories()
 
 /// The contract of `run_node` gives histories: for each link there are parts of a new end of version 2 with the
 /// standard times, one after another. They exchange what the link's turns exchange, put the items that the core served,
-/// and take the cargoes that serving put.
+/// and take the outbound messages that serving put.
 pub fn nodes_have_histories()
-    // A node that ended without a fault, as the part `links` of `run_node` has it.
+    // A node that ended without a fault, as the clause `links` of `run_node` describes it.
     ensures links { (first : CoreView) (tallies : List Tally) → AreFaultless (links_of first) tallies
         → HaveHistories first.me first.neighbours tallies }
-    // A node whose threads were started and which ended with the first of their faults, as its part `cause` has it.
+    // A node whose threads were started and which ended with the first of their faults, as the clause `cause` describes
+    // it.
     ensures threads { (first : CoreView) (e : NodeError) (h : IsThreadsFault first e)
         → HaveHistories first.me first.neighbours (map (λ o. o.tally) h.outcomes) }
-    // The parts of a link exchange with the core what the parts `ran` and `failed` of the contract say.
+    // The parts of a link exchange with the core what the clauses `ran` and `failed` of the contract say.
     ensures exchanged { (me : ℕ) (xs : List ServedItem) (place peer : ℕ) (outcome : Outcome)
         → LinkExchanged me xs place peer outcome
         → HasExchanged me xs place peer outcome.tally }
@@ -187,18 +189,18 @@ pub fn nodes_have_histories()
 
 /// An example with two running nodes, computed, so that the laws are not vacuous.
 pub fn worked_networks_hold()
-    // Both nodes are started, a HELLO is lost, three more bind the link, and the lane returns the update of node 1.
+    // Both nodes are started, a HELLO is lost, three more bind the link, and the queue returns the update of node 1.
     ensures first { IsRun start first_parts }
     ensures handed_back { HandsBack parted }
-    // Both are killed and started again. An old datagram comes, the link is bound in a second life, and the update is
-    // sent and taken in it, once, though its datagram comes twice: node 1 has a route.
+    // Both are killed and started again. An old datagram arrives and the link is bound in a second session. In it the
+    // update is sent and taken once, although its datagram arrives twice: node 1 has a route.
     ensures second { IsRun parted second_parts }
     ensures met { HasMet met }
-    // A beat comes, a user asks, a send fails though its datagram is sent, and a frame of another node is refused. Then
-    // the wire of node 1 breaks, node 2 receives no frame for 60 ticks, and the route is lost.
+    // A beat arrives, a user requests something, a send fails although its datagram is sent, and a frame of another
+    // node is refused. Then the wire of node 1 fails, node 2 receives no frame for 60 ticks, and the route is lost.
     ensures last { IsRun met last_parts }
     ensures left { HasLeft left }
-    // Rising numbers are needed: if the same numbers were drawn again after a start, an old datagram would be taken a
-    // second time.
+    // Rising numbers are necessary: if the same numbers were drawn again after a start, an old datagram would be taken
+    // a second time.
     ensures numbers { TakesTwice drawn_again }
 {}

@@ -1,4 +1,4 @@
--- What serving leaves: an offer leaves the core and the inputs that it took. And what an accepted input does.
+-- Offers do not change the core and the inputs that it accepted; and the effect of an accepted input.
 use Rattle.std.proofs.Common.{◌≡◌, ℕ, List, [], ◌∷◌, Option, Some, None, refl, ap, ◌∙◌}
 use Rattle.std.proofs.lemmas.Bool.{cond_both}
 use Rattle.tora_packet.specs.declared.Packet.{Packet}
@@ -29,7 +29,7 @@ module _ (answers : Answers) where
   calm_broadcasts ks [] v = record { core = refl; inputs = refl }
   calm_broadcasts ks (p ∷ ps) v = calm_by v (after_broadcast answers p ks v) (after_broadcasts answers ks ps (after_broadcast answers p ks v)) (calm_broadcast p ks v) (calm_broadcasts ks ps (after_broadcast answers p ks v))
 
-  -- a cut that is tried leaves the current lives
+  -- offering a pending cut does not change the current sessions
   pub tried_current : (v : Serving) (j : ℕ) (o : Option Life) → (after_cut_tried answers v j o).seat.current ≡ v.seat.current
   tried_current v j None = refl
   tried_current v j (Some l) = cond_both (answers v.offers j) _ _ (λ (x : Serving). x.seat.current ≡ v.seat.current) (λ _. refl) (λ _. refl)
@@ -43,12 +43,12 @@ module _ (answers : Answers) where
   calm_cuts [] v = record { core = refl; inputs = refl }
   calm_cuts (j ∷ js) v = calm_by v (after_cut_tried answers v j (v.seat.pending j)) (after_cuts_tried answers js (after_cut_tried answers v j (v.seat.pending j))) (calm_cut v j (v.seat.pending j)) (calm_cuts js (after_cut_tried answers v j (v.seat.pending j)))
 
-  -- an accepted input leaves the core as it has it, and sends what the rules send
+  -- an accepted input changes the core by the rules, and sends the packets that the rules prescribe
   pub accepted_step : (ks : List ℕ) (v : Serving) (input : Input) (now : ℕ) → refusal_of v.seat.core input ≡ None → after_step answers ks input now v ≡ after_broadcasts answers ks (sends_of v.seat.core input now) (accepting v input now)
   unfolding after_step
   accepted_step ks v input now e = ap (after_answer answers ks input now v) e
 
-  -- no packet that is sent turns the core
+  -- sending packets does not change the core
   pub accepted_core : (ks : List ℕ) (v : Serving) (input : Input) (now : ℕ) → refusal_of v.seat.core input ≡ None → (after_step answers ks input now v).seat.core ≡ core_after v.seat.core input now
   accepted_core ks v input now e =
       ap (λ (x : Serving). x.seat.core) (accepted_step ks v input now e) ∙ (calm_broadcasts ks (sends_of v.seat.core input now) (accepting v input now)).core

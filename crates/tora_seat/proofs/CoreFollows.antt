@@ -1,4 +1,4 @@
--- The core after an item is the result of the inputs that it accepted.
+-- The inputs accepted for an item lead from the core before the item to the core after it.
 use Rattle.std.proofs.Common.{◌≡◌, ℕ, List, [], ◌∷◌, ◌++◌, refl, sym, ap, ◌∙◌}
 use Rattle.tora_core.specs.declared.Input.{Input}
 use Rattle.tora_core.specs.CoreRun.{CoreView, core_after, core_after_all}

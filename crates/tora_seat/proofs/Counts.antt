@@ -1,4 +1,4 @@
--- How many inputs an item steps.
+-- How many inputs an item makes the core accept.
 use Rattle.std.proofs.Common.{◌≡◌, ℕ, zero, suc, ◌+◌, ◌≤◌, Bool, true, false, not, ◌||◌, ◌⊎◌, inl, inr, List, [], ◌∷◌, ◌++◌, length, Option, Some, None, nat_eq, slice_get, if◌then◌else◌, refl, sym, ap, ◌∙◌, subst, eqb-true, arith, length-append}
 use Rattle.std.proofs.lemmas.Bool.{cond_both, cases_Bool, or_parts}
 use Rattle.tora_arq.specs.declared.life.Life.{Life}
@@ -17,7 +17,7 @@ use Rattle.tora_core.proofs.AfterInputs.{has-with, same-neighbours}
 use Rattle.tora_seat.proofs.Ups.{core_accepted, one_if, count_up, count_most, count_drops}
 use Rattle.tora_seat.proofs.Calm.{calm_broadcasts, calm_cut, calm_cuts}
 
--- one that comes is counted once
+-- a number outside the list is not counted
 count_same : (ks up : List ℕ) (j : ℕ) → has_number j ks ≡ false → count_up ks (with_number j up) ≡ count_up ks up
 count_same [] up j off = refl
 count_same (k ∷ ks) up j off =
@@ -45,7 +45,7 @@ both_up true true e = (refl, refl)
 both_up true false e = absurd (let q : Some Fault.NotUp ≡ None = e in cc)
 both_up false b e = absurd (let q : Some Fault.UnknownNeighbour ≡ None = e in cc)
 
--- how much an input may add to the inputs and the links that are up
+-- how much an input may add to the sum of accepted inputs and links that are up
 abbrev pub weight : Input → ℕ
 weight (In.LinkUp k) = 2
 weight (In.LinkDown k) = 0
@@ -53,7 +53,7 @@ weight (In.Packet k packet) = 1
 weight (In.Need d) = 1
 
 module _ (answers : Answers) (ks : List ℕ) (apart : has_repeat ks ≡ false) where
-  -- the inputs and the links that are up are this many at most
+  -- the accepted inputs and the links that are up are at most this many together
   record Few (m : ℕ) (v : Serving) : Type 0 where
     near : v.seat.core.neighbours ≡ ks
     few : length v.inputs + count_up ks v.seat.core.up ≤ m

@@ -1,4 +1,4 @@
--- What the tests of serving mean: which life is current, and which link is to go down next.
+-- The meaning of the tests in serving: which session is current, and which link goes down next.
 use Rattle.std.proofs.Common.{◌≡◌, ◌≢◌, ℕ, ◌<◌, ◌≤◌, true, false, true≢false, ◌&&◌, ◌⊎◌, inl, inr, ⊎_elim, List, [], ◌∷◌, Option, Some, None, nat_eq, if◌then◌else◌, refl, sym, ap, ◌∙◌, subst, arith, eqb-true, eq-eqb}
 use Rattle.std.proofs.lemmas.Bool.{cases_Bool, and_parts, and_from, false≢true, or_cases}
 use Rattle.std.specs.Prelude.{is_none}
@@ -10,7 +10,7 @@ use Rattle.tora_seat.specs.Serving.{SeatState, first_cut, is_current}
 use Rattle.tora_seat.specs.Serves.{IsCut, IsLeastCut}
 use Rattle.tora_seat.proofs.Ups.{first_cut_is, settled_at}
 
--- ---- lives
+-- ---- sessions
 
 same_life : (a b : Life) → is_same_life a b ≡ true → a ≡ b
 same_life a b e =
@@ -35,7 +35,7 @@ current-not life o e q = true≢false (sym (is-current life o q) ∙ e)
 pub not-current : (life : Life) (o : Option Life) → o ≢ Some life → is_current life o ≡ false
 not-current life o n = ⊎_elim (λ (t : is_current life o ≡ true). absurd (n (current-is life o t))) (λ (f : is_current life o ≡ false). f) (cases_Bool (is_current life o))
 
--- ---- the least neighbour whose life was cut
+-- ---- the least neighbour whose session was cut
 
 pub none-is : (o : Option Life) → is_none o ≡ true → o ≡ None
 none-is None e = refl

@@ -1,4 +1,4 @@
--- The cut of a current life is offered, and the life is over.
+-- The cut of a current session is offered, and the session is over.
 use Rattle.std.proofs.Common.{◌≡◌, ℕ, zero, suc, ◌+◌, ◌<◌, ◌≤◌, Bool, true, false, not, ◌||◌, List, [], ◌∷◌, ◌++◌, length, slice_get, nat_eq, Option, Some, None, MatchOption, if◌then◌else◌, refl, sym, ap, ◌∙◌, subst, eqb-true, eq-eqb, arith}
 use mathlib.Core.Path.{fun_ext}
 use Rattle.std.proofs.lemmas.Bool.{or_parts, or_right}
@@ -110,7 +110,7 @@ module _ {O : Type 0} (did_offer : O → ℕ → Cargo → Bool → O → Type 0
   pub cut_none : (s : SeatView) (outs : O) (k now : ℕ) → current_of s.rows k ≡ None → SeatGoes did_offer (λ answers ks v. after_life_cut answers ks k now v (v.seat.current k)) now s outs s outs
   cut_none s outs k now e = seat_still did_offer (λ answers ks v. after_life_cut answers ks k now v (v.seat.current k)) now s outs s refl (λ answers before. ap (after_life_cut answers s.core.neighbours k now (serving_at now s before)) e)
 
-  -- of a neighbour at a place, and of what is none
+  -- the neighbour is at a place, or there is no such neighbour
   pub cut_there : (s : SeatView) (outs : O) (new : SeatView) (after : O) (place k now : ℕ) → slice_get s.core.neighbours place ≡ Some k →
       SeatGoes did_offer (λ answers ks v. after_life_cut answers ks k now v (v.seat.current k)) now s outs new after →
       SeatGoes did_offer (λ answers ks v. if has_number k ks then after_life_cut answers ks k now v (v.seat.current k) else v) now s outs new after

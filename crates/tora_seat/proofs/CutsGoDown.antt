@@ -1,4 +1,4 @@
--- After an input no link is left that is up without a current life.
+-- After an input and its consequences, no link is up without a current session.
 use Rattle.std.proofs.Common.{◌≡◌, ℕ, zero, suc, ◌≤◌, true, List, length, Option, Some, None, refl, ap, ◌∙◌, arith}
 use Rattle.tora_core.specs.declared.Input.{Input}
 use Rattle.tora_core.specs.declared.Input.TheVariants as In

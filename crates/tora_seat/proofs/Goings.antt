@@ -1,4 +1,4 @@
--- Cargoes are offered to one row after another.
+-- Outbound messages are offered for one row after another.
 use Rattle.std.proofs.Common.{◌≡◌, ℕ, zero, suc, ◌+◌, ◌<◌, Bool, true, false, List, [], ◌∷◌, ◌++◌, take, drop, length, set, get_or, Option, Some, None, if◌then◌else◌, refl, sym, ap, ap₂, ◌∙◌, subst, append_assoc, append-nil, arith}
 use mathlib.Core.Path.{fun_ext}
 use Rattle.tora_packet.specs.declared.Packet.{Packet}
@@ -14,7 +14,7 @@ use Rattle.tora_seat.specs.Bodies.{TriesCut, SendsTo, on_rows, RowsGo}
 use Rattle.tora_seat.proofs.Chains.{follows_split, offered_more, split_at, set_at, drop_at, length_take, drop_end}
 use Rattle.tora_seat.proofs.Places.{not_before, place_there, neighbours-append, neighbours-length, current_there, pending_there, current_set, pending_set, current_stays}
 
--- one row is done
+-- the offers for one row were made
 pub record RowGoes {O : Type 0} (did_offer : O → ℕ → Cargo → Bool → O → Type 0) (one : Answers → Serving → ℕ → Serving) (rows : List LinkRow) (k : ℕ) (outs : O) (new : List LinkRow) (after : O) : Type 0 where
   pub made : List Offer
   pub offered : AreOffered did_offer (neighbours_of rows) outs made after
@@ -38,7 +38,7 @@ module _ {O : Type 0} (did_offer : O → ℕ → Cargo → Bool → O → Type 0
     leads = λ answers v before _. h answers v before ∙ ap₂ (λ rs os. on_rows v rs os) (sym e) (sym (append-nil before));
   }
 
-  -- one cargo is offered
+  -- one outbound message is offered
   one_goes : (one : Answers → Serving → ℕ → Serving) (pre : List LinkRow) (row : LinkRow) (rest : List LinkRow) (outs : O) (new : LinkRow) (after : O) (cargo : Cargo) (put : Bool) → has_repeat (neighbours_of (pre ++ row ∷ rest)) ≡ false →
       did_offer outs (length pre) cargo put after → new.neighbour ≡ row.neighbour →
       ((answers : Answers) (v : Serving) (before : List Offer) → answers before row.neighbour ≡ put →
@@ -111,7 +111,7 @@ module _ {O : Type 0} (did_offer : O → ℕ → Cargo → Bool → O → Type 0
 
 -- ---- rows one after another
 
--- the rows before this place are done
+-- the offers for the rows before this place were made
 pub record Going {O : Type 0} (did_offer : O → ℕ → Cargo → Bool → O → Type 0) (next : Answers → List ℕ → Serving → Serving) (first : List LinkRow) (start : O) (i : ℕ) (rows : List LinkRow) (outs : O) : Type 0 where
   pub made : List Offer
   pub offered : AreOffered did_offer (neighbours_of first) start made outs
@@ -175,7 +175,7 @@ pub sents_nil : (packet : Packet) (answers : Answers) (v : Serving) → after_br
 unfolding after_broadcast
 sents_nil packet answers v = refl
 
--- a row in its place
+-- a changed row at its place
 pub at_place : (P : List LinkRow → ℕ → LinkRow → List LinkRow → Type 0) (rows : List LinkRow) (i : ℕ) (d new : LinkRow) → i < length rows →
     ((pre : List LinkRow) (row : LinkRow) (rest : List LinkRow) → length pre ≡ i → row ≡ get_or rows i d → P (pre ++ row ∷ rest) (length pre) row (pre ++ new ∷ rest)) → P rows i (get_or rows i d) (set rows i new)
 at_place P rows i d new lt f =

@@ -1,4 +1,4 @@
--- Offers and inputs that grow by one.
+-- Lists of offers and of inputs after one more.
 use Rattle.std.proofs.Common.{◌≡◌, ℕ, Bool, true, false, true≢false, ◌&&◌, ◌||◌, List, [], ◌∷◌, ◌++◌, Option, nat_eq, if◌then◌else◌, refl, sym, ap, ◌∙◌, append_assoc, append-nil}
 use Rattle.std.proofs.lemmas.Bool.{or_parts}
 use Rattle.tora_packet.specs.declared.Packet.{Packet}

@@ -1,4 +1,4 @@
--- What serving an item keeps at one neighbour.
+-- The invariant of one neighbour while an item is served.
 use Rattle.std.proofs.Common.{◌≡◌, ℕ, zero, suc, ◌<◌, ◌≤◌, Bool, true, false, true≢false, not, ◌&&◌, ◌||◌, ◌⊎◌, inl, inr, ⊎_elim, List, [], ◌∷◌, ◌++◌, length, Option, Some, None, nat_eq, if◌then◌else◌, refl, sym, ap, ap₂, ◌∙◌, subst, append_assoc, append-nil, eqb-true, eq-eqb, arith}
 use Rattle.std.proofs.lemmas.Bool.{cond_both, cases_Bool, or_right, or_parts}
 use Rattle.std.specs.Prelude.{is_none, is_some}
@@ -25,8 +25,8 @@ put_at f k a = ap (λ b. if b then a else f k) (eq-eqb k k refl)
 pub put_off : {A : Type 0} (f : ℕ → A) (j : ℕ) (a : A) (k : ℕ) → nat_eq j k ≡ false → put_one f j a k ≡ f k
 put_off f j a k off = ap (λ b. if b then a else f k) (turned j k off)
 
--- if a life is current: it is the one served, nothing was returned, and the packets put and still to be sent are those
--- broadcast; if none is: nothing was returned and the link is not up, or the life served is cut
+-- a session is current: it is the one served, and all that was broadcast is put or still to send; or none is: either
+-- nothing was returned and the link is not up, or the session served is cut
 abbrev pub Stands : Option Life → List Packet → Option Life → Bool → List Packet → List Packet → Bool → Bool → Option Life → Type 0
 Stands served ps pending up put all back down None = ((back ≡ false) × (up ≡ false) × (put ≡ all)) ⊎ ((back ≡ true) × (pending ≡ served) × Begins put all × (up ≡ false → down ≡ true))
 Stands served ps pending up put all back down (Some l) = (served ≡ Some l) × (back ≡ false) × (up ≡ true) × (put ++ ps ≡ all)
@@ -42,7 +42,7 @@ module _ (answers : Answers) (ks : List ℕ) (k : ℕ) (first : SeatState) (serv
   abbrev pub StandsIn : List Packet → List Packet → Serving → Type 0
   StandsIn ps all v = Stands served ps (v.seat.pending k) (has_number k v.seat.core.up) (packets_put k v.offers) all (has_back k v.offers) (has_link_down k v.inputs) (v.seat.current k)
 
-  -- what holds while packets go out, of which these are still to be sent to this neighbour
+  -- the invariant while packets are sent; `ps` are those that are still to be sent to this neighbour
   pub record Sends (ps all : List Packet) (v : Serving) : Type 0 where
     pub life : AreOfLife k served v.offers
     pub quiet : NothingAfterBack k v.offers
@@ -146,7 +146,7 @@ module _ (answers : Answers) (ks : List ℕ) (k : ℕ) (first : SeatState) (serv
   abbrev pub all_of : Serving → List Packet
   all_of v = broadcast_to k first.core v.inputs
 
-  -- what holds between inputs
+  -- the invariant between inputs
   pub record Keeps (v : Serving) : Type 0 where
     pub sends : Sends [] (all_of v) v
     pub core_is : v.seat.core ≡ core_after_all first.core v.inputs
@@ -159,7 +159,7 @@ module _ (answers : Answers) (ks : List ℕ) (k : ℕ) (first : SeatState) (serv
       ∙ ap (λ c. all_of v ++ (if has_number k (core_after c input now).up then sends_of c input now else [])) (sym f)
       ∙ ap (λ t. all_of v ++ (if t then sends_of v.seat.core input now else [])) e
 
-  -- an input is accepted, and its packets go
+  -- an input is accepted, and its packets are sent
   accepts : (v : Serving) (input : Input) (now : ℕ) → v.seat.core ≡ core_after_all first.core v.inputs → v.seat.core.neighbours ≡ ks →
       Sends (sends_of v.seat.core input now) (all_of (accepting v input now)) (accepting v input now) → Keeps (after_broadcasts answers ks (sends_of v.seat.core input now) (accepting v input now))
   accepts v input now f near h =
@@ -171,7 +171,7 @@ module _ (answers : Answers) (ks : List ℕ) (k : ℕ) (first : SeatState) (serv
         near = ap (λ (x : CoreView). x.neighbours) c.core ∙ same-neighbours v.seat.core input now ∙ near;
       }
 
-  -- this life is current after an accepted input: its packets are still to be sent
+  -- a session is current after an accepted input: the packets of the input are still to be sent in it
   enters_up : (v : Serving) (input : Input) (now : ℕ) (l : Life) → AreOfLife k served v.offers → NothingAfterBack k v.offers → has_back k v.offers ≡ false → v.seat.core ≡ core_after_all first.core v.inputs → served ≡ Some l → v.seat.current k ≡ Some l →
       has_number k (core_after v.seat.core input now).up ≡ true → packets_put k v.offers ≡ all_of v → Sends (sends_of v.seat.core input now) (all_of (accepting v input now)) (accepting v input now)
   enters_up v input now l life quiet none f s cur up put = record {
@@ -181,7 +181,7 @@ module _ (answers : Answers) (ks : List ℕ) (k : ℕ) (first : SeatState) (serv
         (s, refl, refl, ap (λ ps. ps ++ sends_of v.seat.core input now) put ∙ sym (all_accepting v input now true f up));
   }
 
-  -- no life is current after an accepted input: nothing is to be sent
+  -- no session is current after an accepted input: nothing is to be sent
   enters_none : (v : Serving) (input : Input) (now : ℕ) (ps : List Packet) (up : Bool) → AreOfLife k served v.offers → NothingAfterBack k v.offers → v.seat.core ≡ core_after_all first.core v.inputs → v.seat.current k ≡ None →
       has_number k (core_after v.seat.core input now).up ≡ up →
       ((has_back k v.offers ≡ false) × (up ≡ false) × (packets_put k v.offers ≡ all_of v))
@@ -197,7 +197,7 @@ module _ (answers : Answers) (ks : List ℕ) (k : ℕ) (first : SeatState) (serv
         h);
   }
 
-  -- an input that brings this link neither up, nor down under a current life
+  -- an input that does not bring this link up, and does not take it down under a current session
   enters : (v : Serving) (input : Input) (now : ℕ) → refusal_of v.seat.core input ≡ None → is_link_up k input ≡ false → (is_link_down k input ≡ true → v.seat.current k ≡ None) → Keeps v →
       Sends (sends_of v.seat.core input now) (all_of (accepting v input now)) (accepting v input now)
   enters v input now ok not_up down h = go (cases_Bool (is_link_down k input))
@@ -236,7 +236,7 @@ module _ (answers : Answers) (ks : List ℕ) (k : ℕ) (first : SeatState) (serv
   near_k : (c : CoreView) → c.neighbours ≡ ks → (j : ℕ) → has_number j ks ≡ true → has_number j c.neighbours ≡ true
   near_k c e j i = ap (has_number j) e ∙ i
 
-  -- ---- neighbours that were cut are stepped down
+  -- ---- the links of neighbours whose session was cut go down
 
   settling_keeps : (most now : ℕ) (v : Serving) → Keeps v → Keeps (after_settling most answers ks now v)
   unfolding after_settling
@@ -251,7 +251,7 @@ module _ (answers : Answers) (ks : List ℕ) (k : ℕ) (first : SeatState) (serv
           again (after_step answers ks (In.LinkDown j) now v)
           (step_keeps v (In.LinkDown j) now refl (λ d. subst (λ x. v.seat.current x ≡ None) (eqb-true j k d) (none_is (v.seat.current j) f.2)) h)
 
-  -- none is left
+  -- no such neighbour is left
   settles : (most now : ℕ) (v : Serving) → v.seat.core.neighbours ≡ ks → count_up ks v.seat.core.up ≤ most → first_cut (after_settling most answers ks now v).seat ks ≡ None
   unfolding after_settling
   settles zero now v near le = first_cut_none v.seat ks le
@@ -269,9 +269,9 @@ module _ (answers : Answers) (ks : List ℕ) (k : ℕ) (first : SeatState) (serv
           again (after_step answers ks (In.LinkDown j) now v) (ap (λ (x : CoreView). x.neighbours) c ∙ same-neighbours v.seat.core (In.LinkDown j) now ∙ near)
           (subst (λ up. count_up ks up ≤ most) (sym ups) (omega (arith, fewer, le)))
 
-  -- ---- an input with all that follows
+  -- ---- an input and all its consequences
 
-  -- what holds at the end
+  -- the invariant after the item
   pub record Ended (v : Serving) : Type 0 where
     pub keeps : Keeps v
     pub settled : has_back k v.offers ≡ true → has_number k v.seat.core.up ≡ false
@@ -295,7 +295,7 @@ module _ (answers : Answers) (ks : List ℕ) (k : ℕ) (first : SeatState) (serv
 
   -- ---- the start of an item
 
-  -- pending cuts were tried, and no more
+  -- pending cuts were offered, and nothing else was done
   pub record Started (v : Serving) : Type 0 where
     pub core : v.seat.core ≡ first.core
     pub current : v.seat.current ≡ first.current
@@ -347,7 +347,7 @@ module _ (answers : Answers) (ks : List ℕ) (k : ℕ) (first : SeatState) (serv
   core_start : (v : Serving) → Started v → v.seat.core ≡ core_after_all first.core v.inputs
   core_start v s = s.core ∙ sym (ap (core_after_all first.core) s.inputs)
 
-  -- the life served is the current one, or none is current
+  -- the session served is the current one, or none is current
   pub keeps_start : (v : Serving) → Started v → first.core.neighbours ≡ ks → is_some (first.current k) ≡ has_number k first.core.up → (served ≡ first.current k) ⊎ (first.current k ≡ None) → Keeps v
   keeps_start v s near in_step is = record {
     sends = record { life = s.life; quiet = s.quiet; stands = go (first.current k) refl };
@@ -374,7 +374,7 @@ module _ (answers : Answers) (ks : List ℕ) (k : ℕ) (first : SeatState) (serv
   pub ended_start : (v : Serving) → has_back k v.offers ≡ false → Keeps v → Ended v
   ended_start v none h = record { keeps = h; settled = λ b. absurd (true≢false (sym b ∙ none)) }
 
-  -- the current life is over at the start of an item
+  -- the current session is over at the start of an item
   down_starts : (v : Serving) (now : ℕ) → Started v → first.core.neighbours ≡ ks → has_number k first.core.up ≡ true → Keeps (after_step answers ks (In.LinkDown k) now (with_current v k None))
   down_starts v now s near up =
       let w : Serving = with_current v k None in
@@ -389,7 +389,7 @@ module _ (answers : Answers) (ks : List ℕ) (k : ℕ) (first : SeatState) (serv
   unfolding after_input
   down_ends v now s near up = settle now (after_step answers ks (In.LinkDown k) now (with_current v k None)) (down_starts v now s near up)
 
-  -- a life of another neighbour
+  -- a session of another neighbour
   pub keeps_off : (v : Serving) (j : ℕ) (l : Option Life) → nat_eq j k ≡ false → Keeps v → Keeps (with_current v j l)
   keeps_off v j l off h = record {
     sends = record {
@@ -412,7 +412,7 @@ module _ (answers : Answers) (ks : List ℕ) (k : ℕ) (first : SeatState) (serv
     near = h.near;
   }
 
-  -- whatever is pending, if nothing was returned
+  -- another pending session, if the queue returned nothing
   pub forget_on : (v : Serving) (l : Option Life) → has_back k v.offers ≡ false → Keeps v → Keeps (with_pending v k l)
   forget_on v l none h = record { sends = record { life = h.sends.life; quiet = h.sends.quiet; stands = go (v.seat.current k) h.sends.stands }; core_is = h.core_is; near = h.near }
     where
@@ -421,7 +421,7 @@ module _ (answers : Answers) (ks : List ℕ) (k : ℕ) (first : SeatState) (serv
       go None h = ⊎_elim (λ a. inl a) (λ a. absurd (true≢false (sym a.0 ∙ none))) h
       go (Some life) h = h
 
-  -- the current life of another neighbour is over, or comes up
+  -- the current session of another neighbour is over, or comes up
   pub down_off : (v : Serving) (j now : ℕ) → nat_eq j k ≡ false → Keeps v → Ended (after_down answers ks j now v)
   down_off v j now off h = input_ends (with_current v j None) (In.LinkDown j) now refl (λ d. absurd (true≢false (sym d ∙ off))) (keeps_off v j None off h)
 
@@ -434,7 +434,7 @@ module _ (answers : Answers) (ks : List ℕ) (k : ℕ) (first : SeatState) (serv
       let w = after_old_down answers ks j now v (v.seat.current j) in
       input_ends (with_current w j (Some l)) (In.LinkUp j) now off (λ d. absurd (true≢false (sym d))) (keeps_off w j (Some l) off (old_down_off v j now (v.seat.current j) off h))
 
--- ---- a life comes up for the neighbour itself
+-- ---- a session comes up for the neighbour itself
 
 none_back : (k : ℕ) (os : List Offer) → AreOfLife k None os → has_back k os ≡ false
 none_back k [] h = refl
@@ -462,7 +462,7 @@ module _ (answers : Answers) (ks : List ℕ) (k : ℕ) (first : SeatState) (insi
       go None e (Some l) c = absurd (let y : Some l ≡ None = c ∙ e in cc)
       go (Some m) e (Some l) c = (down_ends answers ks k first None inside apart v now s near (sym in_step ∙ ap is_some e)).keeps
 
-  -- nothing was sent to this neighbour in the item yet, and its link is not up
+  -- in this item nothing was sent to this neighbour so far, and its link is not up
   low : (w : Serving) → Keeps answers ks k first None inside apart w → (has_number k w.seat.core.up ≡ false) × (packets_put k w.offers ≡ all_of answers ks k first None inside apart w)
   low w h = go (w.seat.current k) h.sends.stands
     where

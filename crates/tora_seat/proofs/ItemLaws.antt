@@ -1,4 +1,4 @@
--- The effect of serving an item at a neighbour, item by item.
+-- The effect of each kind of item at one neighbour.
 use Rattle.std.proofs.Common.{◌≡◌, ℕ, Bool, true, false, true≢false, inl, ⊎_elim, List, [], ◌∷◌, ◌++◌, Option, Some, None, nat_eq, slice_get, if◌then◌else◌, refl, sym, ap, ◌∙◌, subst, append-nil, eqb-true, eq-eqb}
 use Rattle.std.proofs.lemmas.Bool.{cond_both, cases_Bool, false≢true}
 use Rattle.std.specs.Prelude.{is_some}
@@ -20,7 +20,7 @@ module _ (answers : Answers) (ks : List ℕ) (k : ℕ) (first : SeatState) (insi
   abbrev Fine : Option Life → Serving → Type 0
   Fine served v = Ended answers ks k first served inside apart v
 
-  -- a result, or a packet that is noted, changes nothing of this
+  -- a result, or a packet that is recorded, does not matter here
   answered : (served : Option Life) (v : Serving) (answer : Answer) → Fine served v → Fine served (record v { answer = answer })
   answered served v answer h =
       record { keeps = record { sends = record { life = h.keeps.sends.life; quiet = h.keeps.sends.quiet; stands = h.keeps.sends.stands }; core_is = h.keeps.core_is; near = h.keeps.near }; settled = h.settled }
@@ -35,7 +35,7 @@ module _ (answers : Answers) (ks : List ℕ) (k : ℕ) (first : SeatState) (insi
     still : Fine (first.current k) v
     still = ended_start answers ks k first (first.current k) inside apart v (s (first.current k)).none keeps
 
-    -- the current life is the requested one, so the link is up
+    -- the session that ended is the current one, so its link is up
     on_down : (life : Life) (now : ℕ) → is_current life (v.seat.current k) ≡ true → Fine (first.current k) (after_down answers ks k now v)
     on_down life now e = go (first.current k) refl
       where
@@ -46,7 +46,7 @@ module _ (answers : Answers) (ks : List ℕ) (k : ℕ) (first : SeatState) (insi
         go None c = absurd (false≢true (sym (ap (is_current life) (same ∙ c)) ∙ e))
         go (Some l) c = down_ends answers ks k first (first.current k) inside apart v now (s (first.current k)) near (sym in_step ∙ ap is_some c)
 
-    -- a requested cut of a life is offered, and nothing else, before the life is over
+    -- the requested cut of a session is offered before the session is over
     asked : (served : Option Life) (j : ℕ) (l : Life) → Started answers ks k first served inside apart (after_cut_asked answers v j l)
     asked served j l =
         let h = s served in
@@ -146,7 +146,7 @@ module _ (answers : Answers) (ks : List ℕ) (k : ℕ) (first : SeatState) (insi
   unfolding serving_of
   served_ends item = item_of (after_cuts_tried answers ks (begin_serving first)) (λ served. started answers ks k first served inside apart) (slice_get ks item.seat) item.what item.now
 
--- ---- what that says
+-- ---- consequences
 
 module _ (answers : Answers) (ks : List ℕ) (k : ℕ) (first : SeatState) (served : Option Life) (inside : has_number k ks ≡ true) (apart : has_repeat ks ≡ false) (v : Serving) (h : Ended answers ks k first served inside apart v) where
   all : List Packet

@@ -1,4 +1,4 @@
--- The inputs that are accepted in an item have its tick.
+-- The inputs that are accepted for an item have its tick.
 use Rattle.std.proofs.Common.{◌≡◌, ℕ, zero, suc, List, [], ◌∷◌, ◌++◌, length, Option, Some, None, refl}
 use Rattle.std.proofs.lemmas.Bool.{cond_both}
 use Rattle.std.specs.Prelude.{slice_get}

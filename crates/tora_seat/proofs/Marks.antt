@@ -1,4 +1,4 @@
--- What a seat's marks say: that no cut is pending, and that no link is up without a current life.
+-- The marks of a seat: no cut is pending, and no link is up without a current session.
 use Rattle.std.proofs.Common.{◌≡◌, ℕ, zero, suc, ◌+◌, ◌<◌, Bool, true, false, true≢false, not, ◌&&◌, ◌||◌, ◌⊎◌, inl, inr, List, [], ◌∷◌, take, length, set, get_or, Option, Some, None, nat_eq, if◌then◌else◌, refl, sym, ap, ◌∙◌, subst, arith, eqb-true, eq-eqb}
 use Rattle.std.proofs.lemmas.Bool.{cond_both, cases_Bool, or_parts, false≢true}
 use Rattle.std.specs.Prelude.{is_none, is_some}
@@ -21,7 +21,7 @@ or_assoc : (a b c : Bool) → (a || (b || c)) ≡ ((a || b) || c)
 or_assoc true b c = refl
 or_assoc false b c = refl
 
--- a row with the same pending life in its place
+-- another row with the same pending session at this place
 pub pending_kept : (rows : List LinkRow) (i : ℕ) (d new : LinkRow) → i < length rows → new.pending ≡ (get_or rows i d).pending → any_pending (set rows i new) ≡ any_pending rows
 pending_kept [] i d new lt e = absurd (omega (arith, lt))
 pending_kept (row ∷ rows) zero d new lt e = ap (λ p. is_some p || any_pending rows) e
@@ -37,13 +37,13 @@ none_pending (row ∷ rows) h k =
     let q = or_parts (is_some row.pending) (any_pending rows) h in
     cond_both (nat_eq k row.neighbour) row.pending (pending_of rows k) (λ o. o ≡ None) (λ _. life-none row.pending q.0) (λ _. none_pending rows q.1 k)
 
--- if none is pending, none is offered
+-- if no cut is pending, none is offered
 pub cuts_none : (answers : Answers) (ks : List ℕ) (v : Serving) → ((k : ℕ) → v.seat.pending k ≡ None) → after_cuts_tried answers ks v ≡ v
 unfolding after_cuts_tried
 cuts_none answers [] v h = refl
 cuts_none answers (k ∷ ks) v h = ap (λ o. after_cuts_tried answers ks (after_cut_tried answers v k o)) (h k) ∙ cuts_none answers ks v h
 
--- one row more was looked at
+-- after one more row
 pub left_more : (rows : List LinkRow) (i : ℕ) (new : LinkRow) → i < length rows → any_pending (take (suc i) (set rows i new)) ≡ (any_pending (take i rows) || is_some new.pending)
 left_more [] i new lt = absurd (omega (arith, lt))
 left_more (row ∷ rows) zero new lt = or_false (is_some new.pending)
@@ -53,7 +53,7 @@ pub left_all : (rows : List LinkRow) → any_pending (take (length rows) rows) �
 left_all [] = refl
 left_all (row ∷ rows) = ap (λ b. is_some row.pending || b) (left_all rows)
 
--- ---- lives that are over
+-- ---- sessions that are over
 
 pub ends_more : (a b : Bool) (x y z : List LinkRow) → EndsLives a x y → EndsLives b y z → EndsLives (a || b) x z
 ends_more false false x y z p q = q ∙ p
@@ -79,10 +79,10 @@ pub ends_row : (b : Bool) (rows : List LinkRow) (i : ℕ) (d new : LinkRow) → 
 ends_row false rows i d new lt h = set_same rows i d new lt h
 ends_row true rows i d new lt h = set_less rows i d new lt h.0 h.1
 
--- ---- links that are up without a current life
+-- ---- links that are up without a current session
 
--- where no neighbour is to be stepped down, and each that is not to be is not to be afterwards, none is to be stepped
--- down afterwards
+-- if no link has to go down now, and none has to go down later that does not have to go down now, then none has to go
+-- down later
 settled_from : (s t : SeatState) (ks : List ℕ) → ((j : ℕ) → (has_number j s.core.up && is_none (s.current j)) ≡ false → (has_number j t.core.up && is_none (t.current j)) ≡ false) → first_cut s ks ≡ None → first_cut t ks ≡ None
 settled_from s t [] f e = refl
 settled_from s t (k ∷ ks) f e = go (cases_Bool (has_number k s.core.up && is_none (s.current k))) (λ q. settled_from s t ks f q)
@@ -95,11 +95,11 @@ and_false : (a : Bool) → (a && false) ≡ false
 and_false true = refl
 and_false false = refl
 
--- the state that is settled
+-- the state in which no link has to go down
 abbrev state : CoreView → List ℕ → (ℕ → Option Life) → (ℕ → Option Life) → SeatState
 state core up current pending = record { core = record core { up = up }; current = current; pending = pending }
 
--- the life of a neighbour is over, and its link goes down
+-- the session of a neighbour is over, and its link goes down
 pub settled_down : (s new : SeatView) (k : ℕ) → new ≡ record s { rows = new.rows } → put_one (current_of s.rows) k None ≡ current_of new.rows → IsSettled s.core s.core.up s.rows → IsSettled new.core (up_after new.core.up (In.LinkDown k)) new.rows
 settled_down s new k rest set h =
     subst (λ (c : CoreView). IsSettled c (up_after c.up (In.LinkDown k)) new.rows) (sym (ap (λ (x : SeatView). x.core) rest))
@@ -114,7 +114,7 @@ settled_down s new k rest set h =
         ap (λ b. b && is_none (put_one (current_of s.rows) k None j)) (up_same j s.core.up (In.LinkDown k) refl e)
         ∙ ap (λ b. has_number j s.core.up && is_none (if b then None else current_of s.rows j)) (turned k j e) ∙ off
 
--- a life of a neighbour begins, and its link comes up
+-- a session of a neighbour begins, and its link comes up
 pub settled_up : (s new : SeatView) (k : ℕ) (life : Life) → new ≡ record s { rows = new.rows } → put_one (current_of s.rows) k (Some life) ≡ current_of new.rows → IsSettled s.core s.core.up s.rows → IsSettled new.core (up_after new.core.up (In.LinkUp k)) new.rows
 settled_up s new k life rest set h =
     subst (λ (c : CoreView). IsSettled c (up_after c.up (In.LinkUp k)) new.rows) (sym (ap (λ (x : SeatView). x.core) rest))
@@ -144,7 +144,7 @@ steps_quietly over input now s t core given rows new inputs e free core_is given
     go false ends up = (up, ends)
     go true ends up = inr ends
 
--- an input that was stepped with no life over
+-- the core accepted an input, and no session ended by it
 pub settled_step : (quiet : Bool) (input : Input) (s new : SeatView) → StepsQuietly quiet input s new → quiet ≡ true → new.core.neighbours ≡ s.core.neighbours → IsSettled s.core (up_after s.core.up input) s.rows → IsSettled new.core new.core.up new.rows
 settled_step false input s new q e same h = absurd (false≢true e)
 settled_step true input s new q e same h =

@@ -11,7 +11,7 @@ use Rattle.tora_seat.specs.Rows.{neighbours_of, current_of, pending_of}
 pub turned : (a b : ℕ) → nat_eq a b ≡ false → nat_eq b a ≡ false
 turned a b e = ne_eqb b a (λ q. eqb-false a b e (sym q))
 
--- a number after others differs from them
+-- a number that is not among the ones before it differs from each of them
 has_none : (n k : ℕ) (xs ys : List ℕ) → has_number n (xs ++ k ∷ ys) ≡ false → nat_eq k n ≡ false
 has_none n k [] ys h = (or_parts (nat_eq k n) (has_number n ys) h).0
 has_none n k (x ∷ xs) ys h = has_none n k xs ys (or_parts (nat_eq x n) (has_number n (xs ++ k ∷ ys)) h).1
@@ -42,14 +42,14 @@ module _ {V : Type 0} (value : LinkRow → V) (none : V) where
   value_of [] k = none
   value_of (row ∷ rows) k = if nat_eq k row.neighbour then value row else value_of rows k
 
-  -- that of a row which no earlier one hides
+  -- the value of a row, if no earlier row has the same neighbour
   pub value_there : (before : List LinkRow) (row : LinkRow) (rows : List LinkRow) → has_number row.neighbour (neighbours_of before) ≡ false → value_of (before ++ row ∷ rows) row.neighbour ≡ value row
   value_there [] row rows h = ap (λ (b : Bool). if b then value row else value_of rows row.neighbour) (eq-eqb row.neighbour row.neighbour refl)
   value_there (x ∷ before) row rows h =
       let q = or_parts (nat_eq x.neighbour row.neighbour) (has_number row.neighbour (neighbours_of before)) h in
       ap (λ (b : Bool). if b then value x else value_of (before ++ row ∷ rows) row.neighbour) (turned x.neighbour row.neighbour q.0) ∙ value_there before row rows q.1
 
-  -- another row in its place
+  -- another row at the same place
   pub value_set : (before : List LinkRow) (row new : LinkRow) (rows : List LinkRow) → new.neighbour ≡ row.neighbour → has_number row.neighbour (neighbours_of before) ≡ false → (k : ℕ) →
       put_one (value_of (before ++ row ∷ rows)) row.neighbour (value new) k ≡ value_of (before ++ new ∷ rows) k
   value_set [] row new rows e h k = go (nat_eq k row.neighbour) ∙ ap (λ x. if nat_eq k x then value new else value_of rows k) (sym e)
@@ -92,7 +92,7 @@ current_set before row new rows e h = fun_ext (λ k. ap (λ x. if nat_eq k row.n
 pub pending_set : (before : List LinkRow) (row new : LinkRow) (rows : List LinkRow) → new.neighbour ≡ row.neighbour → has_number row.neighbour (neighbours_of before) ≡ false → put_one (pending_of (before ++ row ∷ rows)) row.neighbour new.pending ≡ pending_of (before ++ new ∷ rows)
 pending_set before row new rows e h = fun_ext (λ k. ap (λ x. if nat_eq k row.neighbour then new.pending else x) (pending_value (before ++ row ∷ rows) k) ∙ value_set (λ (r : LinkRow). r.pending) None before row new rows e h k ∙ sym (pending_value (before ++ new ∷ rows) k))
 
--- a row whose current life is as before leaves the current lives
+-- a change that keeps the current session of a row keeps all current sessions
 pub current_stays : (before : List LinkRow) (row new : LinkRow) (rows : List LinkRow) → new.neighbour ≡ row.neighbour → new.current ≡ row.current → (k : ℕ) → current_of (before ++ row ∷ rows) k ≡ current_of (before ++ new ∷ rows) k
 current_stays [] row new rows e c k = ap₂ (λ n l. if nat_eq k n then l else current_of rows k) (sym e) (sym c)
 current_stays (x ∷ before) row new rows e c k = ap (λ l. if nat_eq k x.neighbour then x.current else l) (current_stays before row new rows e c k)

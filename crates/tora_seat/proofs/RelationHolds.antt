@@ -61,7 +61,7 @@ module _ (answers : Answers) where
         go None e = accepted e (broadcasts_hold ks (sends_of v.seat.core input now) (accepting v input now))
         go (Some error) e = refused error e
 
-    -- links went down, until none was left
+    -- links went down one after another, until none was left
     record Settled (v w : Serving) : Type 0 where
       downs : List ℕ
       go_down : GoDown ks now downs v w
@@ -159,7 +159,7 @@ module _ (answers : Answers) where
         does = item_holds ks item.now up tried (ap (λ (c : CoreView). c.neighbours) (cuts_core ks (begin_serving s) tried cuts) ∙ sym near) (slice_get ks item.seat) item.what;
       }
 
--- the offers give the same serving when they are read as results of offers
+-- the offers, read as results of offers, give the same serving
 pub serves_so : {O : Type 0} (did_offer : O → ℕ → Cargo → Bool → O → Type 0) (item : Item) (s : SeatView) (outs : O) (new : SeatView) (after : O) → IsAscending s.core.neighbours →
     ((offers : List Offer) × AreOffered did_offer s.core.neighbours outs offers after × ((answers : Answers) → Follows answers [] offers → serving_of answers s.core.neighbours (state_of s) item ≡ serving_at item.now new offers)) →
     (offers : List Offer) × AreOffered did_offer s.core.neighbours outs offers after × Serves s.core.neighbours (state_of s) item (serving_at item.now new offers)

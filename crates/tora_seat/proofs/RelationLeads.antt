@@ -1,4 +1,4 @@
--- What the relation of serving allows is what the definition computes with the results of its offers.
+-- The relation of serving allows only what the definition computes from the results of the offers.
 use Rattle.std.proofs.Common.{◌≡◌, ℕ, zero, suc, ◌<◌, ◌≤◌, true, false, List, [], ◌∷◌, ◌++◌, length, Option, Some, None, slice_get, if◌then◌else◌, refl, sym, ap, ◌∙◌, subst, append_assoc, append-nil, arith}
 use Rattle.std.proofs.lemmas.Bool.{cond_both}
 use Rattle.tora_packet.specs.declared.Packet.{Packet}
@@ -23,7 +23,7 @@ use Rattle.tora_seat.proofs.CutLinks.{is-current, not-current, least-first, none
 
 -- ---- each action leads from one serving to another
 
--- offers are made, and with their results the definition gives the serving
+-- offers are made, and with their results the definition gives the next serving
 pub record Leads (next : Answers → Serving) (v w : Serving) : Type 0 where
   made : List Offer
   grows : w.offers ≡ v.offers ++ made
@@ -36,7 +36,7 @@ quiet next v w e h = record { made = []; grows = e ∙ sym (append-nil v.offers)
 stays : (next : Answers → Serving) (v w : Serving) → w ≡ v → ((answers : Answers) → next answers ≡ v) → Leads next v w
 stays next v w e h = quiet next v w (ap (λ (x : Serving). x.offers) e) (λ answers. h answers ∙ sym e)
 
--- one thing after another
+-- one action after another
 lead_on : (first : Answers → Serving) (next : Answers → Serving → Serving) (v u w : Serving) → Leads first v u → Leads (λ answers. next answers u) u w → Leads (λ answers. next answers (first answers)) v w
 lead_on first next v u w a b = record {
   made = a.made ++ b.made;
@@ -46,11 +46,11 @@ lead_on first next v u w a b = record {
       ap (next answers) (a.leads answers h.0) ∙ b.leads answers (subst (λ os. Follows answers os b.made) (sym a.grows) h.1);
 }
 
--- another way to write what is computed
+-- another expression of the same computation
 lead_as : (next other : Answers → Serving) (v w : Serving) → ((answers : Answers) → other answers ≡ next answers) → Leads next v w → Leads other v w
 lead_as next other v w e a = record { made = a.made; grows = a.grows; leads = λ answers f. e answers ∙ a.leads answers f }
 
--- ---- cargoes
+-- ---- outbound messages
 
 cut_leads : (v : Serving) (k : ℕ) {w : Serving} → TriesCut v k w → Leads (λ answers. after_cut_tried answers v k (v.seat.pending k)) v w
 cut_leads v k (no_cut e) = quiet (λ answers. after_cut_tried answers v k (v.seat.pending k)) v v refl (λ answers. ap (after_cut_tried answers v k) e)
@@ -100,7 +100,7 @@ broadcasts_lead ks (packet ∷ packets) v w h =
     lead_as (λ answers. after_broadcasts answers ks packets (after_broadcast answers packet ks v)) (λ answers. after_broadcasts answers ks (packet ∷ packets) v) v w (λ answers. packets_cons answers ks packet packets v)
     (lead_on (λ answers. after_broadcast answers packet ks v) (λ answers x. after_broadcasts answers ks packets x) v h.0 w (broadcast_leads packet ks v h.0 h.1) (broadcasts_lead ks packets h.0 w h.2))
 
--- ---- the core changes by inputs alone
+-- ---- only inputs change the core
 
 pub cut_core : (v : Serving) (k : ℕ) {w : Serving} → TriesCut v k w → w.seat.core ≡ v.seat.core
 cut_core v k (no_cut e) = refl
@@ -129,7 +129,7 @@ step_near ks now v input (refused error e) = refl
 step_near ks now v input (accepted {w} e h) =
     ap (λ (c : CoreView). c.neighbours) (broadcasts_core ks (sends_of v.seat.core input now) (accepting v input now) w h) ∙ same-neighbours v.seat.core input now
 
--- a link that is cut goes down, so one link less is up
+-- the link of a session that was cut goes down, so one link fewer is up
 pub cut_drops : (ks : List ℕ) (now : ℕ) (v : Serving) (k : ℕ) {w : Serving} → has_number k v.seat.core.neighbours ≡ true → IsCut ks v.seat k → Steps ks now v (In.LinkDown k) w → count_up ks w.seat.core.up < count_up ks v.seat.core.up
 cut_drops ks now v k near cut (refused error e) = absurd (let q : None ≡ Some error = sym (down_accepted v.seat.core k near cut.up) ∙ e in cc)
 cut_drops ks now v k near cut (accepted {w} e h) =
@@ -181,7 +181,7 @@ settles_lead ks up now v input w near h =
     (lead_on (λ answers. after_step answers ks input now v) (λ answers x. after_settling (length ks) answers ks now x) v h.between w (step_leads ks now v input h.steps)
     (down_leads ks up now h.downs (length ks) h.between w (step_near ks now v input h.steps ∙ near) (count_most ks h.between.seat.core.up) h.go_down h.none_left))
 
--- the same from a serving with the same offers
+-- an action that leads from one serving leads from another one with the same offers, if it computes the same
 leads_from : (next other : Answers → Serving) (v u w : Serving) → u.offers ≡ v.offers → ((answers : Answers) → other answers ≡ next answers) → Leads next u w → Leads other v w
 leads_from next other v u w same e a = record {
   made = a.made;

@@ -26,7 +26,7 @@ row_at (row ∷ rows) (suc place) k d e = let h = row_at rows place k d e in (om
 off_of : (pre : List LinkRow) (row : LinkRow) (rest : List LinkRow) → has_repeat (neighbours_of (pre ++ row ∷ rest)) ≡ false → has_number row.neighbour (neighbours_of pre) ≡ false
 off_of pre row rest h = not_before (neighbours_of pre) row.neighbour (neighbours_of rest) (ap has_repeat (sym (neighbours-append pre (row ∷ rest))) ∙ h)
 
--- ---- a row gets another current life, or no pending one
+-- ---- a row gets another current session, or no pending one
 
 pub record IsSet (rows new : List LinkRow) (current pending : ℕ → Option Life) : Type 0 where
   pub same : neighbours_of new ≡ neighbours_of rows
@@ -68,12 +68,12 @@ forget_pending_is rows place k row life different is e =
     let b = keep_row rows place row new (row_at rows place k row is).0 (ap (λ (r : LinkRow). r.neighbour) e) in
     record { same = a.0; current_is = b.0 (ap (λ (r : LinkRow). r.current) e); pending_is = a.2 }
 
--- ---- lives by place
+-- ---- sessions by place
 
 abbrev pub no_life : Option Life
 no_life = None
 
--- the row at a place is that of its neighbour
+-- the row at a place is the row of its neighbour
 pub row_lives : (rows : List LinkRow) (place : ℕ) (row : LinkRow) → has_repeat (neighbours_of rows) ≡ false → slice_get rows place ≡ Some row →
     (slice_get (neighbours_of rows) place ≡ Some row.neighbour) × (current_of rows row.neighbour ≡ row.current) × (pending_of rows row.neighbour ≡ row.pending)
 row_lives rows place row different is =
@@ -110,7 +110,7 @@ current_none rows s place room h e is = live_none (λ r. r.current) current_of s
 pub pending_none : (rows : List LinkRow) (s : SeatView) (place : ℕ) (room : ℕ) {p q : Bool} → IsSeat s.core s.rows room p q → rows ≡ s.rows → slice_get rows place ≡ None → MatchOption (slice_get s.core.neighbours place) (no_life ≡ None) (λ k. None ≡ pending_of s.rows k)
 pending_none rows s place room h e is = live_none (λ r. r.pending) pending_of s.rows s.core.neighbours place h.neighbours (ap (λ xs. slice_get xs place) (sym e) ∙ is)
 
--- the first neighbour to be stepped down, by rows
+-- the first neighbour whose link has to go down, by rows
 cut_from : (core : CoreView) (pending : ℕ → Option Life) (pre rows : List LinkRow) → has_repeat (neighbours_of (pre ++ rows)) ≡ false →
     first_cut_of core rows ≡ first_cut (record { core = core; current = current_of (pre ++ rows); pending = pending }) (neighbours_of rows)
 cut_from core pending pre [] h = refl
@@ -143,7 +143,7 @@ forget_seat s t place k room row life e h is at =
 pub seat_set : (core : CoreView) (rows new : List LinkRow) (room : ℕ) (f g : ℕ → Option Life) (mark : Bool) {p q : Bool} → IsSeat core rows room p q → IsSet rows new f g → (mark ≡ false → any_pending new ≡ false) → IsSeat core new room mark true
 seat_set core rows new room f g mark h q none = record { neighbours = q.same ∙ h.neighbours; different = h.different; has_room = h.has_room; none_pending = none; none_cut = λ e. absurd (true≢false e) }
 
--- another current life leaves what is pending
+-- a new current session does not change what is pending
 pub set_pending : (s t : SeatView) (place k room : ℕ) (row : LinkRow) (life : Option Life) {p q : Bool} → s ≡ t → IsSeat s.core s.rows room p q → slice_get t.core.neighbours place ≡ Some k → row ≡ get_or s.rows place row →
     any_pending (set s.rows place (record row { current = life })) ≡ any_pending s.rows
 set_pending s t place k room row life e h is at =

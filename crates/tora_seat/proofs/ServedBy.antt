@@ -1,4 +1,4 @@
--- Invariants of serving that speak only of the offers, the core and the accepted inputs: each offer and each accepted
+-- Invariants of serving that depend only on the offers, the core and the accepted inputs: each offer and each accepted
 -- input keeps them.
 use Rattle.std.proofs.Common.{◌≡◌, ℕ, zero, suc, Bool, true, false, true≢false, List, [], ◌∷◌, ◌++◌, length, Option, Some, None, sym}
 use Rattle.std.proofs.lemmas.Bool.{cond_both}
@@ -17,13 +17,13 @@ use Rattle.tora_seat.specs.declared.cargo.Cargo.{Cargo}
 use Rattle.tora_seat.specs.declared.cargo.Cargo.TheVariants as Gives
 use Rattle.tora_seat.specs.Serving.{SeatState, Serving, Offer, Answers, with_current, with_pending, after_cut_tried, after_cuts_tried, after_sent, after_broadcast, after_broadcasts, accepting, after_answer, after_step, first_cut, after_settling, after_input, is_current, after_old_down, after_cut_asked, after_life_cut, after_link_item, after_other_item, after_item_of, begin_serving, serving_of}
 
--- an offer after others, and its result
+-- one more offer keeps the invariant
 abbrev pub Offering : Answers → (List Offer → CoreView → List (Input × ℕ) → Type 0) → Type 0
 Offering answers Holds =
     (offers : List Offer) (core : CoreView) (inputs : List (Input × ℕ)) (to : ℕ) (cargo : Cargo) (put : Bool) → (put ≡ true → answers offers to ≡ true)
     → Holds offers core inputs → Holds (offers ++ record { to = to; cargo = cargo; put = put } ∷ []) core inputs
 
--- an input that the core accepts
+-- one more accepted input keeps the invariant
 abbrev pub Stepping : (List Offer → CoreView → List (Input × ℕ) → Type 0) → Type 0
 Stepping Holds =
     (offers : List Offer) (core : CoreView) (inputs : List (Input × ℕ)) (input : Input) (now : ℕ) → Holds offers core inputs → Holds offers (core_after core input now) (inputs ++ (input, now) ∷ [])

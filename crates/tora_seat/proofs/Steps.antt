@@ -1,4 +1,4 @@
--- A seat that goes from one part of serving to the next.
+-- A seat during the parts of serving an item.
 use Rattle.std.proofs.Common.{◌≡◌, ℕ, zero, suc, ◌+◌, ◌-◌, ◌<◌, Bool, true, false, List, [], ◌∷◌, ◌++◌, map, slice_get, length, Option, Some, None, MatchOption, IsOk, Result, Ok, Err, if◌then◌else◌, refl, sym, ap, ap₂, ◌∙◌, subst, append_assoc, append-nil, arith}
 use Rattle.std.proofs.lemmas.List.{map_push}
 use Rattle.std.proofs.lemmas.Bool.{false≢true}
@@ -23,7 +23,7 @@ use Rattle.tora_seat.specs.Rows.{SeatView, neighbours_of, current_of, pending_of
 use Rattle.tora_seat.specs.Bodies.{RowsGo, SeatGoes}
 use Rattle.tora_seat.proofs.Chains.{follows_split, offered_more}
 
--- a refusal, by the result of the core
+-- the core refused the input exactly if it returned an error
 pub not_refused : {A : Type 0} (o : Option StepError) (x : A) → (let r : Result A StepError = Ok x in MatchOption o (IsOk r) (λ e. r ≡ Err e)) → o ≡ None
 not_refused None x h = refl
 not_refused (Some e) x h = absurd (cc)
@@ -47,7 +47,7 @@ module _ {O : Type 0} (did_offer : O → ℕ → Cargo → Bool → O → Type 0
     leads = λ answers before _. h answers before ∙ ap (serving_at now new) (sym (append-nil before));
   }
 
-  -- one part and then another
+  -- one part after another
   pub seat_then : (first second : Answers → List ℕ → Serving → Serving) (now : ℕ) (s : SeatView) (outs : O) (between : SeatView) (middle : O) (new : SeatView) (after : O) →
       SeatGoes did_offer first now s outs between middle → SeatGoes did_offer second now between middle new after →
       SeatGoes did_offer (λ answers ks v. second answers ks (first answers ks v)) now s outs new after
@@ -62,7 +62,7 @@ module _ {O : Type 0} (did_offer : O → ℕ → Cargo → Bool → O → Type 0
         ∙ b.leads answers (before ++ a.made) h.1 ∙ ap (serving_at now new) (append_assoc before a.made b.made);
   }
 
-  -- another way to write what is done
+  -- another expression of the same effect
   pub seat_as : (next other : Answers → List ℕ → Serving → Serving) (now : ℕ) (s : SeatView) (outs : O) (new : SeatView) (after : O) →
       ((answers : Answers) (before : List Offer) → other answers s.core.neighbours (serving_at now s before) ≡ next answers s.core.neighbours (serving_at now s before)) →
       SeatGoes did_offer next now s outs new after → SeatGoes did_offer other now s outs new after
@@ -73,11 +73,11 @@ module _ {O : Type 0} (did_offer : O → ℕ → Cargo → Bool → O → Type 0
     leads = λ answers before f. e answers before ∙ a.leads answers before f;
   }
 
-  -- from the same seat
+  -- the effect from an equal seat
   pub seat_from : (next : Answers → List ℕ → Serving → Serving) (now : ℕ) (same s : SeatView) (outs : O) (new : SeatView) (after : O) → same ≡ s → SeatGoes did_offer next now same outs new after → SeatGoes did_offer next now s outs new after
   seat_from next now same s outs new after e a = subst (λ x. SeatGoes did_offer next now x outs new after) e a
 
-  -- the effect on the rows only
+  -- a part that changes only the rows
   pub rows_goes : (next : Answers → List ℕ → Serving → Serving) (now : ℕ) (s : SeatView) (outs : O) (given rows new : List LinkRow) (after : O) → neighbours_of s.rows ≡ s.core.neighbours → given ≡ s.rows → rows ≡ new → RowsGo did_offer next given outs new after →
       SeatGoes did_offer next now s outs (record s { rows = rows }) after
   rows_goes next now s outs given rows new after apart given_is rows_is r0 =
@@ -90,7 +90,7 @@ module _ {O : Type 0} (did_offer : O → ℕ → Cargo → Bool → O → Type 0
             ∙ ap (λ rs. serving_at now (record s { rows = rs }) (before ++ r.made)) (sym rows_is);
       }
 
-  -- an input that the core accepted
+  -- the core accepted an input
   pub step_took : (input : Input) (now : ℕ) (s : SeatView) (outs after : O) (core : CoreView) (given rows new : List LinkRow) (inputs : List Input) (sends : List Packet) →
       refusal_of s.core input ≡ None → core ≡ core_after s.core input now → core.neighbours ≡ s.core.neighbours → sends ≡ sends_of s.core input now → given ≡ s.rows → rows ≡ new → inputs ≡ s.inputs ++ input ∷ [] → neighbours_of s.rows ≡ s.core.neighbours →
       RowsGo did_offer (λ answers ks. after_broadcasts answers ks sends) given outs new after →
@@ -115,7 +115,7 @@ module _ {O : Type 0} (did_offer : O → ℕ → Cargo → Bool → O → Type 0
             ∙ ap (λ rs. built (before ++ r.made) core rs (map (λ (i : Input). (i, now)) inputs)) (sym rows_is);
       }
 
-  -- one that it refused
+  -- the core refused an input
   pub step_refused : (input : Input) (now : ℕ) (s : SeatView) (outs : O) (core : CoreView) (error : StepError) → refusal_of s.core input ≡ Some error → core ≡ s.core →
       SeatGoes did_offer (λ answers ks. after_step answers ks input now) now s outs (record s { core = core; answer = Says.Refused error }) outs
   step_refused input now s outs core error refused core_is =
@@ -123,7 +123,7 @@ module _ {O : Type 0} (did_offer : O → ℕ → Cargo → Bool → O → Type 0
       (seat_still (λ answers ks. after_step answers ks input now) now s outs (record s { answer = Says.Refused error }) refl
       (λ answers before. step_is answers s.core.neighbours input now (serving_at now s before) ∙ ap (after_answer answers s.core.neighbours input now (serving_at now s before)) refused))
 
--- ---- rounds of settling
+-- ---- rounds in which links go down
 
 settling_end : (answers : Answers) (ks : List ℕ) (now : ℕ) (v : Serving) → after_settling 0 answers ks now v ≡ v
 unfolding after_settling
@@ -140,7 +140,7 @@ unfolding after_settling
 settling_more most answers ks now v k e =
     ap (λ (o : Option ℕ). elim o [ None ↦ v | Some k ↦ after_settling most answers ks now (after_step answers ks (In.LinkDown k) now v) ]) e
 
--- a number of rounds
+-- the state after a number of rounds
 pub record Rounds {O : Type 0} (did_offer : O → ℕ → Cargo → Bool → O → Type 0) (now : ℕ) (first : SeatView) (start : O) (i : ℕ) (s : SeatView) (outs : O) : Type 0 where
   pub made : List Offer
   pub offered : AreOffered did_offer first.core.neighbours start made outs
@@ -254,7 +254,7 @@ link_quit_is : (answers : Answers) (ks : List ℕ) (k now : ℕ) (v : Serving) �
 unfolding after_link_item
 link_quit_is answers ks k now v = refl
 
--- those that are no business of a seat that is no link
+-- the kinds of items from which a seat that is not a link gets no effect
 abbrev pub is_idle : What → Bool
 is_idle (Tells.Up life) = true
 is_idle (Tells.Packet life packet) = true
@@ -299,7 +299,7 @@ unfolding after_other_item
 other_quit_is answers ks now v = refl
 
 module _ {O : Type 0} (did_offer : O → ℕ → Cargo → Bool → O → Type 0) (now : ℕ) (s : SeatView) (outs : O) (new : SeatView) (after : O) where
-  -- an item of a link, by its content
+  -- an item of a link, by its kind
   link_goes : (k : ℕ) (what told : What) (next : Answers → List ℕ → Serving → Serving) → what ≡ told → ((answers : Answers) (ks : List ℕ) (v : Serving) → after_link_item answers ks k now told v ≡ next answers ks v) →
       SeatGoes did_offer next now s outs new after → SeatGoes did_offer (λ answers ks. after_link_item answers ks k now what) now s outs new after
   link_goes k what told next e f =
@@ -339,7 +339,7 @@ module _ {O : Type 0} (did_offer : O → ℕ → Cargo → Bool → O → Type 0
   other_need_goes what d e = other_goes what (Tells.Need d) (λ answers ks. after_input answers ks (In.Need d) now) e (λ answers ks v. other_need_is answers ks now d v)
 
 module _ {O : Type 0} (did_offer : O → ℕ → Cargo → Bool → O → Type 0) (now : ℕ) (s : SeatView) (outs : O) where
-  -- nothing changes except the result
+  -- only the result changes
   pub link_beat_goes : (k : ℕ) (what : What) → what ≡ Tells.Beat → SeatGoes did_offer (λ answers ks. after_link_item answers ks k now what) now s outs s outs
   link_beat_goes k what e =
       link_goes did_offer now s outs s outs k what Tells.Beat (λ answers ks v. v) e (λ answers ks v. link_beat_is answers ks k now v) (seat_still did_offer (λ answers ks v. v) now s outs s refl (λ answers before. refl))
@@ -403,7 +403,7 @@ module _ {O : Type 0} (did_offer : O → ℕ → Cargo → Bool → O → Type 0
       (seat_from did_offer after_cuts_tried item.now begun first outs between middle e a) b in
       (h.made, h.offered, λ answers f. serving_is answers s.core.neighbours (state_of s) item ∙ h.leads answers [] f)
 
--- ---- a pending cut is forgotten
+-- ---- a pending cut is withdrawn
 
 pub at_neighbour : (o : Option ℕ) (k : ℕ) (P : Type 0) (Q : ℕ → Type 0) → o ≡ Some k → MatchOption o P Q → Q k
 at_neighbour o k P Q e h = subst (λ (x : Option ℕ). MatchOption x P Q) e h

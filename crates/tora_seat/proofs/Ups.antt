@@ -1,4 +1,4 @@
--- Which neighbours are up.
+-- Which links are up.
 use Rattle.std.proofs.Common.{◌≡◌, ℕ, suc, ◌+◌, ◌<◌, ◌≤◌, Bool, true, false, true≢false, not, ◌&&◌, ◌||◌, ◌⊎◌, inl, inr, ⊎_elim, List, [], ◌∷◌, length, Some, None, nat_eq, if◌then◌else◌, refl, sym, ap, ◌∙◌, subst, arith, eqb-true, eq-eqb}
 use Rattle.std.proofs.lemmas.Bool.{cond_both, cases_Bool, and_parts, or_cases, or_right}
 use Rattle.std.specs.Prelude.{is_none, is_some}
@@ -15,7 +15,7 @@ use Rattle.tora_seat.proofs.Places.{turned}
 pub has-gone : (k : ℕ) (ns : List ℕ) → has_number k (without_number k ns) ≡ false
 has-gone k ns = has-without k k ns ∙ ap (λ b. not b && has_number k ns) (eq-eqb k k refl)
 
--- a number that is not this one stays
+-- removing another number keeps this number
 pub has-other : (k m : ℕ) (ns : List ℕ) → nat_eq m k ≡ false → has_number k (without_number m ns) ≡ has_number k ns
 has-other k m ns off = has-without k m ns ∙ ap (λ b. not b && has_number k ns) off
 
@@ -48,7 +48,7 @@ not_both k (In.LinkDown j) e = refl
 not_both k (In.Packet j packet) e = refl
 not_both k (In.Need d) e = refl
 
--- an accepted input
+-- the core accepts an input
 pub core_accepted : (c : CoreView) (input : Input) (now : ℕ) → refusal_of c input ≡ None → core_after c input now ≡ core_taking c input now
 core_accepted c input now e = ap (λ o. if is_some o then c else core_taking c input now) e
 
@@ -75,7 +75,7 @@ pub count_most : (ks up : List ℕ) → count_up ks up ≤ length ks
 count_most [] up = omega arith
 count_most (k ∷ ks) up = let h = count_most ks up in cond_both (has_number k up) 1 0 (λ x. x + count_up ks up ≤ suc (length ks)) (λ _. omega (arith, h)) (λ _. omega (arith, h))
 
--- one that goes is not counted any more
+-- a number that is removed is not counted any more
 count_less : (ks up : List ℕ) (j : ℕ) → count_up ks (without_number j up) ≤ count_up ks up
 count_less [] up j = omega arith
 count_less (k ∷ ks) up j =
@@ -101,7 +101,7 @@ count_drops (k ∷ ks) up j i u = go (cases_Bool (nat_eq k j)) (λ m. count_drop
         let m : has_number j ks ≡ true = ap (λ b. b || has_number j ks) (sym e) ∙ i in
         let h = again m in omega (arith, q, h)
 
--- ---- the neighbours that are to be stepped down
+-- ---- the neighbours whose links have to go down
 
 pub first_cut_is : (s : SeatState) (ks : List ℕ) (j : ℕ) → first_cut s ks ≡ Some j → (has_number j ks ≡ true) × (has_number j s.core.up ≡ true) × (is_none (s.current j) ≡ true)
 first_cut_is s [] j e = absurd (cc)
@@ -126,7 +126,7 @@ first_cut_none s (k ∷ ks) h = go (cases_Bool (has_number k s.core.up)) (λ m. 
     go (inl t) again = absurd (let q : one_if (has_number k s.core.up) ≡ 1 = ap one_if t in omega (arith, h, q))
     go (inr t) again = ap (λ b. if b && is_none (s.current k) then Some k else first_cut s ks) t ∙ again (omega (arith, h))
 
--- where none is to be stepped down, a neighbour without a current life is not up
+-- if no link has to go down, a neighbour without a current session is not up
 pub settled_at : (s : SeatState) (ks : List ℕ) (k : ℕ) → first_cut s ks ≡ None → has_number k ks ≡ true → s.current k ≡ None → has_number k s.core.up ≡ false
 settled_at s [] k e i n = absurd (true≢false (sym i))
 settled_at s (j ∷ js) k e i n = go (cases_Bool (has_number j s.core.up && is_none (s.current j))) (λ q m. settled_at s js k q m n)

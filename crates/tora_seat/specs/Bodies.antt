@@ -1,4 +1,4 @@
--- What the parts of serving an item do, for any results of the offers.
+-- The effect of the parts of serving an item, for any results of the offers.
 use Rattle.std.specs.Prelude.{◌≡◌, ◌+◌, ◌*◌, ◌<◌, ◌≤◌, ◌⊎◌, ℕ, Bool, true, false, if◌then◌else◌, List, ◌++◌, length, is_some, Option, None, Some}
 use Rattle.tora_packet.specs.declared.Packet.{Packet}
 use Rattle.tora_arq.specs.declared.life.Life.{Life}
@@ -12,7 +12,7 @@ use Rattle.tora_seat.specs.Serving.{Offer, Answers, Serving, first_cut}
 use Rattle.tora_seat.specs.Offers.{AreOffered, Follows}
 use Rattle.tora_seat.specs.Rows.{SeatView, neighbours_of, current_of, pending_of, any_pending, lives, serving_at}
 
--- no link is up at a core where these are up without a current life
+-- if these links are up at the core, each of them has a current session
 abbrev pub IsSettled : CoreView → List ℕ → List LinkRow → Type 0
 IsSettled core up rows = first_cut (record {
   core = record core { up = up };
@@ -20,8 +20,8 @@ IsSettled core up rows = first_cut (record {
   pending = pending_of rows;
 }) core.neighbours ≡ None
 
--- the invariant of a seat: a row for each neighbour, different neighbours, and room for the inputs of an item; the
--- marks `has_pending` and `has_cut` are false only if there is no such row
+-- the invariant of a seat: a row for each of its different neighbours, room for the inputs of an item, and marks that
+-- are false only if no cut is pending (`has_pending`) and no link is up without a current session (`has_cut`)
 pub record IsSeat (core : CoreView) (rows : List LinkRow) (room : ℕ) (has_pending has_cut : Bool) : Type 0 where
   pub neighbours : neighbours_of rows ≡ core.neighbours
   pub different : has_repeat core.neighbours ≡ false
@@ -31,7 +31,7 @@ pub record IsSeat (core : CoreView) (rows : List LinkRow) (room : ℕ) (has_pend
 
 -- ---- one row
 
--- a pending cut is offered to the lane at this place, and is no longer pending if it is put
+-- a pending cut is offered to the queue at this place; if it is put, it is no longer pending
 abbrev pub TriesCut : {O : Type 0} → (O → ℕ → Cargo → Bool → O → Type 0) → ℕ → LinkRow → Option Life → O → LinkRow → O
     → Type 0
 TriesCut did_offer place row None outs new after = (new ≡ row) × (after ≡ outs)
@@ -39,7 +39,7 @@ TriesCut did_offer place row (Some life) outs new after =
     (put : Bool) × did_offer outs place (Gives.Cut life) put after
     × (new ≡ (if put then record row { pending = None } else row))
 
--- a packet is offered to the lane at this place in the current life; if the lane returns it, the life is over
+-- a packet is offered to the queue at this place in the current session; if the queue returns it, the session is over
 abbrev pub SendsTo : {O : Type 0} → (O → ℕ → Cargo → Bool → O → Type 0) → ℕ → Packet → LinkRow → Option Life → O
     → LinkRow → O → Type 0
 SendsTo did_offer place packet row None outs new after = (new ≡ row) × (after ≡ outs)
@@ -47,14 +47,14 @@ SendsTo did_offer place packet row (Some life) outs new after =
     (put : Bool) × did_offer outs place (Gives.Packet life packet) put after
     × (new ≡ (if put then row else record row { current = None; pending = Some life }))
 
--- whether the current life of a row is over; if not, the row is as before
+-- the flag says whether the current session of a row is over; if not, the row is unchanged
 abbrev pub EndsLife : Bool → LinkRow → LinkRow → Type 0
 EndsLife false row new = new ≡ row
 EndsLife true row new = (is_some row.current ≡ true) × (is_some new.current ≡ false)
 
 -- ---- all rows
 
--- whether the current life of some row is over; if not, the rows are as before
+-- the flag says whether the current session of some row is over; if not, the rows are unchanged
 abbrev pub EndsLives : Bool → List LinkRow → List LinkRow → Type 0
 EndsLives false rows new = new ≡ rows
 EndsLives true rows new = lives new < lives rows
@@ -66,7 +66,7 @@ on_rows v rows offers = record v {
   offers = offers;
 }
 
--- cargoes are offered, and with the results of these offers the definition gives the rows after from the rows before
+-- outbound messages are offered, and with the results of these offers the definition leads from the old rows to the new
 pub record RowsGo {O : Type 0} (did_offer : O → ℕ → Cargo → Bool → O → Type 0) (next : Answers → List ℕ → Serving
     → Serving) (rows : List LinkRow) (outs : O) (new : List LinkRow) (after : O) : Type 0 where
   pub made : List Offer
@@ -77,7 +77,7 @@ pub record RowsGo {O : Type 0} (did_offer : O → ℕ → Cargo → Bool → O �
 
 -- ---- the whole seat
 
--- the same for a seat that serves an item of this tick
+-- messages are offered, and with the results of these offers the definition leads from the old seat to the new
 pub record SeatGoes {O : Type 0} (did_offer : O → ℕ → Cargo → Bool → O → Type 0) (next : Answers → List ℕ → Serving
     → Serving) (now : ℕ) (seat : SeatView) (outs : O) (new : SeatView) (after : O) : Type 0 where
   pub made : List Offer
@@ -86,7 +86,7 @@ pub record SeatGoes {O : Type 0} (did_offer : O → ℕ → Cargo → Bool → O
   pub leads : (answers : Answers) (before : List Offer) → Follows answers before made
       → next answers seat.core.neighbours (serving_at now seat before) ≡ serving_at now new (before ++ made)
 
--- whether the core accepted an input and no life ended by it
+-- the flag says whether the core accepted an input and no session ended by it
 abbrev pub StepsQuietly : Bool → Input → SeatView → SeatView → Type 0
 StepsQuietly true input seat new = (new.core.up ≡ up_after seat.core.up input) × (new.rows ≡ seat.rows)
 StepsQuietly false input seat new = (is_some (refusal_of seat.core input) ≡ true) ⊎ (lives new.rows < lives seat.rows)

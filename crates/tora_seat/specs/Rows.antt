@@ -10,12 +10,12 @@ use Rattle.tora_seat.specs.declared.rows.LinkRow.{LinkRow}
 use Rattle.tora_seat.specs.declared.stepped.Stepped.{Stepped}
 use Rattle.tora_seat.specs.Serving.{SeatState, Serving, Step, Offer}
 
--- the seat as its calls see it
+-- what contracts see of a seat
 pub record SeatView : Type 0 where
   pub core : CoreView
   pub rows : List LinkRow  -- one for each neighbour, in ascending order
   pub inputs : List Input  -- the inputs that the core accepted for the last item
-  pub stepped : Option Stepped  -- the packet that was stepped for it
+  pub stepped : Option Stepped  -- the packet that was passed to the core for it
   pub answer : Answer  -- the result of the item
 
 abbrev pub neighbours_of : List LinkRow → List ℕ
@@ -29,17 +29,17 @@ abbrev pub pending_of : List LinkRow → ℕ → Option Life
 pending_of [] k = None
 pending_of (row ∷ rows) k = if k == row.neighbour then row.pending else pending_of rows k
 
--- some cut is not in its lane yet
+-- some cut is not in its queue yet
 abbrev pub any_pending : List LinkRow → Bool
 any_pending [] = false
 any_pending (row ∷ rows) = is_some row.pending || any_pending rows
 
--- how many lives are current
+-- how many sessions are current
 abbrev pub lives : List LinkRow → ℕ
 lives [] = 0
 lives (row ∷ rows) = (if is_some row.current then 1 else 0) + lives rows
 
--- the seat as the definition of serving has it
+-- the state of a seat in the definition of serving
 abbrev pub state_of : SeatView → SeatState
 state_of s = record { core = s.core; current = current_of s.rows; pending = pending_of s.rows }
 
@@ -64,7 +64,7 @@ serving_at now s offers = record {
 abbrev pub new_row : ℕ → LinkRow
 new_row k = record { neighbour = k; current = None; pending = None }
 
--- the seat of a core without any life
+-- the seat of a core without any session
 abbrev pub first_seat : CoreView → SeatView
 first_seat core = record {
   core = core;
@@ -74,7 +74,7 @@ first_seat core = record {
   answer = Says.Nothing;
 }
 
--- the link is up at the core, and no life is current
+-- the link is up at the core, and there is no current session
 abbrev pub is_cut : CoreView → LinkRow → Bool
 is_cut core row = has_number row.neighbour core.up && is_none row.current
 

@@ -1,4 +1,4 @@
--- Serving an item: its effect on the seat of the core, and the cargoes offered to the lanes to the neighbours.
+-- Serving an item: its effect on the core's seat, and the outbound messages offered to the queues to the neighbours.
 use Rattle.std.specs.Prelude.{ℕ, zero, suc, ◌==◌, ◌&&◌, Bool, true, false, is_none, if◌then◌else◌, List, [], ◌∷◌, ◌++◌, length, slice_get, Option, None, Some}
 use Rattle.tora_packet.specs.declared.Packet.{Packet}
 use Rattle.tora_arq.specs.declared.life.Life.{Life}
@@ -16,34 +16,34 @@ use Rattle.tora_seat.specs.declared.cargo.Cargo.TheVariants as Gives
 use Rattle.tora_seat.specs.declared.answer.Answer.{Answer}
 use Rattle.tora_seat.specs.declared.answer.Answer.TheVariants as Says
 
--- a function on neighbours, changed at one
+-- a function on neighbours, changed at one of them
 abbrev pub put_one : {A : Type 0} → (ℕ → A) → ℕ → A → ℕ → A
 put_one f k v j = if j == k then v else f j
 
--- the core with its seat: for each neighbour the current life, and the life whose cut is not in the lane yet
+-- the core, and for each neighbour the current session and the session whose cut is not in the queue yet
 pub record SeatState : Type 0 where
   pub core : CoreView
   pub current : ℕ → Option Life
   pub pending : ℕ → Option Life
 
--- a cargo that was offered to the lane to a neighbour, and whether it was put there
+-- an outbound message that was offered to the queue to a neighbour, and whether it was put there
 pub record Offer : Type 0 where
   pub to : ℕ
   pub cargo : Cargo
   pub put : Bool
 
--- a packet of a life
+-- a packet of a session
 pub record Parcel : Type 0 where
   pub life : Life
   pub packet : Packet
 
--- a packet that was stepped, with the neighbour and the life that it came in
+-- a packet that was passed to the core, with its neighbour and its session
 pub record Step : Type 0 where
   pub from : ℕ
   pub parcel : Parcel
 
--- an item that is being served: the seat, the offers, the inputs that the core accepted, the packets stepped, and the
--- result
+-- an item that is being served: the seat, the offers, the inputs that the core accepted, the packets passed to it, and
+-- the result
 pub record Serving : Type 0 where
   pub seat : SeatState
   pub offers : List Offer
@@ -51,11 +51,11 @@ pub record Serving : Type 0 where
   pub steps : List Step
   pub answer : Answer
 
--- whether the lane to a neighbour takes the next cargo, as a function of the earlier offers
+-- whether the queue to a neighbour takes the next outbound message, as a function of the earlier offers
 abbrev pub Answers : Type 0
 Answers = List Offer → ℕ → Bool
 
--- ---- cargoes are offered
+-- ---- outbound messages are offered
 
 abbrev pub offered : Serving → ℕ → Cargo → Bool → Serving
 offered v k cargo put = record v { offers = v.offers ++ record { to = k; cargo = cargo; put = put } ∷ [] }
@@ -78,8 +78,8 @@ unfoldable pub after_cuts_tried : Answers → List ℕ → Serving → Serving
 after_cuts_tried answers [] v = v
 after_cuts_tried answers (k ∷ ks) v = after_cuts_tried answers ks (after_cut_tried answers v k (v.seat.pending k))
 
--- a packet is offered to a neighbour in its current life; if the lane returns it, that life is over and its cut is
--- pending
+-- a packet is offered to a neighbour in its current session; if the queue returns it, the session is over and its cut
+-- is pending
 abbrev pub after_sent : Answers → Packet → Serving → ℕ → Option Life → Serving
 after_sent answers packet v k None = v
 after_sent answers packet v k (Some life) =
@@ -93,7 +93,7 @@ after_broadcast answers packet [] v = v
 after_broadcast answers packet (k ∷ ks) v = after_broadcast answers packet ks
     (after_sent answers packet v k (v.seat.current k))
 
--- the packets go one after another, by ascending destination
+-- packets are broadcast one after another, by ascending destination
 unfoldable pub after_broadcasts : Answers → List ℕ → List Packet → Serving → Serving
 after_broadcasts answers ks [] v = v
 after_broadcasts answers ks (packet ∷ packets) v = after_broadcasts answers ks packets
@@ -117,13 +117,13 @@ after_answer answers ks input now v (Some error) = record v { answer = Says.Refu
 unfoldable pub after_step : Answers → List ℕ → Input → ℕ → Serving → Serving
 after_step answers ks input now v = after_answer answers ks input now v (refusal_of v.seat.core input)
 
--- the least neighbour whose link is up at the core without a current life: its life was cut, and its link goes down
+-- the least neighbour whose link is up at the core without a current session, because its session was cut
 abbrev pub first_cut : SeatState → List ℕ → Option ℕ
 first_cut s [] = None
 first_cut s (k ∷ ks) = if has_number k s.core.up && is_none (s.current k) then Some k else first_cut s ks
 
--- the links of neighbours whose life was cut go down, the least first, until none is left; the number bounds their
--- count
+-- the links of neighbours whose session was cut go down, the least first, until none is left; the number is an upper
+-- bound of their count
 unfoldable pub after_settling : ℕ → Answers → List ℕ → ℕ → Serving → Serving
 after_settling zero answers ks now v = v
 after_settling (suc most) answers ks now v =
@@ -132,7 +132,7 @@ after_settling (suc most) answers ks now v =
       | Some k ↦ after_settling most answers ks now (after_step answers ks (In.LinkDown k) now v)
     ]
 
--- one input, with its sends and all their consequences
+-- one input, with its packets and all its consequences
 unfoldable pub after_input : Answers → List ℕ → Input → ℕ → Serving → Serving
 after_input answers ks input now v = after_settling (length ks) answers ks now (after_step answers ks input now v)
 
@@ -142,7 +142,7 @@ abbrev pub is_current : Life → Option Life → Bool
 is_current life None = false
 is_current life (Some other) = is_same_life life other
 
--- the current life of a neighbour is over
+-- the current session of a neighbour is over
 abbrev pub after_down : Answers → List ℕ → ℕ → ℕ → Serving → Serving
 after_down answers ks k now v = after_input answers ks (In.LinkDown k) now (with_current v k None)
 
@@ -150,11 +150,11 @@ abbrev pub after_old_down : Answers → List ℕ → ℕ → ℕ → Serving →
 after_old_down answers ks k now v None = v
 after_old_down answers ks k now v (Some life) = after_down answers ks k now v
 
--- the cut of a neighbour's current life is pending, and is offered once
+-- the cut of a neighbour's current session is pending, and is offered once
 abbrev pub after_cut_asked : Answers → Serving → ℕ → Life → Serving
 after_cut_asked answers v k life = after_cut_tried answers (with_pending v k (Some life)) k (Some life)
 
--- the current life of a neighbour is cut, and is over; if it has none, nothing happens
+-- the current session of a neighbour is cut, and is over; if it has none, nothing happens
 abbrev pub after_life_cut : Answers → List ℕ → ℕ → ℕ → Serving → Option Life → Serving
 after_life_cut answers ks k now v None = v
 after_life_cut answers ks k now v (Some life) = after_down answers ks k now (after_cut_asked answers v k life)
@@ -214,14 +214,14 @@ unfoldable pub serving_of : Answers → List ℕ → SeatState → Item → Serv
 serving_of answers ks seat item = after_item_of answers ks (slice_get ks item.seat) item.now item.what
     (after_cuts_tried answers ks (begin_serving seat))
 
--- ---- the conclusion
+-- ---- results of serving
 
--- the cargoes that were put into the lane to a neighbour, in order
+-- the outbound messages that were put into the queue to a neighbour, in order
 abbrev pub put_to : ℕ → List Offer → List Cargo
 put_to k [] = []
 put_to k (o ∷ offers) = (if (o.to == k) && o.put then o.cargo ∷ [] else []) ++ put_to k offers
 
--- the packets that were stepped from a neighbour
+-- the packets of a neighbour that were passed to the core
 abbrev pub stepped_from : ℕ → List Step → List Parcel
 stepped_from k [] = []
 stepped_from k (s ∷ steps) = (if s.from == k then s.parcel ∷ [] else []) ++ stepped_from k steps

@@ -1,4 +1,4 @@
--- Items, cargoes and results as text.
+-- Items, outbound messages and results as text.
 use Rattle.std.specs.Prelude.{ℕ, codes, List, ◌++◌}
 use Rattle.std.specs.Fmt.{decimal}
 use Rattle.tora_packet.specs.PacketText.{written_packet}
@@ -13,7 +13,7 @@ use Rattle.tora_seat.specs.declared.cargo.Cargo.TheVariants as Gives
 use Rattle.tora_seat.specs.declared.answer.Answer.{Answer}
 use Rattle.tora_seat.specs.declared.answer.Answer.TheVariants as Says
 
--- a word, followed by the life, the packet, the reason, the destination or the neighbour
+-- a word, followed by the session, the packet, the reason, the destination or the neighbour
 abbrev pub written_what : What → List ℕ
 written_what (Tells.Up life) = codes "up " ++ written_life life
 written_what (Tells.Packet life packet) = codes "packet " ++ written_life life ++ codes " " ++ written_packet packet
@@ -35,7 +35,7 @@ abbrev pub written_cargo : Cargo → List ℕ
 written_cargo (Gives.Packet life packet) = codes "packet " ++ written_life life ++ codes " " ++ written_packet packet
 written_cargo (Gives.Cut life) = codes "cut " ++ written_life life
 
--- a word, and for a refusal its cause
+-- a word; for a refusal, followed by its cause
 abbrev pub written_answer : Answer → List ℕ
 written_answer Says.Nothing = codes "nothing"
 written_answer (Says.Refused error) = codes "refused: " ++ written_step_error error

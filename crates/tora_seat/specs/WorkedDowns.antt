@@ -1,4 +1,4 @@
--- The end of a life that is current, of one whose cut is pending, and of another: lives whose numbers differ.
+-- The end of a current session, of a session whose cut is pending, and of another session.
 use Rattle.std.specs.Prelude.{◌≡◌, false, [], ◌∷◌, Some, None}
 use Rattle.tora_arq.specs.declared.life.Life.{Life}
 use Rattle.tora_arq.specs.declared.reason.Reason.TheVariants as Because
@@ -17,15 +17,15 @@ turned = record { own = 7; peer = 3 }
 abbrev pub worked_core : CoreView
 worked_core = first_core 1 (2 ∷ []) (2 ∷ [])
 
--- the link is up in the life
+-- the link is up in this session
 abbrev pub current_seat : SeatState
 current_seat = record { core = core_after worked_core (In.LinkUp 2) 0; current = λ k. Some uneven; pending = λ k. None }
 
--- the life was cut, and the cut is pending
+-- the session was cut, and the cut is pending
 abbrev pub cut_seat : SeatState
 cut_seat = record { core = worked_core; current = λ k. None; pending = λ k. Some uneven }
 
--- the end of a life is served at tick 4, and the lane returns every cargo
+-- the end of a session is served at tick 4, and the queue returns every outbound message
 abbrev pub served : SeatState → Life → Serving
 served s life = serving_of (λ offers k. false) (2 ∷ []) s (record {
   seat = 0;
@@ -35,13 +35,13 @@ served s life = serving_of (λ offers k. false) (2 ∷ []) s (record {
 })
 
 pub record Downs : Type 0 where
-  -- the current life is over, and its link goes down
+  -- the current session is over, and its link goes down
   pub ended : (served current_seat uneven).seat.current 2 ≡ None
   pub stepped : (served current_seat uneven).inputs ≡ (In.LinkDown 2, 4) ∷ []
-  -- the end of another life changes nothing
+  -- the end of another session changes nothing
   pub passed_over : (served current_seat turned).seat.current 2 ≡ Some uneven
   pub not_stepped : (served current_seat turned).inputs ≡ []
-  -- the cut of the ended life is no longer pending, and that of another life still is
+  -- the cut of the ended session is no longer pending, and that of another session still is
   pub forgotten : (served cut_seat uneven).seat.pending 2 ≡ None
   pub stays_pending : (served cut_seat turned).seat.pending 2 ≡ Some uneven
   pub none_stepped : (served cut_seat uneven).inputs ≡ []

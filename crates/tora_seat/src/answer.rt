@@ -6,7 +6,7 @@ use tora_core::StepError;
 pub enum Answer {
     /// Nothing to report.
     Nothing,
-    /// The core refused an input.
+    /// The core refused an input, for this cause.
     Refused(StepError),
     /// The caller has to print the core.
     Show,

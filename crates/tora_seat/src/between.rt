@@ -1,4 +1,5 @@
 //! What a link end and the seat of a core pass to each other. The simulator, the routers and the threads of a node call
+//! these functions.
 //! this.
 ghost use Rattle.std.specs.Prelude.{◌≡◌};
 ghost use Rattle.tora_arq.specs.LinkEnd.{bound_life};
@@ -7,7 +8,7 @@ ghost use Rattle.tora_seat.specs.Between.{what_of, after_cargo, after_cut_of_bou
 use crate::{Cargo, What};
 use tora_arq::{LinkEnd, LinkEvent};
 
-/// The content of the item that an event of a link end becomes.
+/// The content of the item that reports an event of a link end.
 pub fn what_of(event: LinkEvent) -> What
     ensures { result ≡ what_of event }
 {
@@ -18,8 +19,8 @@ pub fn what_of(event: LinkEvent) -> What
     }
 }
 
-/// Passes a cargo to the link end: submits its packet, or cuts its life. A packet that the end refuses is dropped,
-/// because its life has ended.
+/// Passes an outbound message to the link end: submits its packet, or cuts its session. A packet that the end refuses
+/// is dropped, because its session has ended.
 pub fn hand_in(end: &mut LinkEnd, cargo: &Cargo)
     ensures { end.new ≡ record end.old { state = after_cargo end.old.state cargo.now } }
 {
@@ -31,7 +32,7 @@ pub fn hand_in(end: &mut LinkEnd, cargo: &Cargo)
     }
 }
 
-/// Cuts the life that the link end is bound to, if there is one.
+/// Cuts the session to which the link end is bound, if there is one.
 pub fn cut_bound(end: &mut LinkEnd)
     ensures { end.new ≡ record end.old { state = after_cut_of_bound end.old.state (bound_life end.old.state) } }
 {

@@ -1,12 +1,12 @@
-//! A message from the core to a link.
+//! An outbound message, from the core to a link.
 use tora_arq::Life;
 use tora_packet::Packet;
 
-/// A message from the core to a link.
+/// An outbound message, from the core to a link.
 #[derive(Clone, Copy, Debug, PartialEq, Eq, Hash)]
 pub enum Cargo {
-    /// A packet to send to the neighbour in a life.
+    /// A packet to send to the neighbour in a session.
     Packet(Life, Packet),
-    /// An order to end this life.
+    /// An order to end this session.
     Cut(Life),
 }

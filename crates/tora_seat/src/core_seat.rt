@@ -13,7 +13,7 @@ use std::marker::Model;
 use tora_arq::Life;
 use tora_core::{Core, Input, Sends};
 
-/// The core of a node with the state of its links, and the list that holds the packets of a step.
+/// The core of a node with the sessions of its links, and the list that holds the packets of a step.
 #[derive(Drop)]
 pub struct CoreSeat {
     seat: BareSeat,
@@ -29,10 +29,10 @@ impl Model for CoreSeat {
 }
 
 impl CoreSeat {
-    /// The seat of a core, with no current life and no pending cut.
+    /// The seat of a core, with no current session and no pending cut.
     ///
     /// # Errors
-    /// `AllocError`.
+    /// Out of memory.
     pub fn new(alloc: Global, core: Core) -> Result<CoreSeat, AllocError>
         ensures { IfOk result (λ seat. seat ≡ first_seat core) }
     {
@@ -57,15 +57,15 @@ impl CoreSeat {
         self.seat.inputs()
     }
 
-    /// The packet that was passed to the core for the last item, if one was.
+    /// The packet that was passed to the core for the last item, if there was one.
     pub fn stepped(&self) -> Option<Stepped>
         ensures { result ≡ self.now.stepped }
     {
         self.seat.stepped()
     }
 
-    /// The current life of the neighbour at a place, from 0 on in ascending order. `None` if it has none, or there is
-    /// no such neighbour.
+    /// The current session of the neighbour at a place, counted from 0 in ascending order. `None` if it has none, or
+    /// there is no such neighbour.
     pub fn current(&self, place: usize) -> Option<Life>
         ensures { MatchOption (slice_get self.now.core.neighbours place) (result ≡ None)
             (λ k. result ≡ current_of self.now.rows k) }
@@ -73,8 +73,8 @@ impl CoreSeat {
         self.seat.current(place)
     }
 
-    /// The life of the neighbour at a place, from 0 on in ascending order, whose cut is not in the lane yet. `None` if
-    /// there is none, or no such neighbour.
+    /// The session whose cut is not in the queue yet, of the neighbour at a place, counted from 0 in ascending order.
+    /// `None` if there is none, or no such neighbour.
     pub fn pending(&self, place: usize) -> Option<Life>
         ensures { MatchOption (slice_get self.now.core.neighbours place) (result ≡ None)
             (λ k. result ≡ pending_of self.now.rows k) }
@@ -84,7 +84,7 @@ impl CoreSeat {
 
     /// Serves an item: offers each pending cut once, and then handles the item.
     ///
-    /// It takes no memory and never waits. There must be a lane for each neighbour.
+    /// It takes no memory and never waits. There must be a queue for each neighbour.
     pub fn serve<O: OutLanes>(&mut self, item: &Item, outs: &mut O) -> Answer
         requires { length self.old.core.neighbours ≤ O.count outs.old }
         ensures count { O.count outs.new ≡ O.count outs.old }
@@ -94,7 +94,7 @@ impl CoreSeat {
             × ((answers : Answers) → Follows answers [] offers
             → serving_of answers self.old.core.neighbours (state_of self.old) item.entry.now
             ≡ serving_at item.entry.now.now self.new offers) }
-        // The same result by the relation, which has a case for each kind of item and each situation.
+        // The same result by the relation `Serves`, which has a case for each kind of item and each situation.
         ensures related { IsAscending self.old.core.neighbours → (offers : List Offer)
             × AreOffered O.did_offer self.old.core.neighbours outs.old offers outs.new
             × Serves self.old.core.neighbours (state_of self.old) item.entry.now

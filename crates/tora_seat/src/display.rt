@@ -1,8 +1,9 @@
-//! Items, cargoes and results as a log line shows them.
+//! Items, outbound messages and results as log lines show them.
 use crate::{Answer, Cargo, Item, Status, What};
 use std::fmt;
 
-/// A word, followed by the life, the packet, the reason, the destination or the neighbour. A status is its own word.
+/// A word, followed by the session, the packet, the reason, the destination or the neighbour. A status has a word of
+/// its own.
 impl fmt::Display for What {
     ghost use Rattle.std.specs.Prelude.{Some};
     ghost use Rattle.tora_seat.specs.Texts.{written_what};
@@ -49,7 +50,7 @@ impl fmt::Display for Item {
     }
 }
 
-/// A packet with its life, or the life that is cut.
+/// A packet with its session, or the session that is cut.
 impl fmt::Display for Cargo {
     ghost use Rattle.std.specs.Prelude.{Some};
     ghost use Rattle.tora_seat.specs.Texts.{written_cargo};
@@ -64,7 +65,7 @@ impl fmt::Display for Cargo {
     }
 }
 
-/// A word, and for a refusal its cause.
+/// A word; for a refusal, followed by its cause.
 impl fmt::Display for Answer {
     ghost use Rattle.std.specs.Prelude.{Some};
     ghost use Rattle.tora_seat.specs.Texts.{written_answer};

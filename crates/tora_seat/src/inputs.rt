@@ -6,8 +6,8 @@ ghost use Rattle.tora_core.specs.CoreRun.{core_after_all};
 ghost use Rattle.tora_seat.specs.Serving.{Answers, SeatState, serving_of};
 ghost use Rattle.tora_seat.specs.declared.item.Item.{Item};
 
-/// The core after an item is the core before it after a run of the inputs that it accepted, each at the tick of the
-/// item.
+/// A run of the inputs that the core accepted for an item, each at the item's tick, leads from the core before the item
+/// to the core after it.
 pub fn accepted_inputs_make_the_core()
     ensures runs { (answers : Answers) (neighbours : List ℕ) (seat : SeatState) (item : Item)
         → (serving_of answers neighbours seat item).seat.core ≡ core_after_all seat.core

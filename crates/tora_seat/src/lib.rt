@@ -1,14 +1,14 @@
 //! The messages between the neighbour links of a node and its core.
 //!
-//! A link gives the core items: a life that came up, its packets, and its end. The core gives a link cargoes: packets
-//! of the current life, and orders to cut a life. The seat of a core serves one item after another over any lanes, and
-//! reports the outcome of each:
+//! A link gives the core items: a session that came up, its packets, and its end. The core gives a link outbound
+//! messages: packets of the current session, and orders to cut a session. The seat of a core serves one item after
+//! another over any lanes (queues), and reports the outcome of each:
 //!
 //! ```rust
 //! let core = Core::new(alloc, 1, &[2, 3], &[4])?;
 //! let mut seat = CoreSeat::new(alloc, core)?;
 //! let item = Item { seat: 0, number: 1, now: 7, what: What::Up(life) };
-//! let answer = seat.serve(&item, &mut lanes); // offers the cargoes of the links to `lanes`
+//! let answer = seat.serve(&item, &mut lanes); // offers outbound messages to `lanes`
 //! assert_eq!(rt; seat.inputs(), [Input::LinkUp(2)].as_slice());
 //! assert_eq!(rt; seat.current(0), Some(life));
 //! ```
@@ -51,8 +51,8 @@ pub use stepped::Stepped;
 pub use what::What;
 pub use worked::worked_downs_hold;
 
-/// How many items the lane into a core holds.
+/// How many items the queue into a core holds.
 pub const MOST_ITEMS: usize = 1024;
 
-/// How many cargoes the lane to a neighbour holds.
+/// How many outbound messages the queue to a neighbour holds.
 pub const MOST_CARGOES: usize = 256;

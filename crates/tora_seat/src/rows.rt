@@ -15,14 +15,14 @@ use tora_core::Core;
 use tora_height::Id;
 use tora_packet::Packet;
 
-/// The state of a neighbour in the seat of a core.
+/// The state of one neighbour in the seat of a core.
 #[derive(Clone, Copy, Debug, PartialEq, Eq, Hash)]
 pub struct LinkRow {
     /// The neighbour.
     pub neighbour: Id,
-    /// The life that is current.
+    /// The current session, if there is one.
     pub current: Option<Life>,
-    /// The life that is over and whose cut is not in the lane yet.
+    /// The session that is over and whose cut is not in the queue yet, if there is one.
     pub pending: Option<Life>,
 }
 
@@ -55,8 +55,8 @@ pub fn try_cuts<O: OutLanes>(rows: &mut [LinkRow], outs: &mut O) -> bool
     is_left
 }
 
-/// Sends a packet to the neighbour of a row in its current life; if the lane returns it, the life is over. Returns
-/// whether the lane returned it.
+/// Sends a packet to the neighbour of a row in its current session. If the queue returns the packet, the session is
+/// over. Returns whether it did.
 fn send<O: OutLanes>(row: &mut LinkRow, place: usize, packet: &Packet, outs: &mut O) -> bool
     requires { place < O.count outs.old }
     ensures count { O.count outs.new ≡ O.count outs.old }
@@ -73,7 +73,7 @@ fn send<O: OutLanes>(row: &mut LinkRow, place: usize, packet: &Packet, outs: &mu
     false
 }
 
-/// Sends a packet to each neighbour, in ascending order. Returns whether a lane returned it.
+/// Sends a packet to each neighbour, in ascending order. Returns whether a queue returned it.
 fn broadcast<O: OutLanes>(rows: &mut [LinkRow], packet: &Packet, outs: &mut O) -> bool
     requires lanes { length rows.old ≤ O.count outs.old }
     requires different { has_repeat (neighbours_of rows.old) ≡ false }
@@ -89,8 +89,8 @@ fn broadcast<O: OutLanes>(rows: &mut [LinkRow], packet: &Packet, outs: &mut O) -
     is_over
 }
 
-/// Sends the packets one after another, each to every neighbour in ascending order. Returns whether a lane returned
-/// one; if not, the rows are as before.
+/// Sends the packets one after another, each to every neighbour in ascending order. Returns whether a queue returned
+/// one; if not, the rows are unchanged.
 pub fn broadcast_all<O: OutLanes>(rows: &mut [LinkRow], packets: &[Packet], outs: &mut O) -> bool
     requires lanes { length rows.old ≤ O.count outs.old }
     requires different { has_repeat (neighbours_of rows.old) ≡ false }
@@ -113,14 +113,14 @@ pub fn row_at(rows: &[LinkRow], place: usize) -> Option<LinkRow>
     rows.get(place).copied()
 }
 
-/// The place of a neighbour, from 0 on, if it is one of these.
+/// The place of a neighbour, counted from 0, if it is one of these.
 pub fn place_in(neighbours: &[Id], k: Id) -> Option<usize>
     ensures { result ≡ position (λ n. n == k) neighbours.now }
 {
     neighbours.iter().position(|n| *n == k)
 }
 
-/// The neighbour of the first row whose link is up at the core without a current life.
+/// The neighbour of the first row whose link is up at the core without a current session.
 pub fn first_cut(core: &Core, rows: &[LinkRow]) -> Option<Id>
     ensures { result ≡ first_cut_of core.now rows.now }
 {
@@ -129,8 +129,8 @@ pub fn first_cut(core: &Core, rows: &[LinkRow]) -> Option<Id>
         .map(|row| row.neighbour)
 }
 
-/// Whether the link of a row is up at the core without a current life. The core is asked last, because it searches its
-/// links, and most links have a life.
+/// Whether the link of a row is up at the core without a current session. The core is read last, because it searches
+/// its links, and most links have a session.
 fn is_cut(core: &Core, row: &LinkRow) -> bool
     ensures { result ≡ is_cut core.now row.now }
 {
@@ -140,14 +140,14 @@ fn is_cut(core: &Core, row: &LinkRow) -> bool
     core.is_up(row.neighbour)
 }
 
-/// The pending cut of a life after an offer: none if it was put.
+/// The pending cut of a session after it was offered: none if it was put.
 pub fn left_pending(is_put: bool, life: Life) -> Option<Life>
     ensures { result ≡ (if is_put then None else Some life) }
 {
     if is_put { None } else { Some(life) }
 }
 
-/// Whether a life is the current one.
+/// Whether a session is the current one.
 pub fn is_current(life: &Life, current: &Option<Life>) -> bool
     ensures { result ≡ is_current life.now current.now }
 {
@@ -157,7 +157,7 @@ pub fn is_current(life: &Life, current: &Option<Life>) -> bool
     }
 }
 
-/// The row of a neighbour without a life.
+/// The row of a neighbour without a session.
 fn new_row(neighbour: Id) -> LinkRow
     ensures { result ≡ new_row neighbour }
 {
@@ -168,7 +168,7 @@ fn new_row(neighbour: Id) -> LinkRow
     }
 }
 
-/// The rows of these neighbours, without a life.
+/// The rows of these neighbours, without a session.
 pub fn new_rows(alloc: Global, neighbours: &[Id]) -> Result<Vec<LinkRow>, AllocError>
     ensures { IfOk result (λ rows. rows.items ≡ map new_row neighbours.now) }
 {

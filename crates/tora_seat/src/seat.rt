@@ -17,8 +17,8 @@ use tora_core::{Core, Input, Sends};
 use tora_height::Id;
 use tora_packet::Packet;
 
-/// The core of a node with the state of its links. Callers lend it the list for the packets of a step (`Sends`), so
-/// that a simulator uses one list for many seats. `CoreSeat` has its own list.
+/// The core of a node with the sessions of its links. Callers lend it the list for the packets of a step (`Sends`), so
+/// that a simulator uses one list for many seats. `CoreSeat` has a list of its own.
 #[derive(Drop)]
 pub struct BareSeat {
     pub(crate) core: Core,
@@ -26,9 +26,9 @@ pub struct BareSeat {
     pub(crate) inputs: Vec<Input>,
     pub(crate) stepped: Option<Stepped>,
     pub(crate) answer: Answer,
-    /// If it is false, no cut is pending.
+    /// If false, no cut is pending.
     pub(crate) has_pending: bool,
-    /// If it is false, no link is up at the core without a current life.
+    /// If false, no link is up at the core without a current session.
     pub(crate) has_cut: bool,
 }
 
@@ -51,14 +51,14 @@ impl Model for BareSeat {
 }
 
 impl BareSeat {
-    /// The neighbour at a place, from 0 on in ascending order.
+    /// The neighbour at a place, counted from 0 in ascending order.
     pub(crate) fn neighbour(&self, place: usize) -> Option<Id>
         ensures { result ≡ slice_get self.now.core.neighbours place }
     {
         self.core.neighbours().get(place).copied()
     }
 
-    /// Clears what the seat notes while it serves an item.
+    /// Clears what the seat recorded for the last item.
     fn begin(&mut self)
         ensures { self.new ≡ record self.old { inputs = []; stepped = None; answer = Answer.Nothing } }
     {
@@ -67,21 +67,21 @@ impl BareSeat {
         self.answer = Answer::Nothing;
     }
 
-    /// The least neighbour whose link is up at the core without a current life.
+    /// The least neighbour whose link is up at the core without a current session.
     pub(crate) fn first_cut(&self) -> Option<Id>
         ensures { result ≡ first_cut (state_of self.now) self.now.core.neighbours }
     {
         first_cut(&self.core, &self.rows)
     }
 
-    /// Whether the seat knows that no link is up at the core without a current life.
+    /// Whether the seat knows that no link is up at the core without a current session.
     pub(crate) fn is_settled(&self) -> bool
         ensures { result ≡ true → IsSettled self.now.core self.now.core.up self.now.rows }
     {
         !self.has_cut
     }
 
-    /// Notes that no link is up at the core without a current life.
+    /// Notes that no link is up at the core without a current session.
     pub(crate) fn note_settled(&mut self)
         requires { IsSettled self.old.core self.old.core.up self.old.rows }
         ensures { self.new ≡ self.old }
@@ -89,7 +89,7 @@ impl BareSeat {
         self.has_cut = false;
     }
 
-    /// Sets the current life of the neighbour at a place.
+    /// Sets the current session of the neighbour at a place.
     pub(crate) fn set_current(&mut self, place: usize, k: Id, life: Option<Life>)
         requires { slice_get self.old.core.neighbours place ≡ Some k }
         ensures rest { self.new ≡ record self.old { rows = self.new.rows } }
@@ -101,7 +101,7 @@ impl BareSeat {
         row.current = life;
     }
 
-    /// Sets the life of the neighbour at a place whose cut is pending, or none.
+    /// Sets the session whose cut is pending, or none, for the neighbour at a place.
     pub(crate) fn set_pending(&mut self, place: usize, k: Id, life: Option<Life>)
         requires { slice_get self.old.core.neighbours place ≡ Some k }
         ensures rest { self.new ≡ record self.old { rows = self.new.rows } }
@@ -131,7 +131,7 @@ impl BareSeat {
         });
     }
 
-    /// The place of a neighbour, from 0 on in ascending order, if it is one.
+    /// The place of a neighbour, counted from 0 in ascending order, if there is such a neighbour.
     pub(crate) fn place(&self, k: Id) -> Option<usize>
         ensures { MatchOption result (has_number k self.now.core.neighbours ≡ false)
             (λ place. slice_get self.now.core.neighbours place ≡ Some k) }
@@ -139,10 +139,10 @@ impl BareSeat {
         place_in(self.core.neighbours(), k)
     }
 
-    /// The seat of a core, with no current life and no pending cut.
+    /// The seat of a core, with no current session and no pending cut.
     ///
     /// # Errors
-    /// `AllocError`.
+    /// Out of memory.
     pub fn new(alloc: Global, core: Core) -> Result<BareSeat, AllocError>
         ensures { IfOk result (λ seat. seat ≡ first_seat core) }
     {
@@ -175,15 +175,15 @@ impl BareSeat {
         self.inputs.as_slice()
     }
 
-    /// The packet that was passed to the core for the last item, if one was.
+    /// The packet that was passed to the core for the last item, if there was one.
     pub fn stepped(&self) -> Option<Stepped>
         ensures { result ≡ self.now.stepped }
     {
         self.stepped
     }
 
-    /// The current life of the neighbour at a place, from 0 on in ascending order. `None` if it has none, or there is
-    /// no such neighbour.
+    /// The current session of the neighbour at a place, counted from 0 in ascending order. `None` if it has none, or
+    /// there is no such neighbour.
     pub fn current(&self, place: usize) -> Option<Life>
         ensures { MatchOption (slice_get self.now.core.neighbours place) (result ≡ None)
             (λ k. result ≡ current_of self.now.rows k) }
@@ -194,8 +194,8 @@ impl BareSeat {
         }
     }
 
-    /// The life of the neighbour at a place, from 0 on in ascending order, whose cut is not in the lane yet. `None` if
-    /// there is none, or no such neighbour.
+    /// The session whose cut is not in the queue yet, of the neighbour at a place, counted from 0 in ascending order.
+    /// `None` if there is none, or no such neighbour.
     pub fn pending(&self, place: usize) -> Option<Life>
         ensures { MatchOption (slice_get self.now.core.neighbours place) (result ≡ None)
             (λ k. result ≡ pending_of self.now.rows k) }
@@ -208,7 +208,7 @@ impl BareSeat {
 
     /// Serves an item: offers each pending cut once, and then handles the item.
     ///
-    /// It takes no memory and never waits. There must be a lane for each neighbour. `sends` is overwritten.
+    /// It takes no memory and never waits. There must be a queue for each neighbour. `sends` is overwritten.
     pub fn serve<O: OutLanes>(&mut self, item: &Item, sends: &mut Sends, outs: &mut O) -> Answer
         requires { length self.old.core.neighbours ≤ O.count outs.old }
         ensures count { O.count outs.new ≡ O.count outs.old }
@@ -218,7 +218,7 @@ impl BareSeat {
             × ((answers : Answers) → Follows answers [] offers
             → serving_of answers self.old.core.neighbours (state_of self.old) item.entry.now
             ≡ serving_at item.entry.now.now self.new offers) }
-        // The same result by the relation, which has a case for each kind of item and each situation.
+        // The same result by the relation `Serves`, which has a case for each kind of item and each situation.
         ensures related { IsAscending self.old.core.neighbours → (offers : List Offer)
             × AreOffered O.did_offer self.old.core.neighbours outs.old offers outs.new
             × Serves self.old.core.neighbours (state_of self.old) item.entry.now

@@ -18,7 +18,7 @@ use tora_packet::Packet;
 
 impl BareSeat {
     /// Steps the core with an input, and sends the packets of the step. Returns whether the core accepted the input and
-    /// no life ended by it.
+    /// no session ended by it.
     fn step<O: OutLanes>(
         &mut self,
         input: &Input,
@@ -49,7 +49,7 @@ impl BareSeat {
         }
     }
 
-    /// Takes down the link of each neighbour whose life was cut, the least first, until none is left.
+    /// Takes down the link of each neighbour whose session was cut, the least first, until none is left.
     fn settle<O: OutLanes>(&mut self, now: u64, sends: &mut Sends, outs: &mut O)
         requires lanes { length self.old.core.neighbours ≤ O.count outs.old }
         requires room { length self.old.inputs + length self.old.core.neighbours
@@ -73,8 +73,8 @@ impl BareSeat {
         }
     }
 
-    /// Steps the core with an input, and then takes down the links whose lives its packets ended. There are none if
-    /// `is_settled` and no life ended by the input.
+    /// Steps the core with an input, and then takes down the links whose sessions its packets ended. There are none if
+    /// `is_settled` holds and no session ended by the input.
     fn take_in<O: OutLanes>(
         &mut self,
         input: &Input,
@@ -119,7 +119,7 @@ impl BareSeat {
         self.take_in(input, now, is_settled, sends, outs);
     }
 
-    /// Ends the current life of the neighbour at a place.
+    /// Ends the current session of the neighbour at a place.
     fn on_end<O: OutLanes>(
         &mut self,
         place: usize,
@@ -141,7 +141,7 @@ impl BareSeat {
         self.take_in(&Input::LinkDown(k), now, is_settled, sends, outs);
     }
 
-    /// Ends the current life of the neighbour at a place, if there is one.
+    /// Ends the current session of the neighbour at a place, if there is one.
     fn on_old_end<O: OutLanes>(
         &mut self,
         place: usize,
@@ -164,7 +164,7 @@ impl BareSeat {
         }
     }
 
-    /// Begins a life of the neighbour at a place.
+    /// Begins a session of the neighbour at a place.
     fn on_up<O: OutLanes>(
         &mut self,
         place: usize,
@@ -187,7 +187,7 @@ impl BareSeat {
         self.take_in(&Input::LinkUp(k), now, is_settled, sends, outs);
     }
 
-    /// Passes a packet of the neighbour at a place to the core, if its life is current.
+    /// Passes a packet of the neighbour at a place to the core, if its session is current.
     fn on_packet<O: OutLanes>(
         &mut self,
         place: usize,
@@ -213,7 +213,7 @@ impl BareSeat {
         }
     }
 
-    /// Handles the end of a life of the neighbour at a place.
+    /// Handles the end of a session of the neighbour at a place.
     fn on_down<O: OutLanes>(
         &mut self,
         place: usize,
@@ -238,7 +238,8 @@ impl BareSeat {
         }
     }
 
-    /// Offers the cut of a life to the lane of the neighbour at a place. If the lane returns it, the cut is pending.
+    /// Offers the cut of a session to the queue of the neighbour at a place. If the queue returns the cut, it is
+    /// pending.
     fn ask_cut<O: OutLanes>(&mut self, place: usize, k: Id, life: Life, now: u64, outs: &mut O)
         requires place { slice_get self.old.core.neighbours place ≡ Some k }
         requires lanes { length self.old.core.neighbours ≤ O.count outs.old }
@@ -252,7 +253,7 @@ impl BareSeat {
         self.set_pending(place, k, left_pending(is_put, life));
     }
 
-    /// Cuts the current life of the neighbour at a place, if there is one.
+    /// Cuts the current session of the neighbour at a place, if there is one.
     fn on_cut_at<O: OutLanes>(
         &mut self,
         place: usize,
@@ -275,7 +276,7 @@ impl BareSeat {
         }
     }
 
-    /// Cuts the current life of a neighbour, if there is such a neighbour with a current life.
+    /// Cuts the current session of a neighbour, if there is such a neighbour and it has one.
     fn on_cut<O: OutLanes>(&mut self, k: Id, now: u64, sends: &mut Sends, outs: &mut O)
         requires lanes { length self.old.core.neighbours ≤ O.count outs.old }
         requires room { length self.old.inputs ≤ 0 }
@@ -320,7 +321,7 @@ impl BareSeat {
         }
     }
 
-    /// Handles an item of a seat that is not a link.
+    /// Handles an item that no link put.
     fn on_other_item<O: OutLanes>(&mut self, what: &What, now: u64, sends: &mut Sends, outs: &mut O)
         requires lanes { length self.old.core.neighbours ≤ O.count outs.old }
         requires room { length self.old.inputs ≤ 0 }

@@ -1,6 +1,6 @@
-//! Which status of the core a program asks for.
+//! Which status of the core a program requests.
 
-/// Which status of the core a program asks for.
+/// Which status of the core a program requests.
 #[derive(Clone, Copy, Debug, PartialEq, Eq, Hash)]
 pub enum Status {
     /// The whole state, once, as a line of JSON.

@@ -8,7 +8,7 @@ use tora_packet::Packet;
 pub struct Stepped {
     /// The neighbour.
     pub from: Id,
-    /// The life in which it came.
+    /// The session in which it came.
     pub life: Life,
     /// The packet.
     pub packet: Packet,

@@ -1,4 +1,4 @@
--- Serving an item is refused nothing but a need.
+-- While an item is served, the core refuses nothing but a need.
 use Rattle.std.proofs.Common.{◌≡◌, ◌≢◌, ℕ, zero, suc, Bool, true, false, true≢false, ◌&&◌, ◌||◌, ◌⊎◌, inl, inr, List, [], ◌∷◌, ◌++◌, length, Option, Some, None, nat_eq, if◌then◌else◌, refl, sym, ap, ◌∙◌, subst, append_assoc, append-nil, eqb-true, eq-eqb}
 use Rattle.std.proofs.lemmas.Bool.{cond_both, cases_Bool, false_from_ne_true, or_right}
 use Rattle.std.specs.Prelude.{slice_get}
@@ -45,12 +45,12 @@ pub each_push : {A : Type 0} (P : A → Type 0) (xs : List A) (y : A) → Each P
 each_push P [] y a p = (p, tt)
 each_push P (x ∷ xs) y a p = (a.0, each_push P xs y a.1 p)
 
--- a cargo with such a packet
+-- an outbound message whose packet, if it has one, has the property
 abbrev pub IsCargoWith : (Packet → Type 0) → Cargo → Type 0
 IsCargoWith P (Gives.Packet life packet) = P packet
 IsCargoWith P (Gives.Cut life) = Unit {0}
 
--- a cargo with a packet of this node
+-- an outbound message whose packet, if it has one, may come from this node
 abbrev pub IsCargoOf : ℕ → Cargo → Type 0
 IsCargoOf n cargo = IsCargoWith (IsSentBy n) cargo
 
@@ -79,7 +79,7 @@ at_in (x ∷ xs) zero k e = let q : x ≡ k = cc in ap (λ b. b || has_number k 
 at_in (x ∷ xs) (suc i) k e = ap (λ b. nat_eq x k || b) (at_in xs i k e) ∙ or_right (nat_eq x k) true refl
 
 module _ (cores : CoreLaws) (seats : SeatLaws) (n : ℕ) (ks : List ℕ) (answers : Answers) (Excuse : StepError → Type 0) where
-  -- a core whose link to each neighbour with a current life is up, and that has refused nothing without an excuse
+  -- each neighbour with a current session has its link up, and the core has refused nothing without an excuse
   pub record Sound (v : Serving) : Type 0 where
     pub near : (j : ℕ) → has_number j ks ≡ true → has_number j v.seat.core.neighbours ≡ true
     pub up : (j : ℕ) (l : Life) → has_number j ks ≡ true → v.seat.current j ≡ Some l → has_number j v.seat.core.up ≡ true
@@ -88,7 +88,7 @@ module _ (cores : CoreLaws) (seats : SeatLaws) (n : ℕ) (ks : List ℕ) (answer
     pub own : Each (IsOwnView n) v.seat.core.views
     pub sends : AreOffersOf n v.offers
 
-  -- ---- cargoes
+  -- ---- outbound messages
 
   cut_sound : (v : Serving) (k : ℕ) (o : Option Life) → Sound v → Sound (after_cut_tried answers v k o)
   cut_sound v k None h = h
@@ -102,7 +102,7 @@ module _ (cores : CoreLaws) (seats : SeatLaws) (n : ℕ) (ks : List ℕ) (answer
   cuts_sound [] v h = h
   cuts_sound (k ∷ js) v h = cuts_sound js (after_cut_tried answers v k (v.seat.pending k)) (cut_sound v k (v.seat.pending k) h)
 
-  -- one current life less
+  -- one current session fewer
   fewer_current : (f : ℕ → Option Life) (k j : ℕ) (l : Life) → put_one f k None j ≡ Some l → f j ≡ Some l
   fewer_current f k j l e = go (cases_Bool (nat_eq j k))
     where
@@ -136,7 +136,7 @@ module _ (cores : CoreLaws) (seats : SeatLaws) (n : ℕ) (ks : List ℕ) (answer
 
   -- ---- inputs
 
-  -- the condition when the core takes an input: everything except the links up and the packets
+  -- the conditions when the core takes an input, apart from those on the links that are up and on packets
   record Ready (v : Serving) : Type 0 where
     near : (j : ℕ) → has_number j ks ≡ true → has_number j v.seat.core.neighbours ≡ true
     silent : (e : StepError) → v.answer ≡ Says.Refused e → Excuse e
@@ -165,7 +165,7 @@ module _ (cores : CoreLaws) (seats : SeatLaws) (n : ℕ) (ks : List ℕ) (answer
   no_packet : (v : Serving) (input : Input) → ((k : ℕ) → packet_in k input ≡ []) → ((k : ℕ) → packets_accepted k v.inputs ≡ packets_in (stepped_from k v.steps)) → (k : ℕ) → packets_accepted k v.inputs ++ packet_in k input ≡ packets_in (stepped_from k v.steps)
   no_packet v input none agreed k = ap (λ xs. packets_accepted k v.inputs ++ xs) (none k) ∙ append-nil (packets_accepted k v.inputs) ∙ agreed k
 
-  -- a link goes down whose life is no longer current
+  -- the link goes down after its session is no longer current
   down_sound : (v : Serving) (k now : ℕ) → has_number k ks ≡ true → has_number k v.seat.core.up ≡ true → v.seat.current k ≡ None → Sound v → Sound (after_step answers ks (In.LinkDown k) now v)
   down_sound v k now m u none h =
       accepts v (In.LinkDown k) now (down_accepted cores v.seat.core k (h.near k m) u) (ready v h)
@@ -206,7 +206,7 @@ module _ (cores : CoreLaws) (seats : SeatLaws) (n : ℕ) (ks : List ℕ) (answer
           gone j ok (inl t) = subst (λ x. has_number x (core_after v.seat.core (In.LinkDown j) now).up ≡ false) (eqb-true j k t) (cores.goes v.seat.core j now ok)
           gone j ok (inr t) = cores.others_at_down v.seat.core k j now (λ q. true≢false (sym (eq-eqb j k (sym q)) ∙ t)) ∙ off
 
-  -- what an item leaves: no neighbour is to be stepped down
+  -- the state after an item: no link has to go down
   pub record Done (v : Serving) : Type 0 where
     pub sound : Sound v
     pub settled : (j : ℕ) → ¬ IsCut ks v.seat j
@@ -226,7 +226,7 @@ module _ (cores : CoreLaws) (seats : SeatLaws) (n : ℕ) (ks : List ℕ) (answer
           subst (λ r. Sound (after_answer answers ks (In.Need d) now v r)) (sym e)
           (record { near = h.near; up = h.up; silent = λ x y. let q : error ≡ x = cc in subst Excuse q (excuse error e); agreed = h.agreed; own = h.own; sends = h.sends })
 
-  -- the current life of a neighbour is over
+  -- the current session of a neighbour is over
   down_step : (v : Serving) (k now : ℕ) (l : Life) → has_number k ks ≡ true → v.seat.current k ≡ Some l → Sound v → Sound (after_step answers ks (In.LinkDown k) now (with_current v k None))
   down_step v k now l m on h =
       down_sound (with_current v k None) k now m (h.up k l m on) (put_one_here v.seat.current k None)
@@ -235,7 +235,7 @@ module _ (cores : CoreLaws) (seats : SeatLaws) (n : ℕ) (ks : List ℕ) (answer
   down_done : (v : Serving) (k now : ℕ) (l : Life) → has_number k ks ≡ true → v.seat.current k ≡ Some l → Sound v → Done (after_down answers ks k now v)
   down_done v k now l m on h = input_done (with_current v k None) (In.LinkDown k) now h.near (down_step v k now l m on h)
 
-  -- the current life of a neighbour is cut
+  -- the current session of a neighbour is cut
   life_cut_done : (v : Serving) (k now : ℕ) (o : Option Life) → has_number k ks ≡ true → v.seat.current k ≡ o → Done v → Done (after_life_cut answers ks k now v o)
   life_cut_done v k now None m e d = d
   life_cut_done v k now (Some l) m e d =
@@ -253,7 +253,7 @@ module _ (cores : CoreLaws) (seats : SeatLaws) (n : ℕ) (ks : List ℕ) (answer
       stays_down k (length ks) now (after_step answers ks (In.LinkDown k) now v') s
       (ap (λ up. has_number k up) (accepted_up answers ks v' (In.LinkDown k) now ok) ∙ cores.goes v.seat.core k now ok)
 
-  -- before a life comes up its link is down at the core
+  -- the old link is down at the core before a new session comes up
   old_done : (v : Serving) (k now : ℕ) (o : Option Life) → has_number k ks ≡ true → v.seat.current k ≡ o → Done v → Sound (after_old_down answers ks k now v o) × (has_number k (after_old_down answers ks k now v o).seat.core.up ≡ false)
   old_done v k now None m e d = (d.sound, false_from_ne_true (has_number k v.seat.core.up) (λ u. d.settled k (record { neighbour = m; up = u; none = e })))
   old_done v k now (Some l) m e d = ((down_done v k now l m e d.sound).sound, down_off v k now l m e d.sound)
@@ -320,7 +320,7 @@ module _ (cores : CoreLaws) (seats : SeatLaws) (n : ℕ) (ks : List ℕ) (answer
   other_item_done v now (Tells.Status status) excuse d = record { sound = record { near = d.sound.near; up = d.sound.up; silent = λ e q. absurd (cc); agreed = d.sound.agreed; own = d.sound.own; sends = d.sound.sends }; settled = λ j c. d.settled j (record { neighbour = c.neighbour; up = c.up; none = c.none }) }
   other_item_done v now Tells.Quit excuse d = record { sound = record { near = d.sound.near; up = d.sound.up; silent = λ e q. absurd (cc); agreed = d.sound.agreed; own = d.sound.own; sends = d.sound.sends }; settled = λ j c. d.settled j (record { neighbour = c.neighbour; up = c.up; none = c.none }) }
 
-  -- the cuts that are tried first change neither the core nor a current life
+  -- offering the pending cuts changes neither the core nor a current session
   record Started (seat : SeatState) (v : Serving) : Type 0 where
     core : v.seat.core ≡ seat.core
     current : v.seat.current ≡ seat.current

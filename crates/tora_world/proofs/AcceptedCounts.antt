@@ -1,5 +1,5 @@
--- How many packets an end has accepted in a life only grows, and a life is bound once: what was seen of the count holds
--- as long as the life is bound.
+-- The count of packets that an end has accepted in a session only grows, and a session is bound once. So an earlier
+-- count is a lower bound as long as the session is bound.
 use Rattle.std.proofs.Common.{◌≡◌, ◌≢◌, ℕ, suc, ◌+◌, ◌≤◌, Bool, true, false, true≢false, not, ◌&&◌, ◌⊎◌, inl, inr, List, [], ◌∷◌, Option, Some, None, nat_eq, if◌then◌else◌, refl, sym, ap, ◌∙◌, subst, arith}
 use Rattle.std.proofs.lemmas.Bool.{cond_both, cases_Bool}
 use Rattle.std.specs.Prelude.{is_some, nat_lt, nat_le, ◌==◌, ◌^◌, length, Result}
@@ -81,7 +81,7 @@ abbrev NotLessIn : EndState → Verdict × EndState → Type 0
 NotLessIn e x = NotLess e x.1
 
 module _ (l : Life) where
-  -- an end that stays bound in this life has accepted no less
+  -- an end that stays bound to this session has accepted at least as many packets
   abbrev Grows : EndState → EndState → Type 0
   Grows e e' = e.phase ≡ Bound l → e'.phase ≡ Bound l → NotLess e e'
 
@@ -225,7 +225,7 @@ module _ (l : Life) where
     abbrev count_at : World → ℕ
     count_at w = (w.ends n k).accepted
 
-    -- a life that is bound in the end and not now is bound some time
+    -- a session that is bound at the end of the run and not now is bound in between
     bound_later : (es : Schedule) (w : World) → phase_at w ≢ Bound l → phase_at (after_schedule es w) ≡ Bound l → 1 ≤ times_bound n k l es w
     unfolding after_schedule
     bound_later [] w off on = absurd (off on)
@@ -237,7 +237,7 @@ module _ (l : Life) where
         go true is again = subst (λ (x : Bool). 1 ≤ (if true && not x then 1 else 0) + times_bound n k l es (free_by e.1 w e.0)) (sym (not_bound_to l (phase_at w) off)) (omega arith)
         go false is again = let z = again (λ j. true≢false (sym (ap (is_bound_to l) j ∙ same_refl l) ∙ is)) on in omega (arith, z)
 
-    -- how often it is bound from the next world on, where it is bound now and in the end and no more in between
+    -- the session is bound in the next world, and is not bound again after it
     record StaysBound (e : FreeEvent × Choice) (es : Schedule) (w : World) : Type 0 where
       now : phase_at (free_by e.1 w e.0) ≡ Bound l
       none : times_bound n k l es (free_by e.1 w e.0) ≡ 0
@@ -288,7 +288,7 @@ module _ (l : Life) where
             seen_while_bound count es (free_by e.1 w e.0) now (omega (arith, one)) on h
         go false is le again = again (λ j. true≢false (sym (ap (is_bound_to l) j ∙ same_refl l) ∙ is)) (let z : 0 + times_bound n k l es (free_by e.1 w e.0) ≤ 1 = le in omega (arith, z))
 
--- a count of a life that was seen in some world of a run holds in the end, where the life is bound then
+-- a count that an end had accepted in some world of the run is at most its last count, if it is still bound then
 pub seen_now : LinkLaws → LifeLaws → (t : Topology) (times : Times) (es : Schedule) (n k : ℕ) (l : Life) (count : ℕ) → ((after_schedule es (first_world t times)).ends n k).phase ≡ Bound l →
     Sometime (HasAccepted n k l count) es (first_world t times) → count ≤ ((after_schedule es (first_world t times)).ends n k).accepted
 seen_now laws lows t times es n k l count on h = seen_before l n k count es (first_world t times) (λ q. absurd (cc)) (binds_once laws lows t times es n k l) on h

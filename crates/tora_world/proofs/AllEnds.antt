@@ -30,7 +30,7 @@ pub record Changes (view view' : ℕ → ℕ → EndView) (n k : ℕ) (v v' : En
   pub here : view' n k ≡ v'
   pub there : (a b : ℕ) → at_pair n k a b ≡ false → view' a b ≡ view a b
 
--- a pair that has grown
+-- the second pair has sent at least as much in each session, and has drawn at least the same numbers
 pub record Older (p q : MachineEnd) : Type 0 where
   pub sent : Grows p.sent q.sent
   pub drawn : (x : ℕ) → IsIn x p.drawn → IsIn x q.drawn
@@ -67,7 +67,7 @@ pub told_all : (m m' : Machine) (seen seen' : Seen) → AllOlder m m' → SeenMo
 told_all m m' seen seen' o s fs h = Each_mono (Told m seen) (Told m' seen') (λ f. told_grows m m' seen seen' o s f) fs h
 
 module _ (steps : List MachineStep) (view view' : ℕ → ℕ → EndView) (frames : List FrameParts) (seen : Seen) (n k : ℕ) (v v' : EndView) where
-  -- no step
+  -- a change without a step
   pub no_step : Changes view view' n k v v' → (g : AllEndsFollow steps view frames seen) → (FollowsMachine v (machine_after steps n k) (machine_after steps k n).sent (seen_at_other seen n k) → FollowsMachine v' (machine_after steps n k) (machine_after steps k n).sent (seen_at_other seen n k)) → AllEndsFollow steps view' frames seen
   no_step c g f = record {
     legal = g.legal;
@@ -78,7 +78,7 @@ module _ (steps : List MachineStep) (view view' : ℕ → ℕ → EndView) (fram
     tells = g.tells;
   }
 
-  -- one step, which changes the pair of this end
+  -- a change with one step, which changes the pair of this end
   pub one_step : Changes view view' n k v v' → (s : MachineStep) (change : MachineEnd → MachineEnd) → ((m : Machine) → after_machine_step m s ≡ put_at m n k (change (m n k))) →
       ((p : MachineEnd) → Older p (change p)) →
       (g : AllEndsFollow steps view frames seen) →
@@ -102,7 +102,7 @@ module _ (steps : List MachineStep) (view view' : ℕ → ℕ → EndView) (fram
         tells = told_all m (after_machine_step m s) seen seen to (λ a b l x d. d) frames g.tells;
       }
 
--- more was seen
+-- more counts were seen
 pub more_seen : (steps : List MachineStep) (view : ℕ → ℕ → EndView) (frames : List FrameParts) (seen seen' : Seen) → SeenMore seen seen' → AllEndsFollow steps view frames seen → AllEndsFollow steps view frames seen'
 more_seen steps view frames seen seen' s g = record {
   legal = g.legal;
@@ -110,7 +110,7 @@ more_seen steps view frames seen seen' s g = record {
   tells = told_all (machine_after steps) (machine_after steps) seen seen' (λ a b. older_refl (machine_after steps a b)) s frames g.tells;
 }
 
--- the ends are looked at in another way
+-- the same views of the ends, expressed differently
 pub same_views : (steps : List MachineStep) (view view' : ℕ → ℕ → EndView) (frames : List FrameParts) (seen : Seen) → ((a b : ℕ) → view' a b ≡ view a b) → AllEndsFollow steps view frames seen → AllEndsFollow steps view' frames seen
 same_views steps view view' frames seen e g = record {
   legal = g.legal;
@@ -118,7 +118,7 @@ same_views steps view view' frames seen e g = record {
   tells = g.tells;
 }
 
--- every end does something that the machine does not see
+-- a change at every end that the machine does not see
 pub at_every_end : (steps : List MachineStep) (view view' : ℕ → ℕ → EndView) (frames : List FrameParts) (seen : Seen) → ((a b : ℕ) (p : MachineEnd) (other : List Parcel) → FollowsMachine (view a b) p other (seen_at_other seen a b) → FollowsMachine (view' a b) p other (seen_at_other seen a b)) → AllEndsFollow steps view frames seen → AllEndsFollow steps view' frames seen
 at_every_end steps view view' frames seen f g = record {
   legal = g.legal;
@@ -167,7 +167,7 @@ module _ (steps : List MachineStep) (view view' : ℕ → ℕ → EndView) (fram
   abbrev Heard : Phase → Phase → Type 0
   Heard ph ph' = AllEndsFollow (made (steps_of_binding n k (life_in ph) (life_in ph')) steps) view' frames seen
 
-  -- a call that passes in a frame, after which a life may be bound
+  -- a call that passes in a frame, and may bind a session
   pub frame_follows : (laws : LinkLaws) (call : LinkCall) (out : List Parcel) → ((l : Life) → seen k n (reversed l) 0) → Changes view view' n k v (called v call out) →
       (g : AllEndsFollow steps view frames seen) → IsCall v (machine_after steps n k) (machine_after steps k n).sent (seen_at_other seen n k) call out → ((l : Life) → HandsInFrameOf v.settings l call → IsIn l.peer (machine_after steps k n).drawn) →
       AllEndsFollow (made (steps_of_binding n k (life_in v.endpoint.phase) (life_in (after_call v.settings v.endpoint call).phase)) steps) view' frames seen
@@ -223,7 +223,7 @@ pub prefix_follows : (steps : List MachineStep) (view : ℕ → ℕ → EndView)
 prefix_follows steps view frames seen g n k l =
     subst₂ (λ t s. Begins (packets_of l t) (packets_of (reversed l) s)) (g.sides n k).histories.taken_is (g.sides k n).histories.sent_is (machine_keeps steps g.legal n k l)
 
--- one more frame
+-- one more frame was sent
 pub frames_more : (steps : List MachineStep) (view : ℕ → ℕ → EndView) (frames : List FrameParts) (seen : Seen) (f : FrameParts) → (g : AllEndsFollow steps view frames seen) → Told (machine_after steps) seen f → AllEndsFollow steps view (frames ++ f ∷ []) seen
 frames_more steps view frames seen f g t = record { legal = g.legal; sides = g.sides; tells = each_push frames g.tells }
   where
@@ -231,7 +231,7 @@ frames_more steps view frames seen f g t = record { legal = g.legal; sides = g.s
     each_push [] h = (t, tt)
     each_push (x ∷ fs) h = (h.0, each_push fs h.1)
 
--- ---- the current lives of one node are closed
+-- ---- the current sessions of one node are closed
 
 closes_none : (current : Option Life) (p : MachineEnd) → ClosesMore current p p
 closes_none current p = record { drawn = refl; bound = refl; sent = refl; taken = refl; closed = Each_from (λ l. (current ≡ Some l) ⊎ IsIn l p.closed) p.closed (λ l i. inr i) }
@@ -255,7 +255,7 @@ older_closes current p q c = record {
 }
 
 module _ (n : ℕ) (current : ℕ → Option Life) where
-  -- at other nodes nothing changes
+  -- the machine is unchanged at other nodes
   record ClosesAt (m m' : Machine) (a b : ℕ) : Type 0 where
     here : nat_eq a n ≡ true → ClosesMore (current b) (m a b) (m' a b)
     there : nat_eq a n ≡ false → m' a b ≡ m a b

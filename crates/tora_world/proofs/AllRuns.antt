@@ -98,7 +98,7 @@ module _ (laws : LinkLaws) (lows : LifeLaws) where
     tells = tt;
   }
 
-  -- seen before, or in some world of the run
+  -- the count was seen before, or in some world of the run
   abbrev By : Seen → Schedule → World → Seen
   By seen es w n k l c = seen n k l c ⊎ Sometime (HasAccepted n k l c) es w
 
@@ -146,7 +146,7 @@ module _ (laws : LinkLaws) (lows : LifeLaws) where
     acknowledged a b l j =
         (subst (λ ph. InPhase ph (end_views last a b) (machine_after all_steps a b) (machine_after all_steps b a).sent (seen_at_other all_seen a b)) j (all_follow.sides a b).phase).told
 
--- the simulator's own run is one of these
+-- the simulator's own run is one of these runs
 pub own_run : (events : List Event) (w : World) → world_after_all w events ≡ after_schedule (own_schedule events w) w
 unfolding after_schedule
 own_run [] w = refl

@@ -1,4 +1,4 @@
--- The arrivals at a core: one more at the end, or one less at the front.
+-- The arrivals at a core: one more at the end, or one fewer at the front.
 use Rattle.tora_packet.specs.declared.Packet.{Packet}
 use Rattle.std.proofs.Common.{◌≡◌, ℕ, ◌<◌, ◌≤◌, Bool, true, false, ◌&&◌, inr, if◌then◌else◌, map, List, [], ◌∷◌, ◌++◌, refl, sym, ap, ◌∙◌, subst, append_assoc, arith}
 use Rattle.tora_arq.specs.declared.life.Life.{Life}
@@ -20,7 +20,7 @@ lives-append l b (LifeComes j ∷ q) r = lives-append l (is_same_life l j) q r
 lives-append l b (PacketComes j p ∷ q) r = lives-append l b q r
 lives-append l b (OtherComes ∷ q) r = lives-append l b q r
 
--- where this life does not come, nothing of it is taken but while it is the current one
+-- if this session does not come up among the arrivals, packets of it are taken only while it is current
 pub lives_off : (l : Life) (n : ℕ) (q : List Arrival) → l.own ≤ n → AreRising n q → lives l false q ≡ false
 lives_off l n [] h r = refl
 lives_off l n (LifeComes j ∷ q) h r = subst (λ b. lives l b q ≡ false) (sym (same_false l j (λ e. absurd (let o : l.own ≡ j.own = ap (λ (x : Life). x.own) e in omega (arith, o, r.0))))) (lives_off l j.own q (omega (arith, r.0)) r.1)
@@ -33,7 +33,7 @@ awaited_off l n (LifeComes j ∷ q) h r = subst (λ b. awaited l b q ≡ []) (sy
 awaited_off l n (PacketComes j p ∷ q) h r = awaited_off l n q h r
 awaited_off l n (OtherComes ∷ q) h r = awaited_off l n q h r
 
--- nor is anything of a life above all that come
+-- nothing is awaited of a session above all sessions that come up
 pub awaited_new : (l : Life) (ls : List Life) (q : List Arrival) → Each (λ j. j.own < l.own) ls → ComesOf ls q → awaited l false q ≡ []
 awaited_new l ls [] h c = refl
 awaited_new l ls (LifeComes j ∷ q) h c = subst (λ b. awaited l b q ≡ []) (sym (same_false l j (λ e. absurd (let o : l.own ≡ j.own = ap (λ (x : Life). x.own) e in let b : j.own < l.own = Each_at (λ (j : Life). j.own < l.own) ls j h c.0 in omega arith)))) (awaited_new l ls q h c.1)
@@ -46,7 +46,7 @@ Rises_weaken m n (LifeComes l ∷ q) h r = (omega (arith, r.0), r.1)
 Rises_weaken m n (PacketComes l p ∷ q) h r = Rises_weaken m n q h r
 Rises_weaken m n (OtherComes ∷ q) h r = Rises_weaken m n q h r
 
--- what comes last may be above all others
+-- the last arrival may be a session above all others
 pub Rises_push : (n : ℕ) (ls : List Life) (q : List Arrival) (l : Life) → n < l.own → Each (λ j. j.own < l.own) ls → ComesOf ls q → AreRising n q → AreRising n (q ++ LifeComes l ∷ [])
 Rises_push n ls [] l h b c r = (h, tt)
 Rises_push n ls (LifeComes j ∷ q) l h b c r = (r.0, Rises_push j.own ls q l (Each_at (λ (j : Life). j.own < l.own) ls j b c.0) b c.1 r.1)
@@ -77,7 +77,7 @@ Comes_more l ls (LifeComes j ∷ q) c = (inr c.0, Comes_more l ls q c.1)
 Comes_more l ls (PacketComes j p ∷ q) c = Comes_more l ls q c
 Comes_more l ls (OtherComes ∷ q) c = Comes_more l ls q c
 
--- no life comes
+-- no session comes up among the arrivals
 abbrev pub BringsNoLife : List Arrival → Type 0
 BringsNoLife [] = Unit {0}
 BringsNoLife (LifeComes l ∷ q) = ⊥

@@ -1,4 +1,4 @@
--- Worlds at rest that events reach: what their entries are, and where walks lead.
+-- Worlds at rest that events reach: their entries, and their walks.
 use Rattle.std.proofs.Common.{◌≡◌, ◌≢◌, ℕ, true, List, [], Some, sym, ap, ◌∙◌, subst}
 use Rattle.tora_height.specs.Height.{Quintuple}
 use Rattle.tora_arq.specs.declared.times.Times.{Times}

@@ -1,4 +1,4 @@
--- Each end binds each pair of numbers at most once.
+-- Each end binds each pair of session numbers at most once.
 use Rattle.std.proofs.Common.{◌≡◌, ◌≢◌, ℕ, ◌+◌, ◌<◌, ◌≤◌, Bool, true, false, true≢false, not, ◌&&◌, ◌⊎◌, inl, inr, ⊎_elim, List, [], ◌∷◌, Option, Some, None, nat_eq, if◌then◌else◌, refl, sym, ap, ◌∙◌, subst, arith}
 use Rattle.std.proofs.lemmas.Bool.{cond_both, cases_Bool, and_parts}
 use Rattle.std.specs.Prelude.{is_some}
@@ -179,7 +179,7 @@ module _ (laws : LinkLaws) (lows : LifeLaws) where
     unfolding world_by
     onward_world c event = cond_both (is_some (refusal_by c w event)) _ _ (λ (x : World). Between w x a b) (λ _. still) (λ _. onward c event)
 
-    -- the life files stay
+    -- the life files are unchanged
     started_between : (c : Choice) (n : ℕ) → Between w (free_by c w (StartsAnew n)) a b
     unfolding world_by effect_by
     started_between c n =
@@ -195,13 +195,13 @@ module _ (laws : LinkLaws) (lows : LifeLaws) where
     onward_free c (ChangesFile n k change kept) = changed_between n k (change (w.files n k)) (λ m. kept m (w.files n k))
     onward_free c (StartsAnew n) = started_between c n
 
--- the number of an end is not above this
+-- the own number of an end is at most this
 abbrev Under : Phase → ℕ → Type 0
 Under Closed m = Unit {0}
 Under (Unbound own) m = own ≤ m
 Under (Bound l) m = l.own ≤ m
 
--- no number of an end is drawn again
+-- no session number of an end is drawn again
 record Below (e : EndState) (file : LifeDisk) : Type 0 where
   floor : ℕ
   kept : IsFloor floor file
@@ -226,7 +226,7 @@ not_bound_to l Closed n = refl
 not_bound_to l (Unbound own) n = refl
 not_bound_to l (Bound j) n = ⊎_elim (λ e. absurd (n (bound_to l (Bound j) e))) (λ e. e) (cases_Bool (is_same_life l j))
 
--- a life that is over
+-- a session that is over and does not return
 record Past (l : Life) (e : EndState) (file : LifeDisk) : Type 0 where
   floor : ℕ
   kept : IsFloor floor file
@@ -263,7 +263,7 @@ past_on l e e' file file' o h = go o.phase
           waits = λ own w. let q : Unbound b.0 ≡ Unbound own = sym b.1 ∙ w in let z : b.0 ≡ own = cc in omega (arith, h.below, d.0, z);
         }
 
--- and one that ends
+-- a session that ends does not return
 leaves_on : (l : Life) (e e' : EndState) (file file' : LifeDisk) → Onward e e' file file' → e.phase ≡ Bound l → Below e file → e'.phase ≢ Bound l → Past l e' file'
 leaves_on l e e' file file' o j h n = go o.phase
   where

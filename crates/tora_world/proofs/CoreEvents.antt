@@ -1,5 +1,5 @@
--- The events that leave every core unchanged: all except a turn of a core and a restart of its node. What was put, and
--- what the cores accepted and received, stays too.
+-- All events except a turn of a core and a restart of its node leave every core unchanged, and the record of what was
+-- put, accepted and taken.
 use Rattle.std.proofs.Common.{◌≡◌, ℕ, Bool, true, false, true≢false, List, [], ◌∷◌, Option, Some, None, refl}
 use Rattle.std.proofs.lemmas.Bool.{cond_both}
 use Rattle.tora_frame.specs.FrameParts.{FrameParts}
@@ -75,7 +75,7 @@ module _ (c : Choice) (w : World) where
   leaves_seats (Arm n call) other = arming_leaves n call
   leaves_seats (Restart n torn) other = absurd (true≢false other)
 
-  -- a property that is kept by events that leave the cores unchanged, by turns and by restarts is kept by every event
+  -- a property that the other events, turns and restarts keep is kept by every event
   pub effect_cases : (Holds : World → Type 0) → ((after : World) → LeavesSeats w after → Holds after) → ((n : ℕ) → Holds (after_turn w c n (w.items n)))
       → ((n : ℕ) (torn : Option (List ℕ)) → Holds (after_restart w n torn)) → (event : Event) → Holds (effect_by c w event)
   unfolding effect_by

@@ -1,4 +1,4 @@
--- Each core is the result of the inputs that it accepted.
+-- Each core has the state that the rules give for the inputs that it accepted.
 use Rattle.std.proofs.Common.{◌≡◌, ℕ, true, false, ◌⊎◌, inl, inr, List, [], ◌∷◌, ◌++◌, Option, nat_eq, if◌then◌else◌, refl, sym, ap, ap₂, ◌∙◌, subst, eqb-true}
 use Rattle.std.proofs.lemmas.Bool.{cond_both, cases_Bool}
 use Rattle.std.specs.Prelude.{is_some}

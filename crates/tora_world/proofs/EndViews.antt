@@ -1,4 +1,4 @@
--- What the invariant looks at in a world.
+-- The view of a world that the invariant uses.
 use Rattle.std.proofs.Common.{◌≡◌, ℕ, suc, Bool, true, false, List, [], ◌∷◌, ◌++◌, map, length, Option, Some, None, nat_eq, if◌then◌else◌, refl, sym, ap, ◌∙◌, append_assoc, eqb-true, true≢false, ◌||◌}
 use Rattle.std.specs.Prelude.{slice_get}
 use Rattle.tora_core.specs.Numbers.{has_number}
@@ -35,7 +35,7 @@ arrival_in Tells.Show = OtherComes
 arrival_in (Tells.Status status) = OtherComes
 arrival_in Tells.Quit = OtherComes
 
--- the sign of an item, where it is of this neighbour
+-- the arrival that an item is, if it is from this neighbour
 abbrev pub arrivals_in : ℕ → Option ℕ → What → List Arrival
 arrivals_in k (Some j) x = if nat_eq j k then arrival_in x ∷ [] else []
 arrivals_in k None x = []
@@ -82,12 +82,12 @@ parcels-append [] ds = refl
 parcels-append (Gives.Packet l p ∷ cs) ds = ap (λ xs. parcel_of l p ∷ xs) (parcels-append cs ds)
 parcels-append (Gives.Cut l ∷ cs) ds = parcels-append cs ds
 
--- the seat of the commands is no link's
+-- the seat of the commands is not the seat of a link
 pub none_past : (xs : List ℕ) → slice_get xs (length xs) ≡ None
 none_past [] = refl
 none_past (x ∷ xs) = none_past xs
 
--- the seat of a neighbour
+-- the seat of a neighbour is at the neighbour's place
 pub at_place : (k : ℕ) (ks : List ℕ) → has_number k ks ≡ true → slice_get ks (place_of k ks) ≡ Some k
 at_place k [] h = absurd (true≢false (sym h))
 at_place k (j ∷ js) h = go (λ i. at_place k js i) (nat_eq j k) refl

@@ -1,4 +1,4 @@
--- The view that the core of a node in a run has of a destination: the entries, and the next hop.
+-- The view of a destination at the core of a node in a run: its entries and its next hop.
 use Rattle.std.proofs.Common.{◌≡◌, ℕ, ◌<◌, ◌==◌, ◌||◌, Bool, true, false, inl, inr, List, [], ◌∷◌, Option, None, Some, is_some, if◌then◌else◌, refl, sym, ap, ◌∙◌, subst, arith, eq-eqb, eqb-true}
 use Rattle.std.specs.Prelude.{IfSome, cond, find, option_map}
 use Rattle.std.specs.List.{AllByRecursion}
@@ -23,7 +23,7 @@ use Rattle.tora_world.proofs.KeptCores.{IsRunOf, IsKeeping, kept_core}
 
 -- ---- a core of a run
 
--- the core of this node
+-- the core of this node keeps its invariants
 pub record IsCoreOf (t : Topology) (n : ℕ) (c : CoreView) : Type 0 where
   pub kept : IsCore c
   pub me : c.me ≡ n
@@ -62,7 +62,7 @@ entry_found v k h up i =
     let found : find (λ (r : Row). r.neighbour == row.neighbour) v.rows ≡ Some row = found_row v.rows row up (among-Contains v.rows row i.1) in
     ap (λ m. option_map (λ (r : Row). r.entry) (find (λ (r : Row). r.neighbour == m) v.rows)) (sym i.2) ∙ ap (option_map (λ (r : Row). r.entry)) found ∙ ap Some i.3
 
--- a neighbour that has a row is among those whose link is up
+-- a neighbour that has a row has its link up
 pub row_number : (k : ℕ) (rows : List Row) (x : Option Quintuple) → option_map (λ (r : Row). r.entry) (find (λ (r : Row). r.neighbour == k) rows) ≡ Some x → has_number k (numbers_of rows) ≡ true
 row_number k [] x e = absurd cc
 row_number k (r ∷ rows) x e = go (r.neighbour == k) (λ f. row_number k rows x f) e

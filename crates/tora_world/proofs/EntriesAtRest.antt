@@ -1,4 +1,4 @@
--- In a world at rest each entry that is not NULL is the height of its neighbour, or the neighbour has none.
+-- In a world at rest each entry that is not NULL is the height of its neighbour, or the neighbour has no height.
 use Rattle.std.proofs.Common.{◌≡◌, ◌≢◌, ℕ, Bool, true, false, true≢false, ◌⊎◌, inl, inr, ⊎_elim, List, [], ◌∷◌, map, Option, None, Some, nat_eq, if◌then◌else◌, refl, sym, ap, ◌∙◌, subst, eqb-true, eq-eqb}
 use Rattle.std.proofs.lemmas.Bool.{cases_Bool}
 use Rattle.std.specs.Prelude.{find, option_map, option_and_then, is_some}
@@ -42,7 +42,7 @@ use Rattle.tora_world.proofs.Received.{received_from}
 use Rattle.tora_world.proofs.ToldHeights.{heard, IsHeard, heights_told, destinations_after, tables_alike}
 use Rattle.tora_world.proofs.HeardEntries.{entries_heard}
 
--- a row of the destination itself has its height, at another node
+-- at another node, the row of the destination has the destination's height
 row_of_destination : (me d : ℕ) (rows : List Row) (x : Quintuple) → AllByRecursion (IsRow me d) rows → option_map (λ (row : Row). row.entry) (find (λ (row : Row). nat_eq row.neighbour d) rows) ≡ Some (Some x) → me ≢ d → x ≡ destination_height d
 row_of_destination me d [] x all e away = absurd cc
 row_of_destination me d (row ∷ rows) x all e away = go (nat_eq row.neighbour d) refl e (λ f. row_of_destination me d rows x all.1 f away)
@@ -52,7 +52,7 @@ row_of_destination me d (row ∷ rows) x all e away = go (nat_eq row.neighbour d
     go true t f again = let q : Some (destination_height d) ≡ Some x = sym (all.0.zero away (eqb-true row.neighbour d t)) ∙ (let z : row.entry ≡ Some x = cc in z) in let y : destination_height d ≡ x = cc in sym y
     go false t f again = again f
 
--- the rows of the destination's own view are NULL
+-- at the destination, every row is NULL
 row_at_destination : (me d k : ℕ) (rows : List Row) (x : Quintuple) → AllByRecursion (IsRow me d) rows → option_map (λ (row : Row). row.entry) (find (λ (row : Row). nat_eq row.neighbour k) rows) ≡ Some (Some x) → me ≡ d → ⊥
 row_at_destination me d k [] x all e here = absurd cc
 row_at_destination me d k (row ∷ rows) x all e here = go (nat_eq row.neighbour k) e (λ f. row_at_destination me d k rows x all.1 f here)
@@ -67,7 +67,7 @@ first_destinations : (choice : Erasure) (me : ℕ) (ds : List ℕ) → destinati
 first_destinations choice me [] = refl
 first_destinations choice me (d ∷ ds) = ap (λ xs. d ∷ xs) (first_destinations choice me ds)
 
--- what a neighbour that remembers erased levels does not hear of is not broadcast
+-- if a neighbour that remembers erased levels does not learn of a loss, nothing was broadcast
 lost_in_silence : (v : View) (input : Input) (now : ℕ) (g : Quintuple) → LosesQuietly Remembered v input now g → (outcome_of v input now).broadcast ≡ None
 lost_in_silence v input now g (clears_another_level tau oid said outlasts) = absurd cc
 lost_in_silence v input now g (loses_last_entry silent null none) = silent
@@ -104,7 +104,7 @@ module _ (laws : LinkLaws) (lows : LifeLaws) (cores : CoreLaws) (seats : SeatLaw
   core_of : (n : ℕ) → is_node last.topology n ≡ true → IsCoreOf t n (last.seats n).core
   core_of n there = core_of_run cores t keeps n (node_id t ids n (ap (λ (u : Topology). is_node u n) (sym same) ∙ there)) (last.seats n).core (cores_kept laws lows t keeps times es n (node_id t ids n (ap (λ (u : Topology). is_node u n) (sym same) ∙ there)))
 
-  -- the views of a new core ascend
+  -- the views of a new core are in ascending order
   first_ascends : (n : ℕ) → IsId n → IsAscending (destinations_of (new_core t n).views)
   first_ascends n id = (keeps.laws n id [] tt).ascending_destinations
 
@@ -136,7 +136,7 @@ module _ (laws : LinkLaws) (lows : LifeLaws) (cores : CoreLaws) (seats : SeatLaw
     other : (last.seats k).current n ≡ Some (reversed life)
     taken : packets_of life (last.steps n k) ≡ packets_of (reversed life) (parcels_in (last.put k n))
 
-  -- the life of a link at its core
+  -- the session of a link is the current one at its core
   life_is : (n k : ℕ) → is_link last.topology n k ≡ true → life_at last n k ≡ (last.seats n).current k
   life_is n k there = ap (λ (b : Bool). if b then (last.seats n).current k else None) there
 
@@ -160,14 +160,14 @@ module _ (laws : LinkLaws) (lows : LifeLaws) (cores : CoreLaws) (seats : SeatLaw
             (bound_is u.life (last.ends n k).phase (here.bound u.life on)) (bound_is (reversed u.life) (last.ends k n).phase (away.bound (reversed u.life) other)) u.current;
       }
 
-  -- the packets that n has accepted of k since the link came up are those that k has broadcast since then
+  -- the packets that n has accepted from k since the link came up are those that k has broadcast since then
   all_received : IsAtRest last → (n k : ℕ) → is_node last.topology n ≡ true → IsUp n k → received_from k (new_core t n) (last.inputs n) [] ≡ broadcast_packets t last k n
   all_received rest n k there u =
       let b = both_up rest n k there u in
       let gap = without_gap cores seats t k n (neighbours_apart cores t k accepted) b.link laws lows times es in
       sym (end.received.same n k u.life u.current) ∙ b.taken ∙ gap.now (reversed u.life) b.other
 
-  -- the height of k is what k has broadcast last, or there is none
+  -- the height of k is the one that k broadcast last, or k has none
   told_of : IsAtRest last → (n k d : ℕ) → is_node last.topology n ≡ true → (u : IsUp n k) → (v : View) → view_of (last.seats k).core d ≡ Some v → IsHeard (erasure_at t n) (WasLost (erasure_at t n) (new_core t k) (last.inputs k) d) (heard (erasure_at t n) d None (broadcast_packets t last k n)) v.height
   told_of rest n k d there u v found =
       let b = both_up rest n k there u in
@@ -178,11 +178,11 @@ module _ (laws : LinkLaws) (lows : LifeLaws) (cores : CoreLaws) (seats : SeatLaw
       ap (λ (x : CoreView). has_number n x.up) (sym follows) ∙ (end.nodes.seats k).up n (reversed u.life) (turned_link cores last.topology n k u.link) b.other in
       heights_told (erasure_at t n) cores (new_core t k) d n (last.inputs k) (first_ascends k id) refl up v (ap (λ (x : CoreView). view_of x d) (sym follows) ∙ found)
 
-  -- the height of a node that has a view of the destination
+  -- the height of a node is the one in its view of the destination
   height_of_view : (k d : ℕ) (v : View) → is_node last.topology k ≡ true → view_of (last.seats k).core d ≡ Some v → height_at last k d ≡ Some v.height
   height_of_view k d v there found = ap (λ (b : Bool). if b then height_of (last.seats k).core d else None) there ∙ ap (option_map (λ (x : View). x.height)) found
 
-  -- the neighbour has none, and lost it so
+  -- the neighbour has no height, and lost it in this way
   abbrev Gone : ℕ → ℕ → ℕ → Quintuple → Type 0
   Gone n k d x = LacksHeight last k d × WasLost (erasure_at t n) (new_core t k) (last.inputs k) d x
 
@@ -230,7 +230,7 @@ module _ (laws : LinkLaws) (lows : LifeLaws) (cores : CoreLaws) (seats : SeatLaw
           let height : its.0.height ≡ Some (destination_height its.0.destination) = vk.view.kept.at_destination (vk.view.owner ∙ (core_of k b.node).me ∙ q ∙ sym vk.destination) in
           inl (as_height (Some x) (height ∙ ap (λ m. Some (destination_height m)) (vk.destination ∙ sym vi.destination) ∙ ap Some (sym is)))
 
-      -- another packet has set it
+      -- the entry comes from a packet of the neighbour
       another : k ≢ d → (height_at last k d ≡ Some (Some x)) ⊎ Gone n k d x
       another other =
           let received : heard (erasure_at t n) d None (received_from k (new_core t n) (last.inputs n) []) ≡ Some x =

@@ -56,7 +56,7 @@ put_one_there f n v a e = ap (λ t. if t then v else f a) e
 
 -- ---- the contents of frames
 
--- each packet of a frame is that of its number
+-- each packet of a frame is the one of its number
 body_tells : (sent : List Parcel) (done : Life → ℕ → Type 0) (l : Life) (b : Body) → Tells sent done l b → BodyTells (IsPacketAt (packets_of l sent)) b
 body_tells sent done l Hello t = λ place packet has. absurd has
 body_tells sent done l (Ack count) t = λ place packet has. absurd has
@@ -67,7 +67,7 @@ body_counts sent done l Hello z t = z
 body_counts sent done l (Data number count packets) z t = t.1
 body_counts sent done l (Ack count) z t = t
 
--- the content of a frame of an end
+-- the content of a frame that an end sends
 module _ (m : Machine) (seen : Seen) (n k : ℕ) where
   told_by : (newest : Version) (own heard : ℕ) (f : FrameParts) (times : Times) → f ≡ frame_sent (settings_of newest n k times) f.header.version own heard f.body → IsIn own (m n k).drawn → Tells (m n k).sent (seen n k) (life_of own heard) f.body → Told m seen f
   told_by newest own heard f times e i t = subst (λ h. IsIn h.life (m h.sender h.receiver).drawn × Tells (m h.sender h.receiver).sent (seen h.sender h.receiver) (life_of h.life h.heard) f.body) (sym (ap (λ (x : FrameParts). x.header) e)) (i, t)
@@ -82,7 +82,7 @@ last_in : (x : ℕ) (xs : List ℕ) → IsLast x xs → IsIn x xs
 last_in x [] e = absurd e
 last_in x (y ∷ ys) e = inl e
 
--- the input of a call of an end without a frame
+-- a call of an end without a frame
 module _ (v : EndView) (p : MachineEnd) (other : List Parcel) (done : Life → ℕ → Type 0) where
   pub tick_call : (now : ℕ) → AllOf p.bound v.out → IsCall v p other done (Ticks now) v.out
   tick_call now a = record { possible = tt; not_open = λ x o. o; tells = λ l. tt; counts = λ l c o. absurd o; outs = λ l e e'. refl; all_out = a }
@@ -93,7 +93,7 @@ module _ (v : EndView) (p : MachineEnd) (other : List Parcel) (done : Life → �
   pub cut_call : (life : Life) → AllOf p.bound v.out → IsCall v p other done (Cuts life) v.out
   cut_call life a = record { possible = tt; not_open = λ x o. o; tells = λ l. tt; counts = λ l c o. absurd o; outs = λ l e e'. refl; all_out = a }
 
-  -- the front packet of the lane is submitted in its life, or not at all
+  -- the first packet of the queue is submitted in its session, or not at all
   submit_outs : (laws : LinkLaws) (x : Parcel) (l : Life) → v.endpoint.phase ≡ Bound l → (after_call v.settings v.endpoint (Submits x.life x.packet)).phase ≡ Bound l → packet_submitted v.endpoint (Submits x.life x.packet) ≡ packet_where l x
   submit_outs laws x l e e' = go (cases_Bool (is_same_life l x.life))
     where
@@ -115,7 +115,7 @@ module _ (v : EndView) (p : MachineEnd) (other : List Parcel) (done : Life → �
     all_out = (subst (AllOf p.bound) q a).1;
   }
 
-  -- a frame of the other end
+  -- a call with a frame of the other end
   frame_call : (f : FrameParts) (now : ℕ) → ((l : Life) → done l 0) → Tells other (λ l c. done (reversed l) c) (life_of f.header.life f.header.heard) f.body → AllOf p.bound v.out → IsCall v p other done (Hears f now) v.out
   frame_call f now nought t a = record {
     possible = tt;
@@ -142,11 +142,11 @@ module _ (laws : LinkLaws) (lows : LifeLaws) (steps : List MachineStep) (w : Wor
   abbrev pub WorldFollows : World → Type 0
   WorldFollows w = AllEndsFollow steps (end_views w) w.datagrams seen
 
-  -- once these steps are made
+  -- the invariant holds after these steps were added
   abbrev pub WorldFollowsBy : List MachineStep → World → Type 0
   WorldFollowsBy ss w = AllEndsFollow (made ss steps) (end_views w) w.datagrams seen
 
-  -- an end changes by a call that polls nothing
+  -- an end changes by a call that polls no event
   pub end_changes : (n k : ℕ) (call : LinkCall) → IsPossible (w.ends n k) call → events_left (w.ends n k) call ≡ (w.ends n k).events →
       Changes (end_views w) (end_views (with_end w n k (after_call (settings w n k) (w.ends n k) call))) n k (end_views w n k) (called (end_views w n k) call (end_views w n k).out)
   end_changes n k call ok left =
@@ -158,7 +158,7 @@ module _ (laws : LinkLaws) (lows : LifeLaws) (steps : List MachineStep) (w : Wor
         there = λ a b o. ap (λ x. view_of (settings w a b) x (w.files a b) ((w.seats a).current b) (arrivals_of (neighbours w a) b (w.items a)) (w.cargoes a b) (w.put a b) (w.steps a b)) (put_there w.ends n k e a b o);
       }
 
-  -- a lane in which the law sees the same
+  -- a change of the queue that does not change the arrivals
   same_lane : (n : ℕ) (lane : List Item) → ((b : ℕ) → arrivals_of (neighbours w n) b lane ≡ arrivals_of (neighbours w n) b (w.items n)) → WorldFollows w → WorldFollows (record w { items = put_one w.items n lane })
   same_lane n lane e g =
       same_views steps (end_views w) (end_views (record w { items = put_one w.items n lane })) w.datagrams seen
@@ -206,7 +206,7 @@ module _ (laws : LinkLaws) (lows : LifeLaws) (steps : List MachineStep) (w : Wor
             there = λ a b o. ap₂ (λ x f. view_of (settings w a b) x f ((w.seats a).current b) (arrivals_of (neighbours w a) b (w.items a)) (w.cargoes a b) (w.put a b) (w.steps a b)) (put_there w.ends n k (after_open (w.ends n k) x (c.now n k)) a b o) (put_there w.files n k (after_event DrawsNumber (w.files n k)) a b o);
           }) g)
 
-  -- the side of an end
+  -- the invariant at one end
   side : (n k : ℕ) (g : WorldFollows w) → FollowsMachine (end_views w n k) (machine_after steps n k) (machine_after steps k n).sent (seen_at_other seen n k)
   side n k g = g.sides n k
 
@@ -357,7 +357,7 @@ module _ (laws : LinkLaws) (lows : LifeLaws) (steps : List MachineStep) (w : Wor
   arming_keeps n Fails.Write g = armed_keeps n Disk.Write g
   arming_keeps n Fails.Sync g = armed_keeps n Disk.Sync g
 
-  -- a node restarts with these life files, and no number is drawn again
+  -- a node restarts with these life files, which draw no number again
   pub anew_keeps : (n : ℕ) (torn : Option (List ℕ)) (files : ℕ → ℕ → LifeDisk) → ((a b : ℕ) → nat_eq a n ≡ false → files a b ≡ w.files a b) → ((a b m : ℕ) → IsFloor m (w.files a b) → IsFloor m (files a b)) →
       WorldFollows w → WorldFollowsBy (steps_of_restart n (w.seats n).current (neighbours w n)) (record (after_restart w n torn) { files = files })
   anew_keeps n torn files same floors g = restart_follows n (w.seats n).current steps (end_views w) (end_views (record (after_restart w n torn) { files = files })) w.datagrams seen (neighbours w n) off on g

@@ -1,4 +1,4 @@
--- Entries are exact just where the comparison of all entries says so.
+-- Entries are exact exactly if the comparison of all entries says so.
 use Rattle.std.proofs.Common.{◌≡◌, ℕ, ◌&&◌, ◌||◌, Bool, true, false, List, [], ◌∷◌, Option, None, Some, nat_eq, if◌then◌else◌, refl, sym, ap, ◌∙◌, subst, eqb-true}
 use Rattle.std.proofs.lemmas.Bool.{and_from}
 use Rattle.std.specs.Prelude.{option_and_then}
@@ -61,7 +61,7 @@ height_is rules h (Some (Some other)) e = ap (λ x. Some (Some x)) (sym (rules.s
 
 -- ---- an entry is one of a neighbour
 
--- where a node has an entry of a neighbour there is a link between them
+-- if a node has an entry of a neighbour, there is a link between them
 record IsNear (w : World) (n k : ℕ) : Type 0 where
   node : is_node w.topology n ≡ true
   near : has_number k (neighbours_of w.topology n) ≡ true

@@ -1,4 +1,4 @@
--- Events that only threads make change at most ends, life files and lanes into the cores, except a start, which is a
+-- Events that only threads make change at most ends, life files and queues into the cores, except a start, which is a
 -- Restart with other life files.
 use Rattle.std.proofs.Common.{ℕ, List, [], ◌∷◌, Option, Some, None, refl}
 use Rattle.std.proofs.lemmas.Bool.{cond_both}
@@ -15,7 +15,7 @@ use Rattle.tora_world.specs.FreeWorld.FreeEvent.{Happens, TicksEnd, PumpsOver, P
 use Rattle.tora_world.specs.Frames.{AllElse}
 use Rattle.tora_world.specs.Frames.Part.{Ends, Files, Items, Counts}
 
--- cores, lanes out, datagrams and all histories are as they were
+-- cores, queues out of cores, datagrams and all records are unchanged
 abbrev pub LeavesCores : World → World → Type 0
 LeavesCores w after = AllElse (Ends ∷ Files ∷ Items ∷ Counts ∷ []) w after
 
@@ -28,7 +28,7 @@ module _ (w : World) where
   pump_leaves c n k (Some event) = let after : World = after_pump w c n k (Some event) in leaves after.ends w.files after.items after.counts
 
   -- a property that holds after each event of the simulator, and in each world with the same cores and any life files,
-  -- holds after each event of the free world. It may also speak of values that only events of the simulator change
+  -- holds after each event of the free world. It may also be about values that only events of the simulator change
   pub free_cases : (Holds : ((A : Type 0) → (Event → A) → A → A) → World → Type 0) (c : Choice) → ((event : Event) → Holds (λ A f value. f event) (world_by c w event)) → ((after : World) → LeavesCores w after → Holds (λ A f value. value) after) →
       ((of : (A : Type 0) → (Event → A) → A → A) (after : World) → Holds of after → Holds of (record after { files = w.files })) →
       (event : FreeEvent) → Holds (λ A f value. if_happens f value event) (free_by c w event)

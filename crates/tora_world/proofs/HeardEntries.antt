@@ -1,4 +1,4 @@
--- What an entry is, by what was received from its neighbour since the link came up: NULL, or what the packets say.
+-- An entry is NULL, or what the packets say that were received from its neighbour since the link came up.
 use Rattle.std.proofs.Common.{◌≡◌, ◌≢◌, ℕ, Bool, true, false, true≢false, ◌&&◌, ◌⊎◌, inl, inr, ⊎_elim, List, [], ◌∷◌, ◌++◌, map, Option, Some, None, nat_eq, if◌then◌else◌, refl, sym, ap, ◌∙◌, subst, eqb-true, eq-eqb}
 use Rattle.std.proofs.lemmas.Bool.{cond_both, cases_Bool, false_from_ne_true}
 use Rattle.std.specs.Prelude.{is_some, is_none, not, ◌==◌, find, option_map, option_and_then, pos}
@@ -26,7 +26,7 @@ use Rattle.tora_world.proofs.ToldHeights.{heard_in, heard, heard-append, heard_o
 
 -- ---- rows
 
--- a row of neighbour k exists only while its link is up, and its entry is NULL or this
+-- a row of neighbour k exists only while its link is up, and its entry is NULL or this height
 abbrev pub IsHeardRow : ℕ → Bool → Option Quintuple → Row → Type 0
 IsHeardRow k up e row = row.neighbour ≡ k → (up ≡ true) × ((row.entry ≡ None) ⊎ (row.entry ≡ e))
 
@@ -89,7 +89,7 @@ module _ (d k : ℕ) (other : k ≢ d) (up : Bool) where
               let left : is_entry_at level row.entry ≡ false = and_true (is_entry_at level row.entry) (ap (λ (b : Bool). not b && is_entry_at level row.entry) (sym (off row q)) ∙ f) in
               inr (is ∙ sym (keep (ap (is_entry_at level) (sym is) ∙ left)))
 
-  -- an entry is withdrawn: any entry is removed or stays, and that of the neighbour itself is removed
+  -- removing the entry of a neighbour keeps the property of the rows
   withdrawn_rows : (j : ℕ) (e : Option Quintuple) (rows : List Row) → AreHeardRows k up e rows → AreHeardRows k up e (without_entry d j rows)
   withdrawn_rows j e rows h = all_map (IsHeardRow k up e) (IsHeardRow k up e) (withdrawn_row d j) one rows h
     where
@@ -110,12 +110,12 @@ module _ (d k : ℕ) (other : k ≢ d) (up : Bool) where
       one : (row : Row) → IsHeardRow k up e row → IsHeardRow k up e (untold_row j row)
       one row p = cond_both (row.neighbour == j) (record row { told = false }) row (IsHeardRow k up e) (λ _ q. p q) (λ _. p)
 
-  -- a clear comes from a neighbour, before its level is cleared
+  -- the rows after a clear from a neighbour, before its level is cleared
   behind_rows : (choice : Erasure) (j : ℕ) (e : Option Quintuple) (rows : List Row) → AreHeardRows k up e rows → AreHeardRows k up e (rows_behind_clear choice d j rows)
   behind_rows Plain j e rows h = h
   behind_rows Remembered j e rows h = untold_rows j e (without_entry d j rows) (withdrawn_rows j e rows h)
 
-  -- after that, the neighbour's own entry stays only if its clear does not remove it
+  -- after that, the entry of the clear's sender is still there only if its clear does not remove it
   own_clear_rows : (choice : Erasure) (level : Level) (e e' : Option Quintuple) → (takes_entry choice level e ≡ false → e' ≡ e) → (rows : List Row) → AreHeardRows k up e rows
       → AreHeardRows k up e' (all_cleared d level (rows_behind_clear choice d k rows))
   own_clear_rows Plain level e e' keep rows h = cleared_rows level e e' keep rows h
@@ -125,7 +125,7 @@ module _ (d k : ℕ) (other : k ≢ d) (up : Bool) where
   other_clear_rows : (choice : Erasure) (level : Level) (j : ℕ) (e : Option Quintuple) (rows : List Row) → AreHeardRows k up e rows → AreHeardRows k up e (all_cleared d level (rows_behind_clear choice d j rows))
   other_clear_rows choice level j e rows h = cleared_rows level e e (λ _. refl) (rows_behind_clear choice d j rows) (behind_rows choice j e rows h)
 
-  -- the entry of the neighbour itself, and that of another one
+  -- an update sets the entry of its sender: the neighbour or another one
   entry_rows : (height : Quintuple) (e : Option Quintuple) (rows : List Row) → AreHeardRows k up e rows → AreHeardRows k up (Some height) (with_entry k height rows)
   entry_rows height e rows h = all_map (IsHeardRow k up e) (IsHeardRow k up (Some height)) (row_with_entry k height) one rows h
     where
@@ -176,7 +176,7 @@ module _ (choice : Erasure) (me d k : ℕ) (other : k ≢ d) (up : Bool) (e : Op
       go None = record { owner = h.owner; destination = h.destination; erasure = h.erasure; rows = h.rows }
       go (Some height) = update_heard (record v { height = Some height; last = fresh_time v now }) (record { owner = h.owner; destination = h.destination; erasure = h.erasure; rows = h.rows })
 
-  -- the entries are NULL, whatever they were
+  -- the entries become NULL
   erase_heard : (v : View) (tau oid : ℕ) (was : Option Quintuple) → v.me ≡ me → v.destination ≡ d → v.erasure ≡ choice → AreHeardRows k up was v.rows → Heard (after_erase v tau oid)
   unfolding after_erase
   erase_heard v tau oid was owner at is rows = record {
@@ -251,7 +251,7 @@ module _ (choice : Erasure) (me d k : ℕ) (other : k ≢ d) (up : Bool) (e : Op
 
 -- ---- a view after an input that is accepted
 
--- the entry of k after an input
+-- the entry of k after an input, by what k sent
 abbrev heard_at : Erasure → ℕ → ℕ → Option Quintuple → Input → Option Quintuple
 heard_at choice d k e (In.LinkUp j) = if j == k then None else e
 heard_at choice d k e (In.LinkDown j) = e
@@ -280,7 +280,7 @@ module _ (choice : Erasure) (cores : CoreLaws) (me d k : ℕ) (other : k ≢ d) 
   elsewhere v input now owner at =
       ap (λ (b : Bool). if b then outcome_at_destination v input else outcome_elsewhere v input now) (false_from_ne_true (nat_eq v.me v.destination) (λ t. away (sym owner ∙ eqb-true v.me v.destination t ∙ at)))
 
-  -- where the input concerns the destination the view is that of the rules
+  -- if the input concerns the destination, the view is that of the rules
   by_rules : (up : Bool) (e : Option Quintuple) (v : View) (input : Input) (now : ℕ) → v.me ≡ me → v.destination ≡ d → HeardView up e (outcome_elsewhere v input now).view → HeardView up e (view_after v input now)
   by_rules up e v input now owner at h = subst (λ (o : Outcome). HeardView up e o.view) (sym (elsewhere v input now owner at)) h
 
@@ -437,7 +437,7 @@ module _ (choice : Erasure) (cores : CoreLaws) (me d k : ℕ) (other : k ≢ d) 
           subst (λ (o : Option StepError). Hearing (core_after c input now) (heard choice d None (if is_some o then ps else with_received k input ps))) (sym refused)
           (subst (λ (x : CoreView). Hearing x (heard choice d None ps)) (sym (ap (λ (o : Option StepError). if is_some o then c else core_taking c input now) refused)) h)
 
-  -- the first core knows nothing
+  -- the first core has no entries
   first_hears : (ds : List ℕ) (v : View) → find (is_of d) (map (first_view_of choice me) ds) ≡ Some v → HeardView false None v
   first_hears [] v e = absurd cc
   first_hears (m ∷ ds) v e = go (m == d) refl e (first_hears ds v)

@@ -1,4 +1,4 @@
--- The invariant of the prefix law: it relates every link end, its lanes, its core's seat and its life file to a run of
+-- The invariant of the prefix law: it relates every link end, its queues, its core's seat and its life file to a run of
 -- the link machine. Read it from the bottom: AllEndsFollow is the whole, FollowsMachine the part of one node and one
 -- neighbour. It does not mention timers, tries, owed frames, the window, pending cuts, results and the core's views.
 use Rattle.std.proofs.Common.{◌≡◌, ◌≢◌, ℕ, ◌<◌, ◌≤◌, Bool, true, false, ◌&&◌, List, [], ◌∷◌, ◌++◌, length, Option, Some, None, if◌then◌else◌}
@@ -31,33 +31,33 @@ arrival_of (Up l) = LifeComes l
 arrival_of (Deliver l p) = PacketComes l p
 arrival_of (Down l r) = OtherComes
 
--- what is looked at of a node and a neighbour
+-- the parts of a world that the invariant reads for a node and a neighbour
 pub record EndView : Type 0 where
   pub settings : Settings
   pub endpoint : EndState  -- the link end, except its events, which are among the arrivals
   pub file : LifeDisk  -- its life file
-  pub current : Option Life  -- the life that is current at the core
-  pub coming : List Arrival  -- in the lane, and then the events not polled
-  pub out : List Parcel  -- in the lane out
-  pub sent : List Parcel  -- all that the core ever sent to this neighbour
-  pub taken : List Parcel  -- all that it ever took from it
+  pub current : Option Life  -- the session that is current at the core
+  pub coming : List Arrival  -- the arrivals in the queue, and then those of the events that are not polled
+  pub out : List Parcel  -- the packets in the queue out of the core
+  pub sent : List Parcel  -- all packets that the core ever sent to this neighbour
+  pub taken : List Parcel  -- all packets that the core ever took from it
 
 abbrev pub is_the_current : Life → Option Life → Bool
 is_the_current l None = false
 is_the_current l (Some j) = is_same_life l j
 
--- a packet that comes, where its life is this one and is the current one then
+-- a packet that arrives, if it is of this session and the session is current then
 abbrev pub given : Life → Bool → Life → Packet → List Packet
 given l live j p = if live && is_same_life l j then p ∷ [] else []
 
--- the packets of this life that the core will take, if nothing cuts it
+-- the packets of this session that the core will take, if no cut comes before
 abbrev pub awaited : Life → Bool → List Arrival → List Packet
 awaited l live [] = []
 awaited l live (LifeComes j ∷ q) = awaited l (is_same_life l j) q
 awaited l live (PacketComes j p ∷ q) = given l live j p ++ awaited l live q
 awaited l live (OtherComes ∷ q) = awaited l live q
 
--- whether the life is the current one after all that
+-- whether the session is the current one after all these arrivals
 abbrev pub lives : Life → Bool → List Arrival → Bool
 lives l live [] = live
 lives l live (LifeComes j ∷ q) = lives l (is_same_life l j) q
@@ -68,14 +68,14 @@ abbrev pub number_of : Option Life → ℕ
 number_of None = 0
 number_of (Some l) = l.own
 
--- each life that comes is above the one before it
+-- each session that comes up is above the one before it
 abbrev pub AreRising : ℕ → List Arrival → Type 0
 AreRising n [] = Unit {0}
 AreRising n (LifeComes l ∷ q) = (n < l.own) × AreRising l.own q
 AreRising n (PacketComes l p ∷ q) = AreRising n q
 AreRising n (OtherComes ∷ q) = AreRising n q
 
--- each life that comes up is among these
+-- each session that comes up is among these
 abbrev pub ComesOf : List Life → List Arrival → Type 0
 ComesOf ls [] = Unit {0}
 ComesOf ls (LifeComes l ∷ q) = IsIn l ls × ComesOf ls q
@@ -86,24 +86,24 @@ abbrev pub IsOf : List Life → Option Life → Type 0
 IsOf ls None = Unit {0}
 IsOf ls (Some l) = IsIn l ls
 
--- each packet is of one of these lives
+-- each packet is of one of these sessions
 abbrev pub AllOf : List Life → List Parcel → Type 0
 AllOf ls xs = Each (λ x. IsIn x.life ls) xs
 
--- what was submitted to a bound end, and then what is in the lane to it, is what was sent
+-- the packets sent are those submitted to the bound end, followed by those in the queue to it
 pub record Queued (l : Life) (e : EndState) (out sent : List Parcel) : Type 0 where
   pub submitted : List Packet
   pub queue : IsQueueOf submitted e
   pub waits : submitted ++ packets_of l out ≡ packets_of l sent
 
--- while the core can take more of the life, all that was accepted is taken or comes
+-- if the core can still take packets of the session, each accepted packet is taken or among the arrivals
 abbrev pub Counted : Life → ℕ → Option Life → List Arrival → List Parcel → Type 0
 Counted l accepted current coming taken =
     lives l (is_the_current l current) coming ≡ true → length (packets_of l taken ++ awaited l (is_the_current l current) coming) ≡ accepted
 
--- a bound end: the life is bound and its number drawn; what waits was sent; what was accepted is taken or comes; what
--- is held is what the other end sent at that place; and the other end was seen to have accepted what counts as
--- acknowledged
+-- a bound end: the session is bound and its number drawn; queued packets were sent; accepted packets are taken or among
+-- the arrivals; held packets are those that the other end sent at their places; and the other end was seen to have
+-- accepted the packets that count as acknowledged
 pub record InLife (l : Life) (e : EndState) (current : Option Life) (coming : List Arrival) (out sent taken other : List Parcel) (p : MachineEnd) (done : Life → ℕ → Type 0) : Type 0 where
   pub bound : IsIn l p.bound
   pub drawn : IsIn l.own p.drawn
@@ -112,7 +112,7 @@ pub record InLife (l : Life) (e : EndState) (current : Option Life) (coming : Li
   pub held : AreHeld (IsPacketAt (packets_of (reversed l) other)) e.accepted e.held
   pub told : done l e.acknowledged
 
--- an open end that is not bound: its number is the last that was drawn, above that of each life bound
+-- an unbound end: its number is the last one drawn, above the number of each session bound
 pub record InWait (own : ℕ) (p : MachineEnd) : Type 0 where
   pub last : IsLast own p.drawn
   pub above : Each (λ l. l.own < own) p.bound
@@ -123,8 +123,8 @@ InPhase Closed v p other done = Unit {0}
 InPhase (Unbound own) v p other done = InWait own p
 InPhase (Bound l) v p other done = InLife l v.endpoint v.current v.coming v.out v.sent v.taken other p done
 
--- numbers drawn and bound are no greater than the floor of the life file; the machine's lists are the world's; each
--- packet is of a life bound
+-- no number drawn or bound is above the floor of the life file; the machine's lists are the world's; each packet is of
+-- a session bound
 pub record Histories (file : LifeDisk) (last : ℕ) (out sent taken : List Parcel) (p : MachineEnd) : Type 0 where
   pub floor : ℕ
   pub kept : IsFloor floor file  -- no later draw gives this number or a smaller one
@@ -137,20 +137,20 @@ pub record Histories (file : LifeDisk) (last : ℕ) (out sent taken : List Parce
   pub all_taken : AllOf p.bound taken
   pub all_out : AllOf p.bound out
 
--- the life that is current is the last one that came up
+-- the current session, if there is one, is the last one that came up
 abbrev pub IsLatest : Option Life → Option Life → Type 0
 IsLatest latest None = Unit {0}
 IsLatest latest (Some l) = latest ≡ Some l
 
--- a life that is closed came up no later than the last one, and is not current
+-- a closed session came up no later than the last one, and is not current
 abbrev pub IsOver : Option Life → Option Life → Life → Type 0
 IsOver latest current l = (l.own ≤ number_of latest) × (current ≢ Some l)
 
--- the arrivals at the core: lives come up with rising numbers, above that of the last one; nothing was sent or taken in
--- a life yet to come up; a closed life does not come up again; and for every life the packets taken and awaited are a
--- prefix of those that the other end has sent
+-- the arrivals at the core: sessions come up with rising numbers, above that of the last one; nothing was sent or taken
+-- in a session that is yet to come up; a closed session does not come up again; and for every session the packets taken
+-- and awaited are a prefix of those that the other end has sent
 pub record Arriving (current : Option Life) (coming : List Arrival) (sent taken other : List Parcel) (bound closed : List Life) : Type 0 where
-  pub latest : Option Life  -- the life that came up last at the core
+  pub latest : Option Life  -- the session that came up last at the core
   pub was_bound : IsOf bound latest
   pub now : IsLatest latest current
   pub comes : ComesOf bound coming
@@ -160,35 +160,35 @@ pub record Arriving (current : Option Life) (coming : List Arrival) (sent taken 
   pub over : Each (IsOver latest current) closed
   pub chain : (l : Life) → Begins (packets_of l taken ++ awaited l (is_the_current l current) coming) (packets_of (reversed l) other)
 
--- one end, what the machine has of it, what the other end has sent to it, and how much of each life it was seen to have
--- accepted
+-- one end follows the machine, given what the other end has sent to it, and how much of each session the other end was
+-- seen to have accepted
 pub record FollowsMachine (v : EndView) (p : MachineEnd) (other : List Parcel) (done : Life → ℕ → Type 0) : Type 0 where
   pub kept : IsEnd v.settings v.endpoint
   pub histories : Histories v.file v.endpoint.last_life v.out v.sent v.taken p
   pub arriving : Arriving v.current v.coming v.sent v.taken other p.bound p.closed
   pub phase : InPhase v.endpoint.phase v p other done
 
--- a frame carries packets that its sender has sent, and at most its count of accepted packets
+-- a frame carries packets that its sender has sent, and a count of packets that its sender was seen to accept
 abbrev pub Tells : List Parcel → (Life → ℕ → Type 0) → Life → Body → Type 0
 Tells sent done l Hello = Unit {0}
 Tells sent done l (Data number count packets) = BodyTells (IsPacketAt (packets_of l sent)) (Data number count packets) × done l count
 Tells sent done l (Ack count) = done l count
 
--- which counts were seen, of each end and life
+-- the counts of accepted packets that were seen, for each end and session
 abbrev pub Seen : Type 1
 Seen = ℕ → ℕ → Life → ℕ → Type 0
 
--- the invariant of every datagram ever sent: its number was drawn, and its body agrees with its sender's history
+-- the invariant of every datagram ever sent: its number was drawn, and its body agrees with its sender's record
 abbrev pub Told : Machine → Seen → FrameParts → Type 0
 Told m seen f =
     IsIn f.header.life (m f.header.sender f.header.receiver).drawn
     × Tells (m f.header.sender f.header.receiver).sent (seen f.header.sender f.header.receiver) (life_of f.header.life f.header.heard) f.body
 
--- as the other end writes it
+-- the counts that the other end was seen to accept, by the session as this end writes it
 abbrev pub seen_at_other : Seen → ℕ → ℕ → Life → ℕ → Type 0
 seen_at_other seen n k l c = seen k n (reversed l) c
 
--- the whole: the steps made are a run of the machine, every end follows it, and so does every datagram
+-- the whole invariant: the steps are a run of the machine, and every end and every datagram follows it
 pub record AllEndsFollow (steps : List MachineStep) (view : ℕ → ℕ → EndView) (frames : List FrameParts) (seen : Seen) : Type 0 where
   pub legal : IsMachineRun steps
   pub sides : (n k : ℕ) → FollowsMachine (view n k) (machine_after steps n k) (machine_after steps k n).sent (seen_at_other seen n k)

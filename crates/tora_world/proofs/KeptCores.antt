@@ -1,4 +1,4 @@
--- Over a topology that is not refused every core of a run keeps the laws of TORA's rules.
+-- Over a topology that is not refused, every core of a run keeps the invariants of TORA's rules.
 use Rattle.std.proofs.Common.{◌≡◌, ℕ, zero, suc, true, false, ◌⊎◌, inl, inr, List, [], ◌∷◌, ◌++◌, length, Option, Some, None, nat_eq, if◌then◌else◌, refl, sym, ap, ◌∙◌, subst, eqb-true, arith}
 use Rattle.std.proofs.lemmas.Bool.{cond_both, cases_Bool}
 use Rattle.std.specs.Prelude.{is_some, IfSome, filter_map, option_map, slice_get}
@@ -81,12 +81,12 @@ inputs_push : (is : List (Input × ℕ)) (input : Input) (now : ℕ) → AreInpu
 inputs_push [] input now h ok = (ok, tt)
 inputs_push ((i, t) ∷ is) input now h ok = (h.0, inputs_push is input now h.1 ok)
 
--- ---- one node: its core keeps the invariants, whatever packets come
+-- ---- one node: its core keeps the invariants, whatever packets arrive
 
 abbrev pub KeepsLaws : Topology → ℕ → Type 0
 KeepsLaws t n = (is : List (Input × ℕ)) → AreInputs is → IsCore (core_after_all (new_core t n) is)
 
--- what packets made of the first core
+-- the core is the result of valid inputs from the first core on
 pub record IsRunOf (t : Topology) (n : ℕ) (c : CoreView) : Type 0 where
   pub inputs : List (Input × ℕ)
   pub made : c ≡ core_after_all (new_core t n) inputs
@@ -105,7 +105,7 @@ run_on t n c input now ok r = record {
 first_run : (t : Topology) (n : ℕ) → IsRunOf t n (new_core t n)
 first_run t n = record { inputs = []; made = refl; sound = tt }
 
--- an item that is being served: the core comes of packets, and so does what is offered
+-- an item that is being served: the core and all offered packets are valid
 record IsFine (t : Topology) (n : ℕ) (v : Serving) : Type 0 where
   core : IsRunOf t n v.seat.core
   sends : Each (λ (o : Offer). IsCargoWith IsPacket o.cargo) v.offers
@@ -212,7 +212,7 @@ module _ (t : Topology) (n : ℕ) (keeps : KeepsLaws t n) (ks : List ℕ) (answe
   other_item_fine v now (Tells.Status status) h = record { core = h.core; sends = h.sends }
   other_item_fine v now Tells.Quit h = record { core = h.core; sends = h.sends }
 
-  -- the cuts that are tried first leave the current lives
+  -- offering the pending cuts does not change the current sessions
   cut_current : (v : Serving) (j : ℕ) (o : Option Life) → (after_cut_tried answers v j o).seat.current ≡ v.seat.current
   cut_current v j None = refl
   cut_current v j (Some l) = cond_both (answers v.offers j) _ _ (λ (x : Serving). x.seat.current ≡ v.seat.current) (λ _. refl) (λ _. refl)
@@ -238,7 +238,7 @@ module _ (t : Topology) (n : ℕ) (keeps : KeepsLaws t n) (ks : List ℕ) (answe
 
 -- ---- all nodes
 
--- each node that has a number of a node: its core comes of packets, and so does what it put
+-- at each node with a valid number, the core and all packets that it put are valid
 record AreKept (t : Topology) (w : World) : Type 0 where
   topology : w.topology ≡ t
   cores : (n : ℕ) → IsId n → IsRunOf t n (w.seats n).core
@@ -251,13 +251,13 @@ same_kept t w w' a b c h = record {
   put = λ n k id. subst (λ (f : ℕ → ℕ → List Cargo). Each (IsCargoWith IsPacket) (f n k)) (sym c) (h.put n k id);
 }
 
--- the laws of all cores of the topology, and the numbers of its nodes
+-- the invariants of all cores of the topology, and the numbers of its nodes
 pub record IsKeeping (t : Topology) : Type 0 where
   pub laws : (n : ℕ) → IsId n → KeepsLaws t n
   pub ids : (n k : ℕ) → has_number k (neighbours_of t n) ≡ true → IsId k
 
 module _ (t : Topology) (keeping : IsKeeping t) (steps : List MachineStep) (w : World) (seen : Seen) (g : AllEndsFollow steps (end_views w) w.datagrams seen) (h : AreKept t w) where
-  -- the packet of the next item is one of those that its neighbour put
+  -- the packet of the next item is one that its neighbour put
   packet_is : (n : ℕ) (item : Item) (items : List Item) → w.items n ≡ item ∷ items → (k : ℕ) (l : Life) (p : Packet) → slice_get (neighbours w n) item.seat ≡ Some k → item.what ≡ Tells.Packet l p → is_current l ((w.seats n).current k) ≡ true → IsPacket p
   packet_is n item items q k l p seat what on =
       let x = taken_is_put steps w seen g n item items q k l p seat what (current_is l ((w.seats n).current k) on) in
@@ -334,7 +334,7 @@ module _ (laws : LinkLaws) (lows : LifeLaws) (t : Topology) (keeping : IsKeeping
       run_kept es [] (first_world t times) (λ a b l c. c ≡ 0) (λ a b l. refl) (first_follows laws lows t times)
       (record { topology = refl; cores = λ n id. first_run t n; put = λ n k id. tt })
 
-  -- every core of a node is one that keeps the laws
+  -- every core keeps the invariants
   pub cores_kept : (times : Times) (es : Schedule) (n : ℕ) → IsId n → IsRunOf t n ((after_schedule es (first_world t times)).seats n).core
   cores_kept times es n id = (kept times es).cores n id
 

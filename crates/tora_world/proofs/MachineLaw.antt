@@ -11,7 +11,7 @@ use Rattle.tora_world.proofs.PacketLists.{put_cases, of_push_both, begins_refl, 
 abbrev pub Prefix : Machine → Type 0
 Prefix m = (n k : ℕ) (l : Life) → Begins (packets_of l (m n k).taken) (packets_of (reversed l) (m k n).sent)
 
--- a change at one pair that sends no less, and takes no more than was sent
+-- a change at one pair that removes nothing sent, and takes no more than was sent
 keeps : (m : Machine) (n k : ℕ) (p : MachineEnd) → Prefix m → ((l : Life) → Begins (packets_of l (m n k).sent) (packets_of l p.sent)) → ((l : Life) → Begins (packets_of l p.taken) (packets_of (reversed l) (m k n).sent)) → Prefix (put_at m n k p)
 keeps m n k p h sent taken a b l =
     let grown = put_cases (λ c d (x : MachineEnd). (l : Life) → Begins (packets_of l (m c d).sent) (packets_of l x.sent)) m n k p sent (λ c d l. begins_refl (packets_of l (m c d).sent)) in

@@ -1,4 +1,4 @@
--- The moves of an end, its lanes and its core's seat: each keeps the invariant.
+-- The steps of an end, its queues and its core's seat: each keeps the invariant.
 use Rattle.std.proofs.Common.{◌≡◌, ◌≢◌, ℕ, suc, ◌+◌, ◌<◌, ◌≤◌, Bool, true, false, true≢false, ◌&&◌, ◌⊎◌, inl, inr, ⊎_elim, List, [], ◌∷◌, ◌++◌, map, length, Option, Some, None, if◌then◌else◌, refl, sym, ap, ◌∙◌, subst, ap₂, append_assoc, append-nil, arith, length-append}
 use Rattle.std.proofs.lemmas.Bool.{cases_Bool, and_parts}
 use Rattle.std.specs.Prelude.{slice_get}
@@ -68,14 +68,14 @@ IsOf_more l ls (Some j) h = inr h
 All_more : (l : Life) (ls : List Life) (xs : List Parcel) → AllOf ls xs → AllOf (l ∷ ls) xs
 All_more l ls xs h = Each_mono (λ (x : Parcel). IsIn x.life ls) (λ (x : Parcel). IsIn x.life (l ∷ ls)) (λ x i. inr i) xs h
 
--- nothing of a life that is above all lives bound
+-- there is nothing of a session above all bound sessions
 none_of : (l : Life) (ls : List Life) (xs : List Parcel) → Each (λ j. j.own < l.own) ls → AllOf ls xs → packets_of l xs ≡ []
 none_of l ls [] b h = refl
 none_of l ls (x ∷ xs) b h =
     let n : l ≢ x.life = λ e. let o : l.own ≡ x.life.own = ap (λ (j : Life). j.own) e in let m : x.life.own < l.own = Each_at (λ (j : Life). j.own < l.own) ls x.life b h.0 in omega arith in
     ap (λ ys. ys ++ packets_of l xs) (only_other l x n) ∙ none_of l ls xs b h.1
 
--- a life that is now the current one is the last one that came up
+-- a session that is current now is the last one that came up
 now_is : (l : Life) (latest current : Option Life) → is_the_current l current ≡ true → IsLatest latest current → latest ≡ Some l
 now_is l latest None e n = absurd (true≢false (sym e))
 now_is l latest (Some j) e n = n ∙ ap Some (sym (same_true l j e))
@@ -101,7 +101,7 @@ last_at : (P : ℕ → Type 0) (x : ℕ) (xs : List ℕ) → IsLast x xs → Eac
 last_at P x [] e h = absurd e
 last_at P x (y ∷ ys) e h = subst P (sym e) h.0
 
--- the life file changes, and draws no number that it did not draw before
+-- the life file changes, and draws no number that it could not draw before
 pub refiles : (v : EndView) (p : MachineEnd) (other : List Parcel) (done : Life → ℕ → Type 0) (file : LifeDisk) → ((n : ℕ) → IsFloor n v.file → IsFloor n file) → FollowsMachine v p other done → FollowsMachine (record v { file = file }) p other done
 refiles v p other done file f h = record {
   kept = h.kept;
@@ -155,7 +155,7 @@ opens v p other done x now file f h =
 
 -- ---- later arrivals
 
--- what brings no life up comes
+-- an arrival that brings no session up
 quiet_arriving : (current : Option Life) (q r : List Arrival) (sent taken other : List Parcel) (bound closed : List Life) → BringsNoLife r
     → ((l : Life) → Begins (packets_of l taken ++ awaited l (is_the_current l current) q) (packets_of (reversed l) other) → Begins (packets_of l taken ++ awaited l (is_the_current l current) (q ++ r)) (packets_of (reversed l) other))
     → Arriving current q sent taken other bound closed → Arriving current (q ++ r) sent taken other bound closed
@@ -290,7 +290,7 @@ module _ (laws : LinkLaws) (v : EndView) (p : MachineEnd) (other : List Parcel) 
     phase = subst (λ x. InPhase x (called v call out) p other done) (sym e) k;
   }
 
-  -- the bound life continues
+  -- the bound session continues
   goes_on : (l : Life) → v.endpoint.phase ≡ Bound l → after.phase ≡ Bound l → FollowsMachine v p other done → FollowsMachine (called v call out) p other done
   goes_on l e e' h =
       let k : InLife l v.endpoint v.current v.coming v.out v.sent v.taken other p done = subst (λ x. InPhase x v p other done) e h.phase in
@@ -317,7 +317,7 @@ module _ (laws : LinkLaws) (v : EndView) (p : MachineEnd) (other : List Parcel) 
         told = ⊎_elim (λ q. subst (done l) (sym q) k.told) (λ t. ok.counts l after.acknowledged t) a.told;
       })
 
-  -- no life is bound by the call
+  -- the call binds no session
   pub call_stays : ((l : Life) → after.phase ≡ Bound l → v.endpoint.phase ≡ Bound l) → FollowsMachine v p other done → FollowsMachine (called v call out) p other done
   call_stays stays h = go after.phase refl
     where
@@ -330,7 +330,7 @@ module _ (laws : LinkLaws) (v : EndView) (p : MachineEnd) (other : List Parcel) 
           (laws.opens v.settings v.endpoint call ok.possible own e)
       go (Bound l) e = goes_on l (stays l e) e h
 
-  -- a life is bound by the call
+  -- the call binds a session
   pub call_binds : (l : Life) → v.endpoint.phase ≡ Unbound l.own → after.phase ≡ Bound l → done l 0 → FollowsMachine v p other done → FollowsMachine (called v call out) (binding p l) other done
   call_binds l e e' zero h =
       let w : InWait l.own p = subst (λ x. InPhase x v p other done) e h.phase in
@@ -396,7 +396,7 @@ module _ (laws : LinkLaws) (v : EndView) (p : MachineEnd) (other : List Parcel) 
         phase = subst (λ x. InPhase x (called v call out) (binding p l) other done) (sym e') k;
       }
 
--- an event is polled: it comes all the same
+-- an event is polled, and stays an arrival
 pub polls : (laws : LinkLaws) (v : EndView) (p : MachineEnd) (other : List Parcel) (done : Life → ℕ → Type 0) → FollowsMachine v p other done → FollowsMachine (record v { endpoint = after_poll_event v.endpoint }) p other done
 polls laws v p other done h = record {
   kept = laws.next v.settings v.endpoint PollEvent tt h.kept;
@@ -423,7 +423,7 @@ polls laws v p other done h = record {
 
 -- ---- the core's seat
 
--- what comes may change where it is counted as before
+-- the arrivals may change if the packets awaited are the same
 pub phase_counted : (v : EndView) (p p' : MachineEnd) (other : List Parcel) (done : Life → ℕ → Type 0) (now : Option Life) (q : List Arrival) (t : List Parcel) → p.bound ≡ p'.bound → p.drawn ≡ p'.drawn → ((l : Life) → Counted l v.endpoint.accepted v.current v.coming v.taken → Counted l v.endpoint.accepted now q t) →
     (ph : Phase) → InPhase ph v p other done → InPhase ph (record v { current = now; coming = q; taken = t }) p' other done
 phase_counted v p p' other done now q t b d c Closed h = tt
@@ -437,14 +437,14 @@ phase_counted v p p' other done now q t b d c (Bound l) h = record {
   told = h.told;
 }
 
--- the core's seat at the sign that comes next
+-- the core's seat takes the next arrival
 pub coming_is : {v : EndView} {p : MachineEnd} {other : List Parcel} {done : Life → ℕ → Type 0} {q : List Arrival} → v.coming ≡ q → FollowsMachine v p other done → Arriving v.current q v.sent v.taken other p.bound p.closed
 coming_is {v} {p} {other} {done} e h = subst (λ q. Arriving v.current q v.sent v.taken other p.bound p.closed) e h.arriving
 
 pub counted_is : (v : EndView) (q : List Arrival) → v.coming ≡ q → (l : Life) → Counted l v.endpoint.accepted v.current v.coming v.taken → Counted l v.endpoint.accepted v.current q v.taken
 counted_is v q e l c = subst (λ r. Counted l v.endpoint.accepted v.current r v.taken) e c
 
--- it passes over what is no packet, and no life that comes
+-- it ignores an arrival that is neither a packet nor a session
 pub passes : (v : EndView) (p : MachineEnd) (other : List Parcel) (done : Life → ℕ → Type 0) (q : List Arrival) → v.coming ≡ OtherComes ∷ q → FollowsMachine v p other done → FollowsMachine (record v { coming = q }) p other done
 passes v p other done q e h =
     let f = coming_is e h in record {
@@ -475,7 +475,7 @@ given_off l j o x n =
     (λ on e. absurd (n (subst (λ i. o ≡ Some i) e (is_now_true l o on))))
     refl
 
--- and over a packet of a life that is not the current one
+-- it ignores a packet of a session that is not current
 pub skips : (v : EndView) (p : MachineEnd) (other : List Parcel) (done : Life → ℕ → Type 0) (j : Life) (x : Packet) (q : List Arrival) → v.coming ≡ PacketComes j x ∷ q → v.current ≢ Some j → FollowsMachine v p other done → FollowsMachine (record v { coming = q }) p other done
 skips v p other done j x q e n h =
     let f = coming_is e h in
@@ -499,7 +499,7 @@ skips v p other done j x q e n h =
           (λ l c on. sym (ap (λ ys. length (packets_of l v.taken ++ ys)) (none l)) ∙ counted_is v (PacketComes j x ∷ q) e l c on) v.endpoint.phase h.phase;
     }
 
--- a life that comes is the current one
+-- a session that comes up is the current one
 pub ups : (v : EndView) (p : MachineEnd) (other : List Parcel) (done : Life → ℕ → Type 0) (l : Life) (q : List Arrival) → v.coming ≡ LifeComes l ∷ q → FollowsMachine v p other done → FollowsMachine (record v { coming = q; current = Some l }) p other done
 ups v p other done l q e h =
     let f = coming_is e h in record {
@@ -519,25 +519,25 @@ ups v p other done l q e h =
       phase = phase_counted v p p other done (Some l) q v.taken refl refl (λ j c. counted_is v (LifeComes l ∷ q) e j c) v.endpoint.phase h.phase;
     }
 
--- nothing of a life above this
+-- there is nothing of a session above this one
 none_above : (l : Life) (latest : ℕ) (xs : List Parcel) → latest < l.own → Each (λ x. x.life.own ≤ latest) xs → packets_of l xs ≡ []
 none_above l latest [] lt k = refl
 none_above l latest (x ∷ xs) lt k =
     let n : l ≢ x.life = λ y. let o : l.own ≡ x.life.own = ap (λ (j : Life). j.own) y in absurd (omega (arith, o, k.0, lt)) in
     ap (λ ys. ys ++ packets_of l xs) (only_other l x n) ∙ none_above l latest xs lt k.1
 
--- nothing was sent in a life that comes
+-- nothing was sent in a session that comes up
 pub comes_new : (v : EndView) (p : MachineEnd) (other : List Parcel) (done : Life → ℕ → Type 0) (l : Life) (q : List Arrival) → v.coming ≡ LifeComes l ∷ q → FollowsMachine v p other done → packets_of l v.sent ≡ []
 comes_new v p other done l q e h = let f = coming_is e h in none_above l (number_of f.latest) v.sent f.rises.0 f.older
 
--- nor was anything taken in it
+-- nothing was taken in a session that comes up
 pub comes_untaken : (v : EndView) (p : MachineEnd) (other : List Parcel) (done : Life → ℕ → Type 0) (l : Life) (q : List Arrival) → v.coming ≡ LifeComes l ∷ q → FollowsMachine v p other done → packets_of l v.taken ≡ []
 comes_untaken v p other done l q e h = let f = coming_is e h in none_above l (number_of f.latest) v.taken f.rises.0 f.taken_before
 
 is_of_now : (bound : List Life) (latest : Option Life) (l : Life) → IsOf bound latest → latest ≡ Some l → IsIn l bound
 is_of_now bound latest l o e = subst (IsOf bound) e o
 
--- a packet of the current life is taken
+-- a packet of the current session is taken
 taken_front : (j l : Life) (x : Packet) (t : List Parcel) (ys : List Packet) →
     packets_of j (t ++ record { life = l; packet = x } ∷ []) ++ ys ≡ packets_of j t ++ (given j (is_the_current j (Some l)) l x ++ ys)
 taken_front j l x t ys =
@@ -608,11 +608,11 @@ takes_next v p other done l x q e on h =
     (let z : length (packets_of l v.taken) ≡ length (packets_of l v.taken) + 0 = omega arith in
     subst (λ i. slice_get (packets_of l v.taken ++ (x ∷ awaited l (is_the_current l (Some l)) q)) i ≡ Some x) (sym z) (at_middle (packets_of l v.taken) (x ∷ awaited l (is_the_current l (Some l)) q) 0)))
 
--- a closed life that was not current is not current once there is none
+-- a closed session that was not current is not current after there is none
 over_none : (latest current : Option Life) (ls : List Life) → Each (IsOver latest current) ls → Each (IsOver latest None) ls
 over_none latest current ls h = Each_mono (IsOver latest current) (IsOver latest None) (λ l o. (o.0, λ e. cc)) ls h
 
--- the current life is closed: the core takes no more of it
+-- the current session is closed: the core takes no more packets of it
 pub closes : (v : EndView) (p : MachineEnd) (other : List Parcel) (done : Life → ℕ → Type 0) (life : Life) → v.current ≡ Some life → FollowsMachine v p other done → FollowsMachine (record v { current = None }) (closing p life) other done
 closes v p other done life on h =
     let less : (l : Life) → Begins (packets_of l v.taken ++ awaited l false v.coming) (packets_of (reversed l) other) = λ l. less_of l (cases_Bool (is_the_current l v.current)) in
@@ -650,7 +650,7 @@ closes v p other done life on h =
     count_of l c (inl e) on = absurd (true≢false (sym on ∙ lives_off l (number_of h.arriving.latest) v.coming (below l e) h.arriving.rises))
     count_of l c (inr e) on = subst (λ b. lives l b v.coming ≡ true → length (packets_of l v.taken ++ awaited l b v.coming) ≡ v.endpoint.accepted) e c on
 
--- the core puts a packet of the current life into the lane out
+-- the core puts a packet of the current session into the queue to its neighbour
 phase_puts : (v : EndView) (p : MachineEnd) (other : List Parcel) (done : Life → ℕ → Type 0) (x : Parcel) → (ph : Phase) → InPhase ph v p other done → InPhase ph (record v { sent = v.sent ++ x ∷ []; out = v.out ++ x ∷ [] }) (sending p x) other done
 phase_puts v p other done x Closed h = tt
 phase_puts v p other done x (Unbound own) h = record { last = h.last; above = h.above; some = h.some }
@@ -701,7 +701,7 @@ puts v p other done x e h =
       phase = phase_puts v p other done x v.endpoint.phase h.phase;
     }
 
--- nothing but closed lives is more, and these were closed or current before
+-- only sessions were closed, and these were closed or current before
 pub record ClosesMore (current : Option Life) (p p' : MachineEnd) : Type 0 where
   pub drawn : p'.drawn ≡ p.drawn
   pub bound : p'.bound ≡ p.bound
@@ -709,7 +709,7 @@ pub record ClosesMore (current : Option Life) (p p' : MachineEnd) : Type 0 where
   pub taken : p'.taken ≡ p.taken
   pub closed : Each (λ l. (current ≡ Some l) ⊎ IsIn l p.closed) p'.closed
 
--- the node restarts, and the current life is lost
+-- the node restarts, and the current session is lost
 pub restarts : (laws : LinkLaws) (v : EndView) (p p' : MachineEnd) (other : List Parcel) (done : Life → ℕ → Type 0) (file : LifeDisk) → ClosesMore v.current p p' → ((n : ℕ) → IsFloor n v.file → IsFloor n file) → FollowsMachine v p other done →
     FollowsMachine (record v { endpoint = first_end; file = file; current = None; coming = []; out = [] }) p' other done
 restarts laws v p p' other done file more f h = record {
@@ -743,6 +743,6 @@ restarts laws v p p' other done file more f h = record {
     current_own : (l : Life) → v.current ≡ Some l → l.own ≤ number_of h.arriving.latest
     current_own l on = let e : h.arriving.latest ≡ Some l = subst (IsLatest h.arriving.latest) on h.arriving.now in let n : number_of h.arriving.latest ≡ l.own = ap number_of e in omega (arith, n)
 
--- a life that is current is not closed
+-- a session that is current is not closed
 pub current_open : (v : EndView) (p : MachineEnd) (other : List Parcel) (done : Life → ℕ → Type 0) (l : Life) → v.current ≡ Some l → FollowsMachine v p other done → Each (λ c. c ≢ l) p.closed
 current_open v p other done l on h = Each_mono (IsOver h.arriving.latest v.current) (λ c. c ≢ l) (λ c o e. o.1 (on ∙ ap Some (sym e))) p.closed h.arriving.over

@@ -1,4 +1,4 @@
--- Where no link is named twice, the neighbours of a node are different from each other.
+-- If no link is named twice, the neighbours of a node differ from each other.
 use Rattle.std.proofs.Common.{◌≡◌, ℕ, true, false, true≢false, ◌||◌, List, [], ◌∷◌, nat_eq, nat_lt, refl, sym, ap, ◌∙◌, subst, eqb-true, eq-eqb}
 use Rattle.tora_world.proofs.SoundTopology.{sound, others-once}
 use Rattle.std.proofs.lemmas.Bool.{cond_both, false_from_ne_true, or_right, or_parts, or_from}

@@ -1,5 +1,5 @@
--- A life file may become any file after which no number is drawn that was not to be drawn before: the change that makes
--- this one that one, and leaves every other as it is, forgets nothing.
+-- A life file may become any file that draws no number which it could not draw itself: the change that turns the first
+-- file into the second, and leaves every other file as it is, allows no number again.
 use Rattle.std.proofs.Common.{◌≡◌, ℕ, Bool, true, false, true≢false, List, [], ◌∷◌, Option, Some, None, refl, sym, ap, ap₂, ◌∙◌, subst}
 use native.Mathlib.Decide.{ℕ_discrete}
 use Rattle.tora_life.specs.declared.numbers.Numbers.{Numbers}
@@ -10,9 +10,9 @@ use Rattle.tora_life.specs.LifeRun.{LifeDisk, LifeEvent, IsFloor, MayHappen, aft
 use Rattle.tora_world.specs.FreeWorld.{MayBecome}
 use Rattle.tora_world.specs.Layers.{LifeLaws}
 
--- ---- whether two files are the same
+-- ---- whether two files are equal
 
--- by parts that it is made of
+-- equality is decidable if it is for the parts
 discrete_by : {A B : Type 0} (parts : A → B) (whole : B → A) → ((a : A) → whole (parts a) ≡ a) → Discrete B → Discrete A
 discrete_by {A} {B} parts whole is dec a b = go (dec (parts a) (parts b))
   where
@@ -132,6 +132,6 @@ module _ (before after : LifeDisk) where
   pub may_become : ((m : ℕ) → IsFloor m before → IsFloor m after) → MayBecome before after
   may_become kept = (λ disk. instead disk (discrete_disk disk before), λ n disk h. forgets_nothing kept n disk (discrete_disk disk before) h, here (discrete_disk before before))
 
--- the same holds after any call and any crash
+-- a life file may become the file after any call or crash
 pub becomes_by_event : LifeLaws → (event : LifeEvent) (disk : LifeDisk) → MayHappen event disk → MayBecome disk (after_event event disk)
 becomes_by_event lows event disk may = may_become disk (after_event event disk) (λ m h. lows.keep m event disk h may)

@@ -164,7 +164,7 @@ module _ (me : ℕ) where
       go (Some (Tell.Update height)) t q = let y : packet_of v.destination (Tell.Update height) ≡ packet = cc in subst IsSentBy y (eq-eqb height.id me t)
       go (Some (Tell.Clear tau oid)) t q = let y : packet_of v.destination (Tell.Clear tau oid) ≡ packet = cc in subst IsSentBy y refl
 
-  -- the views of a core stay its own, and so are its packets
+  -- after an input, the views of a core still have only heights of its own node, and so have its packets
   pub views_own : (c : CoreView) (input : Input) (now : ℕ) → Each (IsOwnView me) c.views → Each (IsOwnView me) (core_after c input now).views
   views_own c input now h = cond_both (is_some (refusal_of c input)) c (core_taking c input now) (λ (x : CoreView). Each (IsOwnView me) x.views) (λ _. h) (λ _. go c.views h)
     where

@@ -1,4 +1,4 @@
--- Lists of packets by life, prefixes, places, and a value for each pair of nodes.
+-- Lists of packets by session, prefixes, places, and a value for each pair of nodes.
 use Rattle.tora_packet.specs.declared.Packet.{Packet}
 use Rattle.std.proofs.Common.{◌≡◌, ◌≢◌, ℕ, zero, suc, ◌+◌, Bool, true, false, true≢false, ◌&&◌, inl, inr, ⊎_elim, List, [], ◌∷◌, ◌++◌, length, Some, nat_eq, if◌then◌else◌, refl, sym, ap, ◌∙◌, subst, append_assoc, append-nil, eqb-true, eq-eqb, arith, length-append}
 use Rattle.std.proofs.lemmas.Bool.{and_parts, and_from, cases_Bool, false_from_ne_true}
@@ -23,7 +23,7 @@ same_true l m e =
 pub same_false : (l m : Life) → l ≢ m → is_same_life l m ≡ false
 same_false l m n = false_from_ne_true _ (λ e. n (same_true l m e))
 
--- either the one pair, or what was there
+-- the value at the one pair, or the old value
 pub put_cases {ℓ} : {A : Type 0} (P : ℕ → ℕ → A → Type ℓ) (f : ℕ → ℕ → A) (n k : ℕ) (v : A) → P n k v → ((a b : ℕ) → P a b (f a b)) → (a b : ℕ) → P a b (put_at f n k v a b)
 put_cases P f n k v here there a b =
     cond_both_up (nat_eq a n && nat_eq b k) v (f a b) (P a b)
@@ -44,7 +44,7 @@ of-append l (x ∷ xs) ys = ap (λ zs. packet_where l x ++ zs) (of-append l xs y
 pub of-push : (l : Life) (xs : List Parcel) (x : Parcel) → packets_of l (xs ++ x ∷ []) ≡ packets_of l xs ++ packet_where l x
 of-push l xs x = of-append l xs (x ∷ []) ∙ ap (λ zs. packets_of l xs ++ zs) (append-nil (packet_where l x))
 
--- one more packet is at the end of its own life, and in no other
+-- one more packet is the last one of its own session, and changes no other session
 pub of_push_both : (Q : List Packet → Type 0) (l : Life) (xs : List Parcel) (x : Parcel) → (l ≡ x.life → Q (packets_of l xs ++ x.packet ∷ [])) → (l ≢ x.life → Q (packets_of l xs)) → Q (packets_of l (xs ++ x ∷ []))
 of_push_both Q l xs x mine other =
     subst Q (sym (of-push l xs x))
@@ -71,11 +71,11 @@ begins_trans xs ys zs p q = (p.0 ++ q.0, sym (append_assoc xs p.0 q.0) ∙ ap (�
 pub begins_append : (xs ys : List Packet) → Begins xs (xs ++ ys)
 begins_append xs ys = (ys, refl)
 
--- a front of a front
+-- a prefix of a prefix
 pub begins_front : (xs ys zs : List Packet) → Begins (xs ++ ys) zs → Begins xs zs
 begins_front xs ys zs p = (ys ++ p.0, sym (append_assoc xs ys p.0) ∙ p.1)
 
--- what is at a place stays there
+-- an element at a place is at that place in a longer list
 pub at_begins : (xs ys : List Packet) (i : ℕ) (p : Packet) → Begins xs ys → slice_get xs i ≡ Some p → slice_get ys i ≡ Some p
 at_begins xs ys i p b e = subst (λ zs. slice_get zs i ≡ Some p) b.1 (go xs b.0 i e)
   where
@@ -84,7 +84,7 @@ at_begins xs ys i p b e = subst (λ zs. slice_get zs i ≡ Some p) b.1 (go xs b.
     go (x ∷ xs) zs zero e = e
     go (x ∷ xs) zs (suc i) e = go xs zs i e
 
--- the next item may be added to a front
+-- the next element may be added to a prefix
 pub begins_more : (xs ys : List Packet) (p : Packet) → Begins xs ys → slice_get ys (length xs) ≡ Some p → Begins (xs ++ p ∷ []) ys
 begins_more xs ys p b e = go xs b.0 ys b.1 e
   where
@@ -96,7 +96,7 @@ begins_more xs ys p b e = go xs b.0 ys b.1 e
         let q : x ≡ y = cc in
         let r = go xs rest ys (cc) h in (r.0, ap (λ zs. x ∷ zs) r.1 ∙ ap (λ x. x ∷ ys) q)
 
--- what comes after a front of this length
+-- the elements after a prefix of this length
 pub at_middle : (xs ys : List Packet) (i : ℕ) → slice_get (xs ++ ys) (length xs + i) ≡ slice_get ys i
 at_middle [] ys i = ap (slice_get ys) (omega arith)
 at_middle (x ∷ xs) ys i = let e : suc (length xs) + i ≡ suc (length xs + i) = omega arith in ap (slice_get (x ∷ (xs ++ ys))) e ∙ at_middle xs ys i
@@ -119,7 +119,7 @@ at_pair n k a b = nat_eq a n && nat_eq b k
 pub put_there : {A : Type 0} (f : ℕ → ℕ → A) (n k : ℕ) (v : A) (a b : ℕ) → at_pair n k a b ≡ false → put_at f n k v a b ≡ f a b
 put_there f n k v a b e = ap (λ t. if t then v else f a b) e
 
--- at the one pair, and at any other
+-- at the one pair, and at every other
 pub by_pair : (P : ℕ → ℕ → Type 0) (n k : ℕ) → P n k → ((a b : ℕ) → at_pair n k a b ≡ false → P a b) → (a b : ℕ) → P a b
 by_pair P n k here there a b =
     ⊎_elim
@@ -127,7 +127,7 @@ by_pair P n k here there a b =
     (λ (e : at_pair n k a b ≡ false). there a b e)
     (cases_Bool (at_pair n k a b))
 
--- the next items may be added to a front
+-- the next elements may be added to a prefix
 pub begins_many : (xs ys ps : List Packet) → Begins xs ys → AreFrom (IsPacketAt ys) (length xs) ps → Begins (xs ++ ps) ys
 begins_many xs ys [] b f = subst (λ zs. Begins zs ys) (sym (append-nil xs)) b
 begins_many xs ys (p ∷ ps) b f =

@@ -1,4 +1,4 @@
--- What an item puts into the lane to a neighbour leaves it within its room, with the results of the simulator's lanes.
+-- With the simulator's queues, an item puts at most as many messages into a queue as there is room for.
 use Rattle.std.proofs.Common.{◌≡◌, ℕ, suc, ◌≤◌, Bool, true, false, ◌&&◌, List, [], ◌∷◌, ◌++◌, length, nat_eq, if◌then◌else◌, refl, sym, ap, ◌∙◌, subst, append_assoc, append-nil, length-append, ltb-true, eqb-true, arith}
 use Rattle.tora_core.specs.declared.Input.{Input}
 use Rattle.tora_core.specs.CoreRun.{CoreView}
@@ -19,7 +19,7 @@ module _ (w : World) (n : ℕ) where
   abbrev answers : Answers
   answers = own_answers w n
 
-  -- no lane out has more than it holds
+  -- no queue out of the core has more messages than it holds
   abbrev Within : List Offer → Type 0
   Within offers = (k : ℕ) → length (w.cargoes n k ++ put_to k offers) ≤ MOST_CARGOES
 

@@ -1,4 +1,4 @@
--- What a core has taken in a current life is what it has accepted from the neighbour since the link came up.
+-- What a core has taken in a current session is what it has accepted from the neighbour since the link came up.
 use Rattle.std.proofs.Common.{◌≡◌, ◌≢◌, ℕ, zero, suc, Bool, true, false, true≢false, ◌⊎◌, inl, inr, List, [], ◌∷◌, ◌++◌, length, Option, Some, None, nat_eq, if◌then◌else◌, refl, sym, ap, ◌∙◌, subst, append_assoc, append-nil, eqb-true, eq-eqb}
 use Rattle.std.proofs.lemmas.Bool.{cond_both, cases_Bool, false_from_ne_true}
 use Rattle.std.specs.Prelude.{slice_get, is_some, ◌==◌}
@@ -46,7 +46,7 @@ stepped-push k (x ∷ steps) s =
     ap (λ ys. (if nat_eq x.from k then x.parcel ∷ [] else []) ++ ys) (stepped-push k steps s)
     ∙ sym (append_assoc (if nat_eq x.from k then x.parcel ∷ [] else []) (stepped_from k steps) (if nat_eq s.from k then s.parcel ∷ [] else []))
 
--- one current life less
+-- one current session fewer
 fewer_current : (f : ℕ → Option Life) (k j : ℕ) (l : Life) → put_one f k None j ≡ Some l → f j ≡ Some l
 fewer_current f k j l e = go (cases_Bool (nat_eq j k))
   where
@@ -55,14 +55,14 @@ fewer_current f k j l e = go (cases_Bool (nat_eq j k))
     go (inr t) = sym (ap (λ b. if b then None else f j) t) ∙ e
 
 module _ (cores : CoreLaws) (seats : SeatLaws) (ks : List ℕ) (answers : Answers) (first : CoreView) (before : List (Input × ℕ)) (base : ℕ → List Parcel) where
-  -- all that the core has taken in this life, where these packets were stepped while the item is served
+  -- all that the core has taken in this session, including the packets that were passed to it while the item is served
   abbrev taken_in : List Step → ℕ → Life → List Packet
   taken_in ss k l = packets_of l (base k ++ stepped_from k ss)
 
   abbrev received : ℕ → List (Input × ℕ) → List Packet
   received k inputs = received_from k first (before ++ inputs) []
 
-  -- an item that is being served, these packets having been stepped
+  -- an item that is being served, after these packets were passed to the core
   pub record Sound (ss : List Step) (v : Serving) : Type 0 where
     pub near : (j : ℕ) → has_number j ks ≡ true → has_number j v.seat.core.neighbours ≡ true
     pub up : (j : ℕ) (l : Life) → has_number j ks ≡ true → v.seat.current j ≡ Some l → has_number j v.seat.core.up ≡ true
@@ -70,7 +70,7 @@ module _ (cores : CoreLaws) (seats : SeatLaws) (ks : List ℕ) (answers : Answer
     pub follows : v.seat.core ≡ core_after_all first (before ++ v.inputs)
     pub same : (k : ℕ) (l : Life) → v.seat.current k ≡ Some l → taken_in ss k l ≡ received k v.inputs
 
-  -- ---- cargoes
+  -- ---- outbound messages
 
   cut_sound : (ss : List Step) (v : Serving) (k : ℕ) (o : Option Life) → Sound ss v → Sound ss (after_cut_tried answers v k o)
   cut_sound ss v k None h = h
@@ -109,7 +109,7 @@ module _ (cores : CoreLaws) (seats : SeatLaws) (ks : List ℕ) (answers : Answer
 
   -- ---- inputs
 
-  -- the condition when the core takes an input: everything except the links up and the received packets
+  -- the conditions when the core takes an input, apart from those on the links that are up and on the packets received
   record Ready (ss : List Step) (v : Serving) : Type 0 where
     near : (j : ℕ) → has_number j ks ≡ true → has_number j v.seat.core.neighbours ≡ true
     stepped : v.steps ≡ ss
@@ -137,7 +137,7 @@ module _ (cores : CoreLaws) (seats : SeatLaws) (ks : List ℕ) (answers : Answer
       pushed : (before ++ v.inputs) ++ (input, now) ∷ [] ≡ before ++ (v.inputs ++ (input, now) ∷ [])
       pushed = append_assoc before v.inputs ((input, now) ∷ [])
 
-  -- a link goes down whose life is no longer current
+  -- the link goes down after its session is no longer current
   down_sound : (ss : List Step) (v : Serving) (k now : ℕ) → has_number k ks ≡ true → has_number k v.seat.core.up ≡ true → v.seat.current k ≡ None → Sound ss v → Sound ss (after_step answers ks (In.LinkDown k) now v)
   down_sound ss v k now m u none h =
       accepts ss v (In.LinkDown k) now (down_accepted cores v.seat.core k (h.near k m) u) (ready ss v h)
@@ -192,7 +192,7 @@ module _ (cores : CoreLaws) (seats : SeatLaws) (ks : List ℕ) (answers : Answer
           subst (λ r. Sound ss (after_answer answers ks (In.Need d) now v r)) (sym e)
           (record { near = h.near; up = h.up; stepped = h.stepped; follows = h.follows; same = h.same })
 
-  -- the current life of a neighbour is over
+  -- the current session of a neighbour is over
   none_sound : (ss : List Step) (v : Serving) (k : ℕ) → Sound ss v → Sound ss (with_current v k None)
   none_sound ss v k h = record {
     near = h.near;
@@ -208,7 +208,7 @@ module _ (cores : CoreLaws) (seats : SeatLaws) (ks : List ℕ) (answers : Answer
   down_done : (ss : List Step) (v : Serving) (k now : ℕ) (l : Life) → has_number k ks ≡ true → v.seat.current k ≡ Some l → Sound ss v → Sound ss (after_down answers ks k now v)
   down_done ss v k now l m on h = input_sound ss (with_current v k None) (In.LinkDown k) now (down_step ss v k now l m on h)
 
-  -- the current life of a neighbour is cut
+  -- the current session of a neighbour is cut
   life_cut_sound : (ss : List Step) (v : Serving) (k now : ℕ) (o : Option Life) → has_number k ks ≡ true → v.seat.current k ≡ o → Sound ss v → Sound ss (after_life_cut answers ks k now v o)
   life_cut_sound ss v k now None m e h = h
   life_cut_sound ss v k now (Some l) m e h =
@@ -225,11 +225,11 @@ module _ (cores : CoreLaws) (seats : SeatLaws) (ks : List ℕ) (answers : Answer
       stays_down ss k (length ks) now (after_step answers ks (In.LinkDown k) now v') s
       (ap (λ up. has_number k up) (accepted_up answers ks v' (In.LinkDown k) now ok) ∙ cores.goes v.seat.core k now ok)
 
-  -- no neighbour is to be stepped down
+  -- no link has to go down
   abbrev Settled : Serving → Type 0
   Settled v = (j : ℕ) → ¬ IsCut ks v.seat j
 
-  -- before a life comes up its link is down at the core
+  -- the old link is down at the core before a new session comes up
   old_done : (ss : List Step) (v : Serving) (k now : ℕ) (o : Option Life) → has_number k ks ≡ true → v.seat.current k ≡ o → Settled v → Sound ss v →
       Sound ss (after_old_down answers ks k now v o) × (has_number k (after_old_down answers ks k now v o).seat.core.up ≡ false)
   old_done ss v k now None m e settled h = (h, false_from_ne_true (has_number k v.seat.core.up) (λ u. settled k (record { neighbour = m; up = u; none = e })))
@@ -283,7 +283,7 @@ module _ (cores : CoreLaws) (seats : SeatLaws) (ks : List ℕ) (answers : Answer
       takes j l e (inr t) =
           subst (λ (b : Bool). packets_of l (base j ++ ((if b then parcel_of life packet ∷ [] else []) ++ [])) ≡ (if b then received j v.inputs ++ packet ∷ [] else received j v.inputs)) (sym t) (h.same j l e)
 
-  -- what an item leaves
+  -- the state after an item
   record Done (v : Serving) : Type 0 where
     ss : List Step
     sound : Sound ss v
@@ -325,7 +325,7 @@ module _ (cores : CoreLaws) (seats : SeatLaws) (ks : List ℕ) (answers : Answer
   other_item_done v now (Tells.Status status) h = record { ss = []; sound = record { near = h.near; up = h.up; stepped = h.stepped; follows = h.follows; same = h.same } }
   other_item_done v now Tells.Quit h = record { ss = []; sound = record { near = h.near; up = h.up; stepped = h.stepped; follows = h.follows; same = h.same } }
 
-  -- the cuts that are tried first change neither the core nor a current life
+  -- offering the pending cuts changes neither the core nor a current session
   record Started (seat : SeatState) (v : Serving) : Type 0 where
     core : v.seat.core ≡ seat.core
     current : v.seat.current ≡ seat.current
@@ -339,7 +339,7 @@ module _ (cores : CoreLaws) (seats : SeatLaws) (ks : List ℕ) (answers : Answer
   start_cuts seat [] v s = s
   start_cuts seat (j ∷ js) v s = start_cuts seat js (after_cut_tried answers v j (v.seat.pending j)) (start_cut seat v j (v.seat.pending j) s)
 
-  -- once an item is served, what is taken in a current life is what was received since the link came up
+  -- after an item, what is taken in a current session is what was received since the link came up
   pub record Received (v : Serving) : Type 0 where
     pub follows : v.seat.core ≡ core_after_all first (before ++ v.inputs)
     pub same : (k : ℕ) (l : Life) → v.seat.current k ≡ Some l → packets_of l (base k ++ stepped_from k v.steps) ≡ received k v.inputs

@@ -1,5 +1,5 @@
--- In every world of a run, what a core has taken in a current life is what it has accepted from the neighbour since the
--- link came up.
+-- In every world of a run, what a core has taken in a current session is what it has accepted from the neighbour since
+-- the link came up.
 use Rattle.std.proofs.Common.{◌≡◌, ℕ, Bool, true, false, ◌⊎◌, inl, inr, List, [], ◌∷◌, ◌++◌, map, Option, Some, nat_eq, if◌then◌else◌, refl, sym, ap, ap₂, ◌∙◌, subst, append-nil, eqb-true, eq-eqb, arith}
 use Rattle.std.proofs.lemmas.Bool.{cond_both, cases_Bool}
 use Rattle.std.specs.Prelude.{slice_get, is_some}
@@ -33,13 +33,13 @@ use Rattle.tora_world.specs.Refusals.{free_stepped_after}
 use Rattle.tora_world.proofs.Refused.{AreNodes, taken_from, free_nodes, first_nodes}
 use Rattle.tora_world.proofs.Received.{received_from, Received, serving_received}
 
--- of each node
+-- the invariant of every node
 pub record AreReceived (t : Topology) (w : World) : Type 0 where
   pub topology : w.topology ≡ t
   pub follows : (n : ℕ) → (w.seats n).core ≡ core_after_all (new_core t n) (w.inputs n)
   pub same : (n k : ℕ) (l : Life) → (w.seats n).current k ≡ Some l → packets_of l (w.steps n k) ≡ received_from k (new_core t n) (w.inputs n) []
 
--- the same of what one node has
+-- the invariant of one node, by the parts of the world
 record IsReceived (t : Topology) (n : ℕ) (seat : SeatState) (inputs : List (Input × ℕ)) (steps : ℕ → List Parcel) : Type 0 where
   follows : seat.core ≡ core_after_all (new_core t n) inputs
   same : (k : ℕ) (l : Life) → seat.current k ≡ Some l → packets_of l (steps k) ≡ received_from k (new_core t n) inputs []
@@ -54,7 +54,7 @@ same_received t w w' a b c d h = of_nodes t w' (a ∙ h.topology) (λ n.
     (subst (λ (f : ℕ → ℕ → List Parcel). IsReceived t n (w.seats n) (w.inputs n) (f n)) (sym d) (record { follows = h.follows n; same = h.same n }))))
 
 module _ (cores : CoreLaws) (seats : SeatLaws) (t : Topology) (steps : List MachineStep) (w : World) (seen : Seen) (g : AllEndsFollow steps (end_views w) w.datagrams seen) (earlier : ℕ → ℕ → List Packet) (a : AreNodes earlier w) (h : AreReceived t w) where
-  -- nothing was taken in a life that comes up now
+  -- nothing was taken before in a session that comes up now
   fresh : (n : ℕ) (item : Item) (items : List Item) → w.items n ≡ item ∷ items → (k : ℕ) (l : Life) → slice_get (neighbours w n) item.seat ≡ Some k → item.what ≡ Tells.Up l → packets_of l (w.steps n k) ≡ []
   fresh n item items q k l seat what =
       let come : (end_views w n k).coming ≡ LifeComes l ∷ (arrivals_of (neighbours w n) k items ++ map arrival_of (w.ends n k).events) =
@@ -120,7 +120,7 @@ module _ (cores : CoreLaws) (seats : SeatLaws) (t : Topology) (steps : List Mach
 
 -- ---- runs
 
--- what a run leaves of its nodes
+-- the invariants of all nodes at the end of a run
 pub record NodesEnd (t : Topology) (w : World) : Type 0 where
   pub earlier : ℕ → ℕ → List Packet
   pub nodes : AreNodes earlier w

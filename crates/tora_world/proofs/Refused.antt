@@ -1,4 +1,4 @@
--- In no run is anything but a need refused.
+-- In every run only needs are refused.
 use Rattle.std.proofs.Common.{◌≡◌, ℕ, zero, suc, Bool, true, false, true≢false, ◌⊎◌, inl, inr, List, [], ◌∷◌, ◌++◌, map, length, Option, Some, None, nat_eq, if◌then◌else◌, refl, sym, ap, ap₂, ◌∙◌, subst, append_assoc, append-nil, eqb-true, eq-eqb, arith}
 use Rattle.std.proofs.lemmas.Bool.{cases_Bool}
 use Rattle.std.specs.Prelude.{slice_get, is_some}
@@ -43,7 +43,7 @@ use Rattle.tora_world.proofs.Accepted.{IsCargoWith, IsCargoOf, put_of, accepted-
 
 -- ---- one node
 
--- a core between two items: its link to a neighbour is up just where a life of it is current
+-- a core between two items: its link to a neighbour is up exactly if it has a current session with it
 pub record IsSeat (n : ℕ) (ks : List ℕ) (seat : SeatState) : Type 0 where
   pub near : (j : ℕ) → has_number j ks ≡ true → has_number j seat.core.neighbours ≡ true
   pub up : (j : ℕ) (l : Life) → has_number j ks ≡ true → seat.current j ≡ Some l → has_number j seat.core.up ≡ true
@@ -75,7 +75,7 @@ pub each_both : {A : Type 0} (P : A → Type 0) (xs ys : List A) → Each P xs �
 each_both P [] ys a b = b
 each_both P (x ∷ xs) ys a b = (a.0, each_both P xs ys a.1 b)
 
--- what holds of all packets that were put
+-- a property of all packets that were put
 pub packet_put : (P : Packet → Type 0) (l : Life) (cargoes : List Cargo) (i : ℕ) (p : Packet) → Each (IsCargoWith P) cargoes → slice_get (packets_of l (parcels_in cargoes)) i ≡ Some p → P p
 packet_put P l cargoes i p h e = go (packets_of l (parcels_in cargoes)) (all_of cargoes h) i e
   where
@@ -109,14 +109,14 @@ taken_is_put steps w seen g n item items q k l p seat what on =
       subst (λ xs. slice_get (packets_of (reversed l) xs) (length (packets_of l (machine_after steps n k).taken)) ≡ Some p) (g.sides k n).histories.sent_is next,
     )
 
--- so it was sent by the neighbour
+-- so the neighbour sent it
 pub taken_from : (steps : List MachineStep) (w : World) (seen : Seen) → AllEndsFollow steps (end_views w) w.datagrams seen → ((n k : ℕ) → Each (IsCargoOf n) (w.put n k)) → (n : ℕ) (item : Item) (items : List Item) → w.items n ≡ item ∷ items →
     (k : ℕ) (l : Life) (p : Packet) → slice_get (neighbours w n) item.seat ≡ Some k → item.what ≡ Tells.Packet l p → (w.seats n).current k ≡ Some l → is_from k p ≡ true
 taken_from steps w seen g were_put n item items q k l p seat what on =
     let x = taken_is_put steps w seen g n item items q k l p seat what on in
     packet_put (IsSentBy k) (reversed l) (w.put k n) x.0 p (were_put k n) x.1
 
--- nothing of this changes
+-- a change of other parts of the world keeps the invariant
 same_nodes : {earlier : ℕ → ℕ → List Packet} (w w' : World) → w'.topology ≡ w.topology → w'.seats ≡ w.seats → w'.put ≡ w.put → w'.inputs ≡ w.inputs → w'.steps ≡ w.steps → AreNodes earlier w → AreNodes earlier w'
 same_nodes {earlier} w w' a b c d e h = record {
   seats = λ n. subst (λ t. IsSeat n (neighbours_of t n) (w'.seats n)) (sym a) (subst (λ (f : ℕ → SeatState). IsSeat n (neighbours w n) (f n)) (sym b) (h.seats n));

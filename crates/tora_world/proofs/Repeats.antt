@@ -1,4 +1,4 @@
--- No event happens without end: each takes something that there is so much of.
+-- No event can be repeated without end, because each repetition uses up something of which there is a bounded amount.
 use Rattle.std.proofs.Common.{◌≡◌, ℕ, zero, suc, ◌+◌, ◌<◌, ◌≤◌, Bool, true, false, true≢false, not, ◌&&◌, ◌⊎◌, inl, inr, List, [], ◌∷◌, ◌++◌, length, Option, Some, None, is_some, nat_eq, if◌then◌else◌, refl, sym, ap, ap₂, ◌∙◌, subst, length-append, eq-eqb, eqb-true, ltb-true, arith}
 use Rattle.std.proofs.lemmas.Bool.{cases_Bool}
 use Rattle.std.specs.Prelude.{slice_get}
@@ -27,9 +27,9 @@ use Rattle.tora_world.proofs.TableLeads.{happens}
 use Rattle.tora_world.proofs.TableHolds.{step_holds}
 use Rattle.tora_world.proofs.PutRooms.{room_served}
 
--- ---- the lanes
+-- ---- the queues
 
--- a value for each node that changes at one
+-- values of nodes, one of which changes
 at_each : {A : Type 0} (P : A → Type 0) (n : ℕ) (value : A) (old new : ℕ → A) → ChangesAt n value old new → P value → ((a : ℕ) → P (old a)) → (a : ℕ) → P (new a)
 at_each P n value old new h one all a = go (cases_Bool (nat_eq a n))
   where
@@ -55,7 +55,7 @@ longer : {A : Type 0} (xs : List A) (x : A) → length (xs ++ x ∷ []) ≡ suc 
 longer xs x = length-append xs (x ∷ []) ∙ omega arith
 
 module _ (c : Choice) (w : World) where
-  -- the lanes into the cores, by the rows
+  -- the queues into the cores, by the rows of the table
   items_within : {event : Event} {after : World} → IsStepBy c w event after → ((n : ℕ) → IsLane (w.items n)) → (n : ℕ) → IsLane (after.items n)
   items_within (refused r h) all n = subst (λ (f : ℕ → List Item). IsLane (f n)) (sym h.items) (all n)
   items_within (needed {n = m} there room puts h) all n =
@@ -89,7 +89,7 @@ items_in_run [] w all n = all n
 items_in_run (e ∷ es) w all n = items_in_run es (world_by e.1 w e.0) (items_within e.1 w (step_holds e.1 w e.0) all) n
 
 module _ (w : World) where
-  -- the lanes out of the cores, with the results of the simulator's lanes
+  -- the queues out of the cores, with the results of the simulator's queues
   cargoes_within : (c : Choice) {event : Event} {after : World} → ((n : ℕ) → event ≡ CoreTurn n → c.answers ≡ own_answers w n) → IsStepBy c w event after → ((n k : ℕ) → IsLaneOut (w.cargoes n k)) → (n k : ℕ) → IsLaneOut (after.cargoes n k)
   cargoes_within c own (refused r h) all n k = subst (λ (f : ℕ → ℕ → List Cargo). IsLaneOut (f n k)) (sym h.cargoes) (all n k)
   cargoes_within c own (needed there room puts h) all n k = subst (λ (f : ℕ → ℕ → List Cargo). IsLaneOut (f n k)) (sym h.cargoes) (all n k)
@@ -129,7 +129,7 @@ cargoes_in_run [] w all n k = all n k
 cargoes_in_run (event ∷ events) w all n k =
     cargoes_in_run events (world_after w event) (cargoes_within w (own_choice w event) (own_turn w event) (step_holds (own_choice w event) w event) all) n k
 
--- ---- again and again
+-- ---- repeated events
 
 never : (event : Event) (w : World) → (refusal_of w event ≡ None → ⊥) → HappensAtMost zero event w
 never event w impossible = go (refusal_of w event) refl
@@ -160,7 +160,7 @@ pub turns_end : (most : ℕ) (w : World) (n : ℕ) → length (w.items n) ≤ mo
 turns_end zero w n le = never (CoreTurn n) w (λ e. let q = turn_once w n e in omega (arith, q, le))
 turns_end (suc most) w n le = again most (CoreTurn n) w (λ e. let q = turn_once w n e in turns_end most (world_after w (CoreTurn n)) n (omega (arith, q, le)))
 
--- a pull takes a cargo
+-- a pull takes an outbound message
 pull_once : (w : World) (n k : ℕ) → refusal_of w (Pull n k) ≡ None → suc (length ((world_after w (Pull n k)).cargoes n k)) ≡ length (w.cargoes n k)
 unfolding effect_by
 pull_once w n k e =
@@ -175,7 +175,7 @@ pub pulls_end : (most : ℕ) (w : World) (n k : ℕ) → length (w.cargoes n k) 
 pulls_end zero w n k le = never (Pull n k) w (λ e. let q = pull_once w n k e in omega (arith, q, le))
 pulls_end (suc most) w n k le = again most (Pull n k) w (λ e. let q = pull_once w n k e in pulls_end most (world_after w (Pull n k)) n k (omega (arith, q, le)))
 
--- a pump fills the lane
+-- a pump fills the queue
 pump_room : (w : World) (n k : ℕ) → refusal_of w (Pump n k) ≡ None → length (w.items n) < MOST_ITEMS
 pump_room w n k e =
     ltb-true (length (w.items n)) MOST_ITEMS (both_true (not (is_empty (w.ends n k).events)) (has_room w n) ((is_open (own_choice w (Pump n k)) w (Pump n k) (λ i q. cc) e).1)).1
@@ -210,7 +210,7 @@ transmit_once w n k e =
     go None some q = absurd (true≢false (sym some ∙ ap (λ (o : Option FrameParts). is_some o) q))
     go (Some f) some q = record { same = refl; clock = refl; end = ap₂ (λ (x y : Bool). if x && y then after_transmit (settings w n k) (w.ends n k) w.clock else w.ends n k) (eq-eqb n n refl) (eq-eqb k k refl) }
 
--- this many polls leave no frame due
+-- after this many polls no frame is due
 abbrev IsIdle : ℕ → Settings → EndState → ℕ → Type 0
 IsIdle polls s e now = frame_due s (after_polls s e now polls) now ≡ None
 

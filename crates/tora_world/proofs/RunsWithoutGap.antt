@@ -44,7 +44,7 @@ module _ (cores : CoreLaws) (seats : SeatLaws) (t : Topology) (n k : ℕ) (apart
   abbrev ks : List ℕ
   ks = neighbours_of t n
 
-  -- what there is of one node and one neighbour
+  -- the parts of a world for one node and one neighbour
   record AtParts (Was : Life → Type 0) (o : Option Life) (seat : SeatState) (inputs : List (Input × ℕ)) (put : List Cargo) : Type 0 where
     fits : Fits Was o (parcels_in put) [] (broadcast_from k (new_core t n) inputs []) (has_number k seat.core.up) (seat.current k) None (parcels_in put)
     follows : seat.core ≡ core_after_all (new_core t n) inputs
@@ -70,12 +70,12 @@ module _ (cores : CoreLaws) (seats : SeatLaws) (t : Topology) (n k : ℕ) (apart
     settled = h.settled;
   }
 
-  -- what an event leaves
+  -- the invariant after an event
   record Left (Was : Life → Type 0) (o : Option Life) (w w' : World) : Type 0 where
     world : AtWorld (λ l. Was l ⊎ IsCut n k l w') o w'
     others : (j : Life) → (o ≡ Some j → ⊥) → packets_of j (parcels_in (w'.put n k)) ≡ packets_of j (parcels_in (w.put n k))
 
-  -- nothing of this node and neighbour changes
+  -- nothing changes for this node and neighbour
   same_parts : (Was : Life → Type 0) (o : Option Life) (w w' : World) → w'.topology ≡ w.topology → w'.seats ≡ w.seats → w'.inputs ≡ w.inputs → w'.put ≡ w.put → AtWorld Was o w → Left Was o w w'
   same_parts Was o w w' a b c d h = record {
     world = record {
@@ -123,7 +123,7 @@ module _ (cores : CoreLaws) (seats : SeatLaws) (t : Topology) (n k : ℕ) (apart
           (serving_done cores seats c.answers ks k (new_core t n) (w.inputs n) (w.put n k) Was inside apart o (w.seats n) item
           (record { fits = h.parts.fits; follows = h.parts.follows; near = h.parts.near; settled = h.parts.settled }) fresh)
 
-  -- at another node
+  -- an item is served at another node
   served_off : (Was : Life → Type 0) (o : Option Life) (w : World) (m : ℕ) (items : List Item) (v : Serving) → nat_eq n m ≡ false → AtWorld Was o w → Left Was o w (after_serving w m items v)
   served_off Was o w m items v off h = record {
     world = record {
@@ -134,7 +134,7 @@ module _ (cores : CoreLaws) (seats : SeatLaws) (t : Topology) (n k : ℕ) (apart
     others = λ j no. ap (λ (b : Bool). packets_of j (parcels_in ((if b then (λ i. w.put m i ++ put_to i v.offers) else w.put n) k))) off;
   }
 
-  -- the front item is that of a life that comes up
+  -- the first item is a session that comes up
   abbrev Fresh : World → Type 0
   Fresh w = (item : Item) (items : List Item) → w.items n ≡ item ∷ items → (l : Life) → slice_get ks item.seat ≡ Some k → item.what ≡ Tells.Up l → packets_of l (parcels_in (w.put n k)) ≡ []
 
@@ -256,7 +256,7 @@ module _ (cores : CoreLaws) (seats : SeatLaws) (t : Topology) (n k : ℕ) (apart
   at_more : (Was Was' : Life → Type 0) (o : Option Life) (w : World) → ((l : Life) → Was l → Was' l) → AtWorld Was o w → AtWorld Was' o w
   at_more Was Was' o w f h = record { topology = h.topology; parts = parts_more Was Was' o (w.seats n) (w.inputs n) (w.put n k) f h.parts }
 
-  -- what a run leaves, and what the next event leaves then
+  -- the invariant after a run, and after the next event
   record Ended (laws : LinkLaws) (lows : LifeLaws) (Was : Life → Type 0) (o : Option Life) (w : World) : Type 0 where
     world : AtWorld Was o w
     next : (c : Choice) (event : FreeEvent) → Left Was (free_life_after c w n k event o) w (free_by c w event)

@@ -1,4 +1,4 @@
--- In a world at rest what was taken in a current life is all that was sent in it.
+-- In a world at rest, what was taken in a current session is all that was sent in it.
 use Rattle.std.proofs.Common.{◌≡◌, ℕ, zero, suc, ◌≤◌, true, ◌⊎◌, inl, inr, List, [], ◌∷◌, ◌++◌, map, length, Option, Some, refl, sym, ap, ap₂, ◌∙◌, subst, append-nil, arith}
 use Rattle.std.specs.Prelude.{drop}
 use Rattle.tora_packet.specs.declared.Packet.{Packet}
@@ -43,7 +43,7 @@ begins_all (x ∷ xs) (y ∷ ys) b le =
 
 -- ---- one end
 
--- the current life of an end to which nothing comes any more has been taken as far as it was accepted
+-- if an end has no more arrivals, each packet accepted in its current session has been taken
 taken_count : (l : Life) (accepted : ℕ) (current : Option Life) (coming : List Arrival) (taken : List Parcel) (e : EndState) (out sent other : List Parcel) (p : MachineEnd) (done : Life → ℕ → Type 0) →
     current ≡ Some l → coming ≡ [] → InLife l e current coming out sent taken other p done → length (packets_of l taken) ≡ e.accepted
 taken_count l accepted current coming taken e out sent other p done on none k =
@@ -51,7 +51,7 @@ taken_count l accepted current coming taken e out sent other p done on none k =
     let k' : InLife l e current [] out sent taken other p done = subst (λ (q : List Arrival). InLife l e current q out sent taken other p done) none k in
     ap length (sym (append-nil (packets_of l taken))) ∙ k'.counted on_now
 
--- what an end whose queue and lane are empty has sent is acknowledged
+-- if an end's send queue and the queue to it are empty, each packet sent is acknowledged
 sent_count : (l : Life) (e : EndState) (out sent : List Parcel) → e.queue ≡ [] → out ≡ [] → Queued l e out sent → length (packets_of l sent) ≤ e.acknowledged
 sent_count l e out sent empty none q =
     let left : drop e.acknowledged q.submitted ≡ [] = sym q.queue.waiting ∙ ap packets_in empty in
@@ -66,7 +66,7 @@ module _ (laws : LinkLaws) (lows : LifeLaws) (t : Topology) (times : Times) (es 
   abbrev final : World
   final = after_schedule es (first_world t times)
 
-  -- the end of a view in a phase
+  -- the invariant of a bound end
   in_life : (n k : ℕ) (l : Life) → (final.ends n k).phase ≡ Bound l →
       InLife l (end_views final n k).endpoint (end_views final n k).current (end_views final n k).coming (end_views final n k).out (end_views final n k).sent (end_views final n k).taken
       (machine_after (all_steps laws lows t times es) k n).sent (machine_after (all_steps laws lows t times es) n k) (seen_at_other (all_seen laws lows t times es) n k)
@@ -77,7 +77,7 @@ module _ (laws : LinkLaws) (lows : LifeLaws) (t : Topology) (times : Times) (es 
   none_comes : (n k : ℕ) → final.items n ≡ [] → (final.ends n k).events ≡ [] → (end_views final n k).coming ≡ []
   none_comes n k items events = ap₂ (λ is vs. arrivals_of (neighbours final n) k is ++ map arrival_of vs) items events
 
-  -- what was seen to be accepted is accepted now
+  -- a count that was seen is at most the count that is accepted now
   told_now : (n k : ℕ) (l : Life) (count : ℕ) → (final.ends n k).phase ≡ Bound l → (count ≡ 0) ⊎ Sometime (HasAccepted n k l count) es (first_world t times) → count ≤ (final.ends n k).accepted
   told_now n k l count on (inl z) = omega (arith, z)
   told_now n k l count on (inr s) = seen_now laws lows t times es n k l count on s

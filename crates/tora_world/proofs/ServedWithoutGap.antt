@@ -1,4 +1,4 @@
--- Serving an item leaves no gap: what a core broadcasts while a life is current is sent in it, or the life is cut.
+-- Serving leaves no gap: what a core broadcasts while a session is current is sent in it, or the session is cut.
 use Rattle.std.proofs.Common.{◌≡◌, ℕ, zero, suc, Bool, true, false, true≢false, ◌&&◌, ◌||◌, ◌⊎◌, inl, inr, ⊎_elim, List, [], ◌∷◌, ◌++◌, length, Option, Some, None, nat_eq, if◌then◌else◌, refl, sym, ap, ◌∙◌, subst, append_assoc, append-nil, eqb-true, eq-eqb}
 use Rattle.tora_seat.proofs.Places.{turned}
 use Rattle.tora_seat.specs.SeatLaws.{is_link_down}
@@ -29,7 +29,7 @@ use Rattle.tora_seat.specs.Serves.{IsCut}
 use Rattle.tora_world.proofs.LinksUp.{up_same, up_gone, up_accepted, down_accepted}
 use Rattle.tora_seat.proofs.Calm.{calm_broadcasts, tried_current, accepted_step}
 
--- by the life that is current: what is still to be sent of it, or what was sent of the life that came up last
+-- if a session is current: the packets still to send in it; if none is: what was sent in the session that came up last
 abbrev pub Now : (Life → Type 0) → Option Life → List Packet → List Packet → Bool → Option Life → List Parcel → Option Life → Type 0
 Now Was o ps all up pending xs None = (o ≡ None → up ≡ false) × ((l : Life) → o ≡ Some l → Begins (packets_of l xs) all × (((packets_of l xs ≡ all) × (up ≡ false)) ⊎ (Was l ⊎ (pending ≡ Some l))))
 Now Was o ps all up pending xs (Some l) = (o ≡ Some l) × (packets_of l xs ++ ps ≡ all) × (up ≡ true)
@@ -153,7 +153,7 @@ module _ (cores : CoreLaws) (seats : SeatLaws) (answers : Answers) (ks : List �
   near_after : (c : CoreView) (input : Input) (now : ℕ) → Near c → Near (core_after c input now)
   near_after c input now h j i = ap (λ ns. has_number j ns) (cores.neighbours c input now) ∙ h j i
 
-  -- an input is accepted, and its packets go
+  -- an input is accepted, and its packets are sent
   accepts : (o : Option Life) (old : List Parcel) (v : Serving) (input : Input) (now : ℕ) → v.seat.core ≡ core_after_all first (before ++ v.inputs) → Near v.seat.core →
       FitsIn o old (sends_of v.seat.core input now) (with_sends k v.seat.core input now (all_of v)) (accepting v input now) → Inv o old (after_broadcasts answers ks (sends_of v.seat.core input now) (accepting v input now))
   accepts o old v input now f near h =
@@ -168,7 +168,7 @@ module _ (cores : CoreLaws) (seats : SeatLaws) (answers : Answers) (ks : List �
         near = subst Near (sym c.core) (near_after v.seat.core input now near);
       }
 
-  -- an input that brings this link neither up, nor down under a current life
+  -- an input that does not bring this link up, and does not take it down under a current session
   entry : (o : Option Life) (old : List Parcel) (v : Serving) (input : Input) (now : ℕ) → refusal_of v.seat.core input ≡ None → is_link_up k input ≡ false → (is_link_down k input ≡ true → v.seat.current k ≡ None) → FitsIn o old [] (all_of v) v →
       FitsIn o old (sends_of v.seat.core input now) (with_sends k v.seat.core input now (all_of v)) (accepting v input now)
   entry o old v input now ok not_up down h = go (cases_Bool (is_link_down k input))
@@ -223,7 +223,7 @@ module _ (cores : CoreLaws) (seats : SeatLaws) (answers : Answers) (ks : List �
       go None e = accepts o old v input now h.follows h.near (entry o old v input now e not_up down h.fits)
       go (Some error) e = record { fits = h.fits; follows = h.follows; near = h.near }
 
-  -- the current life of this neighbour is over, and its link goes down at the core
+  -- the current session of this neighbour is over, and its link goes down at the core
   down_step : (o o' : Option Life) (old old' : List Parcel) (v : Serving) (now : ℕ) (l : Life) → v.seat.current k ≡ Some l → ((j : Life) → o' ≡ Some j → o ≡ Some j) → ((j : Life) → (o' ≡ Some j → ⊥) → packets_of j (xs_of v) ≡ packets_of j old') →
       Inv o old v → Inv o' old' (after_step answers ks (In.LinkDown k) now (with_current v k None)) × (has_number k (after_step answers ks (In.LinkDown k) now (with_current v k None)).seat.core.up ≡ false)
   down_step o o' old old' v now l e sub others h =
@@ -248,7 +248,7 @@ module _ (cores : CoreLaws) (seats : SeatLaws) (answers : Answers) (ks : List �
         ap (λ (x : Serving). has_number k x.seat.core.up) is ∙ ap (λ (c : CoreView). has_number k c.up) (calm_broadcasts answers ks (sends_of v.seat.core (In.LinkDown k) now) (accepting v' (In.LinkDown k) now)).core ∙ gone,
       )
 
-  -- a life comes up of which nothing was sent
+  -- a session comes up, in which nothing was sent before
   up_step : (o : Option Life) (old : List Parcel) (v : Serving) (now : ℕ) (l : Life) → has_number k v.seat.core.up ≡ false → packets_of l (xs_of v) ≡ [] → Inv None old v →
       Inv (Some l) old (after_step answers ks (In.LinkUp k) now (with_current v k (Some l)))
   up_step o old v now l off none h =
@@ -266,7 +266,7 @@ module _ (cores : CoreLaws) (seats : SeatLaws) (answers : Answers) (ks : List �
       } in
       subst (Inv (Some l) old) (sym is) (accepts (Some l) old v' (In.LinkUp k) now h.follows h.near fit)
 
-  -- ---- neighbours that were cut are stepped down
+  -- ---- the links of neighbours whose session was cut go down
 
   settling_keeps : (o : Option Life) (old : List Parcel) (most now : ℕ) (v : Serving) → Inv o old v → Inv o old (after_settling most answers ks now v)
   unfolding after_settling
@@ -281,7 +281,7 @@ module _ (cores : CoreLaws) (seats : SeatLaws) (answers : Answers) (ks : List �
           again (after_step answers ks (In.LinkDown j) now v)
           (step_keeps o old v (In.LinkDown j) now refl (λ d. subst (λ x. v.seat.current x ≡ None) (eqb-true j k d) f.none) h)
 
-  -- a link that is down stays down where another goes down
+  -- a link that is down stays down when another goes down
   down_stays : (j now : ℕ) (v : Serving) → has_number k v.seat.core.up ≡ false → has_number k (after_step answers ks (In.LinkDown j) now v).seat.core.up ≡ false
   unfolding after_step
   down_stays j now v u = go (refusal_of v.seat.core (In.LinkDown j)) refl
@@ -305,9 +305,9 @@ module _ (cores : CoreLaws) (seats : SeatLaws) (answers : Answers) (ks : List �
       go None again = u
       go (Some j) again = again (after_step answers ks (In.LinkDown j) now v) (down_stays j now v u)
 
-  -- ---- an input with all that follows
+  -- ---- an input and all its consequences
 
-  -- none is left to be stepped down
+  -- no link has to go down any more
   pub record Done (o : Option Life) (old : List Parcel) (v : Serving) : Type 0 where
     pub inv : Inv o old v
     pub settled : (j : ℕ) → ¬ IsCut ks v.seat j
@@ -335,14 +335,14 @@ module _ (cores : CoreLaws) (seats : SeatLaws) (answers : Answers) (ks : List �
 
   -- ---- the start of an item
 
-  -- what the law keeps of a node's seat between items
+  -- the invariant of a node's seat between items
   pub record Whole (o : Option Life) (seat : SeatState) : Type 0 where
     pub fits : Fits Was o (parcels_in base) [] (broadcast_from k first before []) (has_number k seat.core.up) (seat.current k) None (parcels_in base)
     pub follows : seat.core ≡ core_after_all first before
     pub near : Near seat.core
     pub settled : (j : ℕ) → ¬ IsCut ks seat j
 
-  -- the cuts change no more than what is pending
+  -- offering the pending cuts changes only what is pending
   record Started (seat : SeatState) (v : Serving) : Type 0 where
     core : v.seat.core ≡ seat.core
     current : v.seat.current ≡ seat.current
@@ -364,7 +364,7 @@ module _ (cores : CoreLaws) (seats : SeatLaws) (answers : Answers) (ks : List �
   started : (seat : SeatState) → Started seat (after_cuts_tried answers ks (begin_serving seat))
   started seat = start_cuts seat ks (begin_serving seat) (record { core = refl; current = refl; inputs = refl; xs = ap parcels_in (append-nil base) })
 
-  -- whatever is pending now
+  -- the invariant for any pending session
   any_pending : (o : Option Life) (old : List Parcel) (ps all : List Packet) (up : Bool) (cur pending : Option Life) (xs : List Parcel) → Fits Was o old ps all up cur None xs → Fits Was o old ps all up cur pending xs
   any_pending o old ps all up None pending xs h = record {
     now = (h.now.0, λ l q. let d = h.now.1 l q in (d.0, ⊎_elim (λ x. inl x) (λ x. ⊎_elim (λ y. inr (inl y)) (λ y. absurd (cc)) x) d.1));
@@ -386,7 +386,7 @@ module _ (cores : CoreLaws) (seats : SeatLaws) (answers : Answers) (ks : List �
     near = subst Near (sym s.core) w.near;
   }
 
-  -- no life is cut at the start
+  -- at the start of an item no session is cut
   settled_start : (seat : SeatState) (v : Serving) → Started seat v → ((j : ℕ) → ¬ IsCut ks seat j) → (j : ℕ) → ¬ IsCut ks v.seat j
   settled_start seat v s none j c =
       none j (record {
@@ -404,7 +404,7 @@ module _ (cores : CoreLaws) (seats : SeatLaws) (answers : Answers) (ks : List �
 
   -- ---- items
 
-  -- a change of the current life of another neighbour
+  -- a change of the current session of another neighbour
   other_current : (o : Option Life) (old : List Parcel) (v : Serving) (j : ℕ) (x : Option Life) → nat_eq j k ≡ false → Inv o old v → Inv o old (with_current v j x)
   other_current o old v j x off h = record {
     fits = fits_same o old [] (all_of v) v (with_current v j x) refl (put_one_there v.seat.current j x k (turned j k off)) refl refl h.fits;
@@ -417,7 +417,7 @@ module _ (cores : CoreLaws) (seats : SeatLaws) (answers : Answers) (ks : List �
   other_old_down o old v j now (Some l) off h =
       (input_done o old (with_current v j None) (In.LinkDown j) now refl (λ d. absurd (true≢false (sym d ∙ off))) (other_current o old v j None off h)).inv
 
-  -- the link of this neighbour, before a new life comes up at it
+  -- the old link of this neighbour goes down before a new session comes up
   own_old_down : (o : Option Life) (seat : SeatState) (v : Serving) (now : ℕ) → Started seat v → Whole o seat → (cur : Option Life) → v.seat.current k ≡ cur →
       Inv None (parcels_in base) (after_old_down answers ks k now v cur) × (has_number k (after_old_down answers ks k now v cur).seat.core.up ≡ false)
   own_old_down o seat v now s w None e =
@@ -485,7 +485,7 @@ module _ (cores : CoreLaws) (seats : SeatLaws) (answers : Answers) (ks : List �
   link_item_done o seat v s w j now (Tells.Status status) fresh = done_start o seat (record v { answer = Says.Show }) (record { core = s.core; current = s.current; inputs = s.inputs; xs = s.xs }) w
   link_item_done o seat v s w j now Tells.Quit fresh = done_start o seat (record v { answer = Says.Quit }) (record { core = s.core; current = s.current; inputs = s.inputs; xs = s.xs }) w
 
-  -- the current life of a neighbour is cut
+  -- the current session of a neighbour is cut
   life_cut_done : (o : Option Life) (seat : SeatState) (v : Serving) → Started seat v → Whole o seat → (j now : ℕ) (cur : Option Life) → v.seat.current j ≡ cur → Done o (parcels_in base) (after_life_cut answers ks j now v cur)
   life_cut_done o seat v s w j now None e = done_start o seat v s w
   life_cut_done o seat v s w j now (Some l) e = go (cases_Bool (nat_eq j k))

@@ -1,4 +1,4 @@
--- A turn of the core keeps the invariant of all ends, and makes the steps of the machine that are stated for it.
+-- A turn of the core keeps the invariant of all ends, and makes the steps of the machine that are defined for it.
 use Rattle.std.proofs.Common.{◌≡◌, ◌≢◌, ℕ, zero, suc, Bool, true, false, true≢false, ◌&&◌, ◌⊎◌, inl, inr, List, [], ◌∷◌, ◌++◌, length, map, Option, Some, None, nat_eq, if◌then◌else◌, refl, sym, ap, ap₂, ◌∙◌, subst, append_assoc, append-nil, eqb-true, eq-eqb}
 use Rattle.tora_seat.proofs.Places.{turned}
 use Rattle.std.proofs.lemmas.Bool.{cond_both, cases_Bool}
@@ -45,13 +45,13 @@ stepped-push : (k : ℕ) (steps : List Step) (s : Step) → stepped_from k (step
 stepped-push k [] s = append-nil (step_where k s)
 stepped-push k (x ∷ steps) s = ap (λ ys. step_where k x ++ ys) (stepped-push k steps s) ∙ sym (append_assoc (step_where k x) (stepped_from k steps) (step_where k s))
 
--- the packets in a lane once a cargo was offered
+-- the packets in a queue after an outbound message was offered
 pub offer_parcels : (k : ℕ) (cs : List Cargo) (offers : List Offer) (o : Offer) → parcels_in (cs ++ put_to k (offers ++ o ∷ [])) ≡ parcels_in (cs ++ put_to k offers) ++ parcels_in (cargo_where k o)
 offer_parcels k cs offers o =
     ap (λ ys. parcels_in (cs ++ ys)) (put-push k offers o) ∙ ap parcels_in (sym (append_assoc cs (put_to k offers) (cargo_where k o)))
     ∙ parcels-append (cs ++ put_to k offers) (cargo_where k o)
 
--- a cargo that is not a packet for this neighbour, or was returned
+-- an outbound message that is not a packet for this neighbour, or was returned
 pub nothing_more : (k : ℕ) (cs : List Cargo) (offers : List Offer) (o : Offer) → parcels_in (cargo_where k o) ≡ [] → parcels_in (cs ++ put_to k (offers ++ o ∷ [])) ≡ parcels_in (cs ++ put_to k offers)
 nothing_more k cs offers o e = offer_parcels k cs offers o ∙ ap (λ ys. parcels_in (cs ++ put_to k offers) ++ ys) e ∙ append-nil (parcels_in (cs ++ put_to k offers))
 
@@ -75,7 +75,7 @@ made-append : (xs ys before : List MachineStep) → made (xs ++ ys) before ≡ m
 made-append [] ys before = refl
 made-append (x ∷ xs) ys before = made-append xs ys (x ∷ before)
 
--- a cargo more is offered
+-- one more outbound message is offered
 steps-push : (n : ℕ) (offers : List Offer) (o : Offer) (before : List MachineStep) → made (steps_of_offers n (offers ++ o ∷ [])) before ≡ made (steps_of_cargo n o.to o.cargo o.put) (made (steps_of_offers n offers) before)
 steps-push n [] o before = ap (λ xs. made xs before) (append-nil (steps_of_cargo n o.to o.cargo o.put))
 steps-push n (x ∷ offers) o before =
@@ -86,7 +86,7 @@ module _ (w : World) (seen : Seen) (n : ℕ) where
   abbrev ks : List ℕ
   ks = neighbours w n
 
-  -- the world while an item is served, after steps of the machine and those of the cargoes offered
+  -- the invariant while an item is served, after steps of the machine and those of the offers
   abbrev pub Served : List MachineStep → List Item → Serving → Type 0
   Served before lane v = AllEndsFollow (made (steps_of_offers n v.offers) before) (end_views (after_serving w n lane v)) w.datagrams seen
 
@@ -118,7 +118,7 @@ module _ (w : World) (seen : Seen) (n : ℕ) where
           (look_at lane' v' b ∙ off b o' ∙ sym (look_at lane v b))
       there a b o (inr e) = look_off lane' v' a b e ∙ sym (look_off lane v a b e)
 
-  -- the law sees the same
+  -- a change that the invariant does not see
   served_same : (steps : List MachineStep) (lane lane' : List Item) (v v' : Serving) → ((b : ℕ) → seen_at b v' (arrivals_of ks b lane') ≡ seen_at b v (arrivals_of ks b lane)) →
       AllEndsFollow steps (end_views (after_serving w n lane v)) w.datagrams seen → AllEndsFollow steps (end_views (after_serving w n lane' v')) w.datagrams seen
   served_same steps lane lane' v v' e g = same_views steps (end_views (after_serving w n lane v)) (end_views (after_serving w n lane' v')) w.datagrams seen (λ a b. there a b (cases_Bool (nat_eq a n))) g
@@ -129,7 +129,7 @@ module _ (w : World) (seen : Seen) (n : ℕ) where
           (look_at lane' v' b ∙ e b ∙ sym (look_at lane v b))
       there a b (inr t) = look_off lane' v' a b t ∙ sym (look_off lane v a b t)
 
-  -- a life is no longer the current one, and is closed
+  -- a session is no longer current, and is closed
   life_closed : (steps : List MachineStep) (lane : List Item) (v v' : Serving) (k : ℕ) (life : Life) → v.seat.current k ≡ Some life →
       ((b : ℕ) → seen_at b v' (arrivals_of ks b lane) ≡ seen_at b (with_current v k None) (arrivals_of ks b lane)) →
       AllEndsFollow steps (end_views (after_serving w n lane v)) w.datagrams seen → AllEndsFollow (Close n k life ∷ steps) (end_views (after_serving w n lane v')) w.datagrams seen
@@ -150,7 +150,7 @@ module _ (w : World) (seen : Seen) (n : ℕ) where
         (λ b. ap₂ (λ xs ys. record (seen_at b v (arrivals_of ks b lane)) { out = xs; sent = ys })
         (nothing_more b (w.cargoes n b) v.offers o (no_cut b k life put)) (nothing_more b (w.put n b) v.offers o (no_cut b k life put))) g)
 
-    -- a packet of the current life is returned
+    -- a packet of the current session is returned
     hand_back : (lane : List Item) (v : Serving) (k : ℕ) (life : Life) (packet : Packet) → v.seat.current k ≡ Some life → Served before lane v → Served before lane (with_current (offered v k (Gives.Packet life packet) false) k None)
     hand_back lane v k life packet on g =
         let o : Offer = record { to = k; cargo = Gives.Packet life packet; put = false } in
@@ -159,7 +159,7 @@ module _ (w : World) (seen : Seen) (n : ℕ) where
         (λ b. ap₂ (λ xs ys. record (seen_at b (with_current v k None) (arrivals_of ks b lane)) { out = xs; sent = ys })
         (nothing_more b (w.cargoes n b) v.offers o (no_back b k (Gives.Packet life packet))) (nothing_more b (w.put n b) v.offers o (no_back b k (Gives.Packet life packet)))) g)
 
-    -- a packet of the current life is put
+    -- a packet of the current session is put
     offer_packet : (lane : List Item) (v : Serving) (k : ℕ) (life : Life) (packet : Packet) → v.seat.current k ≡ Some life → Served before lane v → Served before lane (offered v k (Gives.Packet life packet) true)
     offer_packet lane v k life packet on g =
         let x : Parcel = parcel_of life packet in
@@ -237,7 +237,7 @@ module _ (w : World) (seen : Seen) (n : ℕ) where
   abbrev pub SendsNothingYet : Serving → Type 0
   SendsNothingYet v = steps_of_offers n v.offers ≡ []
 
-  -- the steps of what an item itself does come before those of its cargoes
+  -- the steps of the item itself come before those of its offers
   quiet_steps : (before : List MachineStep) (v : Serving) → SendsNothingYet v → made (steps_of_offers n v.offers) before ≡ before
   quiet_steps before v q = ap (λ ss. made ss before) q
 
@@ -259,7 +259,7 @@ module _ (w : World) (seen : Seen) (n : ℕ) where
   is_current_false : (l : Life) (o : Option Life) → is_current l o ≡ false → o ≢ Some l
   is_current_false l o e q = true≢false (sym (subst (λ x. is_current l x ≡ true) (sym q) (same_refl l)) ∙ e)
 
-  -- an item of the link to k, at the front of the lane
+  -- an item of the link to k, at the front of the queue
   module _ (before : List MachineStep) (lane lane' : List Item) (k : ℕ) (what : What) (front : (b : ℕ) → arrivals_of ks b lane ≡ arrivals_in b (Some k) what ++ arrivals_of ks b lane') where
     front_here : arrivals_of ks k lane ≡ arrival_in what ∷ arrivals_of ks k lane'
     front_here = front k ∙ ap (λ (t : Bool). (if t then arrival_in what ∷ [] else []) ++ arrivals_of ks k lane') (eq-eqb k k refl)
@@ -351,7 +351,7 @@ module _ (w : World) (seen : Seen) (n : ℕ) where
   link_item_keeps before answers lane lane' k now (Tells.Status status) front v q g = pass_keeps before lane lane' k (Tells.Status status) front v refl g
   link_item_keeps before answers lane lane' k now Tells.Quit front v q g = pass_keeps before lane lane' k Tells.Quit front v refl g
 
-  -- an offered cut changes no current life, and is not a step
+  -- a cut that is offered changes no current session, and is not a step
   cut_quiet : (answers : Answers) (v : Serving) (j : ℕ) (o : Option Life) → SendsNothingYet v → SendsNothingYet (after_cut_tried answers v j o) × ((after_cut_tried answers v j o).seat.current ≡ v.seat.current)
   cut_quiet answers v j None q = (q, refl)
   cut_quiet answers v j (Some l) q =

@@ -1,4 +1,4 @@
--- An arrival at a core that reports no life changes nothing in the invariant.
+-- An arrival that reports no session changes nothing in the invariant.
 use Rattle.std.proofs.Common.{◌≡◌, ℕ, Bool, List, [], ◌∷◌, ◌++◌, length, ap, ◌∙◌, refl, sym, subst}
 use Rattle.tora_arq.specs.declared.life.Life.{Life}
 use Rattle.tora_arq.specs.Lives.{is_same_life, reversed}
@@ -33,7 +33,7 @@ comes_silent ls (LifeComes l ∷ q) r h = (h.0, comes_silent ls q r h.1)
 comes_silent ls (PacketComes l p ∷ q) r h = comes_silent ls q r h
 comes_silent ls (OtherComes ∷ q) r h = comes_silent ls q r h
 
--- anywhere among what comes
+-- such an arrival at any place among the arrivals
 pub silent_comes : (v : EndView) (p : MachineEnd) (other : List Parcel) (done : Life → ℕ → Type 0) (q r : List Arrival) → v.coming ≡ q ++ r → FollowsMachine v p other done → FollowsMachine (record v { coming = q ++ OtherComes ∷ r }) p other done
 silent_comes v p other done q r e h =
     let f = coming_is e h in record {

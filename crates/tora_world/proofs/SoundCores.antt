@@ -1,4 +1,4 @@
--- The cores of a topology that is not refused keep the laws of TORA's rules, whatever packets come.
+-- The cores of a topology that is not refused keep the invariants of TORA's rules, whatever packets arrive.
 use Rattle.std.proofs.Common.{◌≡◌, ℕ, ◌≤◌, ◌==◌, Bool, true, false, ◌||◌, List, [], ◌∷◌, length, None, Some, nat_lt, if◌then◌else◌, ap₂, ap, ◌∙◌, arith}
 use Rattle.std.specs.List.{AllByRecursion}
 use Rattle.std.proofs.lemmas.Bool.{cond_both}

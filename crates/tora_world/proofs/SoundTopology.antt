@@ -1,5 +1,4 @@
--- A topology that has no fault: how many neighbours a node has, and that they are different from each other and from
--- the node.
+-- A topology without a fault: how many neighbours a node has, and that they differ from each other and from the node.
 use Rattle.std.proofs.Common.{◌≡◌, refl, sym, ap, ap₂, ◌∙◌, subst, ℕ, suc, ◌+◌, ◌≤◌, ◌==◌, Bool, true, false, not, ◌||◌, ◌&&◌, nat_lt, List, [], ◌∷◌, length, cond, arith, if◌then◌else◌, Some, None, eqb-true}
 use Rattle.tora_core.proofs.AfterInputs.{has-with}
 use Rattle.std.specs.List.{list_any}
@@ -10,16 +9,16 @@ use Rattle.tora_core.specs.Numbers.{has_number, has_repeat, with_number, without
 use Rattle.tora_world.specs.Topology.{Topology, Link, nodes_in, with_node, different, different_neighbours, other_ends, is_same_link, has_link, has_repeated_link, has_own_link, has_too_many_within, topology_fault_within, at_most, most_nodes, most_neighbours, most_destinations, greatest_limits, IsWithinLimits}
 use Rattle.tora_world.specs.declared.limits.Limits.{Limits}
 
--- ---- numbers put at their places
+-- ---- inserting numbers in order
 
 pub length-with_number : (k : ℕ) (ns : List ℕ) → length (with_number k ns) ≡ suc (length ns)
 length-with_number k [] = refl
 length-with_number k (n ∷ ns) =
     cond_both (nat_lt k n) (k ∷ n ∷ ns) (n ∷ with_number k ns) (λ (xs : List ℕ). length xs ≡ suc (suc (length ns))) (λ _. refl) (λ _. ap suc (length-with_number k ns))
 
--- ---- how many of them are not the node itself
+-- ---- how many numbers are not the node itself
 
--- 0 for the number that is left out, else 1
+-- 0 for the number to leave out, and otherwise 1
 abbrev pub weight : Bool → ℕ
 weight true = 0
 weight false = 1
@@ -42,7 +41,7 @@ without-with_number n k (m ∷ ns) =
     let two = without-front n m ns in
     omega arith)
 
--- 1 where it is there
+-- 1 if the number is in the list
 abbrev pub one_if : Bool → ℕ
 one_if true = 1
 one_if false = 0
@@ -98,7 +97,7 @@ pub record IsSound (t : Topology) : Type 0 where
   pub destinations : has_repeat t.destinations ≡ false
   pub others : has_own_link t.links ≡ false
 
--- what is within a limit is within the greatest
+-- a count within a limit is within the greatest limit
 pub within-greatest : (greatest limit count : ℕ) → nat_lt (at_most greatest limit) count ≡ false → nat_lt greatest count ≡ false
 within-greatest greatest limit count few = go (nat_lt limit greatest) refl few
   where
@@ -106,7 +105,7 @@ within-greatest greatest limit count few = go (nat_lt limit greatest) refl few
     go true less e = grind (arith, nat_tests)
     go false more e = e
 
--- of no number the first holds, so of none the second
+-- if p fails for every number of the list, and q fails wherever p fails, then q fails for every number of the list
 none-weaker : (p q : ℕ → Bool) → ((n : ℕ) → p n ≡ false → q n ≡ false) → (ns : List ℕ) → list_any p ns ≡ false → list_any q ns ≡ false
 none-weaker p q weaker [] none = refl
 none-weaker p q weaker (n ∷ ns) none =
@@ -146,7 +145,7 @@ sound t (limits, e) =
     not-above : (most count : ℕ) → nat_lt most count ≡ false → count ≤ most
     not-above most count e = grind (arith, nat_tests)
 
--- what is not refused within limits is not refused within the greatest
+-- a topology that is not refused within limits is not refused within the greatest
 pub within-all : (t : Topology) (limits : Limits) → topology_fault_within limits t ≡ None → topology_fault_within greatest_limits t ≡ None
 within-all t limits e =
     let h = no-cause (has_too_many_within limits t) (has_repeated_link t.links || has_repeat t.destinations) (has_own_link t.links) e in
@@ -172,7 +171,7 @@ others-apart n (x ∷ links) e =
     go rest apart false true a b = or_from (x.a == n) (has_number n (other_ends n links)) a rest
     go rest apart false false a b = rest
 
--- a node that has no link to another is not among its other ends
+-- a node without a link to another node is not among that node's neighbours
 not-linked : (n k : ℕ) (links : List Link) → has_link (record { a = n; b = k }) links ≡ false → has_number k (other_ends n links) ≡ false
 not-linked n k [] e = refl
 not-linked n k (x ∷ links) e =
@@ -231,7 +230,7 @@ others-once n (x ∷ links) e =
         (not-linked n x.a links (has_link-turned n x.a links ∙ subst (λ m. has_link (record { a = x.a; b = m }) links ≡ false) (eqb-true x.b n b) here)) rest
     go rest here false false a b = rest
 
--- ---- numbers that are there
+-- ---- numbers of a list
 
 pub has-with_node : (n k : ℕ) (ns : List ℕ) → has_number n (with_node k ns) ≡ ((k == n) || has_number n ns)
 has-with_node n k ns =

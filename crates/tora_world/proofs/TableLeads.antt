@@ -1,4 +1,4 @@
--- What the table allows is what the definition computes.
+-- The table allows only what the definition computes.
 use Rattle.std.proofs.Common.{◌≡◌, ℕ, Bool, true, false, not, ◌&&◌, List, [], ◌∷◌, length, Option, Some, None, is_some, if◌then◌else◌, refl, sym, ap, ap₂, ◌∙◌, slice_get, lt-ltb}
 use mathlib.Core.Path.{fun_ext}
 use Rattle.tora_frame.specs.FrameParts.{FrameParts}
@@ -43,7 +43,7 @@ module _ (c : Choice) (w : World) where
   abbrev dropped : FrameParts → World
   dropped f = record w { arms = put_one w.arms f.header.receiver (record (w.arms f.header.receiver) { receive = false }) }
 
-  -- the first event of an end is in the lane
+  -- the first event of an end is in the queue
   abbrev put_there : ℕ → ℕ → ℕ → What → World
   put_there n k seat what = with_item (with_end w n k (after_poll_event (w.ends n k))) n seat c.stamp what
 

@@ -39,7 +39,7 @@ is_tick w (CoreTurn n) = (λ q. absurd (cc), λ ne. refl)
 is_tick w (Arm n call) = (λ q. absurd (cc), λ ne. refl)
 is_tick w (Restart n torn) = (λ q. absurd (cc), λ ne. refl)
 
--- ---- answers
+-- ---- results of offers
 
 module _ (w : World) (n : ℕ) (offers : List Offer) (k : ℕ) where
   waits : length (w.cargoes n k ++ put_to k offers) ≡ length (w.cargoes n k) + length (put_to k offers)
@@ -54,7 +54,7 @@ module _ (w : World) (n : ℕ) (offers : List Offer) (k : ℕ) where
     λ lt. lt-ltb (length (w.cargoes n k ++ put_to k offers)) MOST_CARGOES (subst (λ m. m < MOST_CARGOES) (sym waits) lt),
   )
 
--- ---- the own choice
+-- ---- the simulator's choice
 
 own_is : (w : World) (event : Event) → IsOwnChoice w event (own_choice w event)
 own_is w event = record {
@@ -64,7 +64,7 @@ own_is w event = record {
   answers = λ n e offers k. subst (λ m. (own_answers w m offers k ≡ true) ↔ (length (w.cargoes n k) + length (put_to k offers) < MOST_CARGOES)) (sym (ap node_of e)) (is_answer w n offers k);
 }
 
--- a choice that gives every tick this one
+-- a choice that gives every call this tick
 abbrev choice_at : ℕ → Answers → Choice
 choice_at now answers = record { clock = now; now = λ n k. now; stamp = now; answers = answers }
 
@@ -76,7 +76,7 @@ choice_is w event c h = λ i. record {
   answers = c.answers;
 }
 
--- the results of lanes matter only in a turn
+-- the results of queues matter only in a turn
 answers_count : (w : World) (now : ℕ) (a b : Answers) (event : Event) → ((n : ℕ) → event ≡ CoreTurn n → a ≡ b) → world_by (choice_at now a) w event ≡ world_by (choice_at now b) w event
 unfolding world_by effect_by
 answers_count w now a b (Need n d) h = refl

@@ -1,4 +1,4 @@
--- Why an event is refused: the columns of the table beside the computing definition.
+-- Why an event is refused: the columns of the table agree with the computing definition.
 use Rattle.std.proofs.Common.{◌≡◌, ◌≢◌, ℕ, ◌≤◌, Bool, true, false, true≢false, not, ◌&&◌, ◌⊎◌, inl, inr, List, [], ◌∷◌, length, Option, Some, None, is_some, if◌then◌else◌, refl, sym, ap, ap₂, ◌∙◌, subst, slice_get, ltb-false, le-ltb}
 use Rattle.tora_frame.specs.FrameParts.{FrameParts}
 use Rattle.tora_arq.specs.declared.link_event.LinkEvent.{LinkEvent}
@@ -14,7 +14,7 @@ use Rattle.tora_world.specs.World.{World, Choice, settings, datagram, is_empty, 
 use Rattle.tora_world.specs.Table.{is_there, IsImpossible, IsRefusedBy, no_node, no_datagram, not_possible}
 use Rattle.tora_world.proofs.TableWords.{no_datagram_past, past_no_datagram}
 
--- a refusal by whether there is the place, and whether the event is possible there
+-- the refusal, by whether the node or link exists and whether the event is possible
 abbrev pub refusal_at : Bool → Bool → Option SimError
 refusal_at there possible = if there then unless_possible possible else Some Refused.NoNode
 
@@ -156,7 +156,7 @@ module _ (c : Choice) (w : World) where
   refused_holds (Arm n call) error e = refused_elsewhere (Arm n call) (λ i q. cc) error e
   refused_holds (Restart n torn) error e = refused_elsewhere (Restart n torn) (λ i q. cc) error e
 
-  -- an event that is there and possible is not refused
+  -- an event whose node or link exists and that is possible is not refused
   pub not_refused : (event : Event) → ((i : ℕ) → event ≢ Deliver i) → is_there w event ≡ true → is_possible event ≡ true → refusal_by c w event ≡ None
   not_refused event ne t p = refusal_is event ne ∙ ap₂ refusal_at t p
 

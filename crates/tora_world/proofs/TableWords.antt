@@ -1,4 +1,4 @@
--- The words of the table, beside those of the computing definition.
+-- The terms of the table agree with those of the computing definition.
 use Rattle.std.proofs.Common.{◌≡◌, ℕ, zero, suc, ◌<◌, Bool, true, false, true≢false, ◌&&◌, ◌||◌, ◌⊎◌, inl, inr, List, [], ◌∷◌, ◌++◌, length, Some, None, nat_eq, if◌then◌else◌, refl, sym, ap, ap₂, ◌∙◌, subst, slice_get, eqb-true, eq-eqb, ne_eqb, arith}
 use Rattle.std.proofs.lemmas.Bool.{cases_Bool, or_parts}
 use Rattle.std.proofs.lemmas.Option.{slice_get_past}
@@ -82,14 +82,14 @@ end_changes n k value old = record {
   elsewhere = λ a b ne. ap (λ (z : Bool). if z then value else old a b) (not_both a b n k ne);
 }
 
--- the same value is put in its own place
+-- putting an equal value changes nothing
 pub one_same : {A : Type 0} (n : ℕ) (value : A) (old : ℕ → A) → value ≡ old n → put_one old n value ≡ old
 one_same n value old e = sym (changes_one n value old old (record { here = sym e; elsewhere = λ a ne. refl }))
 
 pub end_same : {A : Type 0} (n k : ℕ) (old : ℕ → ℕ → A) → put_at old n k (old n k) ≡ old
 end_same n k old = sym (changes_end n k (old n k) old old (record { here = refl; elsewhere = λ a b ne. refl }))
 
--- all ends of a node
+-- a value for all ends of a node
 pub ends_of : {A : Type 0} (n : ℕ) (value : A) (old : ℕ → ℕ → A) → put_one old n (λ k. value) ≡ (λ a k. if nat_eq a n then value else old a k)
 ends_of n value old = fun_ext (λ a. fun_ext (λ k. go a k (nat_eq a n)))
   where

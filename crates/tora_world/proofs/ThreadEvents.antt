@@ -26,7 +26,7 @@ use Rattle.tora_world.proofs.EndViews.{arrival_in, arrivals_in, arrivals_of, vie
 use Rattle.tora_world.proofs.Events.{tick_call, cut_call, end_changes, pump_keeps}
 use Rattle.tora_world.proofs.SilentItems.{silent_comes}
 
--- the property of an item that reports no life
+-- an item that reports no session is an arrival that reports none
 arrival_silent : (what : What) → TellsNoLife what → arrival_in what ≡ OtherComes
 arrival_silent (Tells.Up l) h = absurd h
 arrival_silent (Tells.Packet l p) h = absurd h
@@ -47,7 +47,7 @@ module _ (laws : LinkLaws) (lows : LifeLaws) (steps : List MachineStep) (w : Wor
   abbrev Keeps : World → Type 0
   Keeps after = AllEndsFollow steps (end_views after) after.datagrams seen
 
-  -- what one end may pass in
+  -- a call that one end may make
   abbrev HandsIn : ℕ → ℕ → LinkCall → Type 0
   HandsIn n k call = IsCall (end_views w n k) (machine_after steps n k) (machine_after steps k n).sent (seen_at_other seen n k) call (end_views w n k).out
 
@@ -62,7 +62,7 @@ module _ (laws : LinkLaws) (lows : LifeLaws) (steps : List MachineStep) (w : Wor
   one_tick_keeps n k now =
       call_keeps n k (Ticks now) tt refl (λ l o. o) (tick_call (end_views w n k) (machine_after steps n k) (machine_after steps k n).sent (seen_at_other seen n k) now (g.sides n k).histories.all_out)
 
-  -- a life file is another one
+  -- a life file becomes another one
   pub file_keeps : (n k : ℕ) (file : LifeDisk) → ((m : ℕ) → IsFloor m (w.files n k) → IsFloor m file) → Keeps (record w { files = put_at w.files n k file })
   file_keeps n k file kept =
       no_step steps (end_views w) (end_views (record w { files = put_at w.files n k file })) w.datagrams seen n k (end_views w n k) (record (end_views w n k) { file = file })

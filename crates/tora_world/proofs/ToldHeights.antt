@@ -1,5 +1,5 @@
--- The broadcasts of a core about a destination determine its height, or it has none: each height that it takes is
--- broadcast in an update to all up neighbours.
+-- The broadcasts of a core about a destination determine its height, or the core has none: each new height is broadcast
+-- in an update to all neighbours whose links are up.
 use Rattle.std.proofs.Common.{◌≡◌, ℕ, ◌<◌, Bool, true, false, ◌&&◌, ◌||◌, ◌⊎◌, inl, inr, List, [], ◌∷◌, ◌++◌, map, Option, Some, None, nat_eq, if◌then◌else◌, refl, sym, ap, ◌∙◌, subst, eqb-true, eq-eqb, append_assoc, append-nil, true≢false, arith}
 use Rattle.tora_seat.specs.SeatLaws.{is_link_down}
 use Rattle.std.proofs.lemmas.Bool.{cond_both, cases_Bool, false_from_ne_true}
@@ -31,7 +31,7 @@ use Rattle.tora_world.proofs.LinksUp.{up_same, up_gone}
 
 -- ---- one view
 
--- what is broadcast of the height after an input: each new height, and nothing else but that there is none
+-- the broadcast after an input: an update has the new height; without one, the height is unchanged or NULL
 abbrev Says : Option Quintuple → Option Quintuple → Option Broadcast → Type 0
 Says own after None = (after ≡ own) ⊎ (after ≡ None)
 Says own after (Some Tell.Query) = after ≡ own
@@ -155,7 +155,7 @@ destinations_after c ((input, now) ∷ inputs) =
     destinations_after (core_after c input now) inputs
     ∙ cond_both (is_some (refusal_of c input)) c (core_taking c input now) (λ (x : CoreView). destinations_of x.views ≡ destinations_of c.views) (λ _. refl) (λ _. destinations_stay input now c.views)
 
--- a table has a view of just its destinations
+-- a table has views of exactly its destinations
 some_view : (d : ℕ) (views : List View) → is_some (find (is_of d) views) ≡ has_number d (destinations_of views)
 some_view d [] = refl
 some_view d (v ∷ views) = go (v.destination == d) (some_view d views)
@@ -182,7 +182,7 @@ sent_of v input now p e = pick (concerns input v.destination) e
 
 -- ---- all views of a core
 
--- no view of these has the destination
+-- none of these views has the destination
 abbrev AreOthers : ℕ → List View → Type 0
 AreOthers d views = AllByRecursion (λ (v : View). (d == v.destination) ≡ false) views
 
@@ -190,7 +190,7 @@ above_others : (d : ℕ) (x : View) (views : List View) → AllByRecursion (λ (
 above_others d x [] all e = tt
 above_others d x (v ∷ views) all e = (false_from_ne_true (nat_eq d v.destination) (λ t. let q = eqb-true d v.destination t in let less = all.0 in absurd (omega (arith, q, e, less))), above_others d x views all.1 e)
 
--- what is sent of other destinations says nothing
+-- packets about other destinations do not change the entry for this one
 -- ---- at a neighbour with this treatment of erased levels
 
 module _ (choice : Erasure) where
@@ -218,7 +218,7 @@ module _ (choice : Erasure) where
 
   -- ---- the packets of one view
 
-  -- a height is the one that was received, or there is none, for this reason
+  -- the height is the one that was received, or there is none, for this reason
   abbrev pub IsHeard : (Quintuple → Type 0) → Option Quintuple → Option Quintuple → Type 0
   IsHeard Why None height = Unit {0}
   IsHeard Why (Some g) height = (height ≡ Some g) ⊎ ((height ≡ None) × Why g)
@@ -227,7 +227,7 @@ module _ (choice : Erasure) where
   heard_option d e None = e
   heard_option d e (Some p) = heard_in d e p
 
-  -- one view after an input, where the reasons of before go on
+  -- one view after an input; the earlier reasons still hold
   module _ (Why After : Quintuple → Type 0) (later : (g : Quintuple) → Why g → After g) where
     same_heard : (e own after : Option Quintuple) → after ≡ own → IsHeard Why e own → IsHeard After e after
     same_heard None own after q h = tt
@@ -283,7 +283,7 @@ module _ (choice : Erasure) where
           go (inl c) = subst (λ (b : Bool). IsHeard After (heard_option d e (if b then packet_sent v input now else None)) (if b then view_after v input now else v).height) (sym c) said
           go (inr c) = subst (λ (b : Bool). IsHeard After (heard_option d e (if b then packet_sent v input now else None)) (if b then view_after v input now else v).height) (sym c) (same_heard e v.height v.height refl h)
 
-  -- a packet of a view is one of its destination
+  -- the packet of a view is about its destination
   others_silent : (d : ℕ) (e : Option Quintuple) (input : Input) (now : ℕ) (views : List View) → AreOthers d views → heard d e (filter_map (next_packet input now) views) ≡ e
   others_silent d e input now [] all = refl
   others_silent d e input now (v ∷ views) all = go (next_packet input now v) refl (others_silent d e input now views all.1)
@@ -352,7 +352,7 @@ module _ (choice : Erasure) where
   abbrev pub IsTold : (Quintuple → Type 0) → ℕ → CoreView → List Packet → Type 0
   IsTold Why d c ps = (v : View) → view_of c d ≡ Some v → IsHeard Why (heard d None ps) v.height
 
-  -- a loss stays one of the inputs
+  -- the input that lost a height stays among the inputs
   lost_later : (first : CoreView) (is js : List (Input × ℕ)) (d : ℕ) (g : Quintuple) → WasLost choice first is d g → WasLost choice first (is ++ js) d g
   lost_later first is js d g h = record {
     before = h.before;
@@ -370,7 +370,7 @@ module _ (choice : Erasure) where
     abbrev Lost : List (Input × ℕ) → Quintuple → Type 0
     Lost inputs g = WasLost choice first inputs d g
 
-    -- what a core that these inputs made keeps of one neighbour while its link is up
+    -- the invariant of a core after these inputs, for one neighbour whose link is up
     record Telling (inputs : List (Input × ℕ)) (c : CoreView) (ps : List Packet) : Type 0 where
       made : c ≡ core_after_all first inputs
       ascending : IsAscending (destinations_of c.views)
@@ -415,7 +415,7 @@ module _ (choice : Erasure) where
             before (inl t) = absurd (true≢false (sym on ∙ up_gone cores k c input now ok t))
             before (inr g) = sym (up_same cores k c input now f g) ∙ on
 
-    -- one that is refused changes nothing, but that a link that comes up is taken for the first time
+    -- a refused input changes nothing
     refused_tells : (done : List (Input × ℕ)) (c : CoreView) (input : Input) (now : ℕ) (ps : List Packet) (error : StepError) → refusal_of c input ≡ Some error → Telling done c ps → Telling (done ++ (input, now) ∷ []) (core_after c input now) (with_sends k c input now ps)
     refused_tells done c input now ps error refused h =
         let same : core_after c input now ≡ c = ap (λ (o : Option StepError). if is_some o then c else core_taking c input now) refused in
@@ -449,6 +449,6 @@ module _ (choice : Erasure) where
         go None ok = accepted_tells done c input now ps ok h
         go (Some error) refused = refused_tells done c input now ps error refused h
 
-    -- from a core on whose links are all down
+    -- from a core whose links are all down
     pub heights_told : (inputs : List (Input × ℕ)) → IsAscending (destinations_of first.views) → has_number k first.up ≡ false → has_number k (core_after_all first inputs).up ≡ true → IsTold (Lost inputs) d (core_after_all first inputs) (broadcast_from k first inputs [])
     heights_told inputs up off on = (run_tells [] first inputs [] (record { made = refl; ascending = up; told = λ x. absurd (true≢false (sym x ∙ off)) })).told on

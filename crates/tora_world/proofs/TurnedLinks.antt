@@ -22,12 +22,12 @@ turned_ends n k (x ∷ links) e = go (nat_eq x.a n) (nat_eq x.b n) refl refl e (
     rest : has_number n (other_ends k links) ≡ true → has_number n (ends_with (nat_eq x.a k) (nat_eq x.b k) x (other_ends k links)) ≡ true
     rest f = more_ends n (nat_eq x.a k) (nat_eq x.b k) x (other_ends k links) f
 
-    -- k is the second end of the link, n the first
+    -- n is the first end of the link, k the second
     first : x.a ≡ n → x.b ≡ k → (p : Bool) → nat_eq x.a k ≡ p → has_number n (ends_with p (nat_eq x.b k) x (other_ends k links)) ≡ true
     first a b true t = or_left (nat_eq x.b n) (has_number n (other_ends k links)) (eq-eqb x.b n (b ∙ sym (eqb-true x.a k t) ∙ a))
     first a b false t = subst (λ (q : Bool). has_number n (ends_with false q x (other_ends k links)) ≡ true) (sym (eq-eqb x.b k b)) (or_left (nat_eq x.a n) (has_number n (other_ends k links)) (eq-eqb x.a n a))
 
-    -- the other direction
+    -- n is the second end of the link, k the first
     second : x.b ≡ n → x.a ≡ k → has_number n (ends_with (nat_eq x.a k) (nat_eq x.b k) x (other_ends k links)) ≡ true
     second b a = subst (λ (p : Bool). has_number n (ends_with p (nat_eq x.b k) x (other_ends k links)) ≡ true) (sym (eq-eqb x.a k a)) (or_left (nat_eq x.b n) (has_number n (other_ends k links)) (eq-eqb x.b n b))
 

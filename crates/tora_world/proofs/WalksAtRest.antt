@@ -1,4 +1,4 @@
--- Walks where each entry is the height of its neighbour or the neighbour has no height: they go down.
+-- If each entry is the height of its neighbour or the neighbour has no height, walks go down.
 use Rattle.std.proofs.Common.{◌≡◌, ◌≢◌, ℕ, zero, suc, ◌+◌, ◌<◌, ◌≤◌, ◌||◌, Bool, true, false, true≢false, ◌⊎◌, inl, inr, ⊎_elim, List, [], ◌∷◌, length, Some, nat_eq, refl, sym, ap, ◌∙◌, subst, arith, eqb-true, eq-eqb}
 use Rattle.std.proofs.lemmas.Bool.{cases_Bool}
 use Rattle.std.specs.Ordering.{is_lt}
@@ -38,7 +38,7 @@ module _ (rules : RuleLaws) (w : World) (cores : (n : ℕ) → is_node w.topolog
   fewer_below : (n : ℕ) (h : Quintuple) (x : Hops w d n h) → height_at w x.hop d ≡ Some (Some x.low) → under w d x.low (nodes_in w.topology.links) < under w d h (nodes_in w.topology.links)
   fewer_below n h x q = one_less rules w d x.low h x.order x.hop q (nodes_in w.topology.links) (node_there x.hop x.low q)
 
-  -- `most` is at least the number of nodes below, and one more: for a node that has no height
+  -- `most` exceeds the number of lower nodes, because the last hop may lead to a node without a height
   goes_down : (most n : ℕ) (h : Quintuple) → height_at w n d ≡ Some (Some h) → suc (under w d h (nodes_in w.topology.links)) ≤ most → Down n most
   goes_down zero n h e le = absurd (omega (arith, le))
   goes_down (suc most) n h e le = go (cases_Bool (nat_eq n d)) (goes_down most)
@@ -88,7 +88,7 @@ module _ (rules : RuleLaws) (w : World) (cores : (n : ℕ) → is_node w.topolog
     height : height_at w last d ≡ Some (Some low)
     order : IsLower low h
 
-  -- the node after n, where it has a height
+  -- the node after n, if it has a height
   after_hop : (n : ℕ) (h : Quintuple) → n ≢ d → height_at w n d ≡ Some (Some h) → (k : ℕ) → hop_at w n d ≡ Some k → (LacksHeight w k d → ⊥) → LastBelow h k
   after_hop n h other e k next have =
       let x = hops rules w cores d n h other e in
@@ -115,7 +115,7 @@ module _ (rules : RuleLaws) (w : World) (cores : (n : ℕ) → is_node w.topolog
       let less : Equal ≡ Less = sym (itself rules h) ∙ (rules.lower h h).1 lower in
       absurd (cc)
 
-  -- ---- no node of the component lacks a height
+  -- ---- every node of the component has a height
 
   module _ (n : ℕ) (none : (k : ℕ) → IsReached w d n k → LacksHeight w k d → ⊥) where
     record Leads (m most : ℕ) : Type 0 where

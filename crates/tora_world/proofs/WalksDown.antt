@@ -1,4 +1,4 @@
--- Where entries are exact, next hops lead down to the destination.
+-- If entries are exact, next hops lead down to the destination.
 use Rattle.std.proofs.Common.{◌≡◌, ◌≢◌, ◌↔◌, ℕ, zero, suc, ◌+◌, ◌<◌, ◌≤◌, ◌||◌, Bool, true, false, true≢false, ◌⊎◌, inl, inr, List, [], ◌∷◌, length, Option, None, Some, nat_eq, if◌then◌else◌, refl, sym, ap, ◌∙◌, subst, eqb-true, eq-eqb, arith}
 use Rattle.std.proofs.lemmas.Bool.{cases_Bool, false_from_ne_true}
 use Rattle.std.specs.Prelude.{IfSome, IsSome, option_map, option_and_then}
@@ -104,7 +104,7 @@ one_weaker : (a b : Bool) → (a ≡ true → b ≡ true) → one_where a ≤ on
 one_weaker true b f = let e = f refl in subst (λ x. 1 ≤ one_where x) (sym e) (omega arith)
 one_weaker false b f = omega arith
 
--- the next hop of a node that has a height, with the entry by which it is
+-- the next hop of a node that has a height, with its entry
 pub record Hops (w : World) (d n : ℕ) (h : Quintuple) : Type 0 where
   pub hop : ℕ
   pub low : Quintuple
@@ -118,7 +118,7 @@ module _ (rules : RuleLaws) where
   less_is Equal e = absurd cc
   less_is Greater e = absurd cc
 
-  -- what is lower than the lower of two heights is lower than the higher one
+  -- a height below the lower of two heights is below the higher one
   under_both : (low high : Quintuple) → IsLower low high → (o : Option (Option Quintuple)) → is_under low o ≡ true → is_under high o ≡ true
   under_both low high l None e = absurd cc
   under_both low high l (Some None) e = absurd cc
@@ -129,7 +129,7 @@ module _ (rules : RuleLaws) where
     fewer [] = omega arith
     fewer (n ∷ nodes) = let a = one_weaker (is_under low (height_at w n d)) (is_under high (height_at w n d)) (under_both low high l (height_at w n d)) in let b = fewer nodes in omega arith
 
-    -- the node of the lower height itself is one less
+    -- the node of the lower height is below the higher one and not below itself, so the count is smaller
     pub one_less : (k : ℕ) → height_at w k d ≡ Some (Some low) → (nodes : List ℕ) → has_number k nodes ≡ true → under w d low nodes < under w d high nodes
     one_less k is [] there = absurd cc
     one_less k is (n ∷ nodes) there = go (nat_eq n k) refl there (one_less k is nodes)
@@ -169,7 +169,7 @@ module _ (rules : RuleLaws) where
         }
 
   module _ (w : World) (cores : (n : ℕ) → is_node w.topology n ≡ true → IsCoreOf w.topology n (w.seats n).core) (d : ℕ) (exact : IsExact w d) where
-    -- the entry is the height of the node there
+    -- the entry of the next hop is its height
     lower : (n : ℕ) (h : Quintuple) (x : Hops w d n h) → height_at w x.hop d ≡ Some (Some x.low)
     lower n h x = exact n x.hop x.low x.entry
 

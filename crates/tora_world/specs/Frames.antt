@@ -22,7 +22,7 @@ pub data Part : Type 0 where
   Inputs : Part
   Steps : Part
 
--- the place of a part in that list
+-- the number of a part, in the order of that list
 abbrev pub part_number : Part → ℕ
 part_number Clock = 0
 part_number Seats = 1
@@ -41,12 +41,12 @@ abbrev pub is_among : Part → List Part → Bool
 is_among part [] = false
 is_among part (other ∷ parts) = (part_number part == part_number other) || is_among part parts
 
--- a statement that need not hold if this is so
+-- a statement that holds unless the flag is true
 abbrev pub Unless : Bool → Type 0 → Type 0
 Unless true P = Unit {0}
 Unless false P = P
 
--- all other parts are unchanged; no event changes the nodes, the links and the times of the link ends
+-- all parts other than these are unchanged; no event changes the nodes, the links and the times of the link ends
 pub record AllElse (changed : List Part) (w after : World) : Type 0 where
   pub topology : after.topology ≡ w.topology
   pub times : after.times ≡ w.times
@@ -63,12 +63,12 @@ pub record AllElse (changed : List Part) (w after : World) : Type 0 where
   pub inputs : Unless (is_among Inputs changed) (after.inputs ≡ w.inputs)
   pub steps : Unless (is_among Steps changed) (after.steps ≡ w.steps)
 
--- of the values for each node, one node's becomes this, and all others are unchanged
+-- the value for node n becomes this, and the values for all other nodes are unchanged
 pub record ChangesAt {A : Type 0} (n : ℕ) (value : A) (old new : ℕ → A) : Type 0 where
   pub here : new n ≡ value
   pub elsewhere : (a : ℕ) → a ≢ n → new a ≡ old a
 
--- the same for the values for each link end
+-- the value for the end of n towards k becomes this, and the values for all other ends are unchanged
 pub record ChangesAtEnd {A : Type 0} (n k : ℕ) (value : A) (old new : ℕ → ℕ → A) : Type 0 where
   pub here : new n k ≡ value
   pub elsewhere : (a b : ℕ) → ¬ ((a ≡ n) × (b ≡ k)) → new a b ≡ old a b
@@ -78,7 +78,7 @@ pub record ChangesFiles (n : ℕ) (next : LifeDisk → LifeDisk) (w after : Worl
   pub own : (k : ℕ) → is_link w.topology n k ≡ true → after.files n k ≡ next (w.files n k)
   pub others : (a b : ℕ) → ¬ ((a ≡ n) × (is_link w.topology n b ≡ true)) → after.files a b ≡ w.files a b
 
--- an item is at the end of a node's lane, with the next number of its seat
+-- an item is at the end of a node's queue, with the next number of its seat
 pub record PutsItem (w : World) (n seat now : ℕ) (what : What) (after : World) : Type 0 where
   pub item : ChangesAt n (w.items n ++ record {
     seat = seat;
@@ -88,8 +88,8 @@ pub record PutsItem (w : World) (n seat now : ℕ) (what : What) (after : World)
   } ∷ []) w.items after.items
   pub count : ChangesAtEnd n seat (suc (w.counts n seat)) w.counts after.counts
 
--- the results of serving an item: the seat, the rest of the lane, the cargoes put, the inputs that the core accepted,
--- and the packets that it took
+-- the results of serving an item: the seat, the rest of the queue, the outbound messages put, the inputs that the core
+-- accepted, and the packets that it took
 pub record LeavesServed (w : World) (n : ℕ) (rest : List Item) (served : Serving) (after : World) : Type 0 where
   pub seat : ChangesAt n served.seat w.seats after.seats
   pub items : ChangesAt n rest w.items after.items

@@ -24,7 +24,7 @@ is_link_up k (In.LinkDown j) = false
 is_link_up k (In.Packet j packet) = false
 is_link_up k (In.Need d) = false
 
--- the packets broadcast to a neighbour since its link came up last: an input broadcasts to each neighbour whose link is
+-- the packets broadcast to a neighbour since its link came up last; an input broadcasts to each neighbour whose link is
 -- up after it
 abbrev pub with_sends : ℕ → CoreView → Input → ℕ → List Packet → List Packet
 with_sends k c input now packets =
@@ -37,11 +37,11 @@ broadcast_from k c [] packets = packets
 broadcast_from k c ((input, now) ∷ inputs) packets = broadcast_from k (core_after c input now) inputs
     (with_sends k c input now packets)
 
--- of the core of n, in this world
+-- the packets that the core of n has broadcast to k since their link came up last, in this world
 abbrev pub broadcast_packets : Topology → World → ℕ → ℕ → List Packet
 broadcast_packets t w n k = broadcast_from k (new_core t n) (w.inputs n) []
 
--- ---- the life that a link brought up last at its core, since the node's last restart
+-- ---- the session that a link brought up last at its core, since the node's last restart
 
 abbrev pub life_told : ℕ → Option ℕ → What → Option Life → Option Life
 life_told k None what life = life
@@ -74,7 +74,7 @@ life_by w n k (Arm m call) life = life
 abbrev pub life_after : Choice → World → ℕ → ℕ → Event → Option Life → Option Life
 life_after c w n k event life = if is_some (refusal_by c w event) then life else life_by w n k event life
 
--- a start clears it as a Restart does, and no other event of threads takes a life from the lane
+-- a start clears it as a Restart does, and no other event of threads makes the core take a session from the queue
 abbrev pub free_life_after : Choice → World → ℕ → ℕ → FreeEvent → Option Life → Option Life
 free_life_after c w n k event life = if_happens (λ e. life_after c w n k e life) life event
 
@@ -84,30 +84,30 @@ latest_life n k (e ∷ es) w life = latest_life n k es (free_by e.1 w e.0) (free
 
 -- ---- no gap
 
--- the cut of this life is pending
+-- the cut of this session is pending
 abbrev pub IsCut : ℕ → ℕ → Life → World → Type 0
 IsCut n k life w = (w.seats n).pending k ≡ Some life
 
--- for a life that came up last: what was sent is a prefix of what the core broadcast while its link was up, and all of
--- it unless the life was cut
+-- for the session that came up last: what was sent is a prefix of what the core broadcast while its link was up, and
+-- all of it unless the session was cut
 pub record HasNoGap (broadcast sent : List Packet) (WasCut : Type 0) : Type 0 where
   pub begins : Begins sent broadcast
   pub whole : (sent ≡ broadcast) ⊎ WasCut
 
 pub record IsWithoutGap (t : Topology) (first : World) (es : Schedule) (w : World) (n k : ℕ) : Type 0 where
-  -- while a life is current, all that the core broadcast since its link came up was sent in it
+  -- while a session is current, all that the core broadcast since its link came up was sent in it
   pub now : (life : Life) → (w.seats n).current k ≡ Some life → sent_packets w n k life ≡ broadcast_packets t w n k
   pub current : (life : Life) → (w.seats n).current k ≡ Some life → latest_life n k es first None ≡ Some life
   pub latest : (life : Life) → latest_life n k es first None ≡ Some life
       → HasNoGap (broadcast_packets t w n k) (sent_packets w n k life) (Sometime (IsCut n k life) es first)
 
--- an event sends only in the life that came up last
+-- an event sends only in the session that came up last
 abbrev pub SendsInLatest : World → Schedule → World → ℕ → ℕ → Type 0
 SendsInLatest first es w n k =
     (event : FreeEvent) (c : Choice) (life : Life) → (free_life_after c w n k event (latest_life n k es first None)
     ≡ Some life → ⊥) → sent_packets (free_by c w event) n k life ≡ sent_packets w n k life
 
--- this holds for every link end of every run over a topology that is not refused within some limits
+-- a statement holds for every link end of every run, over any topology that is not refused within some limits
 abbrev pub EveryEnd : (Topology → World → Schedule → World → ℕ → ℕ → Type 0) → Type 0
 EveryEnd Holds =
     (t : Topology) (times : Times) (es : Schedule) (n k : ℕ) → IsWithinLimits t → is_link t n k ≡ true

@@ -12,27 +12,27 @@ use Rattle.tora_world.specs.LinkMachine.{MachineStep, machine_after, IsMachineRu
 use Rattle.tora_world.specs.World.{World, first_world, sent_packets, taken_packets}
 use Rattle.tora_world.specs.FreeWorld.{Schedule, free_by, after_schedule}
 
--- this holds for every run from a first world on: of that world, the schedule, and the world after it
+-- a statement about the first world, the schedule and the world after it holds for every run
 abbrev pub EveryRun : (World → Schedule → World → Type 0) → Type 0
 EveryRun Holds = (t : Topology) (times : Times) (es : Schedule) →
     Holds (first_world t times) es (after_schedule es (first_world t times))
 
--- what was taken in a life is a prefix of what was sent in it
+-- what was taken in a session is a prefix of what was sent in it
 abbrev pub TakenBeginsSent : World → Type 0
 TakenBeginsSent w = (a b : ℕ) (life : Life) → Begins (taken_packets w b a (reversed life)) (sent_packets w a b life)
 
--- these are steps of the link machine, each allowed when it was made, and its lists are those of this world
+-- these are steps of the link machine, each allowed when it was made, and the machine's lists are those of this world
 pub record IsOfMachine (steps : List MachineStep) (w : World) : Type 0 where
   pub is_run : IsMachineRun steps
   pub sent : (n k : ℕ) → (machine_after steps n k).sent ≡ parcels_in (w.put n k)
   pub taken : (n k : ℕ) → (machine_after steps n k).taken ≡ w.steps n k
 
--- in some world of the run
+-- a statement holds in some world of the run
 abbrev pub Sometime : (World → Type 0) → Schedule → World → Type 0
 Sometime P [] w = P w
 Sometime P (e ∷ es) w = P w ⊎ Sometime P es (free_by e.1 w e.0)
 
--- the end of n towards k, bound in this life, has accepted at least this many packets
+-- the end of n towards k is bound in this session, and has accepted at least this many packets
 pub record HasAccepted (n k : ℕ) (life : Life) (count : ℕ) (w : World) : Type 0 where
   pub bound : (w.ends n k).phase ≡ Bound life
   pub accepted : count ≤ (w.ends n k).accepted
@@ -48,7 +48,7 @@ is_bound_to life Closed = false
 is_bound_to life (Unbound own) = false
 is_bound_to life (Bound other) = is_same_life life other
 
--- how many events of the run bind the end of n towards k to this life
+-- how many events of the run bind the end of n towards k to this session
 abbrev pub times_bound : ℕ → ℕ → Life → Schedule → World → ℕ
 times_bound n k life [] w = 0
 times_bound n k life (e ∷ es) w =
@@ -60,6 +60,6 @@ times_bound n k life (e ∷ es) w =
 abbrev pub BindsOnce : World → Schedule → Type 0
 BindsOnce first es = (n k : ℕ) (life : Life) → times_bound n k life es first ≤ 1
 
--- each core is the result of the inputs that it accepted
+-- each core has the state that the rules give for the inputs that it accepted
 abbrev pub CoresFollow : Topology → World → Type 0
 CoresFollow t w = (n : ℕ) → (w.seats n).core ≡ core_after_all (new_core t n) (w.inputs n)

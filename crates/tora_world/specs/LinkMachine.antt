@@ -8,13 +8,13 @@ use Rattle.tora_world.specs.Lists.{parcel_of, packets_of, IsIn, Each}
 
 -- the state of one end of a link
 pub record MachineEnd : Type 0 where
-  pub drawn : List ℕ  -- its numbers, last one first
-  pub bound : List Life  -- the lives that it has bound, last one first
+  pub drawn : List ℕ  -- the numbers that it has drawn, last one first
+  pub bound : List Life  -- the sessions that it has bound, last one first
   pub closed : List Life
   pub sent : List Parcel  -- to the other end, in order
   pub taken : List Parcel  -- from the other end, in order
 
--- for each node and each neighbour
+-- a state for each node and each of its neighbours
 abbrev pub Machine : Type 0
 Machine = ℕ → ℕ → MachineEnd
 
@@ -25,7 +25,7 @@ pub data MachineStep : Type 0 where
   Take : (n k : ℕ) (life : Life) (packet : Packet) → MachineStep
   Close : (n k : ℕ) (life : Life) → MachineStep
 
--- a function on pairs of nodes, changed at one
+-- a function on pairs of nodes, changed at one pair
 abbrev pub put_at : {A : Type 0} → (ℕ → ℕ → A) → ℕ → ℕ → A → ℕ → ℕ → A
 put_at f n k v a b = if (a == n) && (b == k) then v else f a b
 
@@ -35,14 +35,14 @@ IsLast x (y ∷ ys) = x ≡ y
 
 -- the machine may make this step
 abbrev pub MayStep : Machine → MachineStep → Type 0
--- a number above all earlier ones of this end
+-- the number is above all earlier ones of this end
 MayStep m (Draw n k number) = Each (λ earlier. earlier < number) (m n k).drawn
--- the last number of this end, which it has not bound before, with one that the other end has drawn
+-- the end's last number, with which it has not bound before, and a number that the other end has drawn
 MayStep m (Bind n k own peer) = IsLast own (m n k).drawn × Each (λ life. life.own ≢ own) (m n k).bound
     × IsIn peer (m k n).drawn
--- a packet is sent in a life that is bound and not closed
+-- the session is bound and not closed
 MayStep m (Send n k life packet) = IsIn life (m n k).bound × Each (λ closed. closed ≢ life) (m n k).closed
--- the packet taken is the next one that the other end has sent in that life
+-- the packet is the next one that the other end has sent in that session
 MayStep m (Take n k life packet) =
     IsIn life (m n k).bound × Each (λ closed. closed ≢ life) (m n k).closed
     × (slice_get (packets_of (reversed life) (m k n).sent) (length (packets_of life (m n k).taken)) ≡ Some packet)
@@ -78,7 +78,7 @@ abbrev pub machine_after : List MachineStep → Machine
 machine_after [] = empty_machine
 machine_after (s ∷ steps) = after_machine_step (machine_after steps) s
 
--- the steps made so far, last one first, with these steps added in their order
+-- a list of steps, last one first, after these steps were added in their order
 abbrev pub made : List MachineStep → List MachineStep → List MachineStep
 made [] before = before
 made (s ∷ steps) before = made steps (s ∷ before)

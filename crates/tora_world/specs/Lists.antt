@@ -1,4 +1,4 @@
--- Packets by the lives in which they are sent.
+-- Packets by the sessions in which they are sent.
 use Rattle.std.specs.Prelude.{◌≡◌, ◌⊎◌, if◌then◌else◌, List, [], ◌∷◌, ◌++◌}
 use Rattle.tora_packet.specs.declared.Packet.{Packet}
 use Rattle.tora_arq.specs.declared.life.Life.{Life}
@@ -10,16 +10,16 @@ use Rattle.tora_seat.specs.Serving.{Parcel}
 abbrev pub parcel_of : Life → Packet → Parcel
 parcel_of life packet = record { life = life; packet = packet }
 
--- the packet, if it is of this life
+-- the packet, if it is of this session
 abbrev pub packet_where : Life → Parcel → List Packet
 packet_where life x = if is_same_life life x.life then x.packet ∷ [] else []
 
--- the packets of one life, in order
+-- the packets of one session, in order
 abbrev pub packets_of : Life → List Parcel → List Packet
 packets_of life [] = []
 packets_of life (x ∷ xs) = packet_where life x ++ packets_of life xs
 
--- the packets among cargoes
+-- the packets among outbound messages, with their sessions
 abbrev pub parcels_in : List Cargo → List Parcel
 parcels_in [] = []
 parcels_in (Gives.Packet life packet ∷ cargoes) = parcel_of life packet ∷ parcels_in cargoes
@@ -33,7 +33,7 @@ abbrev pub IsIn : {A : Type 0} → A → List A → Type 0
 IsIn x [] = ⊥
 IsIn x (y ∷ ys) = (x ≡ y) ⊎ IsIn x ys
 
--- holds of each item
+-- a property holds for each item
 abbrev pub Each : {A : Type 0} → (A → Type 0) → List A → Type 0
 Each P [] = Unit {0}
 Each P (x ∷ xs) = P x × Each P xs

@@ -14,27 +14,26 @@ use Rattle.tora_world.specs.World.{World}
 use Rattle.tora_world.specs.Walks.{entry_at}
 use Rattle.tora_world.specs.Rest.{LacksHeight}
 
--- a clear of this level removes the entry of its sender at a neighbour with this choice; one that remembers erased
--- levels removes any
+-- a clear of this level removes the entry of its sender at a neighbour with this choice: if the entry is at the level,
+-- or, for a neighbour that remembers erased levels, in any case
 abbrev pub takes_entry : Erasure → Level → Option Quintuple → Bool
 takes_entry Plain level entry = is_entry_at level entry
 takes_entry Remembered level entry = true
 
--- an input removes this height from a view, and the broadcast does not remove the entry of it at a neighbour with this
+-- an input removes this height from a view, and the broadcast does not remove the entry for it at a neighbour with this
 -- choice
 pub data LosesQuietly (choice : Erasure) (v : View) (input : Input) (now : ℕ) (height : Quintuple) : Type 0 where
-  -- a clear of another level than that of the height is broadcast; possible only if the neighbour does not remember
-  -- erased levels
+  -- a clear of another level than that of the height is broadcast, and the neighbour does not remember erased levels
   clears_another_level : (tau oid : ℕ) → (outcome_of v input now).broadcast ≡ Some (Tell.Clear tau oid)
       → takes_entry choice (cleared_level tau oid) (Some height) ≡ false → LosesQuietly choice v input now height
   -- no entry is left, and nothing is broadcast
   loses_last_entry : (outcome_of v input now).broadcast ≡ None → (view_after v input now).height ≡ None
       → known_heights (view_after v input now) ≡ [] → LosesQuietly choice v input now height
-  -- an entry is left, but the computed height is out of range, so there is none; nothing is broadcast
+  -- an entry is left, but the computed height is out of range, so the view has no height; nothing is broadcast
   finds_no_height : (outcome_of v input now).broadcast ≡ None → (view_after v input now).height ≡ None
       → known_heights (view_after v input now) ≢ [] → LosesQuietly choice v input now height
 
--- one of these inputs of a core did this
+-- one of these inputs of a core removed the height in this way
 pub record WasLost (choice : Erasure) (first : CoreView) (inputs : List (Input × ℕ)) (d : ℕ) (height : Quintuple) :
     Type 0 where
   pub before : List (Input × ℕ)

@@ -16,7 +16,7 @@ use Rattle.tora_world.specs.World.{World, Choice, neighbours, refusal_by}
 use Rattle.tora_world.specs.FreeWorld.{FreeEvent, if_happens, free_by, Schedule}
 
 -- a core refuses its next item only if that is the need of a destination that is not in its table, and for that cause,
--- whatever the results of its offers
+-- whatever the results of its offers are
 abbrev pub OnlyNeedsAreRefused : World → Type 0
 OnlyNeedsAreRefused w =
     (n : ℕ) (answers : Answers) (item : Item) (items : List Item) (error : StepError) → w.items n ≡ item ∷ items
@@ -38,7 +38,7 @@ packets_accepted k ((input, now) ∷ inputs) = packet_in k input ++ packets_acce
 abbrev pub packets_in : List Parcel → List Packet
 packets_in parcels = map (λ x. x.packet) parcels
 
--- after this event: the packets of a neighbour that a node had taken when it was restarted last
+-- the packets that a node had taken from a neighbour before its last restart, after this event
 abbrev pub stepped_by : World → ℕ → ℕ → Event → List Packet → List Packet
 stepped_by w n k (Restart m torn) earlier = if n == m then packets_in (w.steps n k) else earlier
 stepped_by w n k (Need m d) earlier = earlier
@@ -58,7 +58,7 @@ stepped_after c w n k event earlier = if is_some (refusal_by c w event) then ear
 abbrev pub free_stepped_after : Choice → World → ℕ → ℕ → FreeEvent → List Packet → List Packet
 free_stepped_after c w n k event earlier = if_happens (λ e. stepped_after c w n k e earlier) earlier event
 
--- and after a run
+-- the packets that a node had taken from a neighbour before its last restart, after a run
 abbrev pub stepped_at_restart : ℕ → ℕ → Schedule → World → List Packet → List Packet
 stepped_at_restart n k [] w earlier = earlier
 stepped_at_restart n k (e ∷ es) w earlier = stepped_at_restart n k es (free_by e.1 w e.0)

@@ -12,34 +12,34 @@ use Rattle.tora_world.specs.Walks.{height_at, hop_at, entry_at, IsBelow}
 
 -- ---- at rest
 
--- the life in which a link is up at the core of n; None if it is not up or there is no such link
+-- the session in which a link is up at the core of n; None if it is not up or there is no such link
 abbrev pub life_at : World → ℕ → ℕ → Option Life
 life_at w n k = if is_link w.topology n k then (w.seats n).current k else None
 
--- nothing waits in the lane to a link end or in the end, and all packets submitted to it are acknowledged
+-- nothing waits in the queue to a link end or in the end, and all packets submitted to it are acknowledged
 pub record IsIdleEnd (w : World) (n k : ℕ) : Type 0 where
   pub cargoes : w.cargoes n k ≡ []
   pub events : (w.ends n k).events ≡ []
   pub queue : (w.ends n k).queue ≡ []
 
--- the link is up at both cores in one life, in which the end is bound, or at neither
+-- the link is up at both cores in one session, in which the end is bound, or at neither core
 pub record IsInOneLife (w : World) (n k : ℕ) : Type 0 where
   pub same : life_at w n k ≡ option_map reversed (life_at w k n)
   pub bound : (life : Life) → life_at w n k ≡ Some life → bound_life (w.ends n k) ≡ Some life
 
--- no item, cargo or event waits, nothing that was submitted is unacknowledged, and each link is up at both ends or at
--- neither. HELLOs and repeated ACKs may still be due, and old datagrams may still be delivered.
+-- no item, outbound message or event waits, no submitted packet is unacknowledged, and each link is up at both ends or
+-- at neither. HELLOs and repeated ACKs may still be due, and old datagrams may still be delivered.
 pub record IsAtRest (w : World) : Type 0 where
   pub items : (n : ℕ) → is_node w.topology n ≡ true → w.items n ≡ []
   pub idle : (n k : ℕ) → is_link w.topology n k ≡ true → IsIdleEnd w n k
   pub lives : (n k : ℕ) → is_link w.topology n k ≡ true → IsInOneLife w n k
 
--- ---- the same, computed
+-- ---- the test for rest
 
 abbrev pub is_idle_end : World → ℕ → ℕ → Bool
 is_idle_end w n k = is_empty (w.cargoes n k) && is_empty (w.ends n k).events && is_empty (w.ends n k).queue
 
--- the life of one core is that of the other, and the end is bound in it; or there is none at either
+-- both cores have the same session, in which the end is bound, or neither core has one
 abbrev pub is_one_life : Option Life → Option Life → Option Life → Bool
 is_one_life None None bound = true
 is_one_life None (Some other) bound = false
@@ -81,7 +81,7 @@ GoesDown w d n [] = n ≡ d
 GoesDown w d n (k ∷ nodes) = (n ≢ d) × (hop_at w n d ≡ Some k) × ((IsBelow w d k n × GoesDown w d k nodes)
     ⊎ (LacksHeight w k d × (nodes ≡ [])))
 
--- the next hop of a node: a node with a lower height, or one that has none
+-- the next hop of a node has a lower height, or has none
 pub record HopsDown (w : World) (d n : ℕ) : Type 0 where
   pub hop : ℕ
   pub next : hop_at w n d ≡ Some hop
@@ -104,7 +104,7 @@ last_of n (k ∷ nodes) = last_of k nodes
 
 -- ---- components
 
--- the nodes that are reachable from n over links, each up at the node that it leaves
+-- the nodes that are reachable from n over links, each of which is up at the node from which it is followed
 pub data IsReached (w : World) (d n : ℕ) : ℕ → Type 0 where
   itself : IsReached w d n n
   further : {j k : ℕ} {entry : Option Quintuple} → IsReached w d n j → entry_at w j k d ≡ Some entry → IsReached w d n k

@@ -1,4 +1,4 @@
--- The table of docs/simulation.md as a relation: a case for each event and each outcome, with the changes, and
+-- The table of docs/simulation.md as a relation: a case for each event and each outcome, with the changes, and with
 -- everything else unchanged.
 use Rattle.std.specs.Prelude.{◌≡◌, ◌≢◌, ◌↔◌, ◌⊎◌, ℕ, suc, ◌+◌, ◌<◌, ◌≤◌, Bool, true, false, List, [], ◌∷◌, ◌++◌, length, Option, Some, None}
 use Rattle.tora_packet.specs.declared.Packet.{Packet}
@@ -30,9 +30,9 @@ use Rattle.tora_world.specs.Topology.{is_node, is_link}
 use Rattle.tora_world.specs.World.{World, Choice, Goes, IsLost, IsGone, first_seat, settings, neighbours, command_seat}
 use Rattle.tora_world.specs.Frames.{Clock, Seats, Ends, Files, Items, Counts, Cargoes, Armed, Datagrams, Put, Inputs, Steps, AllElse, ChangesAt, ChangesAtEnd, ChangesFiles, PutsItem, LeavesServed}
 
--- ---- what the rows speak of
+-- ---- terms of the rows
 
--- there is the node or the link that an event names
+-- the node or the link that an event names exists
 abbrev pub is_there : World → Event → Bool
 is_there w (Need n d) = is_node w.topology n
 is_there w Tick = true
@@ -45,21 +45,21 @@ is_there w (CoreTurn n) = is_node w.topology n
 is_there w (Arm n call) = is_node w.topology n
 is_there w (Restart n torn) = is_node w.topology n
 
--- a node's lane has room for one more item, or none
+-- a node's queue has room for one more item
 abbrev pub HasRoom : World → ℕ → Type 0
 HasRoom w n = length (w.items n) < MOST_ITEMS
 
 abbrev pub IsFull : World → ℕ → Type 0
 IsFull w n = MOST_ITEMS ≤ length (w.items n)
 
--- this is the datagram with a number among all ever sent, counted from 1
+-- the datagram with this number among all ever sent, counted from 1
 pub record IsDatagram (w : World) (i : ℕ) (f : FrameParts) : Type 0 where
   pub before : List FrameParts
   pub behind : List FrameParts
   pub all : w.datagrams ≡ before ++ f ∷ behind
   pub number : i ≡ suc (length before)
 
--- a neighbour's seat is its place among the neighbours, from 0 on
+-- the seat of neighbour k is its place among the neighbours, counted from 0
 pub record IsSeatOf (k : ℕ) (neighbours : List ℕ) (seat : ℕ) : Type 0 where
   pub before : List ℕ
   pub behind : List ℕ
@@ -67,13 +67,13 @@ pub record IsSeatOf (k : ℕ) (neighbours : List ℕ) (seat : ℕ) : Type 0 wher
   pub first : has_number k before ≡ false
   pub place : seat ≡ length before
 
--- the item for an event of a link end: a life that came up, a packet, a life that went down
+-- the item that reports an event of a link end: a session that came up, a packet, a session that went down
 pub data IsTold : LinkEvent → What → Type 0 where
   up_told : {life : Life} → IsTold (Link.Up life) (Tells.Up life)
   packet_told : {life : Life} {packet : Packet} → IsTold (Link.Deliver life packet) (Tells.Packet life packet)
   down_told : {life : Life} {reason : Reason} → IsTold (Link.Down life reason) (Tells.Down life reason)
 
--- ---- the column of what is not possible
+-- ---- the conditions under which an event is not possible
 
 abbrev pub IsImpossible : Choice → World → Event → Type 0
 IsImpossible c w (Need n d) = IsFull w n
@@ -96,12 +96,12 @@ pub data IsRefusedBy (c : Choice) (w : World) : Event → SimError → Type 0 wh
 
 -- ---- the table
 
--- the event leads to this world, with these ticks and these results
+-- the event leads to this world, with these ticks and these results of offers
 pub data IsStepBy (c : Choice) (w : World) : Event → World → Type 0 where
   -- a refused event changes nothing
   refused : {event : Event} {error : SimError} {after : World} → IsRefusedBy c w event error → AllElse [] w after
       → IsStepBy c w event after
-  -- need: its item is in the lane, from the seat of the commands
+  -- need: its item is in the queue, from the seat of the commands
   needed : {n d : ℕ} {after : World} → is_node w.topology n ≡ true → HasRoom w n
       → PutsItem w n (command_seat w n) c.stamp (Tells.Need d) after
       → AllElse (Items ∷ Counts ∷ []) w after → IsStepBy c w (Need n d) after
@@ -116,12 +116,12 @@ pub data IsStepBy (c : Choice) (w : World) : Event → World → Type 0 where
       → ChangesAtEnd n k (after_open (w.ends n k) number (c.now n k)) w.ends after.ends
       → ChangesAtEnd n k (after_event DrawsNumber (w.files n k)) w.files after.files
       → AllElse (Ends ∷ Files ∷ []) w after → IsStepBy c w (Open n k) after
-  -- if it draws none, because it is not open or a call of its disk fails, the end stays closed
+  -- open, if no number is drawn because the file is not open or a call of its disk fails: the end stays closed
   stays_closed : {n k : ℕ} {after : World} → is_link w.topology n k ≡ true → (w.ends n k).phase ≡ Closed
       → drawn_by DrawsNumber (w.files n k) ≡ []
       → ChangesAtEnd n k (after_event DrawsNumber (w.files n k)) w.files after.files
       → AllElse (Files ∷ []) w after → IsStepBy c w (Open n k) after
-  -- pull: the first cargo of the lane leaves it, a packet is submitted, a cut cuts its life
+  -- pull: the first outbound message leaves the queue; a packet is submitted, a cut cuts its session
   packet_pulled : {n k : ℕ} {life : Life} {packet : Packet} {cargoes : List Cargo} {after : World}
       → is_link w.topology n k ≡ true
       → w.cargoes n k ≡ Gives.Packet life packet ∷ cargoes
@@ -139,8 +139,8 @@ pub data IsStepBy (c : Choice) (w : World) : Event → World → Type 0 where
       → ChangesAtEnd n k (after_transmit (settings w n k) (w.ends n k) (c.now n k)) w.ends after.ends
       → after.datagrams ≡ w.datagrams ++ f ∷ []
       → AllElse (Ends ∷ Datagrams ∷ []) w after → IsStepBy c w (Transmit n k) after
-  -- an armed send fails, so that the frame is lost, or is sent nevertheless; the try counts in both cases, and the
-  -- armed failure is used up
+  -- transmit, if the send is armed to fail: the frame is lost, or is sent nevertheless; the try counts in both cases,
+  -- and the armed failure is used up
   send_lost : {n k : ℕ} {f : FrameParts} {after : World} → is_link w.topology n k ≡ true
       → frame_due (settings w n k) (w.ends n k) (c.now n k) ≡ Some f → (w.arms n).sending ≡ IsLost
       → ChangesAtEnd n k (after_transmit (settings w n k) (w.ends n k) (c.now n k)) w.ends after.ends
@@ -152,30 +152,30 @@ pub data IsStepBy (c : Choice) (w : World) : Event → World → Type 0 where
       → after.datagrams ≡ w.datagrams ++ f ∷ []
       → ChangesAt n (record { sending = Goes; receive = (w.arms n).receive }) w.arms after.arms
       → AllElse (Ends ∷ Armed ∷ Datagrams ∷ []) w after → IsStepBy c w (Transmit n k) after
-  -- deliver: the datagram is passed to the end that it is for
+  -- deliver: the datagram is passed to the end for which it is
   received : {i : ℕ} {f : FrameParts} {after : World} → IsDatagram w i f → (w.arms f.header.receiver).receive ≡ false
       → ChangesAtEnd f.header.receiver f.header.sender (after_frame (settings w f.header.receiver f.header.sender)
       (w.ends f.header.receiver f.header.sender) f (c.now f.header.receiver f.header.sender)) w.ends after.ends
       → AllElse (Ends ∷ []) w after → IsStepBy c w (Deliver i) after
-  -- an armed receive returns nothing, and the armed failure is used up
+  -- deliver, if the receive is armed to fail: nothing is passed on, and the armed failure is used up
   receive_failed : {i : ℕ} {f : FrameParts} {after : World} → IsDatagram w i f
       → (w.arms f.header.receiver).receive ≡ true
       → ChangesAt f.header.receiver (record { sending = (w.arms f.header.receiver).sending; receive = false }) w.arms
       after.arms
       → AllElse (Armed ∷ []) w after → IsStepBy c w (Deliver i) after
-  -- pump: the first event of the end leaves it, and its item is in the lane, from the seat of the neighbour
+  -- pump: the first event of the end leaves it, and its item is in the queue, from the seat of the neighbour
   pumped : {n k seat : ℕ} {event : LinkEvent} {what : What} {after : World} → is_link w.topology n k ≡ true
       → first_event (w.ends n k) ≡ Some event → HasRoom w n → IsTold event what → IsSeatOf k (neighbours w n) seat
       → ChangesAtEnd n k (after_poll_event (w.ends n k)) w.ends after.ends
       → PutsItem w n seat c.stamp what after
       → AllElse (Ends ∷ Items ∷ Counts ∷ []) w after → IsStepBy c w (Pump n k) after
-  -- turn: the core takes the first item of its lane and serves it, and what it sends goes into the lanes to its
+  -- turn: the core takes the first item of its queue and serves it, and the outbound messages go into the queues to its
   -- neighbours
   turned : {n : ℕ} {item : Item} {items : List Item} {after : World} → is_node w.topology n ≡ true
       → w.items n ≡ item ∷ items
       → LeavesServed w n items (serving_of c.answers (neighbours w n) (w.seats n) item) after
       → AllElse (Seats ∷ Items ∷ Cargoes ∷ Put ∷ Inputs ∷ Steps ∷ []) w after → IsStepBy c w (CoreTurn n) after
-  -- arm: the next send, the next delivery, or the next call of each life file of the node
+  -- arm: the next send, the next delivery, or the next call of each life file of the node fails
   send_lost_armed : {n : ℕ} {after : World} → is_node w.topology n ≡ true
       → ChangesAt n (record { sending = IsLost; receive = (w.arms n).receive }) w.arms after.arms
       → AllElse (Armed ∷ []) w after → IsStepBy c w (Arm n Fails.SendLost) after
@@ -194,7 +194,7 @@ pub data IsStepBy (c : Choice) (w : World) : Event → World → Type 0 where
   sync_armed : {n : ℕ} {after : World} → is_node w.topology n ≡ true
       → ChangesFiles n (after_event (ArmsDisk Disk.Sync)) w after
       → AllElse (Files ∷ []) w after → IsStepBy c w (Arm n Fails.Sync) after
-  -- restart: the core, the ends and the lanes are new, and the life files are opened after a crash; armed calls stay
+  -- restart: the core, the ends and the queues are new, and the life files are opened after a crash; armed calls stay
   -- armed
   restarted : {n : ℕ} {torn : Option (List ℕ)} {after : World} → is_node w.topology n ≡ true
       → ChangesAt n (first_seat w.topology n) w.seats after.seats
@@ -209,7 +209,7 @@ pub data IsStepBy (c : Choice) (w : World) : Event → World → Type 0 where
 
 -- ---- the simulator's own choice
 
--- an event has the tick of the clock, and `tick` the one after it
+-- an event has the tick of the clock, and a Tick has the one after it
 abbrev pub IsTickOf : World → Event → ℕ → Type 0
 IsTickOf w event now = (event ≡ Tick → now ≡ suc w.clock) × (event ≢ Tick → now ≡ w.clock)
 
@@ -217,7 +217,7 @@ pub record IsOwnChoice (w : World) (event : Event) (c : Choice) : Type 0 where
   pub clock : IsTickOf w event c.clock
   pub now : (n k : ℕ) → IsTickOf w event (c.now n k)
   pub stamp : IsTickOf w event c.stamp
-  -- a lane takes a cargo if it has room, counting those that the same turn has put there before
+  -- a queue takes an outbound message if it has room, counting the messages that the same turn has put there before
   pub answers : (n : ℕ) → event ≡ CoreTurn n → (offers : List Offer) (k : ℕ) → (c.answers offers k ≡ true)
       ↔ (length (w.cargoes n k) + length (put_to k offers) < MOST_CARGOES)
 
@@ -225,6 +225,6 @@ pub record IsOwnChoice (w : World) (event : Event) (c : Choice) : Type 0 where
 abbrev pub IsStep : World → Event → World → Type 0
 IsStep w event after = (c : Choice) × IsOwnChoice w event c × IsStepBy c w event after
 
--- it is refused there, for this cause
+-- the simulator refuses the event, for this cause
 abbrev pub IsRefused : World → Event → SimError → Type 0
 IsRefused w event error = (c : Choice) × IsOwnChoice w event c × IsRefusedBy c w event error

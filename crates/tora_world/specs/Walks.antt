@@ -37,7 +37,7 @@ is_height height None = false
 is_height height (Some None) = false
 is_height height (Some (Some other)) = is_eq (height_cmp height other)
 
--- the entry is NULL or the neighbour's height, or there is none
+-- the entry is NULL, or the neighbour's height, or does not exist
 abbrev pub is_exact_entry : Option (Option Quintuple) → Option (Option Quintuple) → Bool
 is_exact_entry None height = true
 is_exact_entry (Some None) height = true
@@ -46,13 +46,13 @@ is_exact_entry (Some (Some entry)) height = is_height entry height
 abbrev pub is_exact_node : World → ℕ → ℕ → Bool
 is_exact_node w d n = list_all (λ k. is_exact_entry (entry_at w n k d) (height_at w k d)) (neighbours_of w.topology n)
 
--- compares the entries of all nodes with their neighbours' heights
+-- whether the entries of all nodes are exact, by comparing them with their neighbours' heights
 abbrev pub exact_in : World → ℕ → Bool
 exact_in w d = list_all (is_exact_node w d) (nodes_in w.topology.links)
 
 -- ---- walks
 
--- these nodes come after node n, each the next hop of the one before it, and the destination is the last and comes once
+-- these nodes come after node n, each the next hop of the one before it; only the last one is the destination
 abbrev pub LeadsOn : World → ℕ → ℕ → List ℕ → Type 0
 LeadsOn w d n [] = n ≡ d
 LeadsOn w d n (k ∷ nodes) = (n ≢ d) × (hop_at w n d ≡ Some k) × LeadsOn w d k nodes
@@ -87,8 +87,8 @@ abbrev pub FallsFrom : World → ℕ → ℕ → List ℕ → Type 0
 FallsFrom w d n [] = Unit {0}
 FallsFrom w d n (k ∷ nodes) = IsBelow w d k n × FallsFrom w d k nodes
 
--- the hops from n reach the destination, each to a lower height, in at most as many hops as there are nodes, and are
--- the walk
+-- the hops from n reach the destination, each to a lower height, in at most as many hops as there are nodes; they are
+-- the computed walk
 pub record Arrives (w : World) (n d : ℕ) : Type 0 where
   pub after : List ℕ
   pub leads : LeadsOn w d n after
@@ -96,12 +96,12 @@ pub record Arrives (w : World) (n d : ℕ) : Type 0 where
   pub falls : FallsFrom w d n after
   pub walk : walk_of w n d ≡ Some (n ∷ after)
 
--- the numbers of the topology are numbers of nodes
+-- the nodes and destinations of the topology have numbers in range
 pub record AreIds (t : Topology) : Type 0 where
   pub links : AllByRecursion (λ (link : Link). IsId link.a × IsId link.b) t.links
   pub destinations : AllByRecursion IsId t.destinations
 
--- this holds for every world that events reach over a topology that is not refused within some limits
+-- a statement holds for every world that events reach over a topology that is not refused within some limits
 abbrev pub EveryWorld : (World → Type 0) → Type 0
 EveryWorld Holds =
     (t : Topology) (times : Times) (es : Schedule) → IsWithinLimits t → AreIds t

@@ -1,4 +1,4 @@
--- Examples of single events, computed: armed calls, full lanes, refused events, the clock, and a restart.
+-- Examples of single events, computed: armed calls, full queues, refused events, the clock, and a restart.
 use Rattle.std.specs.Prelude.{◌≡◌, ℕ, zero, suc, ◌++◌, true, false, List, [], ◌∷◌, length, Some, None}
 use Rattle.tora_arq.specs.declared.phase.Phase.TheVariants.{Closed}
 use Rattle.tora_arq.specs.LinkEnd.{first_end}
@@ -39,12 +39,12 @@ pub record ArmedCalls : Type 0 where
   pub not_written : ((after (Arm 1 Fails.Write ∷ Open 1 2 ∷ [])).ends 1 2).phase ≡ Closed
   pub not_synced : ((after (Arm 1 Fails.Sync ∷ Open 1 2 ∷ [])).ends 1 2).phase ≡ Closed
 
--- ---- lanes
+-- ---- queues
 
 abbrev pub item_of : ℕ → Item
 item_of number = record { seat = 1; number = number; now = 1; what = Tells.Need 2 }
 
--- this many cargoes wait in each lane from a core, and this many items in each lane into a core
+-- this many outbound messages wait in each queue from a core, and this many items in each queue into a core
 abbrev pub with_cargoes : ℕ → World
 with_cargoes n = record start { cargoes = λ a b. copies n (Gives.Cut life) }
 
@@ -52,14 +52,14 @@ abbrev pub with_items : ℕ → World
 with_items n = record start { items = λ a. copies n (item_of 1) }
 
 pub record Lanes : Type 0 where
-  -- a cargo is put if fewer than 256 wait
+  -- an outbound message is put if fewer than 256 wait
   pub put : own_answers (with_cargoes 255) 1 [] 2 ≡ true
   pub handed_back : own_answers (with_cargoes 256) 1 [] 2 ≡ false
   -- an item is put if fewer than 1,024 wait
   pub room : refusal_of (with_items 1023) (Need 1 2) ≡ None
   pub no_room : refusal_of (with_items 1024) (Need 1 2) ≡ Some Refused.NotPossible
-  -- the seat of the commands comes after those of the links; an item has its number there, and the tick at which it was
-  -- put
+  -- the seat of the commands comes after those of the links; an item has its number in that seat, and the tick at which
+  -- it was put
   pub needs : (after (Tick ∷ Need 1 2 ∷ Need 1 2 ∷ [])).items 1 ≡ item_of 1 ∷ item_of 2 ∷ []
   pub clock : (after (Tick ∷ Tick ∷ [])).clock ≡ 2
 
@@ -78,14 +78,14 @@ pub record AreRefused : Type 0 where
 
 -- ---- a restart
 
--- a life is current at node 1, a cargo waits in its lane, and an item at its core
+-- a session is current at node 1, an outbound message waits in its queue, and an item waits for its core
 abbrev pub waiting : World
 waiting = after (binding ++ CoreTurn 1 ∷ Need 1 2 ∷ [])
 
 abbrev pub restarted : World
 restarted = after (binding ++ CoreTurn 1 ∷ Need 1 2 ∷ Restart 1 None ∷ [])
 
--- the core, the end and the lanes are new; the record of what was sent and taken is unchanged
+-- the core, the end and the queues are new; the record of what was sent and taken is unchanged
 pub record StartsAnew : Type 0 where
   pub current_before : (waiting.seats 1).current 2 ≡ Some life
   pub cargo_before : waiting.cargoes 1 2 ≡ Gives.Packet life update ∷ []
@@ -96,5 +96,5 @@ pub record StartsAnew : Type 0 where
   pub items : restarted.items 1 ≡ []
   pub counts : restarted.counts 1 1 ≡ 0
   pub sent : sent_packets restarted 1 2 life ≡ update ∷ []
-  -- the record of what was taken is unchanged, too, if the node that took it restarts
+  -- the record of what was taken is also unchanged if the node that took it restarts
   pub taken : taken_packets (after (meeting ++ Restart 2 None ∷ [])) 2 1 life ≡ update ∷ []

@@ -1,4 +1,4 @@
--- Examples of the events that only threads make, computed on two nodes: each changes something.
+-- Examples of the events that only threads make, computed on two nodes: each has an effect.
 use Rattle.std.specs.Prelude.{◌≡◌, ℕ, ◌≤◌, ◌++◌, max, refl, true, false, if◌then◌else◌, List, [], ◌∷◌, length, Some, None}
 use Rattle.std.proofs.Common.{arith, ap, ap₂, sym, ◌∙◌, subst}
 use Rattle.std.proofs.lemmas.Bool.{cond_both}
@@ -28,7 +28,7 @@ use Rattle.tora_world.specs.WorkedEvents.{copies}
 
 -- ---- schedules
 
--- every call gets this tick, and every cargo is put
+-- every call gets this tick, and every outbound message is put
 abbrev pub at_tick : ℕ → Choice
 at_tick tick = record { clock = tick; now = λ n k. tick; stamp = tick; answers = λ offers k. true }
 
@@ -36,7 +36,7 @@ abbrev pub handed : ℕ → List FreeEvent → Schedule
 handed tick [] = []
 handed tick (event ∷ events) = (event, at_tick tick) ∷ handed tick events
 
--- events as the simulator runs them, followed by these of the free world
+-- events as the simulator runs them, followed by these events of the free world
 abbrev pub behind : List Event → ℕ → List FreeEvent → Schedule
 behind events tick more = own_schedule events start ++ handed tick more
 
@@ -51,9 +51,9 @@ pub record TicksOne (w : World) : Type 0 where
   pub other : (w.ends 2 1).phase ≡ Bound life
   pub clock : w.clock ≡ 0
 
--- ---- a full lane
+-- ---- a full queue
 
--- the end of node 1 is bound, and its lane into the core is full
+-- the end of node 1 is bound, and its queue into the core is full
 abbrev pub filling : List FreeEvent
 filling = copies 1024 (Puts 1 1 (Tells.Need 2) tt)
 
@@ -65,10 +65,10 @@ pub record PumpsOverOne : Type 0 where
   pub put : length ((left first_binding 0 (filling ++ PumpsOver 1 2 ∷ [])).items 1) ≡ 1025
   pub polled : ((left first_binding 0 (filling ++ PumpsOver 1 2 ∷ [])).ends 1 2).events ≡ []
 
--- ---- items of a link that report no life
+-- ---- items of a link that report no session
 
 pub record PutsBeats : Type 0 where
-  -- a beat of node 1's link, in its seat, with its tick
+  -- a beat of node 1's link, from its seat, with its tick
   pub beat : (left [] 7 (Puts 1 0 Tells.Beat tt ∷ [])).items 1 ≡ record {
     seat = 0;
     number = 1;
@@ -79,9 +79,9 @@ pub record PutsBeats : Type 0 where
   pub taken : (left [] 7 (Puts 1 0 Tells.Beat tt ∷ Happens (CoreTurn 1) ∷ [])).items 1 ≡ []
   pub steps : machine_steps (behind [] 7 (Puts 1 0 Tells.Beat tt ∷ Happens (CoreTurn 1) ∷ [])) start [] ≡ []
 
--- ---- a wire that breaks
+-- ---- a wire that fails
 
--- the life is current at both cores, and node 1 has sent its update in it
+-- the session is current at both cores, and node 1 has sent its update in it
 abbrev pub upping : List Event
 upping = binding ++ CoreTurn 1 ∷ []
 
@@ -90,35 +90,35 @@ telling_down = CutsBound 1 2 ∷ Happens (Pump 1 2) ∷ Happens (CoreTurn 1) ∷
 
 pub record CutsOne : Type 0 where
   pub current : ((left upping 0 []).seats 1).current 2 ≡ Some life
-  -- the end of node 1 goes down, and its Down waits there
+  -- the end of node 1 goes down, and its Down event waits there
   pub closed : ((left upping 0 (CutsBound 1 2 ∷ [])).ends 1 2).phase ≡ Closed
   pub waits : ((left upping 0 (CutsBound 1 2 ∷ [])).ends 1 2).events ≡ Down life Cut ∷ []
-  -- the core takes it, and its link goes down: the machine closes the life
+  -- the core takes the Down item, and its link goes down: the machine closes the session
   pub over : ((left upping 0 telling_down).seats 1).current 2 ≡ None
   pub down : ((left upping 0 telling_down).seats 1).core.up ≡ []
   pub steps : machine_steps (behind upping 0 telling_down) start []
       ≡ Close 1 2 life ∷ Send 1 2 life update ∷ bound_steps
-  -- an end that is not bound has no life to cut
+  -- an end that is not bound has no session to cut
   pub none : ((left (Open 1 2 ∷ []) 0 (CutsBound 1 2 ∷ [])).ends 1 2).phase ≡ Unbound 1
 
 -- ---- a requested cut
 
--- an item asks node 1 to cut the life to node 2, and its core takes the item
+-- an item requests a cut of node 1's session with node 2, and the core of node 1 takes it
 abbrev pub asking_cut : List FreeEvent
 asking_cut = Puts 1 1 (Tells.Cut 2) tt ∷ Happens (CoreTurn 1) ∷ []
 
 pub record AsksForCut : Type 0 where
-  -- the life is over at the core, and its link is down: the machine closes the life
+  -- the session is over at the core, and its link is down: the machine closes the session
   pub over : ((left upping 0 asking_cut).seats 1).current 2 ≡ None
   pub down : ((left upping 0 asking_cut).seats 1).core.up ≡ []
   pub steps : machine_steps (behind upping 0 asking_cut) start [] ≡ Close 1 2 life ∷ Send 1 2 life update ∷ bound_steps
-  -- its cut is put after the packets sent in it, and the end goes down when it takes the cut
+  -- the cut is put after the packets sent in the session, and the end goes down when it takes the cut
   pub cargoes : (left upping 0 asking_cut).cargoes 1 2 ≡ Gives.Packet life update ∷ Gives.Cut life ∷ []
   pub closed : ((left upping 0 (asking_cut ++ Happens (Pull 1 2) ∷ Happens (Pull 1 2) ∷ [])).ends 1 2).phase ≡ Closed
-  -- if no life is current, nothing is put
+  -- if no session is current, nothing is put
   pub none : (left [] 0 asking_cut).cargoes 1 2 ≡ []
 
--- ---- a life file that is another one than before
+-- ---- a life file that changes
 
 -- the reserved numbers are skipped, as when the file is closed and opened again
 abbrev pub passed_over : Owner → Numbers → State → LifeDisk
@@ -164,12 +164,12 @@ pub record ChangesOne : Type 0 where
 
 -- ---- a node that starts anew
 
--- the life is current at both cores, and node 1 starts anew
+-- the session is current at both cores, and node 1 starts anew
 pub record StartsOne : Type 0 where
   pub closed : ((left upping 0 (StartsAnew 1 ∷ [])).ends 1 2).phase ≡ Closed
   pub over : ((left upping 0 (StartsAnew 1 ∷ [])).seats 1).current 2 ≡ None
   pub other : ((left upping 0 (StartsAnew 1 ∷ [])).ends 2 1).phase ≡ Bound life
-  -- the machine closes the life, and keeps what was sent in it
+  -- the machine closes the session, and keeps what was sent in it
   pub steps : machine_steps (behind upping 0 (StartsAnew 1 ∷ [])) start []
       ≡ Close 1 2 life ∷ Send 1 2 life update ∷ bound_steps
   -- the life file is unchanged: the next number is drawn, while a Restart would skip the reserved ones

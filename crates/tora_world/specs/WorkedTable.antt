@@ -1,4 +1,4 @@
--- Rows of the table, computed: lives whose numbers differ, torn slots, armed calls, lanes at their limits, and ticks.
+-- Rows of the table, computed: uneven sessions, torn slots, armed calls, queues at their limits, and ticks.
 use Rattle.std.specs.Prelude.{◌≡◌, ℕ, true, ◌++◌, List, [], ◌∷◌, length, map, Option, Some, None}
 use Rattle.tora_arq.specs.declared.life.Life.{Life}
 use Rattle.tora_arq.specs.declared.phase.Phase.TheVariants.{Closed, Bound}
@@ -19,7 +19,7 @@ use Rattle.tora_world.specs.Worked.{start, times, life, update, binding, meeting
 use Rattle.tora_world.specs.WorkedEvents.{after, copies, with_items}
 use Rattle.tora_world.specs.Walks.{exact_in, walk_of}
 
--- ---- pull: a life whose numbers differ
+-- ---- pull: a session whose numbers differ
 
 abbrev pub uneven : Life
 uneven = record { own = 3; peer = 7 }
@@ -28,7 +28,7 @@ uneven = record { own = 3; peer = 7 }
 abbrev pub uneven_end : EndState
 uneven_end = after_bind (after_open first_end 3 0) uneven
 
--- every end is in this state, and this cargo waits in each lane
+-- every end is in this state, and this outbound message waits in each queue
 abbrev pub with_cargo : Cargo → World
 with_cargo cargo = record start { ends = λ n k. uneven_end; cargoes = λ n k. cargo ∷ [] }
 
@@ -47,7 +47,7 @@ pub record Pulls : Type 0 where
 abbrev pub slot_of_900 : List ℕ
 slot_of_900 = 0 ∷ 0 ∷ 0 ∷ 0 ∷ 0 ∷ 0 ∷ 3 ∷ 132 ∷ 255 ∷ 255 ∷ 255 ∷ 255 ∷ 255 ∷ 255 ∷ 252 ∷ 123 ∷ []
 
--- a slot is written and not synced; a restart leaves these bytes of it, and the end is opened
+-- the number with which the end is opened, after a slot was written and not synced and a restart left these bytes of it
 abbrev pub number_after : Option (List ℕ) → ℕ
 number_after torn = ((after (Arm 1 Fails.Sync ∷ Open 1 2 ∷ Restart 1 torn ∷ Open 1 2 ∷ [])).ends 1 2).last_life
 
@@ -62,13 +62,13 @@ pub record Crashes : Type 0 where
   pub not_read : ((after (Arm 1 Fails.Read ∷ Restart 1 None ∷ Open 1 2 ∷ [])).ends 1 2).phase ≡ Closed
   pub read_again : ((after (Arm 1 Fails.Read ∷ Restart 1 None ∷ Restart 1 None ∷ Open 1 2 ∷ [])).ends 1 2).last_life ≡ 1
 
--- ---- pump: the limit of the lane, and the tick of the item
+-- ---- pump: the limit of the queue, and the tick of the item
 
--- each end has an event, and this many items wait in each lane
+-- each end has an event, and this many items wait in each queue
 abbrev pub with_events : ℕ → World
 with_events n = record (with_items n) { ends = λ a b. uneven_end }
 
--- both ends are bound, two ticks pass, and the life that came up is put
+-- both ends are bound, two ticks pass, and the session that came up is put
 abbrev pub up_at_two : List Event
 up_at_two = Open 1 2 ∷ Open 2 1 ∷ Transmit 1 2 ∷ Deliver 1 ∷ Transmit 2 1 ∷ Deliver 2 ∷ Tick ∷ Tick ∷ Pump 1 2 ∷ []
 
@@ -91,7 +91,7 @@ pub record Tries : Type 0 where
   pub lost : tries_in ((after lost_update).ends 1 2).queue ≡ 1 ∷ []
   pub none_sent : length (after lost_update).datagrams ≡ 3
 
--- ---- turn: room in the lanes out
+-- ---- turn: room in the queues out of the core
 
 -- nodes 1 and 2, and the destinations 2 and 3
 abbrev pub pair_of_two : Topology
@@ -103,11 +103,11 @@ pair_of_two = record {
   choices = [];
 }
 
--- node 1 needs both, and a life comes up: so its core sends an update and a query in one turn
+-- node 1 needs both, and a session comes up: so its core sends an update and a query in one turn
 abbrev pub two_needs : List Event
 two_needs = Need 1 3 ∷ CoreTurn 1 ∷ binding
 
--- before that turn this many cargoes wait in each lane
+-- before that turn this many outbound messages wait in each queue
 abbrev pub with_waiting : ℕ → World
 with_waiting n = record (world_after_all (first_world pair_of_two times) two_needs) {
   cargoes = λ a b.
@@ -118,15 +118,15 @@ abbrev pub turned_with : ℕ → World
 turned_with n = world_after (with_waiting n) (CoreTurn 1)
 
 pub record Rooms : Type 0 where
-  -- there is room for both packets, or for one: then the second is returned, and its life ends
+  -- there is room for both packets, or for one: then the second is returned, and its session ends
   pub both : length ((turned_with 254).cargoes 1 2) ≡ 256
   pub stays : ((turned_with 254).seats 1).current 2 ≡ Some life
   pub one : length ((turned_with 255).cargoes 1 2) ≡ 256
   pub ends : ((turned_with 255).seats 1).current 2 ≡ None
 
--- ---- tick: every end, with the clock after it
+-- ---- tick: every end, and the clock
 
--- at clock 49 every end is bound, and got its last frame at tick 0
+-- at clock 49 every end is bound, and received its last frame at tick 0
 abbrev pub silent_ends : World
 silent_ends = record start { clock = 49; ends = λ n k. uneven_end }
 

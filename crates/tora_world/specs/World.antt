@@ -1,4 +1,4 @@
--- The simulated world: all nodes, their links and all datagrams, and what each event does.
+-- The simulated world: all nodes, their links and all datagrams, and the effect of each event.
 use Rattle.std.specs.Prelude.{ℕ, zero, suc, ◌==◌, ◌&&◌, Bool, true, false, not, is_some, nat_lt, if◌then◌else◌, List, [], ◌∷◌, ◌++◌, length, slice_get, Option, Some, None}
 use Rattle.tora_packet.specs.declared.Packet.{Packet}
 use Rattle.tora_frame.specs.FrameParts.{FrameParts}
@@ -45,17 +45,17 @@ pub record Arms : Type 0 where
 
 pub record World : Type 0 where
   pub topology : Topology
-  pub times : Times  -- those of every link end
+  pub times : Times  -- the times of every link end
   pub clock : ℕ
-  pub seats : ℕ → SeatState  -- of each node, its core with the lives of its neighbours
-  pub ends : ℕ → ℕ → EndState  -- of each node and each neighbour, the link end
+  pub seats : ℕ → SeatState  -- for each node, its core with the sessions of its links
+  pub ends : ℕ → ℕ → EndState  -- for each node and each neighbour, the link end
   pub files : ℕ → ℕ → LifeDisk  -- the life file of each link end, or the disk of one that did not open
-  pub items : ℕ → List Item  -- the lane into each core
+  pub items : ℕ → List Item  -- the queue into each core
   pub counts : ℕ → ℕ → ℕ  -- how many items each seat of a node has put since its last restart
-  pub cargoes : ℕ → ℕ → List Cargo  -- the lane from each core to each neighbour
+  pub cargoes : ℕ → ℕ → List Cargo  -- the queue from each core to each neighbour
   pub arms : ℕ → Arms
   pub datagrams : List FrameParts  -- all that were ever sent
-  pub put : ℕ → ℕ → List Cargo  -- all cargoes that were ever put into each such lane
+  pub put : ℕ → ℕ → List Cargo  -- all outbound messages that were ever put into each such queue
   pub inputs : ℕ → List (Input × ℕ)  -- the inputs that each core accepted since its node's last restart
   pub steps : ℕ → ℕ → List Parcel  -- the packets that were ever taken from each neighbour
 
@@ -98,15 +98,15 @@ neighbours w n = neighbours_of w.topology n
 abbrev pub command_seat : World → ℕ → ℕ
 command_seat w n = length (neighbours w n)
 
--- the packets that the core of a put into the lane to b in a life, as a's end writes it
+-- the packets that the core of a put into the queue to b in a session, as a's end writes it
 abbrev pub sent_packets : World → ℕ → ℕ → Life → List Packet
 sent_packets w a b life = packets_of life (parcels_in (w.put a b))
 
--- the packets of a that the core of b took in a life, as b's end writes it
+-- the packets of a that the core of b took in a session, as b's end writes it
 abbrev pub taken_packets : World → ℕ → ℕ → Life → List Packet
 taken_packets w b a life = packets_of life (w.steps b a)
 
--- the datagram of a number from 1 on
+-- the datagram with this number, counted from 1
 abbrev pub datagram : World → ℕ → Option FrameParts
 datagram w zero = None
 datagram w (suc place) = slice_get w.datagrams place
@@ -144,7 +144,7 @@ tick_of w (Arm n call) = w.clock
 tick_of w (Restart n torn) = w.clock
 
 -- what the simulator fixes for an event, and other runs may choose: the clock after it, the tick of each link end and
--- each item, and the result for each cargo
+-- each item, and the result of each offer
 pub record Choice : Type 0 where
   pub clock : ℕ
   pub now : ℕ → ℕ → ℕ
@@ -169,7 +169,7 @@ refusal_by c w (Restart n torn) = at_node w n true
 abbrev pub with_end : World → ℕ → ℕ → EndState → World
 with_end w n k e = record w { ends = put_at w.ends n k e }
 
--- one more item in the lane into the core of n
+-- one more item in the queue into the core of n
 abbrev pub with_item : World → ℕ → ℕ → ℕ → What → World
 with_item w n seat now what = record w {
   items = put_one w.items n (w.items n ++ record {
@@ -222,13 +222,13 @@ after_receiving w c (Some f) =
     else with_end w f.header.receiver f.header.sender (after_frame (settings w f.header.receiver f.header.sender)
     (w.ends f.header.receiver f.header.sender) f (c.now f.header.receiver f.header.sender))
 
--- the first event of a link end goes into the lane, in the seat of its neighbour
+-- the first event of a link end goes into the queue, from the seat of its neighbour
 abbrev pub after_pump : World → Choice → ℕ → ℕ → Option LinkEvent → World
 after_pump w c n k None = w
 after_pump w c n k (Some event) = with_item (with_end w n k (after_poll_event (w.ends n k))) n
     (place_of k (neighbours w n)) c.stamp (what_of event)
 
--- the node's seat and lanes after an item was served
+-- the node's seat and queues after an item was served
 abbrev pub after_serving : World → ℕ → List Item → Serving → World
 after_serving w n items v = record w {
   seats = put_one w.seats n v.seat;
@@ -243,7 +243,7 @@ abbrev pub after_turn : World → Choice → ℕ → List Item → World
 after_turn w c n [] = w
 after_turn w c n (item ∷ items) = after_serving w n items (serving_of c.answers (neighbours w n) (w.seats n) item)
 
--- there is a life file of this node for the link
+-- the life file of a's end towards k is one of node n's files, and there is such a link
 abbrev pub is_file_of : World → ℕ → ℕ → ℕ → Bool
 is_file_of w n a k = (a == n) && is_link w.topology a k
 
@@ -266,7 +266,7 @@ after_arming w n Fails.Sync = with_armed_files w n Disk.Sync
 abbrev pub reopened : Option (List ℕ) → LifeDisk → LifeDisk
 reopened torn disk = after_event (OpensAnew (after_crash torn (state_in disk))) disk
 
--- the core, the ends and the lanes are new, and the life files are opened
+-- the core, the ends and the queues are new, and the life files are opened
 abbrev pub after_restart : World → ℕ → Option (List ℕ) → World
 after_restart w n torn = record w {
   seats = put_one w.seats n (first_seat w.topology n);
@@ -296,7 +296,7 @@ effect_by c w (Restart n torn) = after_restart w n torn
 unfoldable pub world_by : Choice → World → Event → World
 world_by c w event = if is_some (refusal_by c w event) then w else effect_by c w event
 
--- ---- the simulator's own choice: its clock everywhere, and a cargo is put where its lane has room
+-- ---- the simulator's own choice: its clock for every tick, and an outbound message is put if its queue has room
 
 abbrev pub own_answers : World → ℕ → Answers
 own_answers w n offers k = nat_lt (length (w.cargoes n k ++ put_to k offers)) MOST_CARGOES

@@ -5,21 +5,21 @@ use tora_height::Id;
 /// An event of the world.
 #[derive(Clone, Copy, Debug)]
 pub enum Event {
-    /// Puts the need of a destination into a node's lane.
+    /// Puts the need of a destination into a node's queue.
     Need(Id, Id),
     /// Adds 1 to the clock, and ticks every link end.
     Tick,
     /// Draws a number for a closed link end, and opens it.
     Open(Id, Id),
-    /// Takes a cargo from the lane to a neighbour, and submits its packet or cuts its life.
+    /// Takes an outbound message from the queue to a neighbour, and submits its packet or cuts its session.
     Pull(Id, Id),
     /// Sends the first frame due to a neighbour.
     Transmit(Id, Id),
-    /// Delivers a datagram to its receiver. The number counts all datagrams ever sent, from 1 on.
+    /// Delivers a datagram to its receiver. The number is its place among all datagrams ever sent, counted from 1.
     Deliver(u64),
-    /// Puts an event of the link end into the node's lane.
+    /// Puts an event of the link end into the node's queue.
     Pump(Id, Id),
-    /// Takes an item from the node's lane, and serves it.
+    /// Takes an item from the node's queue, and serves it.
     CoreTurn(Id),
     /// Makes the next call of this kind fail.
     Arm(Id, Call),

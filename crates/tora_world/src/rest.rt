@@ -20,17 +20,17 @@ pub fn rest_is_computed()
 /// In a world at rest each entry of a node for a neighbour whose link is up is NULL or the neighbour's height, or the
 /// neighbour has no height.
 ///
-/// It holds for every world that events reach over a topology that is not refused, with any ticks and results of lanes.
-/// By the prefix and no-gap laws, a core has taken in a current life all that the neighbour's core broadcast since its
-/// link came up. By TORA's rules a node broadcasts each height that it takes, so its last update has its height, unless
-/// it has none now.
+/// It holds for every world that events reach over a topology that is not refused, with any ticks and results of
+/// queues. By the prefix and no-gap laws, a core has taken in a current session all that the neighbour's core broadcast
+/// since its link came up. By TORA's rules a node broadcasts each height that it takes, so its last update has its
+/// height, unless it has none now.
 pub fn entries_at_rest_are_heights()
     ensures entries { EveryWorld (λ w. IsAtRest w → EntriesAreHeights w) }
-    // If an entry is not NULL and its neighbour has no height, the neighbour had that height and lost it with a clear
-    // of another level, with its last entry, or because no height in range was left.
+    // If an entry is not NULL and its neighbour has no height, the neighbour had that height and lost it in one of
+    // three ways: with a clear of another level, with its last entry, or because no height in range was left.
     ensures stale { EveryWorld (λ w. IsAtRest w → StaleAreLost w) }
-    // For nodes that remember erased levels only the last two causes are possible: the neighbour broadcast nothing when
-    // it lost the height.
+    // At nodes that remember erased levels only the last two ways are possible: the neighbour broadcast nothing when it
+    // lost the height.
     ensures remembered { EveryWorld (λ w. IsAtRest w → RememberedAreLostInSilence w) }
 {
     layers_keep_their_laws();
@@ -57,8 +57,8 @@ pub fn walks_at_rest_go_down()
     layers_keep_their_laws();
 }
 
-/// In a world at rest routes arrive where no node lacks a height: the next hops lead from a node that has a height to
-/// the destination, if every node that is reachable from it over links has a height.
+/// In a world at rest routes arrive if no node lacks a height: the next hops lead from a node that has a height to the
+/// destination, if every node that is reachable from it over links has a height.
 pub fn routes_at_rest_arrive()
     ensures { EveryWorld (λ w. IsAtRest w → (d n : ℕ) (height : Quintuple) → height_at w n d ≡ Some (Some height)
         → ((k : ℕ) → IsReached w d n k → ¬ LacksHeight w k d) → Arrives w n d) }

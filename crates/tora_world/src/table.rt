@@ -17,14 +17,14 @@ ghost use Rattle.tora_world.specs.declared.sim_error.SimError.{SimError};
 use tora_arq::{WINDOW, polls_of_a_tick_end};
 
 /// The table of events is equivalent to the world's definition. For each event and each of its outcomes the table says
-/// what changes, and that nothing else does. The world after an event is the one that the table allows.
+/// what changes, and that nothing else does.
 pub fn steps_are_the_table()
-    // In the simulator.
+    // The simulator's own choice of ticks and results: the table allows exactly the world that the definition computes.
     ensures steps { (w : World) (event : Event) (after : World) → IsStep w event after ↔ (after ≡ world_after w event) }
-    // In the simulator an event is refused for the cause that the table gives, and for no other.
+    // The simulator refuses an event for the cause that the table gives, and for no other.
     ensures refusals { (w : World) (event : Event) (error : SimError) → IsRefused w event error
         ↔ (refusal_of w event ≡ Some error) }
-    // With any ticks and any results of the lanes.
+    // The same with any ticks and any results of the queues.
     ensures free { (c : Choice) (w : World) (event : Event) (after : World) → IsStepBy c w event after
         ↔ (after ≡ world_by c w event) }
     ensures free_refusals { (c : Choice) (w : World) (event : Event) (error : SimError) → IsRefusedBy c w event error
@@ -33,16 +33,16 @@ pub fn steps_are_the_table()
 
 /// Rows of the table, computed.
 pub fn worked_rows_of_the_table_hold()
-    // A pulled cut ends its own life and no other. A pulled packet is submitted in its own life.
+    // A pulled cut ends its own session and no other. A pulled packet is submitted in its own session.
     ensures pulls { Pulls }
     // A restart leaves the torn bytes of a slot that was written and not synced, or the old bytes; armed calls stay
     // armed.
     ensures crashes { Crashes }
-    // An event of a link end is put into a lane that has room, with the tick of the clock.
+    // An event of a link end is put into a queue that has room, with the tick of the clock.
     ensures pumps { Pumps }
     // A lost send counts as a try.
     ensures tries { Tries }
-    // Earlier offers of the same turn count as cargoes in the lane to a neighbour.
+    // Earlier offers of the same turn count as outbound messages in the queue to a neighbour.
     ensures rooms { Rooms }
     // A tick reaches every link end, and advances the clock.
     ensures ticks { Ticks }
@@ -50,15 +50,15 @@ pub fn worked_rows_of_the_table_hold()
     ensures meetings { Meetings }
 {}
 
-/// No event can be repeated without end: a turn takes an item from a lane, a pull takes a cargo from a lane, a pump
-/// fills a lane, and an end has a bounded number of frames at one tick. So after a round, which repeats an event up to
-/// 1,024 times, that event is not possible any more.
+/// No event can be repeated without end: a turn takes an item from a queue, a pull takes an outbound message from a
+/// queue, a pump fills a queue, and an end has a bounded number of frames at one tick. A round repeats an event up to
+/// 1,024 times; after that the event is not possible any more.
 pub fn events_run_out()
-    // A lane into a core has at most 1,024 items after any events of the simulator, with any ticks and results of
-    // lanes.
+    // A queue into a core has at most 1,024 items after any events of the simulator, with any ticks and results of
+    // queues.
     ensures lanes_in { (t : Topology) (times : Times) (es : List (Event × Choice)) (n : ℕ)
         → length ((after_schedule (happening es) (first_world t times)).items n) ≤ MOST_ITEMS }
-    // A lane out of a core has at most 256 cargoes in the simulator.
+    // A queue out of a core has at most 256 outbound messages in the simulator.
     ensures lanes_out { (t : Topology) (times : Times) (events : List Event) (n k : ℕ)
         → length ((world_after_all (first_world t times) events).cargoes n k) ≤ MOST_CARGOES }
     ensures turns { (w : World) (n : ℕ) → length (w.items n) ≤ MOST_ITEMS → HappensAtMost MOST_ITEMS (CoreTurn n) w }

@@ -15,7 +15,7 @@ is_marked-requires c =
 pub row_at-requires : goal.row_at-requires
 row_at-requires c = (row-only c.args.k c.in-Some.place c.args.places.now c.requires.ascending (sym c.place_of_row.ensures ∙ c.in-Some.is)).0
 
--- no place is that of this neighbour
+-- no place belongs to this neighbour
 pub returns-in_default : goal.returns-in_default
 returns-in_default c =
     sym (ap (option_map (λ (row : Row). row.entry)) (find-none c.args.k c.args.up.now c.args.places.now (row-none c.args.k c.args.places.now (sym c.place_of_row.ensures ∙ c.in_default.is))))

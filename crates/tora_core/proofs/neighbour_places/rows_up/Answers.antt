@@ -7,7 +7,7 @@ use Rattle.tora_core.proofs.PlaceLemmas.{up-more}
 use Rattle.tora_core.proofs.TableViews.{take-whole}
 use Rattle.tora_core.proofs.neighbour_places.rows_up.Goals as goal
 
--- with the row at the next place, where that is marked
+-- the row at the next place is added if the place is marked
 pub loop-i-preserved : goal.loop-i-preserved
 loop-i-preserved c =
     let up = c.args.up.now in

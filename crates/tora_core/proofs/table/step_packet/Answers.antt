@@ -23,7 +23,7 @@ returns-in_default-clause-sends c =
     let sends = sends-none (In.Packet c.args.k c.args.packet.now) c.args.now c.destination-d.result (ap Some (sym c.destination-d.ensures.value)) (views_in c.args.views.now) none in
     cc
 
--- what is read at the place is the view of the destination
+-- the view that is read at the place is that of the destination
 pub packet-requires-clause-may : goal.packet-requires-clause-may
 packet-requires-clause-may c =
     let table = c.args.views.now in

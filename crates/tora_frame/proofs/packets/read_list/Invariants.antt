@@ -4,7 +4,7 @@ use Rattle.tora_packet.specs.AnyPacket.{IsPacket}
 use Rattle.tora_frame.specs.FrameGrammar.{packets_fault, packets_at}
 use Rattle.tora_frame.proofs.packets.read_list.Given as goal
 
--- the packets so far, and what is left to read, are those of all the bytes
+-- the packets read so far, followed by those in the rest of the bytes, are all packets
 abbrev pub invariant-loop : goal.invariant-loop
 invariant-loop l = record {
   fault : packets_fault (l.many - l.counter) l.rest ≡ packets_fault l.many l.fn.bytes;

@@ -1,4 +1,4 @@
--- the bytes so far, and zeros
+-- the bytes so far, followed by zeros
 use Rattle.std.proofs.Common.{◌≡◌, ◌++◌, take, replicate, ◌-◌}
 use Rattle.tora_key.proofs.key.block_with.Given as goal
 

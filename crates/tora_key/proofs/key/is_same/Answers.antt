@@ -13,7 +13,7 @@ first_zero a b h = omega (arith, le_or_l a b, h)
 second_zero : (a b : ℕ) → bit_or a b ≡ 0 → b ≡ 0
 second_zero a b h = omega (arith, le_or_r a b, h)
 
--- bytes that differ in no bit
+-- bytes that differ in no bit are equal
 no_bit : (a b : ℕ) → bit_xor a b ≡ 0 → a ≡ b
 no_bit a b h = omega (arith, xor_add_and a b, and_le_l a b, and_le_r a b, h)
 

@@ -1,4 +1,4 @@
--- no bit has differed so far where the bytes so far are the same
+-- no bit has differed so far exactly if the bytes so far are equal
 use Rattle.std.proofs.Common.{◌≡◌, take}
 use Rattle.tora_key.proofs.key.is_same.Given as goal
 

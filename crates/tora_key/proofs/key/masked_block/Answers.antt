@@ -3,7 +3,7 @@ use Rattle.std.proofs.lemmas.List.{take_more, take_more_set, take_all, map-appen
 use Rattle.tora_key.specs.Hmac.{masked, masked_byte}
 use Rattle.tora_key.proofs.key.masked_block.Goals as goal
 
--- one byte more
+-- one more byte is masked
 more : (pad i : ℕ) (out block : List ℕ) → i < length out → i < length block → take i out ≡ masked pad (take i block)
     → take (i + 1) (set out i (bit_xor (get_or block i 0) pad)) ≡ masked pad (take (i + 1) block)
 more pad i out block h k e =
@@ -11,7 +11,7 @@ more pad i out block h k e =
     ∙ ap (λ (x : List ℕ). x ++ bit_xor (get_or block i 0) pad ∷ []) e
     ∙ sym (ap (masked pad) (take_more block i 0 k) ∙ map-append (masked_byte pad) (take i block) (get_or block i 0 ∷ []))
 
--- all of them
+-- all bytes are masked
 all : (pad i : ℕ) (out block : List ℕ) → length out ≤ i → length block ≤ i → take i out ≡ masked pad (take i block) → out ≡ masked pad block
 all pad i out block h k e = sym (take_all i out h) ∙ e ∙ ap (masked pad) (take_all i block k)
 

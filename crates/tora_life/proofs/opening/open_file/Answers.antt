@@ -11,11 +11,11 @@ use Rattle.tora_life.proofs.OnOks.{if_any}
 use Rattle.tora_life.proofs.Opens.{read_all, read_version}
 use Rattle.tora_life.proofs.opening.open_file.Goals as goal
 
--- what was read is of the file as it was
+-- the bytes that were read are of the file as it was before
 of_file : (seen seen' buf : List ℕ) (n : ℕ) → seen' ≡ seen → IsRead seen' 0 (replicate 65 0) n buf → IsRead seen 0 (replicate 65 0) n buf
 of_file seen seen' buf n is read = subst (λ (f : List ℕ). IsRead f 0 (replicate 65 0) n buf) is read
 
--- and it is the whole file
+-- the bytes that were read are the whole file
 whole : (g : _) (c : goal.After-open_version-arg-1 g) → IsTrue (g.D.Disk.tells c.args.disk.now) → take c.in-Ok-read.count c.read.new.buf ≡ g.D.Disk.seen c.args.disk.now
 whole g c told =
     let d = g.D.Disk in

@@ -3,8 +3,8 @@ use Rattle.std.specs.declared.io.Error.{Error}
 use Rattle.tora_life.specs.WholeRead.{ReadsOn}
 use Rattle.tora_life.proofs.whole_read.read_whole.Given as goal
 
--- what was read so far is the beginning of what there is from the place on, and who reads on from here has read from
--- the start
+-- the bytes read so far are the first ones from the offset on, and reading on from here completes the read from the
+-- start
 abbrev pub invariant-loop : goal.invariant-loop
 invariant-loop g l = record {
   few : l.count ≤ length l.buf;

@@ -9,7 +9,7 @@ use Rattle.tora_packet.specs.PacketGrammar.{height_at}
 use Rattle.tora_packet.proofs.Fields.{made_is, passed}
 use Rattle.tora_packet.proofs.decoding.update_at.Goals as goal
 
--- a property of an update holds for the packet with it
+-- the packet of an update that was decoded
 packet-Ok : (bad : Bool) (r : Result UpdateParts PacketError) (u v : UpdateParts) → MatchBool bad (r ≡ Err Height) (r ≡ Ok v) → r ≡ Ok u
     → MatchBool bad (◌≡◌ {A = Result Packet PacketError} (Ok (Upd u)) (Err Height)) (◌≡◌ {A = Result Packet PacketError} (Ok (Upd u)) (Ok (Upd v)))
 packet-Ok true r u v m is = absurd cc

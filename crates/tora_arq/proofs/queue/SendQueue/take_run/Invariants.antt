@@ -3,7 +3,7 @@ use Rattle.tora_arq.specs.SendQueue.{ready_run}
 use Rattle.tora_arq.proofs.QueueLemmas.{Taking}
 use Rattle.tora_arq.proofs.queue.SendQueue.take_run.Given as goal
 
--- what is taken, and what is left to take, are those of the queue as it was
+-- the packets taken so far and those that may still be taken are the run of the original queue
 abbrev pub invariant-loop-at : goal.invariant-loop-at
 invariant-loop-at l = record {
   taking : Taking l.times l.now (l.end - l.at) l.at l.packets.items l.self.items (ready_run l.times l.now (l.end - l.place) (drop l.place l.fn.self.items)).packets

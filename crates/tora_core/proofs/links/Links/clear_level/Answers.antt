@@ -10,7 +10,7 @@ use Rattle.tora_core.proofs.Places.{neighbours_of-map}
 use Rattle.tora_core.proofs.RowChanges.{cleared-number}
 use Rattle.tora_core.proofs.links.Links.clear_level.Goals as goal
 
--- nothing was at the level
+-- no entry was at the level
 pub invariant_of-self : goal.invariant_of-self
 invariant_of-self c =
     let places = c.self.inside.places.items in

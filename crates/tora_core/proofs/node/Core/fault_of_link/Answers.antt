@@ -7,7 +7,7 @@ use Rattle.tora_core.specs.CoreRun.{CoreView, link_fault}
 use Rattle.tora_core.proofs.AfterInputs.{part-has}
 use Rattle.tora_core.proofs.node.Core.fault_of_link.Goals as goal
 
--- of a link that is up only what it is to be decides
+-- for a link that is up, the refusal depends only on whether it must be up
 up-fault : (c : CoreView) (k : ℕ) (b : Bool) → has_number k c.neighbours ≡ true → has_number k c.up ≡ true → link_fault c k b ≡ (if b then None else Some Fault.AlreadyUp)
 up-fault c k true there up =
     ap (λ (t : Bool). if not t then Some Fault.UnknownNeighbour else if not (has_number k c.up) then Some Fault.NotUp else None) there

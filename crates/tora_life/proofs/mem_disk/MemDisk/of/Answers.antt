@@ -5,7 +5,7 @@ use Rattle.tora_life.specs.State.{fresh_state, filled, seen_of}
 use Rattle.tora_life.proofs.Runs.{seen_fresh}
 use Rattle.tora_life.proofs.mem_disk.MemDisk.of.Goals as goal
 
--- a disk with these bytes and zeros on it
+-- a disk with these bytes, followed by zeros
 fresh : (there file : List ℕ) → there ≡ filled file → let made : State = record { bytes = there; len = length file; synced = there; synced_len = length file; written = replicate 80 false; reach = length file; read_fails = false; write_fails = false; sync_fails = false; failures = 0 } in made ≡ fresh_state file
 fresh there file is = λ i. record { bytes = is i; len = length file; synced = is i; synced_len = length file; written = replicate 80 false; reach = length file; read_fails = false; write_fails = false; sync_fails = false; failures = 0 }
 
