@@ -243,7 +243,7 @@ impl Core {
     /// if the input is refused.
     ///
     /// # Errors
-    /// Those of `step`, in the same order.
+    /// Those of `step`.
     pub fn step_into(&mut self, input: &Input, now: u64, sends: &mut Sends) -> Result<(), StepError>
         ensures refused { MatchOption (refusal_of self.old input.now) (IsOk result) (λ e. result ≡ Err e) }
         ensures unchanged { OnErr result (self.new ≡ self.old) }
@@ -294,8 +294,7 @@ impl Core {
         }
     }
 
-    /// The cause for which an input over the link to `k` is refused, if it is. If `is_up`, the input requires that the
-    /// link is up, and otherwise that it is not up.
+    /// The cause for which an input is refused, if it is. It requires that the link to `k` is up, or is not (`is_up`).
     fn fault_of_link(&self, k: Id, is_up: bool) -> Option<StepError>
         ensures { result ≡ link_fault self.now k is_up }
     {
@@ -343,8 +342,7 @@ impl Core {
         self.view(d).map(|view| view.height())
     }
 
-    /// The height that neighbour `k` sent for a destination, `None` if the table does not have it or the link is not
-    /// up.
+    /// The height that neighbour `k` sent for a destination; `None` without that destination, or if the link is down.
     pub fn entry(&self, d: Id, k: Id) -> Option<Entry>
         ensures { result ≡ entry_of self.now d k }
     {
