@@ -19,8 +19,8 @@ pub const INLINE_CARGOES: usize = 4;
 /// A list is long if it has memory for more than this many times its cargoes.
 const LONG: usize = 4;
 
-/// Cargoes in the order in which they were put: up to `INLINE_CARGOES` inline, or all in a list. If there is none left before a
-/// turn of the core, the memory of the list is freed, and the next cargoes are stored inline.
+/// Cargoes in the order in which they were put: up to `INLINE_CARGOES` inline, or all in a list. If there is none left
+/// before a turn of the core, the memory of the list is freed, and the next cargoes are stored inline.
 #[derive(Drop)]
 pub struct InlineCargoes {
     /// Whether the cargoes are in the list.
@@ -40,8 +40,8 @@ impl Model for InlineCargoes {
 
     ghost view = { λ c. cargoes_in c.is_wide c.count c.cells c.list.items (vec_capacity c.list) };
 
-    ghost invariant = { λ c. (c.count ≤ INLINE_CARGOES) × (length c.cells ≡ INLINE_CARGOES) × (c.is_wide ≡ true → 0 < vec_capacity c.list)
-        × (c.is_wide ≡ false → c.list.items ≡ []) };
+    ghost invariant = { λ c. (c.count ≤ INLINE_CARGOES) × (length c.cells ≡ INLINE_CARGOES)
+        × (c.is_wide ≡ true → 0 < vec_capacity c.list) × (c.is_wide ≡ false → c.list.items ≡ []) };
 }
 
 impl InlineCargoes {

@@ -50,7 +50,8 @@ impl Model for KeptList {
 
     ghost view = { λ l. record { items = l.list.items ++ take l.count l.inline_items; places = INLINE_KEPT - l.count } };
 
-    ghost invariant = { λ l. (l.count ≤ INLINE_KEPT) × (length l.inline_items ≡ INLINE_KEPT) × (length l.list.items < MOST_LISTED + INLINE_KEPT) };
+    ghost invariant = { λ l. (l.count ≤ INLINE_KEPT) × (length l.inline_items ≡ INLINE_KEPT)
+        × (length l.list.items < MOST_LISTED + INLINE_KEPT) };
 }
 
 impl KeptList {
