@@ -149,15 +149,15 @@ impl GrowingEnd {
         self.state.is_frame_due(&self.settings, now)
     }
 
-    /// As `LinkEnd::still_until`.
+    /// As `LinkEnd::deadline`.
     #[inline(always)]
-    pub fn still_until(&self) -> u64
+    pub fn deadline(&self) -> u64
         ensures exact { IsStillUntil self.now.settings self.now.state result }
         ensures frames { (tick : ℕ) → tick < result → is_some (frame_due self.now.settings self.now.state tick)
             ≡ false }
         ensures ticks { (tick : ℕ) → tick < result → after_tick self.now.settings self.now.state tick ≡ self.now.state }
     {
-        self.state.still_until(&self.settings)
+        self.state.deadline(&self.settings)
     }
 
     /// As `LinkEnd::steady`.

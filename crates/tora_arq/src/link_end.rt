@@ -300,13 +300,13 @@ impl LinkEnd {
     /// it, no frame is due and a tick changes nothing. It is valid until another call. It is 0 if a frame is due at
     /// once, and 2^64 - 1 if there is no such tick, as at a closed end. It reads at most a window of packets.
     #[inline(always)]
-    pub fn still_until(&self) -> u64
+    pub fn deadline(&self) -> u64
         ensures exact { IsStillUntil self.now.settings self.now.state result }
         ensures frames { (tick : ℕ) → tick < result → is_some (frame_due self.now.settings self.now.state tick)
             ≡ false }
         ensures ticks { (tick : ℕ) → tick < result → after_tick self.now.settings self.now.state tick ≡ self.now.state }
     {
-        self.state.still_until(&self.settings)
+        self.state.deadline(&self.settings)
     }
 
     /// The fields that HELLOs read, if the end is idle: it is open, has sent a HELLO, owes neither a HELLO at once nor

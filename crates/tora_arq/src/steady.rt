@@ -205,7 +205,7 @@ impl Steady {
     /// it, no frame is due and a tick changes nothing. It is valid until another call. It is 0 if a HELLO is due at
     /// once.
     #[inline(always)]
-    pub fn still_until(&self) -> u64
+    pub fn deadline(&self) -> u64
         ensures exact { (s : EndSettings) (e : EndState) → IsSteady self.now s e
             → IsStillUntil s (resumed self.now e) result }
         ensures frames { (s : EndSettings) (e : EndState) (tick : ℕ) → IsSteady self.now s e → tick < result
@@ -216,7 +216,7 @@ impl Steady {
         self.until()
     }
 
-    /// Computes `still_until` from the fields.
+    /// Computes `deadline` from the fields.
     #[inline(always)]
     fn until(&self) -> u64
         ensures { result ≡ until_of self.now }

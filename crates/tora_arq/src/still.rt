@@ -37,7 +37,7 @@ impl SendQueue {
     /// The tick `first`, or the first tick at which a packet within the window is due or is given up, whichever is
     /// earlier. It reads at most a window of packets.
     #[inline(always)]
-    fn still_until(&self, times: &Times, first: u64) -> u64
+    fn deadline(&self, times: &Times, first: u64) -> u64
         requires retry { 0 < times.now.retry }
         requires tries { 0 < times.now.tries }
         requires untried { AreUntried (drop WINDOW self.now.items) }
@@ -89,7 +89,7 @@ impl State {
         let times = &settings.times;
         let silent = tick_behind(self.last_hearing, times.silent);
         let first = self.next_hello(settings).min(silent);
-        self.queue.still_until(times, first)
+        self.queue.deadline(times, first)
     }
 
     /// The first tick at which a frame is due, or a session times out.
@@ -108,7 +108,7 @@ impl State {
 
     /// The first tick at which a frame is due or a session times out; before it, no tick changes the end.
     #[inline(always)]
-    pub fn still_until(&self, settings: &Settings) -> u64
+    pub fn deadline(&self, settings: &Settings) -> u64
         requires { IsEndState (settings_in settings.now) (state_in self.now) }
         ensures exact { IsStillUntil (settings_in settings.now) (state_in self.now) result }
         ensures frames { (tick : ℕ) → tick < result → is_some (frame_due (settings_in settings.now) (state_in self.now)

@@ -153,7 +153,7 @@ impl Link {
         if self.may_open(number) {
             0
         } else {
-            self.end.still_until()
+            self.end.deadline()
         }
     }
 

@@ -2,7 +2,7 @@ use Rattle.std.proofs.Common.{◌≡◌, nat_le, ◌||◌, Bool, length, sym, ap
 use Rattle.std.proofs.Math.Bool.{or-false}
 use Rattle.tora_arq.specs.declared.TheConstants.{WINDOW}
 use Rattle.tora_arq.proofs.StillLemmas.{none_due}
-use Rattle.tora_arq.proofs.queue.SendQueue.still_until.Goals as goal
+use Rattle.tora_arq.proofs.queue.SendQueue.deadline.Goals as goal
 
 pub returns-then-len-eq0 : goal.returns-then-len-eq0
 returns-then-len-eq0 c = λ most number tick lt.

@@ -3,7 +3,7 @@ use Rattle.tora_arq.specs.Still.{IsStillUntil}
 use Rattle.tora_arq.specs.Steady.{resumed}
 use Rattle.tora_arq.proofs.SteadyLemmas.{until}
 use Rattle.tora_arq.proofs.StillLemmas.{still_frames, still_ticks}
-use Rattle.tora_arq.proofs.steady.Steady.still_until.Goals as goal
+use Rattle.tora_arq.proofs.steady.Steady.deadline.Goals as goal
 
 pub returns-clause-exact : goal.returns-clause-exact
 returns-clause-exact c s e is = subst (λ (n : ℕ). IsStillUntil s (resumed c.args.self.now e) n) (sym c.until.ensures) (until c.args.self.now s e is)
