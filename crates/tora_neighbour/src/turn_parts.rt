@@ -124,7 +124,7 @@ pub fn count_failure(row: &mut u64) -> Result<(), Broken>
     Ok(())
 }
 
-/// Sends a datagram, and counts a failure.
+/// Sends a datagram. A failed send adds 1 to the count of failures in a row, and a successful one resets it to 0.
 pub fn try_send<W: Wire>(wire: &mut W, row: &mut u64, bytes: &[u8]) -> Result<(), Broken>
     requires { row.old < MOST_FAILURES }
     ensures call { (answer : Result (Unit {0}) WireError) × W.did_send wire.old bytes.now answer wire.new

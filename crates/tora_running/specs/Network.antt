@@ -1,4 +1,5 @@
--- A network of running nodes, and the effect of the parts of their threads, in one order of all parts.
+-- A network of running nodes, and the effect of each part on it. A part is one atomic action of a thread; a run is a
+-- list of the parts of all threads.
 use Rattle.std.specs.Prelude.{◌≡◌, ◌⊎◌, ℕ, suc, ◌<◌, ◌≤◌, ◌^◌, ◌==◌, IsTrue, if◌then◌else◌, List, [], ◌∷◌, ◌++◌, length, drop, Ok, Err}
 use Rattle.tora_packet.specs.declared.Packet.{Packet}
 use Rattle.tora_frame.specs.FrameParts.{FrameParts}
@@ -70,7 +71,7 @@ packets_taken w b a life = packets_of life (w.steps b a)
 pub data Part : Type 0 where
   -- a node is started, for the first time or after its process has ended at any moment
   Starts : (n : ℕ) → Part
-  -- a part of the thread of n's link to k
+  -- an action of the thread of n's link to k
   OfLink : (n k : ℕ) (part : LinkPart) → Part
   -- the core's thread takes an item and serves it, and these outbound messages are offered
   Serves : (n : ℕ) (item : Item) (offers : List Offer) → Part

@@ -1,4 +1,4 @@
--- What the thread of a link does with its end, in parts.
+-- The parts of a link's thread (its atomic actions), when its end allows each, and the end after it.
 use Rattle.std.specs.Prelude.{◌≡◌, ℕ, ◌<◌, IsTrue, List, [], ◌∷◌, Some}
 use Rattle.tora_frame.specs.FrameParts.{FrameParts}
 use Rattle.tora_arq.specs.declared.link_event.LinkEvent.{LinkEvent}

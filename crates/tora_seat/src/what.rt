@@ -23,6 +23,6 @@ pub enum What {
     Show,
     /// A program asks for the status of the core.
     Status(Status),
-    /// A program requests the status of the core.
+    /// The caller has to end the core.
     Quit,
 }

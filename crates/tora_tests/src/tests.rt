@@ -1,4 +1,4 @@
-//! One module of tests for each tested crate.
+//! The tests, a module for each subject, and what they share.
 mod batches;
 mod carried;
 mod cores;

@@ -7,7 +7,7 @@ use tora_height::Id;
 /// The session in which most tests bind the first end.
 pub const LIFE: Life = Life { own: 5, peer: 9 };
 
-/// The same session, as the second end writes it.
+/// The session `LIFE`, as the second end writes it.
 pub const REVERSED: Life = Life { own: 9, peer: 5 };
 
 /// An end of a link between the nodes 1 and 2.

@@ -145,7 +145,7 @@ fn keys_of_a_node(rt: HostRuntime) {
     each_is_read(&rt, rt.alloc(), KEYS_OF_A_NODE);
 }
 
-/// Keys of the second link.
+/// Configurations whose second link has a missing or faulty key, and the fault.
 const KEYS_OF_A_LINK: &[(&[&str], Wanted)] = &[
     (
         &[HEAD, LINK, "[[link]]\n"],

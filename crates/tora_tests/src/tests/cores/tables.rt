@@ -141,7 +141,7 @@ pub const DIRECTIONS: &[Step] = &[
     Shows(3, BETWEEN),
 ];
 
-/// The next hop to 4.
+/// Node 3 has the next hop 4 to destination 4.
 pub const HOP: &[Step] = &[Goes(3, Some(4))];
 
 /// Node 4 beside 3.

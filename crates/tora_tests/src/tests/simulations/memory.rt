@@ -259,7 +259,7 @@ const LAST_MEETING: &[Event] = &[
     Event::CoreTurn(199),
 ];
 
-/// The state of the line of 200 nodes then.
+/// The state of the line of 200 nodes after `LAST_MEETING`.
 const LAST_MET: &[Step] = &[
     Clock(0),
     Datagrams(3),

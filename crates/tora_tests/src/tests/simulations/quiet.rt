@@ -79,7 +79,7 @@ const WAITING: &[Step] = &[
     Quiet(false),
 ];
 
-/// The sessions of a link end after three ticks without a HELLO, and each end has an event.
+/// After three ticks without a HELLO, both ends of a link end their session, and each has an event.
 const SILENT: &[Step] = &[
     Settles,
     Quiet(true),

@@ -9,7 +9,7 @@ use tora_height::Id;
 use tora_packet::{Packet, Update};
 use tora_sim::{Event, Sim, SimError};
 
-/// A step of a run: an action, or an observation of the world.
+/// A step of a run: an action, or an observation of the world with its expected result, the last field.
 #[derive(Clone, Copy, Debug)]
 pub enum Step {
     /// An event happens.
@@ -47,7 +47,7 @@ pub enum Step {
     Settles,
     /// Whether it is known that nothing is to be done.
     Quiet(bool),
-    /// Whether these are the link ends, in their order.
+    /// Whether the world has exactly these link ends, in this order.
     HasEnds(&'static [(Id, Id)], bool),
     /// The index from which a search for an end that may have something to do begins, and the index that it finds.
     NextDue(usize, usize),

@@ -324,7 +324,7 @@ fn goes_on_after(
     sees_at(rt, is_above, "above all before", &place);
 }
 
-/// Checks this for each file, each pattern, and each call of the second opening.
+/// Calls `goes_on_after` for each file of `OLD`, each pattern, and each call that fails while the file is opened again.
 fn each_goes_on_after(rt: &impl Abort, fault: (Option<DiskCall>, u64), twice: &[Option<u64>]) {
     for old in OLD {
         for torn in PATTERNS {

@@ -122,7 +122,7 @@ fn bound(rt: &impl Abort, alloc: Global) -> LinkEnd {
     end
 }
 
-/// Checks that exactly one datagram was counted, as this.
+/// Checks that exactly one datagram was counted, under this result of `take_in`.
 fn counted_once(rt: &impl Abort, tally: &Tally, intake: Intake) {
     same(rt, &total(tally), &1, "the datagrams");
     let count = match intake {

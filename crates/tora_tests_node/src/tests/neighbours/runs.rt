@@ -16,7 +16,7 @@ struct Run {
     room: usize,
     /// The fault with which the run ends.
     fault: Option<LinkFault>,
-    /// The number of accepted datagrams, and of all.
+    /// The numbers of accepted datagrams and of all received ones; `None` if they are not checked.
     tally: Option<(u64, u64)>,
     /// The number of items that were put.
     count: usize,

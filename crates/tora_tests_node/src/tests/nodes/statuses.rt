@@ -41,7 +41,7 @@ const CUT_ITEMS: [(usize, What); 4] = [
     (2, What::Quit),
 ];
 
-/// The output for these items.
+/// The output for `FIRST_ITEMS`, the query of node 2, and either list of last items.
 const TEXT: &str = "\
 height 4 -
 hop 4 -
@@ -110,7 +110,8 @@ fn is_told<R: Wait + Abort>(
     end.fault
 }
 
-/// Checks the output for programs, with these last items.
+/// Checks what the core of node 3 prints after `watch` and `json` if `FIRST_ITEMS`, a query of node 2 and then the items
+/// `last` are put. If memory runs out, only the fault is checked.
 fn is_told_of<R: Wait + Abort>(rt: &R, alloc: Global, last: &[(usize, What)]) {
     if let (Ok(core), Ok(made)) = (Core::new(alloc, 3, &[2, 4], &[4]), lanes(rt, alloc, 2)) {
         match is_told(rt, alloc, core, made, last) {

@@ -35,7 +35,7 @@ pub struct Settling<'a, R, W: Wire> {
 }
 
 impl<'a, R: time::Clock, W: Wire> Settling<'a, R, W> {
-    /// Waits for the wires before it.
+    /// Waits until `after` wires are idle or broken.
     fn wait(&self) {
         wait_for(self.rt, self.settled, self.after);
     }
@@ -165,7 +165,7 @@ impl Tag {
         }
     }
 
-    /// The four numbers.
+    /// The bytes 32 to 63 of the disk at its last sync, as four numbers; zeros before the first sync.
     pub fn get(&self) -> [u64; 4] {
         [
             self.words[0].load(Ordering::SeqCst),

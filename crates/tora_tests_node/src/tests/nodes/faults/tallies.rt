@@ -3,7 +3,8 @@ use super::*;
 use tora_arq::Verdict;
 use tora_neighbour::Tally;
 
-/// The datagrams on the wire to 2; the node's end has the session number 1.
+/// The datagrams on the wire to 2; the node's end has the session number 1. The comment at a row names the fault of the
+/// datagram and the number of the fault, which is also how often it arrives, or the verdict on its frame.
 const COMING: &[Coming] = &[
     // Too short, 1.
     (1, ""),
