@@ -85,12 +85,12 @@
  *   comes from `malloc`, `realloc` and `free`.
  *
  * ERRORS
- *   Each call but the three that free answers a code, TORA_OK (0) where it did what it says. Where it answers
- *   another one it changed nothing: neither what the handle holds nor what the pointers lead to, but for the
- *   `length` of TORA_ROOM, and for the world of a line for which there is not enough memory. A handle that is null
- *   is answered by TORA_NULL, also after it was freed. Each call names its codes in the order in which they are
- *   tested. A pointer is never NULL, but that to an array may be where its count is 0. What pointers lead to does
- *   not overlap.
+ *   Each call answers a code, TORA_OK (0) where it did what it says; `tora_abi_version` answers a version, and the
+ *   three that free answer nothing. Where a call answers another code it changed nothing: neither what the handle
+ *   holds nor what the pointers lead to, but for the `length` of TORA_ROOM, and for the world of a line for which
+ *   there is not enough memory. A handle that is null is answered by TORA_NULL, also after it was freed. Each call
+ *   names its codes in the order in which they are tested. A pointer is never NULL, but that to an array may be where
+ *   its count is 0. What pointers lead to does not overlap.
  *
  * THREADS
  *   The library has no state of its own. Threads may use different handles at once. One handle is used by one thread
@@ -200,7 +200,7 @@ typedef struct {
 /* What a router made of a datagram. */
 #define TORA_INTAKE_ACCEPTED 1u        /* it told something new, or was a HELLO of the life */
 #define TORA_INTAKE_REPEATED 2u        /* it told nothing new */
-#define TORA_INTAKE_AHEAD 3u           /* a packet that came before one with a lesser number; it is sent again */
+#define TORA_INTAKE_AHEAD 3u           /* its packets came before one with a lesser number, which they wait for */
 #define TORA_INTAKE_STALE 4u           /* it is of another life, or the link is closed */
 #define TORA_INTAKE_FOREIGN 5u         /* it is a frame that this neighbour never sends to this node */
 #define TORA_INTAKE_BUSY 6u            /* it was not looked at, since too many events wait */
@@ -296,7 +296,9 @@ uint32_t tora_core_link_down(tora_core *core, uint32_t k, uint64_t now);
 uint32_t tora_core_packet(tora_core *core, uint32_t k, const uint8_t *bytes, size_t length, uint64_t now);
 
 /*
- * A route to destination `d` is needed at the tick `now`.
+ * A route to destination `d` is needed at the tick `now`. It stays required until one is found (`tora_core_flag`).
+ * From then on the rules mend it where links change. A route that is lost, since no path is left, comes back only
+ * after a further need. A need too many sends nothing, and is no error.
  * TORA_NULL, TORA_UNKNOWN_DESTINATION.
  */
 uint32_t tora_core_need(tora_core *core, uint32_t d, uint64_t now);
@@ -366,14 +368,14 @@ uint32_t tora_router_datagram(tora_router *router, uint32_t peer, const uint8_t 
                               uint32_t *intake);
 
 /*
- * It is the tick `now`. Each closed link opens with the next life number, and a link on which nothing was heard for
- * too long goes down.
+ * It is the tick `now`. Each closed link opens with the next life number. A link on which nothing was heard for too
+ * long goes down, and so does one on which a packet was not acknowledged in all its tries.
  * TORA_NULL.
  */
 uint32_t tora_router_tick(tora_router *router, uint64_t now);
 
 /*
- * A route to destination `d` is needed at the tick `now`.
+ * A route to destination `d` is needed at the tick `now`, as `tora_core_need` says.
  * TORA_NULL, TORA_UNKNOWN_DESTINATION.
  */
 uint32_t tora_router_need(tora_router *router, uint32_t d, uint64_t now);

@@ -2,12 +2,15 @@
 from __future__ import annotations
 
 import ctypes
+import importlib
 import os
 import pathlib
 import random
+import re
 import shutil
 import subprocess
 import sys
+from typing import Any
 
 import pytest
 
@@ -17,6 +20,7 @@ from tora.lib import ClosedError, Erasure, Height, LibraryError, NoLibraryError,
 from tora.program import Program
 
 EXAMPLES = pathlib.Path(__file__).parents[2] / "examples"
+LINKS = [(1, 2), (1, 3), (1, 4), (2, 3)]  # of the order that goes on for ever
 QUERY = bytes.fromhex("0101000000000004")
 
 
@@ -146,16 +150,58 @@ def test_examples(words: list[str]) -> None:
     assert ran.stdout == (EXAMPLES / "embed" / f"{pathlib.Path(words[0]).stem}.expected").read_text()
 
 
+def explored(*words: object) -> subprocess.CompletedProcess[str]:
+    """Runs the example that explores the world of the order that goes on for ever, along that order."""
+    links = ",".join(f"{a}-{b}" for a, b in LINKS)
+    order = ["--order", EXAMPLES / "embed" / "storm.order", "4", links, "4"]
+    command = [sys.executable, EXAMPLES / "embed" / "explore.py", *map(str, [*words, *order])]
+    environment = {**os.environ, "TORA_LIBRARY": lib.library()._name}
+    return subprocess.run(command, capture_output=True, text=True, env=environment)
+
+
 @pytest.mark.parametrize("erasure", ["plain", "remembered"])
 def test_an_order_that_goes_on_for_ever(erasure: str) -> None:
-    environment = {**os.environ, "TORA_LIBRARY": lib.library()._name}
-    words = ["--erasure", erasure, "--order", EXAMPLES / "embed" / "storm.order", "4", "1-2,2-3,3-1,1-4", "4"]
-    command = [sys.executable, EXAMPLES / "embed" / "explore.py", *words]
-    ran = subprocess.run(command, capture_output=True, text=True, env=environment)
+    ran = explored("--erasure", erasure)
     if erasure == "plain":
         assert ran.stdout.splitlines()[1] == "an order goes on for ever: after 50 steps, 18 that repeat"
     else:  # the update of the erased level is ignored, so that the packets of the order are not sent
-        assert "nothing is under way for `deliver" in ran.stderr and ran.returncode == 1
+        assert "step 39 is not possible: deliver 2 1" in ran.stderr and ran.returncode == 1
+
+
+def test_the_simulation_file_of_an_order(program: Program, tmp_path: pathlib.Path) -> None:
+    told = explored("--sim", tmp_path / "order.sim").stdout.partition("after 100 times:\n")[2]
+    command = [*program.words, "sim", "--notice", "--trace", tmp_path / "trace", tmp_path / "order.sim"]
+    ran = subprocess.run(command, capture_output=True, text=True, check=True)
+    assert re.sub(" hop .*", "", ran.stdout) == told
+    assert "1 upd 1 4 2 (1,1,1,102,1)" in (tmp_path / "trace").read_text()
+
+
+def random_step(draw: random.Random, world: Any) -> str:
+    """A step that is possible in a small world: often a delivery."""
+    waiting = [f"deliver {a} {b}" for (a, b), queue in world.queues.items() if queue]
+    if waiting and draw.random() < 0.7:
+        return draw.choice(waiting)
+    a, b = draw.choice(LINKS)
+    return draw.choice([f"{'cut' if (a, b) in world.links else 'mend'} {a} {b}", f"need {draw.choice([a, b])}"])
+
+
+@pytest.mark.parametrize("erasure", list(Erasure))
+def test_simulation_files_of_random_orders(
+    program: Program, tmp_path: pathlib.Path, monkeypatch: pytest.MonkeyPatch, erasure: Erasure
+) -> None:
+    monkeypatch.syspath_prepend(str(EXAMPLES / "embed"))
+    small_world, simulation_file = (importlib.import_module(it) for it in ("small_world", "simulation_file"))
+    draw, path = random.Random(f"order {erasure}"), tmp_path / "order.sim"
+    for _ in range(20):
+        file, told = simulation_file.SimulationFile(small_world.first_world(4, LINKS, 4, erasure), LINKS), ""
+        for _ in range(100):
+            file.follow(random_step(draw, file.world))
+            file.lines.append("heights 4")
+            cores = {n: it.core for n, it in file.world.nodes.items()}
+            told += "".join(f"node {n} {it.height(4) or '-'} hop {it.next_hop(4) or '-'}\n" for n, it in cores.items())
+        path.write_text("\n".join([*file.lines, ""]))
+        command = [*program.words, "sim", "--notice", path]
+        assert subprocess.run(command, capture_output=True, text=True, check=True).stdout == told
 
 
 def replay_file(draw: random.Random) -> list[str]:

@@ -1,10 +1,11 @@
 //! The inputs of the mixes.
 ghost use Rattle.std.specs.Prelude.{◌≤◌, ◌<◌};
 
+use arrayvec::ArrayVec;
 use std::alloc::{AllocError, Global};
 use tora_core::{Core, Input};
 use tora_height::{Height, Id};
-use tora_packet::{Clear, Packet, Update};
+use tora_packet::{Clear, LONGEST_PACKET, Packet, Update, encode};
 
 /// The neighbours and the destinations of the mixes.
 const NEIGHBOURS: [Id; 8] = [1, 2, 3, 4, 5, 6, 7, 8];
@@ -17,11 +18,15 @@ const MOST_NEIGHBOURS: [Id; 32] = [
     27, 28, 29, 30, 31, 32,
 ];
 
-const MOST_DESTINATIONS: [Id; 64] = [
+/// The most destinations that a core may have.
+pub const MOST_DESTINATIONS: [Id; 64] = [
     17, 18, 19, 20, 21, 22, 23, 24, 25, 26, 27, 28, 29, 30, 31, 32, 33, 34, 35, 36, 37, 38, 39, 40,
     41, 42, 43, 44, 45, 46, 47, 48, 49, 50, 51, 52, 53, 54, 55, 56, 57, 58, 59, 60, 61, 62, 63, 64,
     65, 66, 67, 68, 69, 70, 71, 72, 73, 74, 75, 76, 77, 78, 79, 80,
 ];
+
+/// After how many updates `quiet_update` of a small core repeats: 7 neighbours, 12 destinations and 5 values of delta.
+const QUIET_UPDATES: u32 = 420;
 
 /// How large the table of a core is.
 #[derive(Clone, Copy)]
@@ -115,6 +120,14 @@ pub fn fresh_core(alloc: Global, size: Size) -> Option<Core> {
     }
 }
 
+/// A core of a node with one neighbour and the most destinations.
+pub fn core_of_a_pair(alloc: Global, me: Id, peer: Id) -> Option<Core>
+    requires me { 0 < me }
+    requires peer { 0 < peer }
+{
+    Core::new(alloc, me, &[peer], &MOST_DESTINATIONS).ok()
+}
+
 /// A core with one destination and all links up that needs a route.
 pub fn small_core(alloc: Global) -> Option<Core> {
     let mut core = Core::new(alloc, 100, &NEIGHBOURS, &[20]).ok()?;
@@ -154,6 +167,17 @@ pub fn quiet_update(size: Size, i: u32) -> Option<Input> {
     };
     let delta = 2 + (i % 5) as i32;
     update(k, d, Height::new(0, 0, 0, delta, k).ok())
+}
+
+/// The bytes of updates that leave the height of a small core as it is, with their neighbours: each `quiet_update` once.
+pub fn quiet_bytes(alloc: Global) -> Option<Vec<(Id, ArrayVec<u8, LONGEST_PACKET>)>> {
+    let mut found = Vec::new(alloc);
+    for i in 0..QUIET_UPDATES {
+        if let Some(Input::Packet(k, packet)) = quiet_update(Size::Small, i) {
+            found.push((k, encode(&packet))).ok()?;
+        }
+    }
+    Some(found)
 }
 
 /// An update of one of two neighbours whose heights alternate: every second update removes the last downstream link.

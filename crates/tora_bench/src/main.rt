@@ -5,24 +5,28 @@
 //! N packets that go from one link end to another and are acknowledged, one at a time and a window at a time: in frames
 //! of one and in batches, and each of them as frames and as bytes. `tora_bench codec N` encodes and decodes N updates,
 //! then N DATA frames of version 1 with an update each, and then N DATA frames of version 2 with sixteen updates each.
+//! `tora_bench node N` passes N datagrams as bytes between two nodes, each with a core and a link end.
 //! Each line is a name, nanoseconds an operation (the best of seven runs), and a number that depends on every result.
 #![tactic(auto)]
 
 mod codec;
 mod inputs;
 mod links;
+mod nodes;
 
 use codec::Coded;
 use inputs::{
-    Size, fresh_core, mixed_inputs, quiet_update, reacting_update, routed_core, small_core,
+    Size, fresh_core, mixed_inputs, quiet_bytes, quiet_update, reacting_update, routed_core,
+    small_core,
 };
 use links::{Passed, run_link, run_window};
+use nodes::Talk;
 use std::alloc::Global;
 use std::io;
 use std::time::{Duration, Instant};
 use tora_core::{Core, Input, Sends};
 use tora_frame::Version;
-use tora_packet::Packet;
+use tora_packet::{Packet, decode};
 
 /// How many times each mix is run; the best run counts.
 const RUNS: u32 = 7;
@@ -84,6 +88,23 @@ fn run_quiet(size: Size, core: &mut Core, steps: u32) -> u64 {
     sum
 }
 
+/// As `run_quiet` with a small core, by the bytes of the updates, which are decoded.
+fn run_quiet_bytes(alloc: Global, core: &mut Core, steps: u32) -> Option<u64> {
+    let updates = quiet_bytes(alloc)?;
+    let mut sends = Sends::new();
+    let mut sum = 0u64;
+    let mut at = 0;
+    for _ in 0..steps {
+        let (k, bytes) = updates.get(at)?;
+        let input = decode(bytes.as_slice())
+            .ok()
+            .map(|packet| Input::Packet(*k, packet));
+        sum = sum.wrapping_add(sent(core, &input, 1, &mut sends));
+        at = if at + 1 < updates.len() { at + 1 } else { 0 };
+    }
+    Some(sum)
+}
+
 fn run_reacting(core: &mut Core, steps: u32) -> u64 {
     let mut sends = Sends::new();
     let mut sum = 0u64;
@@ -109,6 +130,8 @@ fn run_links(core: &mut Core, steps: u32) -> u64 {
 enum Mix {
     Mixed(Size),
     Quiet(Size),
+    /// The same of a small core, by bytes that are decoded.
+    QuietBytes,
     Reacting,
     Links(Size),
     /// One packet at a time between two link ends.
@@ -124,6 +147,7 @@ impl Mix {
         match self {
             Mix::Mixed(size) => size.name("core-mixed", "core-large-mixed"),
             Mix::Quiet(size) => size.name("core-quiet", "core-large-quiet"),
+            Mix::QuietBytes => "core-quiet-bytes",
             Mix::Reacting => "core-reacting",
             Mix::Links(size) => size.name("core-links", "core-large-links"),
             Mix::Link => "link-packet",
@@ -141,6 +165,7 @@ impl Mix {
             Mix::Mixed(size) => fresh_core(alloc, size),
             Mix::Reacting => small_core(alloc),
             Mix::Quiet(size) | Mix::Links(size) => routed_core(alloc, size),
+            Mix::QuietBytes => routed_core(alloc, Size::Small),
             Mix::Link | Mix::Window(_, _) | Mix::Codec(_) => fresh_core(alloc, Size::Least),
         }
     }
@@ -149,6 +174,7 @@ impl Mix {
         match self {
             Mix::Mixed(_) => run_mixed(core, inputs),
             Mix::Quiet(size) => run_quiet(size, core, steps),
+            Mix::QuietBytes => run_quiet_bytes(alloc, core, steps).unwrap_or(0),
             Mix::Reacting => run_reacting(core, steps),
             Mix::Links(_) => run_links(core, steps),
             Mix::Link => run_link(alloc, steps).unwrap_or(0),
@@ -161,9 +187,8 @@ impl Mix {
     fn count(self, inputs: &[(u64, Input)], steps: u32) -> u64 {
         match self {
             Mix::Mixed(_) => inputs.len() as u64,
-            Mix::Quiet(_) | Mix::Reacting | Mix::Links(_) | Mix::Link | Mix::Window(_, _) => {
-                u64::from(steps)
-            }
+            Mix::Quiet(_) | Mix::QuietBytes | Mix::Reacting | Mix::Links(_) => u64::from(steps),
+            Mix::Link | Mix::Window(_, _) => u64::from(steps),
             Mix::Codec(_) => codec::count(steps),
         }
     }
@@ -182,11 +207,34 @@ fn time(rt: &HostRuntime, mix: Mix, inputs: &[(u64, Input)], steps: u32) -> io::
         let passed = start.elapsed(rt)?;
         best = Some(best.map_or(passed, |least| least.min(passed)));
     }
-    let count = mix.count(inputs, steps).max(1);
+    print(rt, mix.name(), best, mix.count(inputs, steps), sum)
+}
+
+/// Times two nodes, and prints the line.
+fn time_nodes(rt: &HostRuntime, talk: Talk, steps: u32) -> io::Result<()> {
+    let mut best: Option<Duration> = None;
+    let mut datagrams = 0u64;
+    for _ in 0..RUNS {
+        let Some((count, passed)) = talk.run(rt, steps)? else {
+            return rt.eprintln("tora_bench: memory");
+        };
+        datagrams = count;
+        best = Some(best.map_or(passed, |least| least.min(passed)));
+    }
+    print(rt, talk.name(), best, datagrams, datagrams)
+}
+
+/// Prints the line of the best run of `count` operations.
+fn print(
+    rt: &HostRuntime,
+    name: &str,
+    best: Option<Duration>,
+    count: u64,
+    sum: u64,
+) -> io::Result<()> {
     let nanoseconds = best.map_or(0, |least| least.as_nanos());
-    let hundredths = nanoseconds.saturating_mul(100) / u128::from(count);
+    let hundredths = nanoseconds.saturating_mul(100) / u128::from(count.max(1));
     let (whole, part) = (hundredths / 100, hundredths % 100);
-    let name = mix.name();
     println!(rt; "{name} {whole}.{part:02} ns/op check {sum:016x}")
 }
 
@@ -213,6 +261,45 @@ fn hold(rt: &HostRuntime, size: Size, count: u32) -> io::Result<()> {
     println!(rt; "{held} cores")
 }
 
+/// Times the mixes of both sizes whose names begin with a word.
+fn time_sizes(rt: &HostRuntime, word: &str, steps: u32) -> io::Result<()> {
+    for size in [Size::Small, Size::Large] {
+        let inputs = mixed_inputs(rt.alloc(), size, steps)?;
+        for mix in [Mix::Mixed(size), Mix::Quiet(size), Mix::Links(size)] {
+            if mix.name().starts_with(word) {
+                time(rt, mix, inputs.as_slice(), steps)?;
+            }
+        }
+    }
+    Ok(())
+}
+
+/// Times the other mixes whose names begin with a word.
+fn time_others(rt: &HostRuntime, word: &str, steps: u32) -> io::Result<()> {
+    for mix in [
+        Mix::QuietBytes,
+        Mix::Reacting,
+        Mix::Link,
+        Mix::Window(Version::One, Passed::Frame),
+        Mix::Window(Version::One, Passed::Bytes),
+        Mix::Window(Version::Two, Passed::Frame),
+        Mix::Window(Version::Two, Passed::Bytes),
+        Mix::Codec(Coded::Packet),
+        Mix::Codec(Coded::Frame),
+        Mix::Codec(Coded::Batch),
+    ] {
+        if mix.name().starts_with(word) {
+            time(rt, mix, &[], steps)?;
+        }
+    }
+    for talk in [Talk::Hellos, Talk::Queries] {
+        if talk.name().starts_with(word) {
+            time_nodes(rt, talk, steps)?;
+        }
+    }
+    Ok(())
+}
+
 fn main(rt: HostRuntime) -> io::Result<()> {
     let words = std::env::args(&rt)?.collect::<Vec<String>>(rt.alloc())?;
     let Some(word) = words.get(1) else {
@@ -225,28 +312,6 @@ fn main(rt: HostRuntime) -> io::Result<()> {
     if let Some(size) = size_named(word.as_str()) {
         return hold(&rt, size, steps);
     }
-    for size in [Size::Small, Size::Large] {
-        let inputs = mixed_inputs(rt.alloc(), size, steps)?;
-        for mix in [Mix::Mixed(size), Mix::Quiet(size), Mix::Links(size)] {
-            if mix.name().starts_with(word.as_str()) {
-                time(&rt, mix, inputs.as_slice(), steps)?;
-            }
-        }
-    }
-    for mix in [
-        Mix::Reacting,
-        Mix::Link,
-        Mix::Window(Version::One, Passed::Frame),
-        Mix::Window(Version::One, Passed::Bytes),
-        Mix::Window(Version::Two, Passed::Frame),
-        Mix::Window(Version::Two, Passed::Bytes),
-        Mix::Codec(Coded::Packet),
-        Mix::Codec(Coded::Frame),
-        Mix::Codec(Coded::Batch),
-    ] {
-        if mix.name().starts_with(word.as_str()) {
-            time(&rt, mix, &[], steps)?;
-        }
-    }
-    Ok(())
+    time_sizes(&rt, word.as_str(), steps)?;
+    time_others(&rt, word.as_str(), steps)
 }

@@ -5,7 +5,6 @@ use Rattle.tora_frame.specs.declared.encoding.TheConstants.{LONGEST_FRAME}
 use Rattle.tora_frame.specs.FrameGrammar.{frame_reading, frame_spelling}
 use Rattle.tora_frame.specs.FrameParts.{FrameParts}
 use Rattle.tora_core.specs.declared.erasure.Erasure.{Erasure}
-use Rattle.tora_core.specs.declared.erasure.Erasure.TheVariants.{Plain}
 use Rattle.tora_core.specs.declared.errors.StepError.{StepError}
 use Rattle.tora_core.specs.Limits.{greatest_core_limits}
 use Rattle.tora_router.specs.declared.config.Config.{Config}
@@ -38,11 +37,15 @@ config_of me times erasure = record {
   limits = greatest_core_limits;
 }
 
--- why there is none, but for want of memory: the first cause that holds, whatever the erasure is
+-- the configuration that these words of C name, if there is such a choice of erasure
+abbrev pub configured : ℕ → ℕ → TimesParts → Option Config
+configured me choice times = option_map (config_of me times) (erasure_of choice)
+
+-- why there is none, but for want of memory: the first cause that holds
 abbrev pub new_router_refusal : ℕ → List ℕ → List ℕ → ℕ → TimesParts → ℕ → Option ℕ
 new_router_refusal me neighbours destinations choice times first_life =
-    if is_none (erasure_of choice) then Some CHOICE
-    else option_map router_code (router_refusal (config_of me times Plain) neighbours destinations first_life)
+    option_map_or (λ config. option_map router_code (router_refusal config neighbours destinations first_life))
+    (configured me choice times) (Some CHOICE)
 
 -- ---- what comes in
 

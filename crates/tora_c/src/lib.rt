@@ -108,6 +108,28 @@ mod tests {
         true
     }
 
+    // Times of which each is the standard one.
+    fn standard() -> TimesParts {
+        TimesParts {
+            hello: 0,
+            silent: 0,
+            retry: 0,
+            tries: 0,
+        }
+    }
+
+    // The answer of a router that is asked for a change, and the parts of the change.
+    fn poll_change(alloc: Global, router: &mut RouterHandle) -> (u32, u32, u32, u32, u32) {
+        let mut change = ChangeParts {
+            kind: 0,
+            node: 0,
+            hop: 0,
+            reason: 0,
+        };
+        let code = tora_router_poll_change(alloc, router, &mut change);
+        (code, change.kind, change.node, change.hop, change.reason)
+    }
+
     #[test]
     fn a_clone_shows_the_same(rt: HostRuntime) {
         let alloc = rt.alloc();
@@ -138,18 +160,7 @@ mod tests {
     fn two_routers_find_a_route(rt: HostRuntime) {
         let alloc = rt.alloc();
         let (mut one, mut two) = (RouterHandle::null(), RouterHandle::null());
-        let times = TimesParts {
-            hello: 0,
-            silent: 0,
-            retry: 0,
-            tries: 0,
-        };
-        let mut change = ChangeParts {
-            kind: 0,
-            node: 0,
-            hop: 0,
-            reason: 0,
-        };
+        let times = standard();
         let (mut hop, mut life, mut is_still) = (0, 0, false);
         let early = tora_router_tick(alloc, &mut one, 1);
         let made = tora_router_new(alloc, &mut one, 1, &[2], &[2], 0, &times, 7);
@@ -164,19 +175,17 @@ mod tests {
         }
         let found = tora_router_next_hop(alloc, &mut one, 2, &mut hop);
         let lives = tora_router_next_life(alloc, &mut one, &mut life);
-        let told = tora_router_poll_change(alloc, &mut one, &mut change);
-        let first = (change.kind, change.node, change.hop, change.reason);
-        let again = tora_router_poll_change(alloc, &mut one, &mut change);
-        let second = (change.kind, change.node, change.hop, change.reason);
-        let all = tora_router_poll_change(alloc, &mut one, &mut change);
+        let first = poll_change(alloc, &mut one);
+        let second = poll_change(alloc, &mut one);
+        let third = poll_change(alloc, &mut one);
         tora_router_free(alloc, &mut one);
         let late = tora_router_tick(alloc, &mut one, 2);
         let_router_go(alloc, one);
         let_router_go(alloc, two);
         assert_eq!(rt; (early, made, other, need), (NULL, OK, OK, OK));
         assert_eq!(rt; (found, hop, lives, life), (OK, 2, OK, 8));
-        assert_eq!(rt; (told, again, all, late), (OK, OK, ABSENT, NULL));
-        assert_eq!(rt; (first, second), ((1, 2, 0, 0), (3, 2, 2, 0)));
+        assert_eq!(rt; (first, second), ((OK, 1, 2, 0, 0), (OK, 3, 2, 2, 0)));
+        assert_eq!(rt; (third, late), ((ABSENT, 0, 0, 0, 0), NULL));
         assert!(rt; is_still);
     }
 
@@ -184,12 +193,7 @@ mod tests {
     fn a_world_answers_lines(rt: HostRuntime) {
         let alloc = rt.alloc();
         let mut world = WorldHandle::null();
-        let times = TimesParts {
-            hello: 0,
-            silent: 0,
-            retry: 0,
-            tries: 0,
-        };
+        let times = standard();
         let (mut len, mut text) = (0, [0; 64]);
         let early = tora_world_line(alloc, &mut world, b"dests 2", &mut len);
         let none = tora_world_new(alloc, &mut world, 2, 0, &times);

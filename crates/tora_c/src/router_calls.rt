@@ -1,9 +1,10 @@
 //! The calls that make and free a router, and report events to it.
 ghost use Rattle.std.specs.Prelude.{◌≡◌, ◌⊎◌, ◌<◌, IfErr, IfOk, MatchOption, None, OnOk, Some, option_map};
 ghost use Rattle.tora_frame.specs.FrameGrammar.{frame_reading};
+ghost use Rattle.tora_router.specs.Refusals.{router_refusal};
 ghost use Rattle.tora_router.specs.Router.{after_cut, after_datagram, after_need, after_tick, first_router, router_of};
-ghost use Rattle.tora_c.specs.CoreNode.{erasure_of};
-ghost use Rattle.tora_c.specs.RouterHeld.{config_of, cut_code, datagram_intake, held_router, need_code};
+ghost use Rattle.tora_c.specs.Codes.{router_code};
+ghost use Rattle.tora_c.specs.RouterHeld.{configured, cut_code, datagram_intake, held_router, need_code};
 ghost use Rattle.tora_c.specs.RouterHeld.{new_router_refusal, of_held};
 
 use crate::boxes::boxed;
@@ -17,34 +18,35 @@ use std::alloc::Global;
 use tora_core::CoreLimits;
 use tora_router::{Config, Router};
 
-/// A new router within the greatest limits. An error is its code.
-fn made(
-    alloc: Global,
-    me: u32,
-    neighbours: &[u32],
-    destinations: &[u32],
-    choice: u32,
-    times: &TimesParts,
-    first_life: u64,
-) -> Result<Router, u32>
-    ensures made { IfOk result (λ r. MatchOption (erasure_of choice) ⊥ (λ e.
-        router_of r ≡ first_router (config_of me times.now e) neighbours.now destinations.now first_life)) }
-    ensures accepted { OnOk result (new_router_refusal me neighbours.now destinations.now choice times.now first_life
-        ≡ None) }
-    ensures refused { MatchOption (new_router_refusal me neighbours.now destinations.now choice times.now first_life)
-        (IfErr result (λ code. code ≡ MEMORY)) (λ code. result ≡ Err code) }
-    ensures above { IfErr result (λ code. OK < code) }
+/// The configuration of a router within the greatest limits; `None` if there is no such choice.
+fn configured(me: u32, choice: u32, times: &TimesParts) -> Option<Config>
+    ensures { result ≡ configured me choice times.now }
 {
-    let Some(erasure) = erasure_of(choice) else {
-        return Err(CHOICE);
-    };
-    let config = Config {
+    let erasure = erasure_of(choice)?;
+    Some(Config {
         me,
         times: times_of(times),
         erasure,
         limits: CoreLimits::GREATEST,
-    };
-    match Router::new(alloc, &config, neighbours, destinations, first_life) {
+    })
+}
+
+/// A new router. An error is its code.
+fn made(
+    alloc: Global,
+    config: &Config,
+    neighbours: &[u32],
+    destinations: &[u32],
+    first_life: u64,
+) -> Result<Router, u32>
+    ensures made { IfOk result (λ r.
+        router_of r ≡ first_router config.now neighbours.now destinations.now first_life) }
+    ensures accepted { OnOk result (router_refusal config.now neighbours.now destinations.now first_life ≡ None) }
+    ensures refused { MatchOption (router_refusal config.now neighbours.now destinations.now first_life)
+        (IfErr result (λ code. code ≡ MEMORY)) (λ e. result ≡ Err (router_code e)) }
+    ensures above { IfErr result (λ code. OK < code) }
+{
+    match Router::new(alloc, config, neighbours, destinations, first_life) {
         Ok(router) => Ok(router),
         Err(error) => Err(router_code(error)),
     }
@@ -62,22 +64,16 @@ pub extern "C" fn tora_router_new(
     times: &TimesParts,
     first_life: u64,
 ) -> u32
-    ensures made { result ≡ OK → MatchOption (erasure_of erasure) ⊥ (λ e.
-        held_router router.new.held ≡ Some (first_router (config_of me times.now e) neighbours.now destinations.now
-        first_life)) }
+    ensures made { result ≡ OK → MatchOption (configured me erasure times.now) ⊥ (λ config.
+        held_router router.new.held ≡ Some (first_router config neighbours.now destinations.now first_life)) }
     ensures kept { ¬ (result ≡ OK) → router.new.held ≡ router.old.held }
     ensures code { MatchOption (new_router_refusal me neighbours.now destinations.now erasure times.now first_life)
         ((result ≡ OK) ⊎ (result ≡ MEMORY)) (λ code. result ≡ code) }
 {
-    let node = match made(
-        alloc,
-        me,
-        neighbours,
-        destinations,
-        erasure,
-        times,
-        first_life,
-    ) {
+    let Some(config) = configured(me, erasure, times) else {
+        return CHOICE;
+    };
+    let node = match made(alloc, &config, neighbours, destinations, first_life) {
         Ok(node) => node,
         Err(code) => return code,
     };

@@ -83,7 +83,7 @@ class ClosedError(LibraryError):
 
 
 class Erasure(enum.IntEnum):
-    """What becomes of erased reference levels; all nodes of a network make the same choice."""
+    """What becomes of erased reference levels. Nodes of both choices may be neighbours."""
 
     PLAIN = 0
     REMEMBERED = 1
