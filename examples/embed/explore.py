@@ -132,6 +132,8 @@ def asked() -> argparse.Namespace:
 def main() -> None:
     """Explores a world, and says what is found."""
     words = asked()
+    if words.sim and words.sim.exists():
+        sys.exit(f"explore: {words.sim}: this file exists, and would be overwritten")
     links = sorted((min(pair), max(pair)) for pair in (tuple(map(int, it.split("-"))) for it in words.links.split(",")))
     order = words.order.read_text().splitlines() if words.order else words.events.split(";")
     world = first_world(words.nodes, links, words.destination, Erasure[words.erasure.upper()])
