@@ -6,6 +6,7 @@ use Rattle.tora_channel.specs.TableOrder.{IsTableOf}
 use Rattle.tora_channel.specs.TableText.{channel_lines_of}
 use Rattle.tora_script.specs.declared.setup.Setup.{Setup}
 use Rattle.tora_script.specs.SimulationText.{rules_with}
+use Rattle.tora_lines.specs.Reads.{Given}
 use Rattle.tora_simulate.specs.Endings.{EndsSimulated}
 use Rattle.tora_simulate.specs.Paths.{IsRead, IsUnread, IsFailed}
 
@@ -44,10 +45,13 @@ pub record IsTracePlace (path : List ℕ) (trace : Option (List ℕ)) (status : 
 -- The channel file at a path was read, and the simulation over its table ended; or there was no table, and nothing was
 -- written.
 abbrev pub EndsFiled : {R W : Type 0} → (List ℕ → Result R Error → Type 0) → (List ℕ → Result R Error → Type 0)
-    → (R → Result (List ℕ) Error → Type 0) → (R → Option (List ℕ)) → Setup → (W → Option (List ℕ))
-    → (W → Bool → W → Type 0) → List ℕ → List ℕ → Option (List ℕ) → W → W → ℕ → Type 0
-EndsFiled did_open did_create did_read remaining setup contents did_flush channel_path path trace old new status =
+    → (R → Result (List ℕ) Error → Type 0) → (R → Option (List ℕ)) → (R → Given → R → Type 0)
+    → Setup → (W → Option (List ℕ)) → (W → List ℕ → Bool → W → Type 0) → (W → Bool → W → Type 0)
+    → List ℕ → List ℕ → Option (List ℕ) → W → W → ℕ → Type 0
+EndsFiled did_open did_create did_read remaining did_get setup contents did_write did_flush channel_path path trace
+    old new status =
     ((table : List ChannelLine) × IsTableFile (did_open channel_path) did_read remaining table
-    × EndsSimulated did_open did_create remaining (rules_with setup table) contents did_flush path trace old new status)
+    × EndsSimulated did_open did_create remaining did_get (rules_with setup table) contents did_write did_flush path
+    trace old new status)
     ⊎ ((IsNoTable (did_open channel_path) did_read remaining status ⊎ IsTracePlace channel_path trace status)
     × (new ≡ old))

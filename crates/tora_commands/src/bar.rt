@@ -2,13 +2,14 @@
 ghost use Rattle.std.specs.Prelude.{◌≡◌};
 ghost use Rattle.std.specs.Io.{ReadsAtMost};
 ghost use Rattle.std.specs.Io.KnownBytes.{ReadConsumes};
+ghost use Rattle.tora_lines.specs.Reads.{given_by};
 
 use crate::progress::{Progress, RoundCount, within};
 use std::alloc::Global;
 use std::fmt::Display;
 use std::io;
-use std::io::Read;
 use std::time::Clock;
+use tora_lines::Input;
 
 /// The most bytes that are read at once: those of a line or two, so that the lines before are done when the next are
 /// read.
@@ -107,12 +108,13 @@ impl<T: Eprint + Clock> Bar<'_, T> {
 }
 
 /// Reads a piece at most.
-fn read_piece<R: Read>(reader: &mut R, buf: &mut [u8]) -> io::Result<usize>
+fn read_piece<R: Input>(reader: &mut R, buf: &mut [u8]) -> io::Result<usize>
+    ensures call { R.did_read reader.old (given_by result buf.new) reader.new }
     ensures bound { ReadsAtMost result buf.new }
     ensures bytes { ReadConsumes (R.remaining reader.old) (R.remaining reader.new) result buf.new }
 {
     let most = buf.len().min(PIECE);
-    let n = reader.read(&mut buf[..most])?;
+    let n = reader.get_some(&mut buf[..most])?;
     Ok(n)
 }
 
@@ -123,7 +125,7 @@ pub struct Paced<'a, T, R> {
     bar: Bar<'a, T>,
 }
 
-impl<'a, T: Eprint + Clock, R: Read> Paced<'a, T, R> {
+impl<'a, T: Eprint + Clock, R> Paced<'a, T, R> {
     /// A bar before the first line. `total` is the number of rounds that the lines ask for, if it is known; no more
     /// than `until` are done.
     pub fn new(rt: &'a T, total: Option<u64>, until: Option<u64>, reader: R) -> Paced<'a, T, R>
@@ -144,10 +146,12 @@ impl<'a, T: Eprint + Clock, R: Read> Paced<'a, T, R> {
     }
 }
 
-impl<T: Eprint + Clock, R: Read> Read for Paced<'_, T, R> {
+impl<T: Eprint + Clock, R: Input> Input for Paced<'_, T, R> {
     ghost remaining = { λ p. R.remaining p.reader };
 
-    fn read(&mut self, buf: &mut [u8]) -> io::Result<usize> {
+    ghost did_read = { λ old given new. R.did_read old.reader given new.reader };
+
+    fn get_some(&mut self, buf: &mut [u8]) -> io::Result<usize> {
         self.bar.show();
         let n = read_piece(&mut self.reader, buf)?;
         match buf.get(..n) {

@@ -13,7 +13,7 @@ use std::time::Clock;
 use tora_channel::ChannelTable;
 use tora_lines::Output;
 use tora_script::{Setup, Simulator};
-use tora_simulate::Paths;
+use tora_simulate::{Opened, Paths};
 
 /// Simulates the lines of the file at a path as `sim_command::run` does, and draws on standard error how far it is.
 pub fn run<S: Simulator, T: Paths + AllocGlobal + Eprint + Clock, W: Output>(
@@ -25,17 +25,18 @@ pub fn run<S: Simulator, T: Paths + AllocGlobal + Eprint + Clock, W: Output>(
     writer: &mut W,
 ) -> ExitCode
     requires { IsTimes setup.times }
-    ensures { EndsFile (T.did_open rt.now) T.File.remaining (rules_with setup (lines_of table)) W.contents W.did_flush
-        path.now writer.old writer.new (exit_status result) }
+    ensures { EndsFile (T.did_open rt.now) T.File.remaining T.did_get (rules_with setup (lines_of table)) W.contents
+        W.did_write W.did_flush path.now writer.old writer.new (exit_status result) }
 {
     let total = rounds_of(rt, path);
-    let file = match rt.open_path(path) {
-        Ok(file) => file,
-        Err(error) => return refuse(rt, path, &error),
-    };
-    let reader = Paced::new(rt, total, setup.until, file);
-    let wiping = Wiping::new(rt);
-    run_over::<S, Wiping<'_, T>, Paced<'_, T, T::File>, W>(
-        &wiping, setup, table, reader, is_verbose, writer,
-    )
+    match rt.open_path(path) {
+        Ok(file) => {
+            let reader = Paced::new(rt, total, setup.until, Opened::new(rt, file));
+            let wiping = Wiping::new(rt);
+            run_over::<S, Wiping<'_, T>, Paced<'_, T, Opened<'_, T>>, W>(
+                &wiping, setup, table, reader, is_verbose, writer,
+            )
+        }
+        Err(error) => refuse(rt, path, &error),
+    }
 }

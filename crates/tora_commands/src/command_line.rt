@@ -21,7 +21,7 @@ words.
 
 Lines that it prints:
   send HEX                       a packet to every neighbour whose link is up
-  bad N                          the bytes are no packet; N is the error
+  bad N                          the bytes are not a packet; N is the error
   refused N                      the input is refused; N is the cause
   to D height H flag F hop K     `show`, for each destination
   via K H up|down|none           `show`, for each neighbour whose link is up
@@ -45,19 +45,19 @@ Lines of a simulation file, each ended by LF, of at most 4096 bytes:
 then, in any order, events:
   need N D           N needs a route to destination D
   tick               the clock advances by one tick of 100 ms
-  open N K           the closed link end of N towards K begins a life
+  open N K           the closed link end of N towards K begins a session
   pull N K           that end takes what N's core has sent to K
   transmit N K       that end sends its next frame
   deliver I          datagram I, of all ever sent, arrives at its receiver
-  pump N K           that end hands its next event to N's core
+  pump N K           that end passes its next event to N's core
   turn N             N's core takes the next item from its queue
-  arm N CALL         the next such call of N fails: send-lost, send-gone,
-                     receive, read, write or sync
+  arm N CALL         the next call of this kind by N fails: send-lost,
+                     send-gone, receive, read, write or sync
   restart N T        N restarts; bytes that its disks have not synced become T,
                      32 hexadecimal digits, or are lost for `-`
 and orders:
-  rounds R           runs R rounds, at most 10000; in a round every node and
-                     link end has its turns
+  rounds R           runs R rounds, at most 10000; in a round every node serves
+                     items, and every link end sends and delivers
   part A B           rounds stop delivering datagrams between A and B
   mend A B           rounds deliver them again
   heights D          prints `node N H hop K` for each node: its height for D
@@ -68,9 +68,9 @@ and orders:
                      `walk -` if the next hops do not lead to D
   rest               prints `rest yes` if nothing is under way, else `rest no`
   sent A B X Y       prints `count C`: packets that A's core sent to B in the
-                     life that A's end writes {X, Y}
+                     session that A's end writes {X, Y}
   taken B A Y X      prints `count C`: packets that B's core took from A in the
-                     life that B's end writes {Y, X}
+                     session that B's end writes {Y, X}
 N, K, A, B and D are numbers from 1 to 4294967295. A LIST is such numbers
 separated by commas, or `-` for none. One blank separates two words.
 
@@ -122,7 +122,7 @@ that leaves the loopback needs a key. Both ends of a link have the same key.
 
 Commands on standard input, one a line:
   need D             a route to destination D is needed
-  cut K              ends the life of the link to K at once
+  cut K              ends the session of the link to K at once
   show               prints the table
   json               prints the state of the node as a line of JSON
   watch              prints every height and next hop, and then each change:
@@ -163,7 +163,7 @@ fn times<'a>(alloc: Global) -> Arg<'a> {
         .long("times")
         .value_name("HELLO,SILENCE,RETRY,TRIES")
         .help(
-            "The times of each link end, in ticks of 100 ms, each at least 1: between two HELLOs, the silence that ends a life, between two tries of a packet, and the number of tries. The default is 10,50,5,8",
+            "The times of each link end, in ticks of 100 ms, each at least 1: between two HELLOs, the silence that ends a session, between two tries of a packet, and the number of tries. The default is 10,50,5,8",
         )
 }
 
@@ -188,7 +188,7 @@ fn seed<'a>(alloc: Global) -> Arg<'a> {
 /// `--notice` of `sim`.
 fn notice<'a>(alloc: Global) -> Arg<'a> {
     let help =
-        "When a link is parted, both ends cut its life at once, as if a link layer had reported it";
+        "When a link is parted, both ends cut its session at once, as if a link layer had reported it";
     flag(alloc, "notice", help)
 }
 
@@ -295,10 +295,10 @@ After the links there are further lines:
                       to destination D
   far N K             the end of N towards K sends nothing in a step
   near N K            it sends again
-  notice N K          the end of N towards K cuts its bound life, as when a
-                      radio reports that K is gone
+  notice N K          the end of N towards K cuts its bound session, as when a
+                      radio has lost K
   bytes ID            prints `bytes ID HEX`, the bytes of a datagram
-  take A B HEX        A receives these bytes from B; refused if they are no
+  take A B HEX        A receives these bytes from B; refused if they are not a
                       datagram from B to A
   forget ID           datagrams up to ID can no longer be named
 

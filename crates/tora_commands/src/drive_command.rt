@@ -1,11 +1,12 @@
 //! `tora drive [--times HELLO,SILENCE,RETRY,TRIES] [--large] [--erasure WORD]`: a simulated world that another program
 //! drives, a line at a time.
-ghost use Rattle.std.specs.Prelude.{◌≡◌, ◌≢◌, Ok, None, IfOk, IfErr, IfSome, option_map};
-ghost use Rattle.std.specs.Io.KnownBytes.{IsAtEnd};
+ghost use Rattle.std.specs.Prelude.{◌≡◌, ◌≢◌, Ok, None, OnOk, OnErr, IfOk, IfErr, IfSome, option_map};
+ghost use Rattle.std.specs.Io.KnownBytes.{Appends, IsAtEnd};
 ghost use Rattle.std.specs.Process.{exit_status};
 ghost use Rattle.tora_arq.specs.Settings.{IsTimes};
-ghost use Rattle.tora_lines.specs.Flushing.{IsFlushed};
-ghost use Rattle.tora_drive.specs.DriveText.{Drives, IsDriveBegun};
+ghost use Rattle.tora_lines.specs.Reads.{IsReadSo};
+ghost use Rattle.tora_drive.specs.DriveText.{greeting, Drives, IsDriveBegun};
+ghost use Rattle.tora_simulate.specs.Flushing.{IsFlushed, FailedWriting};
 ghost use Rattle.tora_commands.specs.Driving.{EndsDrive};
 ghost use Rattle.tora_commands.specs.SetupWords.{asked_options};
 ghost use Rattle.tora_commands.specs.TimesWord.{asked_times};
@@ -14,16 +15,25 @@ use crate::setup_words::asked_options;
 use crate::sim_command::tell;
 use crate::{INPUT, SetupFault, USAGE, asked_times, status, stop};
 use std::alloc::Global;
-use std::io::Read;
+use std::io;
 use std::process::ExitCode;
 use tora_arq::Times;
-use tora_drive::{Driven, drive_in, greet};
-use tora_lines::{Ended, Output, Recent, ReplayError, flushed};
+use tora_drive::{Driven, drive_in};
+use tora_lines::{Ended, Input, Output, ReplayError, flushed};
 use tora_script::WorldOptions;
 use tora_sim::Sim;
+use tora_simulate::{Recent, write_through};
+
+/// Greets who drives: writes `tora drive 1`, then flushes the writer.
+pub(crate) fn greet<W: Output>(writer: &mut W) -> io::Result<()>
+    ensures greets { OnOk result (Appends (W.contents writer.old) (W.contents writer.new) greeting) }
+    ensures failed { OnErr result (FailedWriting W.did_write W.did_flush writer.new) }
+{
+    write_through(writer, b"tora drive 1\n")
+}
 
 /// Runs `tora drive`, then flushes the writer. The error is `Write` if only the flush fails.
-fn drive_and_flush<S: Driven, R: Read, W: Output>(
+fn drive_and_flush<S: Driven, R: Input, W: Output>(
     alloc: Global,
     options: WorldOptions,
     times: Times,
@@ -37,14 +47,15 @@ fn drive_and_flush<S: Driven, R: Read, W: Output>(
     ensures begun { IfErr result (λ e. e ≢ ReplayError.Write →
         IsDriveBegun options times (R.remaining reader.old) (R.remaining reader.new) (W.contents writer.old)
         (W.contents writer.new)) }
-    ensures flushed { IsFlushed W.did_flush result writer.new }
+    ensures reads { IsReadSo R.did_read reader.old reader.new result }
+    ensures flushed { IsFlushed W.did_write W.did_flush result writer.new }
 {
     let result = drive_in::<S, R, W>(alloc, options, times, reader, writer);
     flushed(writer, result)
 }
 
 /// Drives a world with these options, whose link ends have these times.
-fn run_with<T: AllocGlobal + Eprint, R: Read + Drop, W: Output>(
+fn run_with<T: AllocGlobal + Eprint, R: Input + Drop, W: Output>(
     rt: &T,
     options: WorldOptions,
     times: Times,
@@ -52,12 +63,13 @@ fn run_with<T: AllocGlobal + Eprint, R: Read + Drop, W: Output>(
     writer: &mut W,
 ) -> ExitCode
     requires { IsTimes times }
-    ensures { EndsDrive options times W.contents W.did_flush (R.remaining reader) writer.old writer.new
-        (exit_status result) }
+    ensures { EndsDrive options times R.remaining R.did_read W.contents W.did_write W.did_flush reader writer.old
+        writer.new (exit_status result) }
 {
-    let Ok(()) = greet(writer) else {
-        return stop(rt, INPUT, "input");
-    };
+    match greet(writer) {
+        Ok(()) => {}
+        Err(_) => return stop(rt, INPUT, "input"),
+    }
     let alloc = rt.alloc();
     let mut reader = Recent::new(alloc, reader);
     let result = drive_and_flush::<Sim, Recent<R>, W>(alloc, options, times, &mut reader, writer);
@@ -71,7 +83,7 @@ fn run_with<T: AllocGlobal + Eprint, R: Read + Drop, W: Output>(
 /// erasure is a fault of usage, and nothing is written.
 ///
 /// The writer has to hand on at once what is written: whoever drives waits for it.
-pub fn run<T: AllocGlobal + Eprint, R: Read + Drop, W: Output>(
+pub fn run<T: AllocGlobal + Eprint, R: Input + Drop, W: Output>(
     rt: &T,
     times: Option<&str>,
     erasure: Option<&str>,
@@ -85,7 +97,8 @@ pub fn run<T: AllocGlobal + Eprint, R: Read + Drop, W: Output>(
         → (exit_status result ≡ 2) × (writer.new ≡ writer.old) }
     ensures ends { IfSome (asked_times (option_map (λ w. w.now) times.entry)) (λ t.
         IfSome (asked_options is_large (option_map (λ w. w.now) erasure.entry)) (λ o.
-        EndsDrive o t W.contents W.did_flush (R.remaining reader) writer.old writer.new (exit_status result))) }
+        EndsDrive o t R.remaining R.did_read W.contents W.did_write W.did_flush reader writer.old writer.new
+        (exit_status result))) }
 {
     let Some(times) = asked_times(times) else {
         return stop(rt, USAGE, SetupFault::Times.cause());

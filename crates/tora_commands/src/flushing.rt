@@ -2,23 +2,23 @@
 ghost use Rattle.std.specs.Prelude.{◌≡◌, ◌≢◌, Bool, Ok, IfOk, IfErr, IfSome};
 ghost use Rattle.std.specs.Io.KnownBytes.{IsAtEnd, Keeps};
 ghost use Rattle.tora_arq.specs.Settings.{IsTimes};
-ghost use Rattle.tora_lines.specs.Flushing.{IsFlushed};
 ghost use Rattle.tora_lines.specs.LineText.{fault_of};
 ghost use Rattle.tora_replay.specs.ReplayText.{first_fault_with, ReplaysWith, IsBegunWith};
 ghost use Rattle.tora_script.specs.SimulationText.{first_simulation_fault, Simulates, IsSimulationBegun};
 ghost use Rattle.tora_lines.specs.Flushing.{after_flush};
+ghost use Rattle.tora_lines.specs.Reads.{IsReadSo};
+ghost use Rattle.tora_simulate.specs.Flushing.{IsFlushed};
 
 use std::alloc::Global;
-use std::io::Read;
 use tora_arq::Times;
 use tora_core::Erasure;
-use tora_lines::{Ended, Output, ReplayError, flushed};
+use tora_lines::{Ended, Input, Output, ReplayError, flushed};
 use tora_replay::replay_with;
 use tora_script::{Simulator, simulate_in, simulate_told};
 
 /// Replays for a node with this choice of erasure, then flushes the writer. The error is `Write` if only the flush
 /// fails.
-pub fn replay_and_flush<R: Read, W: Output>(
+pub fn replay_and_flush<R: Input, W: Output>(
     alloc: Global,
     erasure: Erasure,
     reader: &mut R,
@@ -32,14 +32,15 @@ pub fn replay_and_flush<R: Read, W: Output>(
     ensures begun { IfErr result (λ e. e ≢ ReplayError.Write →
         IsBegunWith erasure (R.remaining reader.old) (R.remaining reader.new) (W.contents writer.old)
         (W.contents writer.new)) }
-    ensures flushed { IsFlushed W.did_flush result writer.new }
+    ensures reads { IsReadSo R.did_read reader.old reader.new result }
+    ensures flushed { IsFlushed W.did_write W.did_flush result writer.new }
 {
     let result = replay_with(alloc, erasure, reader, writer);
     flushed(writer, result)
 }
 
 /// Simulates with these times of every link end, then flushes the writer. The error is `Write` if only the flush fails.
-pub fn simulate_and_flush<S: Simulator, R: Read, W: Output>(
+pub fn simulate_and_flush<S: Simulator, R: Input, W: Output>(
     alloc: Global,
     times: Times,
     reader: &mut R,
@@ -54,14 +55,15 @@ pub fn simulate_and_flush<S: Simulator, R: Read, W: Output>(
     ensures begun { IfErr result (λ e. e ≢ ReplayError.Write →
         IsSimulationBegun times (R.remaining reader.old) (R.remaining reader.new) (W.contents writer.old)
         (W.contents writer.new)) }
-    ensures flushed { IsFlushed W.did_flush result writer.new }
+    ensures reads { IsReadSo R.did_read reader.old reader.new result }
+    ensures flushed { IsFlushed W.did_write W.did_flush result writer.new }
 {
     let result = simulate_in::<S, R, W>(alloc, times, reader, writer);
     flushed(writer, result)
 }
 
 /// Simulates as `simulate_and_flush` does, and reports refused events on standard error.
-pub fn simulate_told_and_flush<S: Simulator, T: Eprint, R: Read, W: Output>(
+pub fn simulate_told_and_flush<S: Simulator, T: Eprint, R: Input, W: Output>(
     rt: &T,
     alloc: Global,
     times: Times,
@@ -77,7 +79,8 @@ pub fn simulate_told_and_flush<S: Simulator, T: Eprint, R: Read, W: Output>(
     ensures begun { IfErr result (λ e. e ≢ ReplayError.Write →
         IsSimulationBegun times (R.remaining reader.old) (R.remaining reader.new) (W.contents writer.old)
         (W.contents writer.new)) }
-    ensures flushed { IsFlushed W.did_flush result writer.new }
+    ensures reads { IsReadSo R.did_read reader.old reader.new result }
+    ensures flushed { IsFlushed W.did_write W.did_flush result writer.new }
 {
     let result = simulate_told::<S, T, R, W>(rt, alloc, times, reader, writer);
     flushed(writer, result)

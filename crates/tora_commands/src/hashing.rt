@@ -4,7 +4,7 @@ ghost use Rattle.std.specs.Prelude.{◌≡◌};
 use sha2::{Digest, Sha256};
 use std::alloc::{AllocError, Global};
 use std::io;
-use std::io::Read;
+use tora_lines::Input;
 
 /// Hands on what a reader gives, and takes its SHA-256.
 #[derive(Drop)]
@@ -13,10 +13,10 @@ pub struct Hashing<R> {
     hash: Sha256,
 }
 
-impl<R: Read> Hashing<R> {
+impl<R> Hashing<R> {
     /// Nothing was read yet.
     pub fn new(reader: R) -> Hashing<R>
-        ensures { R.remaining result.reader ≡ R.remaining reader }
+        ensures { result.reader ≡ reader }
     {
         Hashing {
             reader,
@@ -40,11 +40,13 @@ pub fn digest(alloc: Global, bytes: &[u8]) -> Result<String, AllocError> {
     hex::encode(alloc, hash.finalize())
 }
 
-impl<R: Read> Read for Hashing<R> {
+impl<R: Input> Input for Hashing<R> {
     ghost remaining = { λ r. R.remaining r.reader };
 
-    fn read(&mut self, buf: &mut [u8]) -> io::Result<usize> {
-        let n = self.reader.read(buf)?;
+    ghost did_read = { λ old given new. R.did_read old.reader given new.reader };
+
+    fn get_some(&mut self, buf: &mut [u8]) -> io::Result<usize> {
+        let n = self.reader.get_some(buf)?;
         if let Some(given) = buf.get(..n) {
             self.hash.update(given);
         }

@@ -112,9 +112,9 @@ fn simulate_over<T: Paths + AllocGlobal + Eprint + Clock, W: Output>(
     writer: &mut W,
 ) -> ExitCode
     requires { IsTimes setup.times }
-    ensures { EndsSimulated (T.did_open rt.now) (T.did_create rt.now) T.File.remaining
-        (rules_with setup (lines_of file.table)) W.contents W.did_flush
-        path.now (option_map (λ t. t.now) trace.entry) writer.old writer.new (exit_status result) }
+    ensures { EndsSimulated (T.did_open rt.now) (T.did_create rt.now) T.File.remaining T.did_get
+        (rules_with setup (lines_of file.table)) W.contents W.did_write W.did_flush path.now
+        (option_map (λ t. t.now) trace.entry) writer.old writer.new (exit_status result) }
 {
     let (is_verbose, has_bar) = shown;
     match trace {
@@ -142,11 +142,13 @@ pub fn simulate_file<T: Paths + AllocGlobal + Eprint + Clock, W: Output>(
 ) -> ExitCode
     ensures usage { asked_by words.entry ≡ None → (exit_status result ≡ 2) × (writer.new ≡ writer.old) }
     ensures ends { words.entry.channel_file ≡ None → IfSome (asked_by words.entry) (λ s.
-        EndsSimulated (T.did_open rt.now) (T.did_create rt.now) T.File.remaining (rules_over s) W.contents W.did_flush
-        path.now (option_map (λ t. t.now) trace.entry) writer.old writer.new (exit_status result)) }
+        EndsSimulated (T.did_open rt.now) (T.did_create rt.now) T.File.remaining T.did_get (rules_over s) W.contents
+        W.did_write W.did_flush path.now (option_map (λ t. t.now) trace.entry) writer.old writer.new
+        (exit_status result)) }
     ensures filed { IfSome words.entry.channel_file (λ p. IfSome (asked_by words.entry) (λ s.
-        EndsFiled (T.did_open rt.now) (T.did_create rt.now) T.did_read T.File.remaining s W.contents W.did_flush
-        p.now path.now (option_map (λ t. t.now) trace.entry) writer.old writer.new (exit_status result))) }
+        EndsFiled (T.did_open rt.now) (T.did_create rt.now) T.did_read T.File.remaining T.did_get s W.contents
+        W.did_write W.did_flush p.now path.now (option_map (λ t. t.now) trace.entry) writer.old writer.new
+        (exit_status result))) }
 {
     let setup = match asked_setup(words) {
         Ok(setup) => setup,

@@ -4,30 +4,32 @@ ghost use Rattle.std.specs.Prelude.{◌≡◌, ◌≢◌, is_some, Ok, None, IfO
 ghost use Rattle.std.specs.Io.KnownBytes.{IsAtEnd};
 ghost use Rattle.std.specs.Process.{exit_status};
 ghost use Rattle.tora_arq.specs.Settings.{IsTimes};
-ghost use Rattle.tora_lines.specs.Flushing.{IsFlushed};
+ghost use Rattle.tora_lines.specs.Reads.{IsReadSo};
+ghost use Rattle.tora_simulate.specs.Flushing.{IsFlushed};
 ghost use Rattle.tora_traced.specs.TraceOuts.{IsHandedOn};
 ghost use Rattle.tora_drive.specs.Recording.{DrivesRecorded, IsRecordedBegun};
 ghost use Rattle.tora_commands.specs.Driving.{EndsRecorded, EndsRecordedTo};
 ghost use Rattle.tora_commands.specs.SetupWords.{asked_options};
 ghost use Rattle.tora_commands.specs.TimesWord.{asked_times};
 
+use crate::drive_command::greet;
 use crate::setup_words::asked_options;
 use crate::sim_command::tell;
 use crate::traced_command::{refuse_trace, traced_status};
 use crate::{INPUT, MEMORY, SetupFault, USAGE, asked_times, stop};
 use std::alloc::Global;
-use std::io::{BufWriter, Read};
+use std::io::BufWriter;
 use std::process::ExitCode;
 use tora_arq::Times;
-use tora_drive::{Driven, drive_recorded, greet};
-use tora_lines::{Ended, Output, Recent, ReplayError, flushed};
+use tora_drive::{Driven, drive_recorded};
+use tora_lines::{Ended, Input, Output, ReplayError, flushed};
 use tora_script::WorldOptions;
 use tora_sim::Sim;
-use tora_simulate::Paths;
+use tora_simulate::{Paths, Recent};
 use tora_traced::TraceOut;
 
 /// Runs `tora drive` and writes its record, then flushes the writer. The error is `Write` if only the flush fails.
-fn drive_and_flush<S: Driven, R: Read, W: Output, V: Output>(
+fn drive_and_flush<S: Driven, R: Input, W: Output, V: Output>(
     alloc: Global,
     options: WorldOptions,
     times: Times,
@@ -42,7 +44,8 @@ fn drive_and_flush<S: Driven, R: Read, W: Output, V: Output>(
     ensures begun { IfErr result (λ e. e ≢ ReplayError.Write →
         IsRecordedBegun options times (R.remaining reader.old) (R.remaining reader.new) (W.contents writer.old)
         (W.contents writer.new)) }
-    ensures flushed { IsFlushed W.did_flush result writer.new }
+    ensures reads { IsReadSo R.did_read reader.old reader.new result }
+    ensures flushed { IsFlushed W.did_write W.did_flush result writer.new }
 {
     let result = drive_recorded::<S, R, W, V>(alloc, options, times, reader, writer, out);
     flushed(writer, result)
@@ -50,7 +53,7 @@ fn drive_and_flush<S: Driven, R: Read, W: Output, V: Output>(
 
 /// Drives a world with these options, whose link ends have these times, writes the record to what goes to the file at a
 /// path, and hands both on.
-pub fn run_over<T: AllocGlobal + Eprint, R: Read + Drop, W: Output, V: Output>(
+pub fn run_over<T: AllocGlobal + Eprint, R: Input + Drop, W: Output, V: Output>(
     rt: &T,
     options: WorldOptions,
     times: Times,
@@ -60,12 +63,13 @@ pub fn run_over<T: AllocGlobal + Eprint, R: Read + Drop, W: Output, V: Output>(
     out: &mut TraceOut<V>,
 ) -> ExitCode
     requires { IsTimes times }
-    ensures { EndsRecorded options times W.contents W.did_flush (R.remaining reader) writer.old writer.new
-        (is_some out.new.failure) (exit_status result) }
+    ensures { EndsRecorded options times R.remaining R.did_read W.contents W.did_write W.did_flush reader
+        writer.old writer.new (is_some out.new.failure) (exit_status result) }
 {
-    let Ok(()) = greet(writer) else {
-        return stop(rt, INPUT, "input");
-    };
+    match greet(writer) {
+        Ok(()) => {}
+        Err(_) => return stop(rt, INPUT, "input"),
+    }
     let alloc = rt.alloc();
     let mut reader = Recent::new(alloc, reader);
     let result = drive_and_flush::<Sim, Recent<R>, W, V>(
@@ -82,7 +86,7 @@ pub fn run_over<T: AllocGlobal + Eprint, R: Read + Drop, W: Output, V: Output>(
 }
 
 /// Drives a world with these options, whose link ends have these times, and writes the record to the file at a path.
-fn run_with<T: Paths + AllocGlobal + Eprint, R: Read + Drop, W: Output>(
+fn run_with<T: Paths + AllocGlobal + Eprint, R: Input + Drop, W: Output>(
     rt: &T,
     options: WorldOptions,
     times: Times,
@@ -91,8 +95,8 @@ fn run_with<T: Paths + AllocGlobal + Eprint, R: Read + Drop, W: Output>(
     writer: &mut W,
 ) -> ExitCode
     requires { IsTimes times }
-    ensures { EndsRecordedTo (T.did_create rt.now path.now) options times W.contents W.did_flush (R.remaining reader)
-        writer.old writer.new (exit_status result) }
+    ensures { EndsRecordedTo (T.did_create rt.now path.now) options times R.remaining R.did_read W.contents
+        W.did_write W.did_flush reader writer.old writer.new (exit_status result) }
 {
     let made = match rt.create_path(path) {
         Ok(made) => made,
@@ -111,7 +115,7 @@ fn run_with<T: Paths + AllocGlobal + Eprint, R: Read + Drop, W: Output>(
 /// It ends with the status of the drive, or with 1 where that is 0 and the record could not be written; with 1, before
 /// anything is written, where its file can't be made; and with 5 where memory was refused. A word that gives no times
 /// or no erasure is a fault of usage.
-pub fn run<T: Paths + AllocGlobal + Eprint, R: Read + Drop, W: Output>(
+pub fn run<T: Paths + AllocGlobal + Eprint, R: Input + Drop, W: Output>(
     rt: &T,
     times: Option<&str>,
     erasure: Option<&str>,
@@ -126,8 +130,8 @@ pub fn run<T: Paths + AllocGlobal + Eprint, R: Read + Drop, W: Output>(
         → (exit_status result ≡ 2) × (writer.new ≡ writer.old) }
     ensures ends { IfSome (asked_times (option_map (λ w. w.now) times.entry)) (λ t.
         IfSome (asked_options is_large (option_map (λ w. w.now) erasure.entry)) (λ o.
-        EndsRecordedTo (T.did_create rt.now path.now) o t W.contents W.did_flush (R.remaining reader) writer.old
-        writer.new (exit_status result))) }
+        EndsRecordedTo (T.did_create rt.now path.now) o t R.remaining R.did_read W.contents W.did_write W.did_flush
+        reader writer.old writer.new (exit_status result))) }
 {
     let Some(times) = asked_times(times) else {
         return stop(rt, USAGE, SetupFault::Times.cause());

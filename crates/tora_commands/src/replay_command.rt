@@ -9,12 +9,11 @@ use crate::flushing::replay_and_flush;
 use crate::setup_words::asked_erasure;
 use crate::{SetupFault, USAGE, status, stop};
 use std::fmt::Display;
-use std::io::Read;
 use std::process::ExitCode;
 use tora_core::Erasure;
-use tora_lines::{Ended, Output, Recent, ReplayError};
+use tora_lines::{Ended, Input, Output, ReplayError};
 use tora_replay::cause_of;
-use tora_simulate::tell as tell_error;
+use tora_simulate::{Recent, tell as tell_error};
 
 /// Says why a line is a fault.
 fn tell_line(rt: &impl Eprint, number: u64, cause: &impl Display) {
@@ -27,7 +26,7 @@ fn tell_lost_line(rt: &impl Eprint, number: u64) {
 }
 
 /// Says why a line is a fault, or what failed.
-fn tell<T: AllocGlobal + Eprint, R: Read>(
+fn tell<T: AllocGlobal + Eprint, R: Input>(
     rt: &T,
     reader: &Recent<R>,
     ended: Result<Ended, ReplayError>,
@@ -46,14 +45,14 @@ fn tell<T: AllocGlobal + Eprint, R: Read>(
 }
 
 /// Replays what a reader gives for a node that makes this of erased levels, and ends with the status of the replay.
-fn run_with<T: AllocGlobal + Eprint, R: Read + Drop, W: Output>(
+fn run_with<T: AllocGlobal + Eprint, R: Input + Drop, W: Output>(
     rt: &T,
     erasure: Erasure,
     reader: R,
     writer: &mut W,
 ) -> ExitCode
-    ensures { EndsBy (replay_rules_of erasure) W.contents W.did_flush (R.remaining reader) writer.old writer.new false
-        (exit_status result) }
+    ensures { EndsBy (replay_rules_of erasure) R.remaining R.did_read W.contents W.did_write W.did_flush reader
+        writer.old writer.new false (exit_status result) }
 {
     let alloc = rt.alloc();
     let mut reader = Recent::new(alloc, reader);
@@ -66,7 +65,7 @@ fn run_with<T: AllocGlobal + Eprint, R: Read + Drop, W: Output>(
 /// Replays what a reader gives, and ends with a status: 0 at its end, 1 where a line is a fault or reading or writing
 /// failed, 2 where the word for its erasure is none, 5 where memory was refused. It says why a line is a fault and what
 /// failed.
-pub fn run<T: AllocGlobal + Eprint, R: Read + Drop, W: Output>(
+pub fn run<T: AllocGlobal + Eprint, R: Input + Drop, W: Output>(
     rt: &T,
     erasure: Option<&str>,
     reader: R,
@@ -76,8 +75,8 @@ pub fn run<T: AllocGlobal + Eprint, R: Read + Drop, W: Output>(
     ensures usage { asked_erasure (option_map (λ w. w.now) erasure.entry) ≡ None
         → (exit_status result ≡ 2) × (writer.new ≡ writer.old) }
     ensures ends { IfSome (asked_erasure (option_map (λ w. w.now) erasure.entry)) (λ e.
-        EndsBy (replay_rules_of e) W.contents W.did_flush (R.remaining reader) writer.old writer.new false
-        (exit_status result)) }
+        EndsBy (replay_rules_of e) R.remaining R.did_read W.contents W.did_write W.did_flush reader writer.old
+        writer.new false (exit_status result)) }
 {
     let Some(erasure) = asked_erasure(erasure) else {
         return stop(rt, USAGE, SetupFault::Erasure.cause());

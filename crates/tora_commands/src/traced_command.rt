@@ -1,7 +1,8 @@
 //! `tora sim --trace PATH FILE`: a simulation of a file of lines, and its trace.
 ghost use Rattle.std.specs.Prelude.{◌≡◌, ◌≢◌, ◌⊎◌, is_some, Ok, Err, IfOk, IfErr, IfSome, OnOk};
 ghost use Rattle.std.specs.Io.KnownBytes.{IsAtEnd};
-ghost use Rattle.tora_lines.specs.Flushing.{IsFlushed};
+ghost use Rattle.tora_lines.specs.Reads.{IsReadSo};
+ghost use Rattle.tora_simulate.specs.Flushing.{IsFlushed};
 ghost use Rattle.std.specs.Process.{exit_status};
 ghost use Rattle.tora_arq.specs.Settings.{IsTimes};
 ghost use Rattle.tora_simulate.specs.Endings.{EndsBy, EndsTraced};
@@ -19,13 +20,13 @@ use crate::sim_command::{refuse, tell};
 use crate::{INPUT, MEMORY, status, stop};
 use std::alloc::Global;
 use std::io;
-use std::io::{BufWriter, ErrorKind, Read};
+use std::io::{BufWriter, ErrorKind};
 use std::process::ExitCode;
 use std::time::Clock;
 use tora_channel::ChannelTable;
-use tora_lines::{Ended, Output, Recent, ReplayError, flushed};
+use tora_lines::{Ended, Input, Output, ReplayError, flushed};
 use tora_script::Setup;
-use tora_simulate::{Paths, tell_at};
+use tora_simulate::{Opened, Paths, Recent, tell_at};
 use tora_traced::{TraceOut, Watched, simulate_traced};
 
 /// Says which path can't be the trace's or the record's, and why, and ends with the status of the cause.
@@ -65,7 +66,7 @@ pub fn traced_status<T: Eprint, V: Output>(
 
 /// Simulates what is made with this over a channel that the lines of a table change, writes the trace, and flushes the
 /// writer: `Write` where that alone fails.
-fn simulate_and_flush<S: Watched, T: Eprint, R: Read, W: Output, V: Output>(
+fn simulate_and_flush<S: Watched, T: Eprint, R: Input, W: Output, V: Output>(
     rt: &T,
     alloc: Global,
     setup: Setup,
@@ -82,7 +83,8 @@ fn simulate_and_flush<S: Watched, T: Eprint, R: Read, W: Output, V: Output>(
     ensures begun { IfErr result (λ e. e ≢ ReplayError.Write →
         IsBegunWith setup (lines_of table) (R.remaining reader.old) (R.remaining reader.new) (W.contents writer.old)
         (W.contents writer.new)) }
-    ensures flushed { IsFlushed W.did_flush result writer.new }
+    ensures reads { IsReadSo R.did_read reader.old reader.new result }
+    ensures flushed { IsFlushed W.did_write W.did_flush result writer.new }
 {
     let result = simulate_traced::<S, T, R, W, V>(
         rt, alloc, setup, table, reader, writer, out, is_verbose,
@@ -91,7 +93,7 @@ fn simulate_and_flush<S: Watched, T: Eprint, R: Read, W: Output, V: Output>(
 }
 
 /// Writes the last record of a trace whose input was taken whole, with the digest of the input.
-fn finish<R: Read + Drop, V: Output>(
+fn finish<R: Input + Drop, V: Output>(
     alloc: Global,
     reader: Hashing<R>,
     ended: Result<Ended, ReplayError>,
@@ -108,7 +110,7 @@ fn finish<R: Read + Drop, V: Output>(
 
 /// Simulates the lines that a reader gives, in a world that is made with this and over the channel of a channel file,
 /// writes the trace to the file at a path, and hands both on.
-pub fn run_over<S: Watched, T: AllocGlobal + Eprint, R: Read + Drop, W: Output, V: Output>(
+pub fn run_over<S: Watched, T: AllocGlobal + Eprint, R: Input + Drop, W: Output, V: Output>(
     rt: &T,
     setup: Setup,
     file: ChannelFile,
@@ -119,8 +121,8 @@ pub fn run_over<S: Watched, T: AllocGlobal + Eprint, R: Read + Drop, W: Output, 
     out: &mut TraceOut<V>,
 ) -> ExitCode
     requires { IsTimes setup.times }
-    ensures ends { EndsBy (rules_with setup (lines_of file.table)) W.contents W.did_flush (R.remaining reader)
-        writer.old writer.new (is_some out.new.failure) (exit_status result) }
+    ensures ends { EndsBy (rules_with setup (lines_of file.table)) R.remaining R.did_read W.contents W.did_write
+        W.did_flush reader writer.old writer.new (is_some out.new.failure) (exit_status result) }
     ensures trace { (before : TraceOut V) × IsHandedOn V.did_flush before out.new }
 {
     let alloc = rt.alloc();
@@ -182,9 +184,9 @@ pub fn run<S: Watched, T: Paths + AllocGlobal + Eprint + Clock, W: Output>(
     writer: &mut W,
 ) -> ExitCode
     requires { IsTimes setup.times }
-    ensures ends { EndsTraced (T.did_open rt.now) (T.did_create rt.now) T.File.remaining
-        (rules_with setup (lines_of file.table)) W.contents W.did_flush paths.entry.0.now paths.entry.1.now writer.old
-        writer.new (exit_status result) }
+    ensures ends { EndsTraced (T.did_open rt.now) (T.did_create rt.now) T.File.remaining T.did_get
+        (rules_with setup (lines_of file.table)) W.contents W.did_write W.did_flush paths.entry.0.now
+        paths.entry.1.now writer.old writer.new (exit_status result) }
     ensures same { paths.entry.0.now ≡ paths.entry.1.now → (exit_status result ≡ 1) × (writer.new ≡ writer.old) }
 {
     let (path, trace) = paths;
@@ -195,8 +197,8 @@ pub fn run<S: Watched, T: Paths + AllocGlobal + Eprint + Clock, W: Output>(
         return code;
     }
     let total = if has_bar { rounds_of(rt, path) } else { None };
-    let reader = match rt.open_path(path) {
-        Ok(reader) => reader,
+    let opened = match rt.open_path(path) {
+        Ok(reader) => Opened::new(rt, reader),
         Err(error) => return refuse(rt, path, &error),
     };
     let mut out = match make_trace(rt, trace) {
@@ -204,13 +206,13 @@ pub fn run<S: Watched, T: Paths + AllocGlobal + Eprint + Clock, W: Output>(
         Err(code) => return code,
     };
     if has_bar {
-        let reader = Paced::new(rt, total, setup.until, reader);
+        let paced = Paced::new(rt, total, setup.until, opened);
         let wiping = Wiping::new(rt);
-        return run_over::<S, Wiping<'_, T>, Paced<'_, T, T::File>, W, BufWriter<T::File>>(
-            &wiping, setup, file, reader, is_verbose, writer, trace, &mut out,
+        return run_over::<S, Wiping<'_, T>, Paced<'_, T, Opened<'_, T>>, W, BufWriter<T::File>>(
+            &wiping, setup, file, paced, is_verbose, writer, trace, &mut out,
         );
     }
-    run_over::<S, T, T::File, W, BufWriter<T::File>>(
-        rt, setup, file, reader, is_verbose, writer, trace, &mut out,
+    run_over::<S, T, Opened<'_, T>, W, BufWriter<T::File>>(
+        rt, setup, file, opened, is_verbose, writer, trace, &mut out,
     )
 }

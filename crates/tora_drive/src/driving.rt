@@ -1,26 +1,17 @@
 //! A drive over a reader and a writer.
-ghost use Rattle.std.specs.Prelude.{◌≡◌, ◌≢◌, Ok, OnOk, IfOk, IfErr, IfSome};
-ghost use Rattle.std.specs.Io.KnownBytes.{Appends, IsAtEnd};
+ghost use Rattle.std.specs.Prelude.{◌≡◌, ◌≢◌, Ok, IfOk, IfErr, IfSome};
+ghost use Rattle.std.specs.Io.KnownBytes.{IsAtEnd};
 ghost use Rattle.tora_arq.specs.Settings.{IsTimes};
-ghost use Rattle.tora_drive.specs.DriveText.{greeting, Drives, IsDriveBegun};
+ghost use Rattle.tora_drive.specs.DriveText.{Drives, IsDriveBegun};
 ghost use Rattle.tora_lines.specs.Reads.{IsReadSo, IsUnwritten};
 
 use crate::drive::Drive;
 use crate::driven::Driven;
 use crate::own::Own;
 use std::alloc::Global;
-use std::io;
 use tora_arq::Times;
 use tora_lines::{Ended, Input, Output, ReplayError, read_shortened_lines};
 use tora_script::{Stage, WorldOptions};
-
-/// Greets who drives: writes `tora drive 1`, and hands it on.
-pub fn greet<W: Output>(writer: &mut W) -> io::Result<()>
-    ensures { OnOk result (Appends (W.contents writer.old) (W.contents writer.new) greeting) }
-{
-    writer.put_all(b"tora drive 1\n")?;
-    writer.hand_on()
-}
 
 /// Reads lines to the end of the input, and writes the answer to each of them by one call of the writer's `write_all`,
 /// before it reads on. The world has these options, and its link ends have these times, none of which is 0.

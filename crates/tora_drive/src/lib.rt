@@ -33,7 +33,7 @@ mod telling;
 pub use cause::Cause;
 pub use drive::Drive;
 pub use driven::Driven;
-pub use driving::{drive_in, greet};
+pub use driving::drive_in;
 pub use laws::{
     drives_are_runs_of_events, long_lines_change_no_drive, recorded_drives_are_drives,
     recorded_lines_stand_for_lines,

@@ -2,6 +2,7 @@
 use Rattle.std.specs.Prelude.{◌≡◌, ◌≢◌, ◌⊎◌, ℕ, Bool, false, List, Option, Some, None, Result, Ok, Err, IfOk, IfErr, IfSome}
 use Rattle.std.specs.declared.io.Error.{Error}
 use Rattle.std.specs.Io.KnownBytes.{IsAtEnd}
+use Rattle.tora_lines.specs.Reads.{Given, IsReadSo}
 use Rattle.tora_lines.specs.Engine.{IsWholeText, IsFrontOfText}
 use Rattle.tora_lines.specs.LineText.{Text, Rules, whole_text}
 use Rattle.tora_simulate.specs.Paths.{IsFailed}
@@ -10,26 +11,31 @@ use Rattle.tora_lines.specs.declared.ended.Ended.{Ended}
 use Rattle.tora_lines.specs.declared.ended.Ended.TheVariants.{Whole}
 use Rattle.tora_lines.specs.declared.ended.ReplayError.{ReplayError}
 use Rattle.tora_lines.specs.declared.ended.ReplayError.TheVariants.{Write}
-use Rattle.tora_lines.specs.Flushing.{IsFlushed}
+use Rattle.tora_simulate.specs.Flushing.{IsFlushed}
 
--- The status is that of an end of the engine over a reader that gives this input: the whole text of the input was
--- written, or a front of it where memory or the reader failed; and all of it was handed on. Where a trace is lost the
--- status is not 0.
-pub record EndsWith {W : Type 0} (text : List ℕ → Text) (contents : W → Option (List ℕ)) (did_flush : W → Bool → W
-    → Type 0) (input : Option (List ℕ)) (old new : W) (is_lost : Bool) (status : ℕ) : Type 0 where
+-- The status is that of an end of the engine over this reader: the whole text of its input was written, or a front of
+-- it where memory or the reader failed, and all of it was handed on. A read or a write failed where the end says so.
+-- Where a trace is lost the status is not 0.
+pub record EndsWith {R W : Type 0} (text : List ℕ → Text) (remaining : R → Option (List ℕ))
+    (did_read : R → Given → R → Type 0)
+    (contents : W → Option (List ℕ)) (did_write : W → List ℕ → Bool → W → Type 0) (did_flush : W → Bool → W → Type 0)
+    (reader : R) (old new : W) (is_lost : Bool) (status : ℕ) : Type 0 where
   pub ended : Result Ended ReplayError
-  pub rest : Option (List ℕ)  -- of the input
-  pub whole : IfOk ended (λ e. IfSome input (λ bytes. IsWholeText text bytes (contents old) (contents new) e))
-  pub at_end : ended ≡ Ok Whole → IsAtEnd rest
-  pub begun : IfErr ended (λ e. e ≢ Write → IsFrontOfText text input rest (contents old) (contents new))
-  pub flushed : IsFlushed did_flush ended new
+  pub after : R  -- the reader
+  pub whole : IfOk ended (λ e. IfSome (remaining reader)
+      (λ bytes. IsWholeText text bytes (contents old) (contents new) e))
+  pub at_end : ended ≡ Ok Whole → IsAtEnd (remaining after)
+  pub begun : IfErr ended (λ e. e ≢ Write → IsFrontOfText text (remaining reader) (remaining after) (contents old)
+      (contents new))
+  pub reads : IsReadSo did_read reader after ended
+  pub flushed : IsFlushed did_write did_flush ended new
   pub status_is : status ≡ traced_status is_lost ended
 
 -- The same, where rules make the text.
-abbrev pub EndsBy : {S W : Type 0} → Rules S → (W → Option (List ℕ)) → (W → Bool → W → Type 0) → Option (List ℕ) → W → W
-    → Bool → ℕ → Type 0
-EndsBy rules contents did_flush input old new is_lost status =
-    EndsWith (whole_text rules) contents did_flush input old new is_lost status
+abbrev pub EndsBy : {S R W : Type 0} → Rules S → (R → Option (List ℕ)) → (R → Given → R → Type 0)
+    → (W → Option (List ℕ)) → (W → List ℕ → Bool → W → Type 0) → (W → Bool → W → Type 0) → R → W → W → Bool → ℕ → Type 0
+EndsBy rules remaining did_read contents did_write did_flush reader old new is_lost status =
+    EndsWith (whole_text rules) remaining did_read contents did_write did_flush reader old new is_lost status
 
 -- A call for a file gave an error: the status says which, and nothing was written.
 pub record IsUnopened {W : Type 0} (gave : Error → Type 0) (old new : W) (status : ℕ) : Type 0 where
@@ -48,10 +54,13 @@ pub record IsOnePlace {W : Type 0} (path place : List ℕ) (old new : W) (status
   pub nothing : new ≡ old
 
 -- Opening this path gave a reader, and the status is that of an end of the engine over it; or it gave an error.
-abbrev pub EndsFile : {R S W : Type 0} → (List ℕ → Result R Error → Type 0) → (R → Option (List ℕ)) → Rules S
-    → (W → Option (List ℕ)) → (W → Bool → W → Type 0) → List ℕ → W → W → ℕ → Type 0
-EndsFile {R} did_open remaining rules contents did_flush path old new status =
-    ((reader : R) × did_open path (Ok reader) × EndsBy rules contents did_flush (remaining reader) old new false status)
+abbrev pub EndsFile : {R S W : Type 0} → (List ℕ → Result R Error → Type 0) → (R → Option (List ℕ))
+    → (R → Given → R → Type 0)
+    → Rules S → (W → Option (List ℕ)) → (W → List ℕ → Bool → W → Type 0) → (W → Bool → W → Type 0) → List ℕ → W → W
+    → ℕ → Type 0
+EndsFile {R} did_open remaining did_get rules contents did_write did_flush path old new status =
+    ((reader : R) × did_open path (Ok reader)
+    × EndsBy rules remaining did_get contents did_write did_flush reader old new false status)
     ⊎ IsUnopened (λ e. did_open path (Err e)) old new status
 
 -- Opening a path gave this error, or it gave a reader and making the trace's path anew gave the error.
@@ -63,19 +72,22 @@ IsUntraced {R} did_open did_create path trace error = did_open path (Err error)
 -- The same where a trace is written, and lost or not, to the file that making its path anew gave; none is where that
 -- would take the place of the file.
 abbrev pub EndsTraced : {R S W : Type 0} → (List ℕ → Result R Error → Type 0) → (List ℕ → Result R Error → Type 0)
-    → (R → Option (List ℕ)) → Rules S → (W → Option (List ℕ)) → (W → Bool → W → Type 0) → List ℕ → List ℕ → W → W → ℕ
-    → Type 0
-EndsTraced {R} did_open did_create remaining rules contents did_flush path trace old new status =
+    → (R → Option (List ℕ)) → (R → Given → R → Type 0)
+    → Rules S → (W → Option (List ℕ)) → (W → List ℕ → Bool → W → Type 0) → (W → Bool → W → Type 0)
+    → List ℕ → List ℕ → W → W → ℕ → Type 0
+EndsTraced {R} did_open did_create remaining did_get rules contents did_write did_flush path trace old new status =
     ((reader : R) × (made : R) × (is_lost : Bool) × did_open path (Ok reader) × did_create trace (Ok made)
-    × EndsBy rules contents did_flush (remaining reader) old new is_lost status)
+    × EndsBy rules remaining did_get contents did_write did_flush reader old new is_lost status)
     ⊎ (IsUnopened (IsUntraced did_open did_create path trace) old new status
     ⊎ (HasNoMemory old new status ⊎ IsOnePlace path trace old new status))
 
 -- The same with a trace or without one.
 abbrev pub EndsSimulated : {R S W : Type 0} → (List ℕ → Result R Error → Type 0) → (List ℕ → Result R Error → Type 0)
-    → (R → Option (List ℕ)) → Rules S → (W → Option (List ℕ)) → (W → Bool → W → Type 0) → List ℕ → Option (List ℕ) → W
-    → W → ℕ → Type 0
-EndsSimulated did_open did_create remaining rules contents did_flush path None old new status =
-    EndsFile did_open remaining rules contents did_flush path old new status
-EndsSimulated did_open did_create remaining rules contents did_flush path (Some trace) old new status =
-    EndsTraced did_open did_create remaining rules contents did_flush path trace old new status
+    → (R → Option (List ℕ)) → (R → Given → R → Type 0)
+    → Rules S → (W → Option (List ℕ)) → (W → List ℕ → Bool → W → Type 0) → (W → Bool → W → Type 0)
+    → List ℕ → Option (List ℕ) → W → W → ℕ → Type 0
+EndsSimulated did_open did_create remaining did_get rules contents did_write did_flush path None old new status =
+    EndsFile did_open remaining did_get rules contents did_write did_flush path old new status
+EndsSimulated did_open did_create remaining did_get rules contents did_write did_flush path (Some trace) old new
+    status =
+    EndsTraced did_open did_create remaining did_get rules contents did_write did_flush path trace old new status

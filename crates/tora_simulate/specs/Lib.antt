@@ -1,3 +1,4 @@
 pub mod Endings
+pub mod Flushing
 pub mod Paths
 pub mod Statuses

@@ -1,21 +1,22 @@
-//! The engine of the command, with all that was written handed on.
-ghost use Rattle.std.specs.Prelude.{◌≡◌, ◌≢◌, Ok, IfOk, IfErr, IfSome};
-ghost use Rattle.std.specs.Io.KnownBytes.{IsAtEnd};
+//! What was written is handed on: the engine of the command, and bytes of any command.
+ghost use Rattle.std.specs.Prelude.{◌≡◌, ◌≢◌, Ok, OnOk, OnErr, IfOk, IfErr, IfSome};
+ghost use Rattle.std.specs.Io.KnownBytes.{Appends, IsAtEnd};
 ghost use Rattle.tora_arq.specs.Settings.{IsTimes};
 ghost use Rattle.tora_channel.specs.Table.{lines_of};
-ghost use Rattle.tora_lines.specs.Flushing.{IsFlushed};
 ghost use Rattle.tora_lines.specs.LineText.{fault_of};
 ghost use Rattle.tora_script.specs.SimulationText.{first_fault_with, SimulatesWith, IsBegunWith};
+ghost use Rattle.tora_lines.specs.Reads.{IsReadSo};
+ghost use Rattle.tora_simulate.specs.Flushing.{IsFlushed, FailedWriting};
 
 use std::alloc::Global;
-use std::io::Read;
+use std::io;
 use tora_channel::ChannelTable;
-use tora_lines::{Ended, Output, ReplayError, flushed};
+use tora_lines::{Ended, Input, Output, ReplayError, flushed};
 use tora_script::{Setup, Simulator, simulate_telling, simulate_telling_last};
 
 /// Simulates with this setup, over the channel that the table gives, then flushes the writer. It reports the cause of a
 /// fault on standard error, and refused events if `is_verbose`. The error is `Write` if only the flush fails.
-pub fn simulate_telling_and_flush<S: Simulator, T: Eprint, R: Read, W: Output>(
+pub fn simulate_telling_and_flush<S: Simulator, T: Eprint, R: Input, W: Output>(
     rt: &T,
     alloc: Global,
     setup: Setup,
@@ -33,7 +34,8 @@ pub fn simulate_telling_and_flush<S: Simulator, T: Eprint, R: Read, W: Output>(
     ensures begun { IfErr result (λ e. e ≢ ReplayError.Write →
         IsBegunWith setup (lines_of table) (R.remaining reader.old) (R.remaining reader.new) (W.contents writer.old)
         (W.contents writer.new)) }
-    ensures flushed { IsFlushed W.did_flush result writer.new }
+    ensures reads { IsReadSo R.did_read reader.old reader.new result }
+    ensures flushed { IsFlushed W.did_write W.did_flush result writer.new }
 {
     let ended = simulate_telling::<S, T, R, W>(rt, alloc, setup, table, reader, writer, is_verbose);
     flushed(writer, ended)
@@ -41,7 +43,7 @@ pub fn simulate_telling_and_flush<S: Simulator, T: Eprint, R: Read, W: Output>(
 
 /// Simulates as `simulate_telling_and_flush` does, for a program that ends behind it: what the world took is not given
 /// back (`simulate_telling_last`).
-pub fn simulate_last_and_flush<S: Simulator, T: Eprint, R: Read, W: Output>(
+pub fn simulate_last_and_flush<S: Simulator, T: Eprint, R: Input, W: Output>(
     rt: &T,
     alloc: Global,
     setup: Setup,
@@ -59,10 +61,22 @@ pub fn simulate_last_and_flush<S: Simulator, T: Eprint, R: Read, W: Output>(
     ensures begun { IfErr result (λ e. e ≢ ReplayError.Write →
         IsBegunWith setup (lines_of table) (R.remaining reader.old) (R.remaining reader.new) (W.contents writer.old)
         (W.contents writer.new)) }
-    ensures flushed { IsFlushed W.did_flush result writer.new }
+    ensures reads { IsReadSo R.did_read reader.old reader.new result }
+    ensures flushed { IsFlushed W.did_write W.did_flush result writer.new }
 {
     let ended = simulate_telling_last::<S, T, R, W>(
         rt, alloc, setup, table, reader, writer, is_verbose,
     );
     flushed(writer, ended)
+}
+
+/// Writes bytes, then flushes the writer.
+pub fn write_through<W: Output>(writer: &mut W, bytes: &[u8]) -> io::Result<()>
+    ensures bytes { OnOk result (Appends (W.contents writer.old) (W.contents writer.new) bytes.now) }
+    ensures failed { OnErr result (FailedWriting W.did_write W.did_flush writer.new) }
+{
+    match writer.put_all(bytes) {
+        Ok(()) => writer.hand_on(),
+        Err(error) => Err(error),
+    }
 }

@@ -1,12 +1,16 @@
 //! Files by their paths, whose calls contracts tell.
 ghost use Rattle.std.specs.Prelude.{◌≡◌, List, ℕ, Result, Ok, Err, IfOk, IfErr, IfSome, string_bytes};
 ghost use Rattle.std.specs.declared.io.Error.{Error};
+ghost use Rattle.std.specs.Io.{ReadsAtMost};
+ghost use Rattle.std.specs.Io.KnownBytes.{ReadConsumes};
+ghost use Rattle.tora_lines.specs.Reads.{Given, given_by, Gives};
 ghost use Rattle.tora_simulate.specs.Paths.{IsRead, IsUnread};
 
 use std::alloc::Global;
 use std::io::Read;
 use std::rt::Files;
 use std::{fs, io};
+use tora_lines::Input;
 
 /// Files by their paths, whose calls contracts tell: which file or error a call gave. All `Files` are such.
 pub trait Paths: Files {
@@ -18,6 +22,9 @@ pub trait Paths: Files {
 
     /// What reading a file to its end gave.
     ghost did_read: { Self.File → Result (List ℕ) Error → Type 0 };
+
+    /// What one read of a file made of it: what it gave, and the file after it.
+    ghost did_get: { Self.File → Given → Self.File → Type 0 };
 
     /// Opens the file at a path, to read it.
     fn open_path(&self, path: &str) -> io::Result<Self::File>
@@ -38,6 +45,12 @@ pub trait Paths: Files {
         ensures read { IfOk result (λ text. did_read file (Ok (string_bytes text))) }
         ensures failed { IfErr result (λ error. did_read file (Err error)) }
         ensures bytes { IfOk result (λ text. IfSome (Self.File.remaining file) (λ input. string_bytes text ≡ input)) };
+
+    /// Reads some bytes of a file into the front of `buf`, as `Input::get_some` does.
+    fn get_some_of(&self, file: &mut Self::File, buf: &mut [u8]) -> io::Result<usize>
+        ensures call { did_get file.old (given_by result buf.new) file.new }
+        ensures bound { ReadsAtMost result buf.new }
+        ensures bytes { ReadConsumes (Self.File.remaining file.old) (Self.File.remaining file.new) result buf.new };
 }
 
 impl<T: Files> Paths for T {
@@ -46,6 +59,8 @@ impl<T: Files> Paths for T {
     ghost did_create = { λ files path result. Unit {0} };
 
     ghost did_read = { λ file result. Unit {0} };
+
+    ghost did_get = { λ file given after. Gives (T.File.remaining file) given (T.File.remaining after) };
 
     fn open_path(&self, path: &str) -> io::Result<T::File> {
         fs::open(self, path)
@@ -64,6 +79,36 @@ impl<T: Files> Paths for T {
 
     fn read_text(&self, alloc: Global, file: T::File) -> io::Result<String> {
         io::read_to_string(alloc, file)
+    }
+
+    fn get_some_of(&self, file: &mut T::File, buf: &mut [u8]) -> io::Result<usize> {
+        file.read(buf)
+    }
+}
+
+/// A file that was opened by its path, as a reader whose calls contracts can name.
+#[derive(Drop)]
+pub struct Opened<'a, T: Paths> {
+    rt: &'a T,
+    pub file: T::File,
+}
+
+impl<'a, T: Paths> Opened<'a, T> {
+    /// This file, of which nothing was read yet.
+    pub fn new(rt: &'a T, file: T::File) -> Opened<'a, T>
+        ensures { result.file ≡ file }
+    {
+        Opened { rt, file }
+    }
+}
+
+impl<T: Paths> Input for Opened<'_, T> {
+    ghost remaining = { λ opened. T.File.remaining opened.file };
+
+    ghost did_read = { λ old given new. T.did_get old.file given new.file };
+
+    fn get_some(&mut self, buf: &mut [u8]) -> io::Result<usize> {
+        self.rt.get_some_of(&mut self.file, buf)
     }
 }
 

@@ -8,14 +8,15 @@ ghost use Rattle.tora_channel.specs.Table.{lines_of};
 ghost use Rattle.tora_script.specs.SimulationText.{rules_with};
 
 use crate::flushing::simulate_last_and_flush;
-use crate::paths::Paths;
+use crate::paths::{Opened, Paths};
+use crate::recent::Recent;
 use crate::statuses::{INPUT, MEMORY, status, stop};
 use crate::telling::{tell as tell_error, tell_at};
 use std::io;
-use std::io::{ErrorKind, Read};
+use std::io::ErrorKind;
 use std::process::ExitCode;
 use tora_channel::ChannelTable;
-use tora_lines::{Ended, LONGEST_LINE, Output, Recent, ReplayError};
+use tora_lines::{Ended, Input, LONGEST_LINE, Output, ReplayError};
 use tora_script::{Setup, SimulationCause, Simulator, tell_cause};
 
 /// Says why there is no file, and ends with the status of the cause. The cause is said without `-v`, too.
@@ -31,7 +32,7 @@ pub fn refuse<R: Eprint>(rt: &R, path: &str, error: &io::Error) -> ExitCode
 }
 
 /// Says why a line is too long, or what failed: what else is a fault was told as it came.
-pub fn tell<T: Eprint, R: Read>(rt: &T, reader: &Recent<R>, ended: Result<Ended, ReplayError>) {
+pub fn tell<T: Eprint, R: Input>(rt: &T, reader: &Recent<R>, ended: Result<Ended, ReplayError>) {
     match ended {
         Ok(Ended::Whole) => {}
         Ok(Ended::Fault(number)) => {
@@ -48,7 +49,7 @@ pub fn tell<T: Eprint, R: Read>(rt: &T, reader: &Recent<R>, ended: Result<Ended,
 /// table change, and ends with a status: 0 at its end, 1 where a line is a fault or reading or writing failed, 5 where
 /// memory was refused. It says why a line is a fault and what failed, and with `is_verbose` why events are refused. The
 /// program ends behind it: what the world took is not given back.
-pub fn run_over<S: Simulator, T: AllocGlobal + Eprint, R: Read + Drop, W: Output>(
+pub fn run_over<S: Simulator, T: AllocGlobal + Eprint, R: Input + Drop, W: Output>(
     rt: &T,
     setup: Setup,
     table: ChannelTable,
@@ -57,8 +58,8 @@ pub fn run_over<S: Simulator, T: AllocGlobal + Eprint, R: Read + Drop, W: Output
     writer: &mut W,
 ) -> ExitCode
     requires { IsTimes setup.times }
-    ensures { EndsBy (rules_with setup (lines_of table)) W.contents W.did_flush (R.remaining reader) writer.old
-        writer.new false (exit_status result) }
+    ensures { EndsBy (rules_with setup (lines_of table)) R.remaining R.did_read W.contents W.did_write W.did_flush
+        reader writer.old writer.new false (exit_status result) }
 {
     let alloc = rt.alloc();
     let mut reader = Recent::new(alloc, reader);
@@ -87,11 +88,18 @@ pub fn run<S: Simulator, T: Paths + AllocGlobal + Eprint, W: Output>(
     writer: &mut W,
 ) -> ExitCode
     requires { IsTimes setup.times }
-    ensures { EndsFile (T.did_open rt.now) T.File.remaining (rules_with setup (lines_of table)) W.contents W.did_flush
-        path.now writer.old writer.new (exit_status result) }
+    ensures { EndsFile (T.did_open rt.now) T.File.remaining T.did_get (rules_with setup (lines_of table)) W.contents
+        W.did_write W.did_flush path.now writer.old writer.new (exit_status result) }
 {
     match rt.open_path(path) {
-        Ok(file) => run_over::<S, T, T::File, W>(rt, setup, table, file, is_verbose, writer),
+        Ok(file) => run_over::<S, T, Opened<'_, T>, W>(
+            rt,
+            setup,
+            table,
+            Opened::new(rt, file),
+            is_verbose,
+            writer,
+        ),
         Err(error) => refuse(rt, path, &error),
     }
 }

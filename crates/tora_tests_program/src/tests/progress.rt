@@ -3,11 +3,12 @@ use super::failing_streams::{ArrayWriter, Fails, LinesReader};
 use super::sees::same_at;
 use std::cell::{Cell, RefCell};
 use std::fmt::{Debug, Display};
-use std::io::{Error, ErrorKind as IoErrorKind, Read, Write};
+use std::io::{Error, ErrorKind as IoErrorKind, Write};
 use std::process::Abort;
 use std::time::{Clock, Duration};
 use std::{io, str};
 use tora_commands::{Paced, Progress, RoundCount, Wiping};
+use tora_lines::Input;
 
 /// A terminal that is kept, and a clock that goes on by so many milliseconds each time that it is read.
 #[derive(Drop)]
@@ -147,10 +148,10 @@ fn rounds_of_lines(rt: HostRuntime) {
 }
 
 /// Reads all that a reader gives.
-fn read_all<R: Read>(reader: &mut R) {
+fn read_all<R: Input>(reader: &mut R) {
     let mut bytes = [0u8; 64];
     for _ in 0..64u64 {
-        match reader.read(&mut bytes) {
+        match reader.get_some(&mut bytes) {
             Ok(n) if n > 0 => {}
             _ => return,
         }

@@ -8,8 +8,9 @@ use super::sees::sees_at;
 use std::alloc::Global;
 use std::io::ErrorKind as IoErrorKind;
 use std::process::Abort;
-use tora_lines::{Ended, Recent, ReplayError};
+use tora_lines::{Ended, ReplayError};
 use tora_replay::replay;
+use tora_simulate::Recent;
 
 /// A way to run lines, the lines, what they print, and a number.
 type Run = (Way, &'static str, &'static str, usize);

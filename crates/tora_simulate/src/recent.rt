@@ -3,7 +3,7 @@ ghost use Rattle.std.specs.Prelude.{◌≡◌};
 
 use std::alloc::Global;
 use std::io;
-use std::io::Read;
+use tora_lines::Input;
 
 /// The length in bytes of a piece whose line ends are counted in a `u8`.
 const PIECE: usize = 128;
@@ -80,10 +80,10 @@ pub struct Recent<R> {
     lines: LastLines,
 }
 
-impl<R: Read> Recent<R> {
+impl<R> Recent<R> {
     /// A reader with no reads yet.
     pub fn new(alloc: Global, reader: R) -> Recent<R>
-        ensures { R.remaining result.reader ≡ R.remaining reader }
+        ensures { result.reader ≡ reader }
     {
         Recent {
             reader,
@@ -106,11 +106,13 @@ impl<R: Read> Recent<R> {
     }
 }
 
-impl<R: Read> Read for Recent<R> {
+impl<R: Input> Input for Recent<R> {
     ghost remaining = { λ r. R.remaining r.reader };
 
-    fn read(&mut self, buf: &mut [u8]) -> io::Result<usize> {
-        let n = self.reader.read(buf)?;
+    ghost did_read = { λ old given new. R.did_read old.reader given new.reader };
+
+    fn get_some(&mut self, buf: &mut [u8]) -> io::Result<usize> {
+        let n = self.reader.get_some(buf)?;
         if let Some(given) = buf.get(..n) {
             self.lines.keep(given);
         }
