@@ -10,9 +10,7 @@ use crate::air::{Air, Moment};
 use crate::deliveries::deliver_new;
 use crate::network::Network;
 use crate::simulator::Simulator;
-use crate::turns::{
-    EndTurn, MOST_TIMES, either, repeat, transmit_known_ends, turn_cores, turn_known_ends,
-};
+use crate::turns::{EndTurn, MOST_TIMES, either, repeat, turn_cores, turn_known_ends};
 use std::alloc::AllocError;
 use tora_height::Id;
 use tora_world::Event;
@@ -79,7 +77,7 @@ fn pass<S: Simulator>(sim: &mut S, moment: &Moment<'_>) -> Result<bool, AllocErr
     let first = sim.datagrams();
     let turned = turn_cores(sim, moment.network.nodes)?;
     let pulled = turn_known_ends(sim, known, ends, EndTurn::Pull, MOST_TIMES)?;
-    let sent = transmit_known_ends(sim, known, ends, MOST_TIMES)?;
+    let sent = turn_known_ends(sim, known, ends, EndTurn::Transmit, MOST_TIMES)?;
     let delivered = deliver_new(sim, moment, first)?;
     let pumped = turn_known_ends(sim, known, ends, EndTurn::Pump, MOST_TIMES)?;
     Ok(either(

@@ -195,32 +195,6 @@ pub fn turn_known_ends<S: Simulator>(
     Ok(some)
 }
 
-/// Lets each link end send the frames that are due, so many at most, as `turn_known_ends` does. It stands apart, so
-/// that its loop has registers of its own.
-#[inline(never)]
-pub fn transmit_known_ends<S: Simulator>(
-    sim: &mut S,
-    known: bool,
-    ends: &[(Id, Id)],
-    most: u64,
-) -> Result<bool, AllocError>
-    requires { AreKnown known ends.now (S.world sim.old) }
-    ensures { IfOk result (λ some. Happened (S.world sim.old) (each (λ e. repeats most (end_event EndTurn.Transmit e))
-        ends.now (S.world sim.old)) (S.world sim.new) some) }
-{
-    if sim.is_quiet() {
-        return Ok(false);
-    }
-    let mut some = false;
-    let mut place = next_place(sim, known, ends, 0);
-    while place < ends.len() {
-        let any = sim.transmit(place, ends[place], most)?;
-        some = either(some, any);
-        place = next_place(sim, known, ends, place + 1);
-    }
-    Ok(some)
-}
-
 /// Whether it is known that these are the link ends of the simulator, and may be used: it isn't asked where nothing is
 /// to be done.
 #[inline(always)]

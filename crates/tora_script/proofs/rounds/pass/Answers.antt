@@ -9,13 +9,13 @@ use Rattle.tora_script.proofs.rounds.pass.Goals as goal
 pub turn_known_ends-requires : goal.turn_known_ends-requires
 turn_known_ends-requires g c = known_then c.args.moment.now.is_known c.args.moment.now.network.ends.now c.requires c.in_ok-turned.ensures
 
-pub transmit_known_ends-requires : goal.transmit_known_ends-requires
-transmit_known_ends-requires g c =
+pub turn_known_ends-requires-2 : goal.turn_known_ends-requires-2
+turn_known_ends-requires-2 g c =
     let turned = known_then c.args.moment.now.is_known c.args.moment.now.network.ends.now c.requires c.in_ok-turned.ensures in
     known_then c.args.moment.now.is_known c.args.moment.now.network.ends.now turned c.in_ok-pulled.ensures
 
-pub turn_known_ends-requires-2 : goal.turn_known_ends-requires-2
-turn_known_ends-requires-2 g c =
+pub turn_known_ends-requires-3 : goal.turn_known_ends-requires-3
+turn_known_ends-requires-3 g c =
     let turned = known_then c.args.moment.now.is_known c.args.moment.now.network.ends.now c.requires c.in_ok-turned.ensures in
     let pulled = known_then c.args.moment.now.is_known c.args.moment.now.network.ends.now turned c.in_ok-pulled.ensures in
     let sent = known_then c.args.moment.now.is_known c.args.moment.now.network.ends.now pulled c.in_ok-sent.ensures in
@@ -27,9 +27,9 @@ returns g c =
     let w0 = g.S.Simulator.world c.args.sim.now in
     let w1 = g.S.Simulator.world c.turn_cores.new.sim in
     let w2 = g.S.Simulator.world c.turn_known_ends.new.sim in
-    let w3 = g.S.Simulator.world c.transmit_known_ends.new.sim in
+    let w3 = g.S.Simulator.world c.turn_known_ends-2.new.sim in
     let w4 = g.S.Simulator.world c.deliver_new.new.sim in
-    let w5 = g.S.Simulator.world c.turn_known_ends-2.new.sim in
+    let w5 = g.S.Simulator.world c.turn_known_ends-3.new.sim in
     let cores = each_core c.args.moment.now.network.nodes.now in
     let pulls = each_end turn.Pull c.args.moment.now.network.ends.now in
     let sends = each_end turn.Transmit c.args.moment.now.network.ends.now in
