@@ -108,6 +108,15 @@ def test_files_that_are_not_there(capsys: pytest.CaptureFixture[str], tmp_path: 
     assert status == 1 and "Is a directory" in err
 
 
+def test_missing_package(capsys: pytest.CaptureFixture[str], tmp_path: Path, monkeypatch: pytest.MonkeyPatch) -> None:
+    """A Python package that is not installed is named, with its Debian package."""
+    monkeypatch.setitem(sys.modules, "jsonschema", None)
+    (tmp_path / "one.json").write_text("{}\n")
+    (tmp_path / "one.trace").write_text("")
+    status, _, err = told(capsys, "measure", str(tmp_path / "one.json"), str(tmp_path / "one.trace"))
+    assert (status, err) == (1, "tora-study measure: the Python package jsonschema is missing (Debian: python3-jsonschema)\n")
+
+
 def test_summary_of_a_stored_study(capsys: pytest.CaptureFixture[str], tmp_path: Path) -> None:
     """As CSV, in a file, with the means of the standard library."""
     path = tmp_path / "summary.csv"

@@ -47,12 +47,21 @@ def ended(words: Sequence[str]) -> int:
     except OSError as cause:
         print(f"tora-study {found.word}: {cause.filename or 'standard output'}: {cause.strerror or cause}", file=sys.stderr)
         return 1
+    except ModuleNotFoundError as cause:
+        print(f"tora-study {found.word}: {missing(cause)}", file=sys.stderr)
+        return 1
     except MemoryError:
         print(f"tora-study {found.word}: out of memory", file=sys.stderr)
         return 1
     except KeyboardInterrupt:
         print(f"tora-study {found.word}: broken off; the same command goes on", file=sys.stderr)
         return 130
+
+
+def missing(cause: ModuleNotFoundError) -> str:
+    """Names the Python package that is missing, and the one of Debian that has it."""
+    package = (cause.name or str(cause)).partition(".")[0]
+    return f"the Python package {package} is missing (Debian: python3-{package})"
 
 
 def parser() -> Parser:
