@@ -11,6 +11,7 @@ from pathlib import Path
 import pytest
 
 from conftest import REPOSITORY, STORED
+from tora import description
 from tora.cli import main
 from tora.program import Program
 
@@ -111,6 +112,7 @@ def test_files_that_are_not_there(capsys: pytest.CaptureFixture[str], tmp_path: 
 def test_missing_package(capsys: pytest.CaptureFixture[str], tmp_path: Path, monkeypatch: pytest.MonkeyPatch) -> None:
     """A Python package that is not installed is named, with its Debian package."""
     monkeypatch.setitem(sys.modules, "jsonschema", None)
+    description.validator.cache_clear()
     (tmp_path / "one.json").write_text("{}\n")
     (tmp_path / "one.trace").write_text("")
     status, _, err = told(capsys, "measure", str(tmp_path / "one.json"), str(tmp_path / "one.trace"))
