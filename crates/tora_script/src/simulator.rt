@@ -51,13 +51,14 @@ pub trait Simulator: Drop {
     /// Whether it is known that nothing is to be done: `happen` refuses every `CoreTurn`, `Open`, `Pull`, `Transmit`
     /// and `Pump`.
     ///
-    /// It costs one comparison, and a round calls it before each of its parts. `settle` may make it known.
+    /// A round calls it before it gives the link ends their turns. `Sim` compares a few deadlines, and reads for each
+    /// node how many items wait. `settle` may make it known.
     fn is_quiet(&self) -> bool
         ensures { result ≡ true → IsQuiet (world self.now) };
 
     /// Whether a core may have an item to take. If the answer is `false`, `happen` refuses every `CoreTurn`.
     ///
-    /// It costs one comparison, and a round calls it before the turns of the cores. `settle` may make it known.
+    /// A round calls it before the turns of the cores. `Sim` reads for each node how many items wait.
     fn may_turn(&self) -> bool
         ensures { result ≡ false → (n : ℕ) → is_some (refusal_of (world self.now) (CoreTurn n)) ≡ true };
 
