@@ -51,7 +51,7 @@ node_after n input now = if is_some (refusal_of n.core input) then n
 abbrev pub step_code : NodeView → Input → ℕ
 step_code n input = code_or_ok (option_map refused_code (refusal_of n.core input))
 
--- the same of what a handle holds
+-- `node_after` of the core in a handle; None if the handle is null
 abbrev pub held_after : Option NodeView → Input → ℕ → Option NodeView
 held_after held input now = option_map (λ n. node_after n input now) held
 

@@ -12,7 +12,7 @@ use Rattle.tora_c.specs.CoreNode.{NodeView}
 abbrev pub parts_of : Quintuple → HeightParts
 parts_of h = record { tau = h.tau; oid = h.oid; r = h.r; delta = h.delta; id = h.id }
 
--- None where it is unknown, and Some None where it is NULL
+-- None if the neighbour or the destination is unknown, Some None if the height is NULL
 abbrev pub entry_code : Option (Option Quintuple) → ℕ
 entry_code None = UNKNOWN
 entry_code (Some None) = ABSENT

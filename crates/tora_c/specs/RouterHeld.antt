@@ -23,7 +23,7 @@ use Rattle.tora_c.specs.RouterParts.{change_parts, tally_parts, times_of}
 abbrev pub held_router : Option RouterView → Option RouterState
 held_router held = option_map router_of held
 
--- of what is held, or what stood there where nothing is
+-- what a router in a handle gives, or the old value if the handle is null
 abbrev pub of_held : {A : Type 0} → (RouterState → A) → Option RouterView → A → A
 of_held value held old = option_map_or (λ r. value (router_of r)) held old
 

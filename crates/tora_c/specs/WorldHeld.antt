@@ -41,7 +41,7 @@ options_with None erasure = None
 options_with (Some limits) None = None
 options_with (Some limits) (Some erasure) = Some (record { limits = limits; erasure = erasure })
 
--- None where there is no such choice
+-- the options of two choices; None if there is no such choice
 abbrev pub options_of : ℕ → ℕ → Option WorldOptions
 options_of limits erasure = options_with (limits_of limits) (erasure_of erasure)
 
@@ -55,13 +55,13 @@ first_world options times = record {
 
 -- ---- a line
 
--- the world behind a line, which keeps the answer to it
+-- the world after a line, with the answer to it
 abbrev pub after_line : List ℕ → WorldView → WorldView
 after_line line w = record w {
   drive = (drive_reply w.options w.times w.drive (shortened line)).0;
   answer = (drive_reply w.options w.times w.drive (shortened line)).1;
 }
 
--- as it was made
+-- the world as it was made
 abbrev pub anew : WorldView → WorldView
 anew w = first_world w.options w.times

@@ -1,4 +1,4 @@
-//! What a call answers.
+//! The codes that calls return.
 ghost use Rattle.std.specs.Prelude.{◌≡◌, ◌<◌};
 ghost use Rattle.tora_c.specs.Codes.{core_code, intake_code, packet_code, refused_code, router_code, verdict_code};
 
@@ -7,7 +7,7 @@ use tora_core::{CoreError, StepError};
 use tora_packet::PacketError;
 use tora_router::{Intake, RouterError};
 
-/// It is done.
+/// The call succeeded.
 pub const OK: u32 = 0;
 
 /// There is not enough memory.
@@ -46,19 +46,19 @@ pub const UNKNOWN_NEIGHBOUR: u32 = 11;
 /// The first life number is out of range.
 pub const LIFE: u32 = 16;
 
-/// What stands before the number of why an input is refused.
+/// The code of a refused input is this plus the number of its cause.
 pub const REFUSED: u32 = 10;
 
-/// What stands before the number of why bytes spell no packet.
+/// The code of bytes that are not a packet is this plus the number of the error.
 pub const NO_PACKET: u32 = 20;
 
-/// What stands before the number of why the bytes of a datagram spell no frame.
+/// The outcome of a datagram that is not a frame is this plus the number of the error.
 pub const NO_FRAME: u32 = 10;
 
-/// The intake of a datagram of a node that is no neighbour.
+/// The outcome of a datagram from a node that is not a neighbour.
 pub const NO_NEIGHBOUR: u32 = 30;
 
-/// Why there is no core, as a code from 1 to 4.
+/// Why a core is refused, as a code from 1 to 4.
 pub fn core_code(error: CoreError) -> u32
     ensures { result ≡ core_code error }
 {
@@ -72,14 +72,14 @@ pub fn refused_code(error: StepError) -> u32
     REFUSED + u32::from(error.number())
 }
 
-/// Why bytes spell no packet, as a code from 21 to 26.
+/// Why bytes are not a packet, as a code from 21 to 26.
 pub fn packet_code(error: PacketError) -> u32
     ensures { result ≡ packet_code error }
 {
     NO_PACKET + u32::from(error.number())
 }
 
-/// Why there is no router, as a code. A number of a node that is 0 and a time that is 0 have one.
+/// Why a router is refused, as a code. A node with the number 0 and a time of 0 have the same code.
 pub fn router_code(error: RouterError) -> u32
     ensures value { result ≡ router_code error }
     ensures above { OK < result }
@@ -109,7 +109,8 @@ fn verdict_code(verdict: Verdict) -> u32
     }
 }
 
-/// What was made of a datagram: from 1 to 6 a verdict, from 11 to 20 why its bytes spell no frame, or 30.
+/// The outcome of a datagram: 1 to 6 for a verdict, 11 to 20 for bytes that are not a frame, 30 for a node that is not
+/// a neighbour.
 pub fn intake_code(intake: Intake) -> u32
     ensures { result ≡ intake_code intake }
 {

@@ -1,4 +1,4 @@
-//! The calls that make a core, let it go, and step it.
+//! The calls that make, free and step a core.
 ghost use Rattle.std.specs.Prelude.{◌≡◌, ◌⊎◌, IfErr, IfOk, MatchOption, None, OnOk, Some};
 ghost use Rattle.tora_core.specs.declared.Input.{Input};
 ghost use Rattle.tora_c.specs.CoreNode.{bytes_after, bytes_code, erasure_of, first_node, held_after, held_code};
@@ -12,7 +12,7 @@ use std::alloc::Global;
 use tora_core::Input;
 use tora_packet::decode;
 
-/// Replaces the core at `core` by a new one of node `me`, without links that are up.
+/// Replaces the core at `core` by a new one of node `me`, with no link up.
 #[unsafe(no_mangle)]
 pub extern "C" fn tora_core_new(
     alloc: Global,
@@ -41,7 +41,7 @@ pub extern "C" fn tora_core_new(
     }
 }
 
-/// Lets the core go, and leaves the handle null.
+/// Frees the core, and sets the handle to null.
 #[unsafe(no_mangle)]
 pub extern "C" fn tora_core_free(alloc: Global, core: &mut CoreHandle)
     ensures { core.new.held ≡ None }
@@ -51,7 +51,7 @@ pub extern "C" fn tora_core_free(alloc: Global, core: &mut CoreHandle)
     }
 }
 
-/// A second block with the state of a first. An error is its code.
+/// A copy of a core in a heap block of its own. The error is `MEMORY`.
 fn cloned(alloc: Global, node: &CoreNode) -> Result<Box<CoreNode, Global>, u32>
     ensures value { IfOk result (λ b. b.value ≡ node.now) }
     ensures memory { IfErr result (λ code. code ≡ MEMORY) }

@@ -23,7 +23,7 @@ impl Model for CoreHandle {
 }
 
 impl CoreHandle {
-    /// A handle that holds nothing.
+    /// A null handle.
     pub fn null() -> CoreHandle
         ensures { result.held ≡ None }
     {

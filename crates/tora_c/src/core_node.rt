@@ -1,4 +1,4 @@
-//! A core with what its last step broadcast, which a handle of a core holds.
+//! A core with the packets that its last accepted step broadcast, which a handle of a core holds.
 ghost use Rattle.std.specs.Prelude.{◌≡◌, ◌<◌, All, IfErr, IfOk, MatchOption, None, OnOk, true};
 ghost use Rattle.tora_core.specs.CoreRun.{core_refusal_within};
 ghost use Rattle.tora_c.specs.CoreNode.{erasure_of, first_node, has_zero, new_refusal, node_after, step_code};
@@ -30,7 +30,7 @@ impl Model for CoreNode {
     ghost view = { λ n. record { core = n.core; sent = if n.is_second then n.second.items else n.first.items } };
 }
 
-/// The choice of what becomes of erased levels: 0 is `Plain`, 1 is `Remembered`.
+/// The choice of erasure for a number: 0 is `Plain`, 1 is `Remembered`.
 pub fn erasure_of(choice: u32) -> Option<Erasure>
     ensures { result ≡ erasure_of choice }
 {
@@ -44,7 +44,8 @@ pub fn erasure_of(choice: u32) -> Option<Erasure>
 }
 
 impl CoreNode {
-    /// A new core within the greatest limits, which has sent nothing. An error is its code.
+    /// A new core within the greatest limits, which has sent nothing. The error is the code of the refusal, or
+    /// `MEMORY`.
     pub fn new(
         alloc: Global,
         me: u32,
@@ -82,7 +83,7 @@ impl CoreNode {
         }
     }
 
-    /// A second one with the same state. An error is its code.
+    /// A second core with the same state. The error is `MEMORY`.
     pub fn try_clone(&self, alloc: Global) -> Result<CoreNode, u32>
         ensures value { IfOk result (λ n. n ≡ self.now) }
         ensures memory { IfErr result (λ code. code ≡ MEMORY) }
@@ -112,7 +113,7 @@ impl CoreNode {
         }
     }
 
-    /// Takes an input in at a tick, and answers its code. One that is refused changes nothing.
+    /// Steps the core with an input at a tick, and returns the code. A refused input changes nothing.
     pub fn step(&mut self, input: Input, now: u64) -> u32
         ensures code { result ≡ step_code self.old input }
         ensures node { self.new ≡ node_after self.old input now }

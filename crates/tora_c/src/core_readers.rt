@@ -1,4 +1,4 @@
-//! What is read of a core. A reader changes nothing of it.
+//! The calls that read a core without changing it.
 ghost use Rattle.std.specs.Prelude.{◌≡◌, ◌⊎◌, MatchOption, None, Some, length, option_map};
 ghost use Rattle.tora_packet.specs.PacketGrammar.{packet_spelling};
 ghost use Rattle.tora_core.specs.CoreRun.{entry_of, flag_of, height_of, hop_of};
@@ -34,7 +34,7 @@ pub extern "C" fn tora_core_height(
     write_entry(entry, height)
 }
 
-/// The height that neighbour `k` told for destination `d`.
+/// The height that neighbour `k` sent for destination `d`.
 #[unsafe(no_mangle)]
 pub extern "C" fn tora_core_entry(
     alloc: Global,
@@ -116,7 +116,7 @@ pub extern "C" fn tora_core_is_up(alloc: Global, core: &mut CoreHandle, k: u32, 
     OK
 }
 
-/// How many packets the last step broadcast that was not refused.
+/// How many packets the last accepted step broadcast.
 #[unsafe(no_mangle)]
 pub extern "C" fn tora_core_sent_count(
     alloc: Global,
@@ -135,7 +135,7 @@ pub extern "C" fn tora_core_sent_count(
     OK
 }
 
-/// The bytes of a packet that the last step broadcast, by its place from 0 on.
+/// The bytes of a packet that the last accepted step broadcast, by its index, counted from 0.
 #[unsafe(no_mangle)]
 pub extern "C" fn tora_core_sent(
     alloc: Global,

@@ -29,7 +29,7 @@ mod world_node;
 
 use buffers::write;
 
-/// The version of the calls and of the structs. One that is taken away or changed raises it; one that comes does not.
+/// The version of the calls and of the structs. It rises if one is removed or changed, and not if one is added.
 const ABI_VERSION: u32 = 1;
 
 /// The version of the library.
@@ -73,28 +73,28 @@ mod tests {
     use std::alloc::Global;
     use tora_frame::LONGEST_FRAME;
 
-    // Only C lets a handle go by forgetting it.
+    // Consumes a handle, and frees its core, if it has one. A handle has no `Drop`.
     fn let_go(alloc: Global, handle: CoreHandle) {
         if let Some(raw) = handle.into_raw(alloc) {
             drop(raw.into_box());
         }
     }
 
-    // The same of a router.
+    // Consumes a handle, and frees its router, if it has one.
     fn let_router_go(alloc: Global, handle: RouterHandle) {
         if let Some(raw) = handle.into_raw(alloc) {
             drop(raw.into_box());
         }
     }
 
-    // The same of a world.
+    // Consumes a handle, and frees its world, if it has one.
     fn let_world_go(alloc: Global, handle: WorldHandle) {
         if let Some(raw) = handle.into_raw(alloc) {
             drop(raw.into_box());
         }
     }
 
-    // One datagram goes from a router to its only neighbour, and says whether one was due.
+    // Passes one datagram of a router to its only neighbour. Returns whether one was due.
     fn carry(alloc: Global, from: &mut RouterHandle, to: &mut RouterHandle, sender: u32) -> bool {
         let (mut peer, mut len, mut intake) = (0, 0, 0);
         let mut bytes = [0; LONGEST_FRAME];

@@ -86,7 +86,7 @@ pub extern "C" fn tora_router_new(
     }
 }
 
-/// Lets the router go, and leaves the handle null.
+/// Frees the router, and sets the handle to null.
 #[unsafe(no_mangle)]
 pub extern "C" fn tora_router_free(alloc: Global, router: &mut RouterHandle)
     ensures { router.new.held ≡ None }
@@ -96,7 +96,7 @@ pub extern "C" fn tora_router_free(alloc: Global, router: &mut RouterHandle)
     }
 }
 
-/// Hands in bytes that came from node `peer` at the tick `now`. `intake` receives the outcome.
+/// Passes bytes that came from node `peer` at the tick `now` to the router. `intake` receives the outcome.
 #[unsafe(no_mangle)]
 pub extern "C" fn tora_router_datagram(
     alloc: Global,
@@ -119,7 +119,7 @@ pub extern "C" fn tora_router_datagram(
     OK
 }
 
-/// It is the tick `now`.
+/// Passes the tick `now` to the router.
 #[unsafe(no_mangle)]
 pub extern "C" fn tora_router_tick(alloc: Global, router: &mut RouterHandle, now: u64) -> u32
     ensures code { result ≡ of_held (λ r. OK) router.old.held NULL }

@@ -23,7 +23,7 @@ impl Model for RouterHandle {
 }
 
 impl RouterHandle {
-    /// A handle that holds nothing.
+    /// A null handle.
     pub fn null() -> RouterHandle
         ensures { result.held ≡ None }
     {

@@ -6,7 +6,7 @@ ghost use Rattle.tora_c.specs.RouterParts.{change_parts, next_hop_parts, or_stan
 use tora_arq::Times;
 use tora_router::{Change, Tally};
 
-/// The times of a router's links, as `tora_times` of the header. A part that is 0 stands for the standard one.
+/// The times of a router's links, as `tora_times` of the header. A field of 0 means the standard value.
 #[derive(Clone, Copy, Debug)]
 #[repr(C)]
 pub struct TimesParts {
@@ -16,7 +16,7 @@ pub struct TimesParts {
     pub tries: u64,
 }
 
-/// What has changed, as `tora_change` of the header. What a kind does not have is 0.
+/// A change, as `tora_change` of the header. Fields that its kind does not use are 0.
 #[derive(Clone, Copy, Debug)]
 #[repr(C)]
 pub struct ChangeParts {
@@ -30,7 +30,7 @@ pub struct ChangeParts {
     pub reason: u32,
 }
 
-/// What was made of the datagrams of a neighbour, as `tora_tally` of the header.
+/// The counts of a neighbour's datagrams by outcome, as `tora_tally` of the header.
 #[derive(Clone, Copy, Debug)]
 #[repr(C)]
 pub struct TallyParts {
@@ -43,7 +43,7 @@ pub struct TallyParts {
     pub bad: u64,
 }
 
-/// A part, or the standard one where it is 0.
+/// A field, or the standard value if it is 0.
 fn or_standard(part: u64, standard: u64) -> u64
     requires { 0 < standard }
     ensures value { result ≡ or_standard part standard }

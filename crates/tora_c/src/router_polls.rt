@@ -1,4 +1,4 @@
-//! What a router gives out: datagrams and changes.
+//! The calls that poll the datagrams and the changes of a router.
 ghost use Rattle.std.specs.Prelude.{◌≡◌, option_map};
 ghost use Rattle.tora_router.specs.Router.{after_poll_change, change_in, router_of};
 ghost use Rattle.tora_c.specs.RouterHeld.{after_poll, code_of_some, held_router, of_held, poll_code, polled_bytes};
@@ -11,7 +11,8 @@ use std::alloc::Global;
 use tora_frame::LONGEST_FRAME;
 use tora_router::Router;
 
-/// Writes the next datagram of a router, where the buffer has room for any.
+/// Writes the next datagram of a router. A buffer shorter than `LONGEST_FRAME` is refused, and `len` receives that
+/// length.
 fn poll(router: &mut Router, now: u64, peer: &mut u32, bytes: &mut [u8], len: &mut usize) -> u32
     ensures code { result ≡ poll_code now bytes.old (router_of router.old) }
     ensures router { router_of router.new ≡ after_poll now bytes.old (router_of router.old) }

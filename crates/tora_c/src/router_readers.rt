@@ -1,4 +1,4 @@
-//! What is read of a router. A reader changes nothing of it.
+//! The calls that read a router without changing it.
 ghost use Rattle.std.specs.Prelude.{◌≡◌, ◌⊎◌, MatchOption, None, length};
 ghost use Rattle.tora_core.specs.CoreRun.{entry_of, flag_of, height_of, hop_of};
 ghost use Rattle.tora_core.specs.Numbers.{has_number};
@@ -73,7 +73,7 @@ pub extern "C" fn tora_router_height(
     write_entry(entry, height)
 }
 
-/// The height that neighbour `k` told for destination `d`.
+/// The height that neighbour `k` sent for destination `d`.
 #[unsafe(no_mangle)]
 pub extern "C" fn tora_router_entry(
     alloc: Global,
@@ -160,7 +160,7 @@ pub extern "C" fn tora_router_is_up(
     OK
 }
 
-/// What was made of the datagrams of neighbour `k`.
+/// The counts of the datagrams of neighbour `k`, by outcome.
 #[unsafe(no_mangle)]
 pub extern "C" fn tora_router_tally(
     alloc: Global,
@@ -186,7 +186,7 @@ pub extern "C" fn tora_router_tally(
     }
 }
 
-/// The rules' state of the router as text.
+/// The core of the router as text.
 #[unsafe(no_mangle)]
 pub extern "C" fn tora_router_show(
     alloc: Global,

@@ -1,4 +1,4 @@
-//! The calls that make a driven world, let it go, hand it a line, and read the answer.
+//! The calls that make and free a driven world, pass it a line, and read the answer.
 ghost use Rattle.std.specs.Prelude.{◌≡◌, ◌⊎◌, MatchOption, None, Some, length, option_map};
 ghost use Rattle.tora_c.specs.Readers.{room_code, written};
 ghost use Rattle.tora_c.specs.RouterParts.{times_of};
@@ -12,7 +12,7 @@ use crate::world_handle::WorldHandle;
 use crate::world_node::{WorldNode, options_of};
 use std::alloc::Global;
 
-/// Makes a world at `world`, in the place of what was there: no line came to it.
+/// Replaces the world at `world` by a new one that has taken no line.
 #[unsafe(no_mangle)]
 pub extern "C" fn tora_world_new(
     alloc: Global,
@@ -41,7 +41,7 @@ pub extern "C" fn tora_world_new(
     }
 }
 
-/// Lets the world go, and leaves the handle null.
+/// Frees the world, and sets the handle to null.
 #[unsafe(no_mangle)]
 pub extern "C" fn tora_world_free(alloc: Global, world: &mut WorldHandle)
     ensures { world.new.held ≡ None }
@@ -51,8 +51,8 @@ pub extern "C" fn tora_world_free(alloc: Global, world: &mut WorldHandle)
     }
 }
 
-/// Hands the world a line, and keeps the answer, whose length is told. Where memory is refused, the world is as it was
-/// made.
+/// Passes a line to the world, stores the answer, and writes its length to `len`. If memory runs out, the world is as
+/// it was made.
 #[unsafe(no_mangle)]
 pub extern "C" fn tora_world_line(
     alloc: Global,

@@ -23,7 +23,7 @@ impl Model for WorldHandle {
 }
 
 impl WorldHandle {
-    /// A handle that holds nothing.
+    /// A null handle.
     pub fn null() -> WorldHandle
         ensures { result.held ≡ None }
     {
@@ -57,7 +57,7 @@ impl WorldHandle {
         })
     }
 
-    /// What the handle holds. It is null from then on.
+    /// Takes the world out of the handle, which is null afterwards.
     pub fn take(&mut self, alloc: Global) -> Option<Box<WorldNode, Global>>
         ensures null { self.new.held ≡ None }
         ensures node { MatchOption result (self.old.held ≡ None) (λ node. self.old.held ≡ Some node.value) }
@@ -68,7 +68,7 @@ impl WorldHandle {
         }
     }
 
-    /// Puts a world in the place of what the handle holds, which is let go.
+    /// Replaces the world that the handle holds, and frees the old one.
     pub fn put(&mut self, alloc: Global, node: Box<WorldNode, Global>)
         ensures { self.new.held ≡ Some node.value }
     {

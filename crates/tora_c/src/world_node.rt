@@ -19,7 +19,7 @@ pub struct WorldNode {
     pub answer: String,
 }
 
-/// The choice of how large a world may be: 0 is `STANDARD`, 1 is `GREATEST`.
+/// The limits of a world: 0 is `STANDARD`, 1 is `GREATEST`.
 fn limits_of(choice: u32) -> Option<Limits>
     ensures { result ≡ limits_of choice }
 {
@@ -32,7 +32,7 @@ fn limits_of(choice: u32) -> Option<Limits>
     }
 }
 
-/// The options of a world that two choices stand for.
+/// The options of a world for two choices; `None` if there is no such choice.
 pub fn options_of(limits: u32, erasure: u32) -> Option<WorldOptions>
     ensures { result ≡ options_of limits erasure }
 {
@@ -42,7 +42,7 @@ pub fn options_of(limits: u32, erasure: u32) -> Option<WorldOptions>
 }
 
 impl WorldNode {
-    /// A world to which no line came.
+    /// A world that has taken no line.
     pub fn new(alloc: Global, options: WorldOptions, times: Times) -> WorldNode
         requires { IsTimes times }
         ensures { world_view result ≡ first_world options times }
@@ -53,7 +53,7 @@ impl WorldNode {
         }
     }
 
-    /// Takes a line, and keeps the answer to it. Where memory is refused, the world is as it was made.
+    /// Takes a line, and stores the answer. If memory runs out, the world is as it was made.
     pub fn take_line(&mut self, alloc: Global, line: &[u8]) -> u32
         ensures code { (result ≡ OK) ⊎ (result ≡ MEMORY) }
         ensures done { result ≡ OK → world_view self.new ≡ after_line line.now (world_view self.old) }

@@ -21,7 +21,7 @@ own_line_of text =
     (or_else (after (codes "bytes ") text) (for_number Bytes)
     (or_else (after (codes "forget ") text) (for_number Forget) None))))
 
--- `step`, `needs`, a line of a simulation file behind its links, or another of a drive's own
+-- `step`, `needs`, a line of a simulation file after its links, or another line that only a drive has
 abbrev pub or_own : Option DriveLine → List ℕ → Option DriveLine
 or_own (Some line) text = Some line
 or_own None text = own_line_of text

@@ -98,7 +98,7 @@ is_forgotten o (Happen.Transmit n k) = false
 is_forgotten o (Happen.Pump n k) = false
 is_forgotten o (Happen.Arm n call) = false
 
--- an event: nothing, or `refused N` where it changes nothing
+-- an event: no text, or `refused N` if it changes nothing
 abbrev pub event_outcome : RunningView → OwnView → Event → Outcome
 event_outcome s o event =
     if is_forgotten o event then unnamed s o
@@ -109,7 +109,7 @@ event_outcome s o event =
       refused = is_some (refusal_of s.world event);
     }
 
--- the world behind a step
+-- the world after a step
 abbrev pub after_step : RunningView → OwnView → World
 after_step s o = world_after_all s.world (step s.nodes s.ends o.far s.world)
 
@@ -124,12 +124,11 @@ needs_text w nodes dests = flat_map (λ n. flat_map (need_line w n) dests) nodes
 unfoldable pub bytes_line : ℕ → FrameParts → List ℕ
 bytes_line i f = codes "bytes " ++ decimal i ++ codes " " ++ encode_lower (frame_spelling f) ++ 10 ∷ []
 
--- other silent ends, where there is such an end
+-- these silent ends; a fault if there is no such end
 abbrev pub silenced : RunningView → OwnView → ℕ → ℕ → List (ℕ × ℕ) → Option Outcome
 silenced s o n k far = if has_end n k s.ends then Some (shown s (record o { far = far }) []) else None
 
--- the end of a node towards another cuts the life that it is bound to, and is then closed; refused where it is bound to
--- none
+-- the end of a node towards another cuts its session and is closed; refused if it is not bound
 abbrev pub noticed : RunningView → OwnView → ℕ → ℕ → Outcome
 noticed s o n k = if is_some (bound_life (s.world.ends n k)) then shown (record s { world = after_cut_at s.world n k })
     o [] else impossible s o
@@ -155,7 +154,7 @@ outcome_of s o (Notice n k) = if has_end n k s.ends then Some (noticed s o n k) 
 outcome_of s o (Bytes i) = Some (option_map_or (λ f. shown s o (bytes_line i f)) (named o s.world i) (unnamed s o))
 outcome_of s o (Forget i) = Some (forgetting s o i)
 
--- the line may turn a core, or make one anew: no other changes a next hop
+-- the line may let a core take items, or restart a node; no other line changes a next hop
 abbrev pub may_turn : Event → Bool
 may_turn (Happen.CoreTurn n) = true
 may_turn (Happen.Restart n torn) = true
@@ -187,7 +186,7 @@ may_change_hops (Notice n k) = false
 may_change_hops (Bytes i) = false
 may_change_hops (Forget i) = false
 
--- `ok`, unless `refused N` stands there already
+-- `ok`, unless the line was refused
 abbrev pub closing : Bool → List ℕ
 closing is_refused = if is_refused then [] else codes "ok" ++ 10 ∷ []
 
@@ -195,7 +194,7 @@ closing is_refused = if is_refused then [] else codes "ok" ++ 10 ∷ []
 abbrev pub DriveReply : Type 0
 DriveReply = RunningView × OwnView × List ℕ
 
--- what is printed first, then what the line changed, and `ok`
+-- the first output, then what the line changed, and `ok`
 abbrev pub told : RunningView → Outcome → DriveReply
 told s r = (
   r.run,
@@ -210,7 +209,7 @@ answer_to s o text =
 
 -- ---- any line
 
--- where a drive is
+-- the stage of a drive, with the state that only a drive has
 pub record PlaceView : Type 0 where
   pub progress : Progress
   pub own : OwnView
@@ -228,14 +227,14 @@ running_at r = (record { progress = Progress.Runs r.0; own = r.1 }, r.2)
 abbrev pub acknowledged : OwnView → Progress → Placed
 acknowledged o progress = (record { progress = progress; own = o }, closing false)
 
--- the line behind the last link and what is said of single nodes, which makes the world: at least one link is required
+-- the first line after the links and the lines about nodes, which makes the world: at least one link is required
 abbrev pub first_answer : WorldOptions → Times → OwnView → List ℕ → List (ℕ × ℕ) → List Mark → List ℕ
     → Option DriveReply
 first_answer options times o dests [] marks line = None
 first_answer options times o dests (link ∷ links) marks line = option_and_then (λ w.
     answer_to (begun_in dests (plain times) w) o line) (started options (link ∷ links) dests marks times)
 
--- a line behind the first, which may say a link, or something of a node
+-- a line after the first line: a link, a line about a node, or the first line of the running simulation
 abbrev pub link_answer : WorldOptions → Times → OwnView → List ℕ → List (ℕ × ℕ) → List Mark → List ℕ → Option (ℕ × ℕ)
     → Option Mark → Option Placed
 link_answer options times o dests links marks line (Some link) mark =
@@ -245,7 +244,7 @@ link_answer options times o dests links marks line None (Some mark) =
 link_answer options times o dests links marks line None None =
     option_map running_at (first_answer options times o dests links marks line)
 
--- the same at any place: only links can have such a line behind them
+-- `first_answer` at any stage; None unless the stage is `Links`
 abbrev pub run_begun : WorldOptions → Times → OwnView → Progress → List ℕ → Option Placed
 run_begun options times o Progress.First line = None
 run_begun options times o (Progress.Links dests links marks) line =
@@ -261,7 +260,7 @@ place_reply options times o (Progress.Runs s) line = option_map running_at (answ
 
 -- ---- faults
 
--- of a line behind the links: it is no line, or one of something that there is not
+-- the fault of a line after the links: it has none of the forms of a line, or names something that does not exist
 abbrev pub cause_of_line : List ℕ → Cause
 cause_of_line line = if is_some (drive_line_of line) then Name else Word
 
@@ -321,8 +320,7 @@ greeting = codes "tora drive 1" ++ 10 ∷ []
 
 -- ---- what drive_in promises
 
--- the text of an input, where a line of more than 4,096 bytes is taken as an empty one, which is a fault wherever it
--- stands
+-- the text of an input in which a line of more than 4,096 bytes counts as an empty one, which is always a fault
 abbrev pub shortened_text : Rules DriveView → List ℕ → Text
 shortened_text rules bytes = text_from rules rules.start 1 (map shortened (pieces_of bytes))
 
@@ -330,7 +328,7 @@ shortened_text rules bytes = text_from rules rules.start 1 (map shortened (piece
 abbrev pub Drives : WorldOptions → Times → List ℕ → Option (List ℕ) → Option (List ℕ) → Ended → Type 0
 Drives options times input old new ended = IsWholeText (shortened_text (drive_rules options times)) input old new ended
 
--- The reader gave some bytes, and the writer got a front of the answers to them.
+-- The reader gave some bytes, and the text written is a prefix of the answers to them.
 abbrev pub IsDriveBegun : WorldOptions → Times → Option (List ℕ) → Option (List ℕ) → Option (List ℕ) → Option (List ℕ)
     → Type 0
 IsDriveBegun options times old_reader new_reader old_writer new_writer =

@@ -15,7 +15,7 @@ use Rattle.tora_drive.specs.Recording.{recorded_rules}
 abbrev pub own_view : Own → OwnView
 own_view o = record { far = o.far.items; forgotten = o.forgotten }
 
--- what is recorded of the last line; None where nothing is
+-- the record of the last line; None if there is no record
 abbrev pub record_view : Own → Option (List ℕ)
 record_view o = option_map (λ v. v.items) o.recorded
 
@@ -34,7 +34,7 @@ drive_kind world = record {
   long = λ d line h. long_lines_are_faults (drive_rules d.options d.times) (view_of world d) line h;
 }
 
--- the same where it is recorded
+-- the kind of file of a recorded drive
 abbrev pub recording_kind : {S W : Type 0} → (S → World) → Kind (Recording S W)
 recording_kind world = record {
   text = λ r. text_from (recorded_rules r.drive.options r.drive.times) (view_of world r.drive);

@@ -15,11 +15,11 @@ use Rattle.tora_drive.specs.DriveText.{DriveView, drive_rules, fault_line, cause
 use Rattle.tora_drive.specs.Recording.{says_notice, recorded_rules}
 use Rattle.tora_drive.specs.Runs.{SaysNoNotice}
 
--- a line that says `notice N K` is an empty one, which is a fault wherever it stands
+-- a line, or an empty one in place of `notice N K`; an empty line is always a fault
 abbrev pub unnoticed : List ℕ → List ℕ
 unnoticed line = if says_notice line then [] else line
 
--- what lines leave in a recorded drive they leave in a drive, where no line says `notice N K`
+-- lines lead a recorded drive to the same state as a drive in which no line is `notice N K`
 abbrev pub RecordedAreDrives : Type 0
 RecordedAreDrives =
     (options : WorldOptions) (times : Times) (lines : List (List ℕ)) (v : DriveView)
@@ -29,8 +29,8 @@ RecordedAreDrives =
 abbrev pub RecordedSaysNoNotice : Type 0
 RecordedSaysNoNotice = (lines : List (List ℕ)) → SaysNoNotice (map unnoticed lines)
 
--- a world is the one behind some events, from the first world with these options of some links and destinations, and of
--- what is said of single nodes
+-- a world is the result of some events, from the first world with these options of some links, destinations and lines
+-- about nodes
 pub record IsOfHappened (options : WorldOptions) (times : Times) (w : World) : Type 0 where
   pub links : List (ℕ × ℕ)
   pub dests : List ℕ
@@ -41,14 +41,14 @@ pub record IsOfHappened (options : WorldOptions) (times : Times) (w : World) : T
   pub events : List Event
   pub world_is : w ≡ world_after_all first events
 
--- this holds of the world behind any lines of a recorded drive, once it has one
+-- this holds for the world after any lines of a recorded drive, if it has one
 abbrev pub EveryRecordedDrive : (WorldOptions → Times → World → Type 0) → Type 0
 EveryRecordedDrive Holds =
     (options : WorldOptions) (times : Times) (lines : List (List ℕ)) (v : DriveView) (s : RunningView)
     → state_behind (recorded_rules options times) (recorded_rules options times).start lines ≡ Some v
     → v.place.progress ≡ Progress.Runs s → Holds options times s.world
 
--- a line of more than 4,096 bytes, which is taken as an empty one, is a fault wherever it stands, and changes nothing
+-- a line of more than 4,096 bytes, which counts as an empty one, is always a fault and changes nothing
 abbrev pub LongLinesAreFaults : (WorldOptions → Times → DriveView → List ℕ → DriveView × List ℕ) → Type 0
 LongLinesAreFaults reply =
     (options : WorldOptions) (times : Times) (v : DriveView) (line : List ℕ)

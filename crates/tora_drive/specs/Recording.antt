@@ -1,4 +1,4 @@
--- What a record of a drive has: the lines of a simulation file that stand for what was driven.
+-- The record of a drive: lines of a simulation file with the same effect.
 use Rattle.std.specs.Prelude.{◌≡◌, ℕ, ◌+◌, Bool, true, false, if◌then◌else◌, codes, List, [], ◌∷◌, ◌++◌, Option, Some, None}
 use Rattle.std.specs.List.{flat_map}
 use Rattle.std.specs.Option.{option_map_or}
@@ -58,17 +58,17 @@ event_line event = event_text event ++ 10 ∷ []
 abbrev pub events_text : List Event → List ℕ
 events_text events = flat_map event_line events
 
--- an end has its turn, so many times at most, unless it is left out
+-- the turn of an end, at most this many events, unless the end is left out
 abbrev pub turns_of : List (ℕ × ℕ) → EndTurn → ℕ → ℕ × ℕ → Plan
 turns_of left_out kind most e w = if is_far left_out e then [] else repeats most (end_event kind e) w
 
--- Events led from a world to another, some or none, and their lines went behind a text.
+-- Events, possibly none, led from one world to another, and their lines were appended to a text.
 pub record HappenedTold (before : World) (events : List Event) (after : World) (some : Bool) (old new : List ℕ) : Type 0
   where
     pub happened : Happened before events after some
     pub told : new ≡ old ++ events_text events
 
--- the same, whether there were any or not
+-- `HappenedTold` without the answer whether an event happened
 pub record Told (before : World) (events : List Event) (after : World) (old new : List ℕ) : Type 0 where
   pub after_is : after ≡ world_after_all before events
   pub told : new ≡ old ++ events_text events
@@ -123,7 +123,7 @@ answer_recorded r s o text =
     option_map_or (λ line. option_map_or (λ q. line_recorded (step_recorded r s o line) line text q.refused)
     (outcome_of s o line) r) (line_in s.world o.forgotten text) r
 
--- of the line behind the last link and what is said of single nodes
+-- the record of the first line after the links and the lines about nodes
 abbrev pub first_recorded : Record → WorldOptions → Times → OwnView → List ℕ → List (ℕ × ℕ) → List Mark → List ℕ
     → Record
 first_recorded r options times o dests links marks line = option_map_or (λ w.
@@ -136,7 +136,7 @@ link_recorded r options times o dests links marks line None (Some mark) = with_l
 link_recorded r options times o dests links marks line None None =
     first_recorded r options times o dests links marks line
 
--- the same at any place: only links can have such a line behind them
+-- `first_recorded` at any stage; the record does not change unless the stage is `Links`
 abbrev pub run_recorded : Record → WorldOptions → Times → OwnView → Progress → List ℕ → Record
 run_recorded r options times o Progress.First line = r
 run_recorded r options times o (Progress.Links dests links marks) line =
@@ -200,7 +200,7 @@ abbrev pub DrivesRecorded : WorldOptions → Times → List ℕ → Option (List
 DrivesRecorded options times input old new ended =
     IsWholeText (shortened_text (recorded_rules options times)) input old new ended
 
--- The reader gave some bytes, and the writer got a front of the answers to them.
+-- The reader gave some bytes, and the text written is a prefix of the answers to them.
 abbrev pub IsRecordedBegun : WorldOptions → Times → Option (List ℕ) → Option (List ℕ) → Option (List ℕ)
     → Option (List ℕ) → Type 0
 IsRecordedBegun options times old_reader new_reader old_writer new_writer =

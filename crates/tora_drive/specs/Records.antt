@@ -1,4 +1,4 @@
--- What is told of a line that changed a world: the datagrams that it put under way, and the next hops that it changed.
+-- The lines for what a line changed in a world: the datagrams sent, and the next hops that changed.
 use Rattle.std.specs.Prelude.{ℕ, zero, suc, ◌+◌, ◌-◌, ◌==◌, Bool, true, false, if◌then◌else◌, codes, List, [], ◌∷◌, ◌++◌, length, map, Option, Some, None}
 use Rattle.std.specs.List.{flat_map}
 use Rattle.std.specs.Option.{option_map_or}
@@ -21,12 +21,12 @@ sent_line i f = codes "sent " ++ decimal f.header.sender ++ codes " " ++ decimal
 abbrev pub sent_of : World → ℕ → List ℕ
 sent_of w i = option_map_or (sent_line i) (datagram w i) []
 
--- the lines of so many datagrams behind the first ones, in order
+-- the lines of this many datagrams after number `first`, in order
 unfoldable pub sent_from : World → ℕ → ℕ → List ℕ
 sent_from w first zero = []
 sent_from w first (suc count) = sent_from w first count ++ sent_of w (first + suc count)
 
--- the lines of the datagrams that a world has behind those of one before it
+-- the lines of the datagrams that the second world has in addition to those of the first
 abbrev pub sent_text : World → World → List ℕ
 sent_text before after = sent_from after (length before.datagrams) (length after.datagrams - length before.datagrams)
 
@@ -45,7 +45,7 @@ is_same_hop None (Some b) = false
 is_same_hop (Some a) None = false
 is_same_hop (Some a) (Some b) = a == b
 
--- `hop N D K`, where the next hop is another one now
+-- `hop N D K` if the next hop has changed
 unfoldable pub hop_line : World → Route → List ℕ
 hop_line w r =
     if is_same_hop r.hop (hop_at w r.node r.destination) then []

@@ -71,14 +71,14 @@ pub record IsOfEvents (options : WorldOptions) (times : Times) (CutsNothing : Ty
   pub world_is : w ≡ after_all_driven first events
   pub plain : CutsNothing → (happened : List Event) × (events ≡ happening happened)
 
--- this holds of the world behind any lines of a drive, once it has one
+-- this holds for the world after any lines of a drive, if it has one
 abbrev pub EveryDrive : (WorldOptions → Times → List (List ℕ) → World → Type 0) → Type 0
 EveryDrive Holds =
     (options : WorldOptions) (times : Times) (lines : List (List ℕ)) (v : DriveView) (s : RunningView)
     → state_behind (drive_rules options times) (drive_rules options times).start lines ≡ Some v
     → v.place.progress ≡ Progress.Runs s → Holds options times lines s.world
 
--- the world behind any lines of a drive is of events
+-- the world after any lines of a drive is the result of events
 abbrev pub DrivesAreRuns : Type 0
 DrivesAreRuns = EveryDrive (λ options times lines w. IsOfEvents options times (SaysNoNotice lines) w)
 

@@ -1,4 +1,4 @@
--- Which lines of a simulation file stand for a line of a drive.
+-- The lines of a simulation file with the effect of a line of a drive.
 use Rattle.std.specs.Prelude.{◌≡◌, ℕ, ◌<◌, ◌^◌, Bool, if◌then◌else◌, List, [], ◌∷◌, ◌++◌, length, map, Option, Some, None}
 use Rattle.std.specs.List.{AllByRecursion}
 use Rattle.std.specs.Option.{option_map_or, option_and_then}
@@ -24,7 +24,7 @@ use Rattle.tora_drive.specs.Recording.{event_text, says_notice, recorded_reply, 
 use Rattle.tora_drive.specs.Steps.{step}
 use Rattle.tora_drive.specs.Taking.{line_in}
 
--- the lines that stand for one that is taken, and refused or not: those that a record has
+-- the lines that a record has for an accepted line, refused or not
 abbrev pub script_of : RunningView → OwnView → DriveLine → Bool → List SimulationLine
 script_of s o (Script (Happens event)) refused = if refused then [] else Happens event ∷ []
 script_of s o (Script (Rounds n)) refused = Rounds n ∷ []
@@ -44,7 +44,7 @@ script_of s o (Notice n k) refused = []
 script_of s o (Bytes i) refused = []
 script_of s o (Forget i) refused = []
 
--- what the lines of a simulation leave of it; None where one is a fault
+-- the simulation after some lines of its file; None if one is a fault
 abbrev pub simulated : RunningView → List SimulationLine → Option RunningView
 simulated s [] = Some s
 simulated s (line ∷ lines) = option_and_then (λ r. simulated r.0 lines) (running_reply s line)
@@ -53,7 +53,7 @@ simulated s (line ∷ lines) = option_and_then (λ r. simulated r.0 lines) (runn
 abbrev pub CutsNothing : DriveLine → Type 0
 CutsNothing line = (n k : ℕ) → line ≡ Notice n k → ⊥
 
--- what a line of a drive leaves of the simulation, those that stand for it leave of it
+-- a line that cuts no session and the lines of its record lead to the same simulation
 abbrev pub ScriptsStandForLines : Type 0
 ScriptsStandForLines =
     (s : RunningView) (o : OwnView) (line : DriveLine) (q : Outcome) → CutsNothing line → outcome_of s o line ≡ Some q
@@ -103,7 +103,7 @@ StepsHaveNumbers =
 
 -- ---- all lines
 
--- the lines that stand for the text of a line, if it is one that is taken
+-- the lines of the record for the text of a line, if the line is accepted
 abbrev pub script_in : RunningView → OwnView → List ℕ → List SimulationLine
 script_in s o text = option_map_or (λ line. option_map_or (λ q. script_of s o line q.refused) (outcome_of s o line) [])
     (line_in s.world o.forgotten text) []
@@ -132,7 +132,7 @@ line_script options times v line =
     if says_notice line then [] else option_map_or (λ q. place_script options times v.place.own v.place.progress line)
     (place_reply options times v.place.own v.place.progress line) []
 
--- the lines behind the links that stand for the lines of a recorded drive, from one on
+-- the lines of the record after the links, for the lines of a recorded drive from one on
 unfoldable pub scripts : WorldOptions → Times → DriveView → List (List ℕ) → List SimulationLine
 scripts options times v [] = []
 scripts options times v (line ∷ lines) = line_script options times v line
@@ -149,7 +149,7 @@ pub record IsSimulated (options : WorldOptions) (times : Times) (script : List S
   pub begins : started options links dests marks times ≡ Some first
   pub leads : simulated (begun_in dests (plain times) first) script ≡ Some s
 
--- behind any lines of a recorded drive, its simulation is what the lines that stand for them leave
+-- after any lines of a recorded drive, its simulation is the result of the lines of the record
 abbrev pub RecordsAreSimulated : Type 0
 RecordsAreSimulated =
     (options : WorldOptions) (times : Times) (lines : List (List ℕ)) (v : DriveView) (s : RunningView)

@@ -27,7 +27,7 @@ step_pass nodes ends far w =
     (plan_then (each (sends_of far) ends)
     (each_end turn.Pump ends))) w
 
--- passes until one has no event, and so many at most
+-- passes until one has no event, at most this many
 unfoldable pub step_passes : ℕ → List ℕ → List (ℕ × ℕ) → List (ℕ × ℕ) → Plan
 step_passes zero nodes ends far w = []
 step_passes (suc k) nodes ends far w = if is_empty (step_pass nodes ends far w) then []

@@ -35,7 +35,8 @@ last_sent w sender receiver bytes forgotten (suc i) =
 abbrev pub number_of_bytes : World → ℕ → ℕ → ℕ → List ℕ → ℕ
 number_of_bytes w forgotten sender receiver bytes = last_sent w sender receiver bytes forgotten (length w.datagrams)
 
--- behind `take `: the receiver, the sender and the bytes in hexadecimal digits; it is the delivery of that datagram
+-- the rest of a line after `take `: the receiver, the sender, and the bytes in hexadecimal digits; it is the delivery
+-- of that datagram
 unfoldable pub taking : World → ℕ → List ℕ → Option DriveLine
 taking w forgotten text = do
   a ← cut 32 text

@@ -33,14 +33,14 @@ use tora_lines::words::LineError;
 use tora_script::{Running, SimulationLine, has_end};
 use tora_world::{Event, SimError};
 
-/// Puts `refused N` behind a text.
+/// Appends `refused N` to a text.
 fn refuse(out: &mut String, error: SimError) -> Result<(), AllocError>
     ensures { OnOk result (string_bytes out.new ≡ string_bytes out.old ++ refusal_text (Some error)) }
 {
     numbered(out, "refused ", u64::from(error.number()))
 }
 
-/// Makes an event happen, puts its refusal behind a text, and says whether it was refused.
+/// Makes an event happen and appends its refusal, if any, to a text. Returns whether it was refused.
 fn happen<S: Driven>(
     running: &mut Running<S>,
     event: &Event,
@@ -60,7 +60,7 @@ fn happen<S: Driven>(
     }
 }
 
-/// Whether an event is the delivery of a datagram that can't be named any more.
+/// Whether an event is the delivery of a forgotten datagram, which can no longer be named.
 fn is_forgotten(own: &Own, event: &Event) -> bool
     ensures { result ≡ is_forgotten (own_view own.now) event.now }
 {
@@ -70,7 +70,7 @@ fn is_forgotten(own: &Own, event: &Event) -> bool
     }
 }
 
-/// Makes an event happen, unless it names what is forgotten.
+/// Makes an event happen, unless it names a forgotten datagram. Returns whether it was refused.
 fn event<S: Driven>(
     running: &mut Running<S>,
     own: &Own,
@@ -106,7 +106,7 @@ fn step<S: Driven>(alloc: Global, running: &mut Running<S>, own: &mut Own) -> Re
     own.put(text.as_bytes())
 }
 
-/// Makes an end silent, or no longer so; a fault where there is no such end.
+/// Makes an end silent or ends its silence. A fault if there is no such end.
 fn silence<S: Driven>(
     running: &Running<S>,
     own: &mut Own,
@@ -130,8 +130,8 @@ fn silence<S: Driven>(
     Ok(())
 }
 
-/// Cuts the life that an end is bound to, and says whether that is refused, since it is bound to none; a fault where
-/// there is no such end. A refusal stands behind an empty text.
+/// Cuts the session of an end. Returns whether that is refused, because the end is not bound; the refusal is written to
+/// an empty text. A fault if there is no such end.
 fn notice<S: Driven>(
     running: &mut Running<S>,
     own: &Own,
@@ -156,8 +156,8 @@ fn notice<S: Driven>(
     Ok(false)
 }
 
-/// Puts the bytes of a datagram behind an empty text, and says whether that is refused, since there is no such
-/// datagram.
+/// Writes the bytes of a datagram to an empty text. Returns whether that is refused, because there is no such datagram
+/// or it is forgotten.
 fn write_bytes<S: Driven>(
     running: &Running<S>,
     own: &Own,
@@ -186,7 +186,7 @@ fn write_bytes<S: Driven>(
     }
 }
 
-/// Forgets the datagrams up to a number, and says whether that is refused, since there is no such datagram.
+/// Forgets the datagrams up to a number. Returns whether that is refused, because fewer were sent.
 fn forget<S: Driven>(
     running: &Running<S>,
     own: &mut Own,
@@ -208,8 +208,8 @@ fn forget<S: Driven>(
     Ok(false)
 }
 
-/// Does what a line of a simulation file asks for, puts what is printed first behind an empty text, and says whether it
-/// was refused.
+/// Carries out a line of a simulation file, and writes its first output to an empty text. Returns whether it was
+/// refused.
 fn perform_script<S: Driven>(
     running: &mut Running<S>,
     own: &Own,
@@ -230,7 +230,7 @@ fn perform_script<S: Driven>(
     }
 }
 
-/// Does what a line asks for, puts what is printed first behind an empty text, and says whether it was refused.
+/// Carries out a line, and writes its first output to an empty text. Returns whether it was refused.
 #[tactic(auto, unfolding(crate::specs::DriveText::outcome_of))]
 fn perform<S: Driven>(
     alloc: Global,
@@ -271,7 +271,7 @@ fn perform<S: Driven>(
     }
 }
 
-/// Records a line that was taken, if lines are recorded; the events of a step are recorded as they happen.
+/// Records an accepted line, if there is a record; the events of a step are recorded as they happen.
 fn record_line(
     alloc: Global,
     own: &mut Own,
@@ -295,7 +295,7 @@ fn record_line(
     }
 }
 
-/// Puts `ok` behind a text, unless the line was refused.
+/// Appends `ok` to a text, unless the line was refused.
 fn close(out: &mut String, is_refused: bool) -> Result<(), AllocError>
     ensures { OnOk result (string_bytes out.new ≡ string_bytes out.old ++ closing is_refused) }
 {
@@ -316,8 +316,8 @@ fn is_unrecorded_step(own: &Own, line: &DriveLine) -> bool
     }
 }
 
-/// What a step does behind its tick, and what is told of it, behind a text. Where nothing is to be done nothing
-/// changes, and so no next hop is looked up.
+/// Does what a step does after its tick, and appends what it sent and changed to a text. If nothing is to be done,
+/// nothing changes, and no next hop is read.
 #[tactic(auto, using(crate::proofs::QuietLaws::quiet_world))]
 fn finish<S: Driven>(
     alloc: Global,
@@ -364,7 +364,7 @@ fn answer_step<S: Driven>(
     close(out, false)
 }
 
-/// Takes any line, whose text it is, and puts the answer behind an empty text, and what stands for the line behind the
+/// Carries out any line, given with its text. Writes the answer to an empty text, and appends the lines for it to the
 /// record, if there is one.
 fn answer_line<S: Driven>(
     alloc: Global,
@@ -395,7 +395,7 @@ fn answer_line<S: Driven>(
     Ok(())
 }
 
-/// Takes a line of a running simulation, puts the answer behind an empty text, and what stands for the line behind the
+/// Takes a line of a running simulation. Writes the answer to an empty text, and appends the lines for it to the
 /// record, if there is one. A line that is a fault changes nothing.
 #[tactic(auto, unfolding(crate::specs::DriveText::answer_to))]
 pub fn answer<S: Driven>(

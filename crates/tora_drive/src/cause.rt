@@ -16,13 +16,13 @@ pub enum Cause {
     Dests,
     /// It comes after the first line and is not `link A B`.
     NoLink,
-    /// It comes after links that are refused.
+    /// It comes after the links, and these are refused.
     Topology,
     /// It names a node, a link or a destination that does not exist.
     Name,
     /// It has none of the forms of a line.
     Word,
-    /// The drive is recorded, and no line of a simulation file corresponds to it.
+    /// The drive is recorded, and no line of a simulation file has the effect of this line.
     Recorded,
 }
 

@@ -1,12 +1,12 @@
-//! What is kept of a drive between two lines.
+//! The state of a drive between two lines.
 ghost use Rattle.tora_arq.specs.Settings.{IsTimes};
 
 use crate::own::Own;
 use tora_arq::Times;
 use tora_script::{Stage, WorldOptions};
 
-/// A drive, by how many lines came, the options of its world, the times of its link ends, none of which is 0, the
-/// simulation that the lines made, and what is kept beside it.
+/// A drive: the number of its lines so far, the options of its world, the times of its link ends (none is 0), the
+/// simulation, and the state that only a drive has.
 #[derive(Drop)]
 pub struct Drive<S> {
     pub lines: u64,

@@ -1,4 +1,4 @@
-//! What a drive asks of a simulator.
+//! The simulator as a drive uses it.
 ghost use Rattle.std.specs.Prelude.{◌≡◌};
 ghost use Rattle.tora_world.specs.World.{datagram};
 ghost use Rattle.tora_arq.specs.LinkEnd.{bound_life};
@@ -24,7 +24,7 @@ pub trait Driven: Simulator {
     fn flag(&self, n: Id, d: Id) -> bool
         ensures { result ≡ flag_at (Self.world self.now) n d };
 
-    /// The life that the end of a node towards another is bound in; `None` where it is not bound, or where there is no
+    /// The session that the end of a node towards another is bound to. `None` if it is not bound, or if there is no
     /// such end.
     fn bound_life(&self, n: Id, k: Id) -> Option<Life>
         ensures { result ≡ bound_life ((Self.world self.now).ends n k) };

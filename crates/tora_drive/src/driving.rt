@@ -13,15 +13,14 @@ use tora_arq::Times;
 use tora_lines::{Ended, Input, Output, ReplayError, read_shortened_lines};
 use tora_script::{Stage, WorldOptions};
 
-/// Reads lines to the end of the input, and writes the answer to each of them by one call of the writer's `write_all`,
-/// before it reads on. The world has these options, and its link ends have these times, none of which is 0.
+/// Reads lines to the end of the input. It answers each line by one call of the writer's `write_all` before it reads
+/// on. The world has these options, and its link ends have these times, none of which is 0.
 ///
-/// A line of more than 4,096 bytes is taken as an empty one, which is a fault wherever it stands: the world stays as it
-/// stood, and the drive goes on.
+/// A line of more than 4,096 bytes counts as an empty one, which is always a fault: the world does not change, and the
+/// drive goes on.
 ///
 /// # Errors
-/// `Memory` where memory was refused; `Read` where a read failed, or 2^32 reads came to no end; `Write` where a write
-/// failed.
+/// `Memory` if memory ran out; `Read` if a read failed, or after 2^32 reads without an end; `Write` if a write failed.
 #[tactic(auto, unfolding(tora_lines::specs::Shortened::shortened_text_of))]
 pub fn drive_in<S: Driven, R: Input, W: Output>(
     alloc: Global,
@@ -31,11 +30,11 @@ pub fn drive_in<S: Driven, R: Input, W: Output>(
     writer: &mut W,
 ) -> Result<Ended, ReplayError>
     requires { IsTimes times }
-    // What was written is the answers to all lines, and the input ends so.
+    // The text written is the answers to all lines, and `ended` is how the input ends.
     ensures whole { IfOk result (λ ended. IfSome (R.remaining reader.old) (λ input.
         Drives options times input (W.contents writer.old) (W.contents writer.new) ended)) }
     ensures at_end { result ≡ Ok Ended.Whole → IsAtEnd (R.remaining reader.new) }
-    // What was written begins the answers to what was read.
+    // The text written is a prefix of the answers to the lines that were read.
     ensures begun { IfErr result (λ e. e ≢ ReplayError.Write →
         IsDriveBegun options times (R.remaining reader.old) (R.remaining reader.new) (W.contents writer.old)
         (W.contents writer.new)) }

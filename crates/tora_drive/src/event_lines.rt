@@ -1,4 +1,4 @@
-//! The lines of events, as a simulation file has them.
+//! The lines of events in a simulation file.
 ghost use Rattle.std.specs.Prelude.{◌≡◌, ◌++◌, ◌∷◌, [], codes, OnOk, option_map, string_bytes};
 ghost use Rattle.std.specs.Fmt.{decimal};
 ghost use Rattle.tora_script.specs.SimulationGrammar.{call_text};
@@ -8,14 +8,14 @@ use std::alloc::AllocError;
 use tora_height::Id;
 use tora_world::{Call, Event};
 
-/// Puts a word and two nodes behind a text.
+/// Appends a word and two nodes to a text.
 fn write_pair(out: &mut String, word: &str, n: Id, k: Id) -> Result<(), AllocError>
     ensures { OnOk result (string_bytes out.new ≡ string_bytes out.old ++ pair_text word.now n k) }
 {
     write!(out, "{word}{n} {k}")
 }
 
-/// Puts a word and a number behind a text.
+/// Appends a word and a number to a text.
 fn write_number(out: &mut String, word: &str, n: u64) -> Result<(), AllocError>
     ensures { OnOk result (string_bytes out.new ≡ string_bytes out.old ++ word.now ++ decimal n) }
 {
@@ -35,7 +35,7 @@ fn call_text(call: Call) -> &'static str
     }
 }
 
-/// Puts `arm N CALL` behind a text.
+/// Appends `arm N CALL` to a text.
 fn write_arm(out: &mut String, n: Id, call: Call) -> Result<(), AllocError>
     ensures { OnOk result (string_bytes out.new ≡ string_bytes out.old ++ codes "arm " ++ decimal n ++ codes " "
         ++ call_text call) }
@@ -44,7 +44,7 @@ fn write_arm(out: &mut String, n: Id, call: Call) -> Result<(), AllocError>
     write!(out, "arm {n} {call}")
 }
 
-/// Puts `restart N T` behind a text, for a T of these digits.
+/// Appends `restart N T` to a text. T is these digits.
 fn write_digits(out: &mut String, n: Id, digits: &str) -> Result<(), AllocError>
     ensures { OnOk result (string_bytes out.new ≡ string_bytes out.old ++ codes "restart " ++ decimal n ++ codes " "
         ++ digits.now) }
@@ -52,7 +52,7 @@ fn write_digits(out: &mut String, n: Id, digits: &str) -> Result<(), AllocError>
     write!(out, "restart {n} {digits}")
 }
 
-/// Puts `restart N T` behind a text.
+/// Appends `restart N T` to a text.
 fn write_restart(out: &mut String, n: Id, torn: Option<[u8; 16]>) -> Result<(), AllocError>
     ensures { OnOk result (string_bytes out.new ≡ string_bytes out.old ++ codes "restart " ++ decimal n ++ codes " "
         ++ torn_text torn) }
@@ -70,7 +70,7 @@ fn write_restart(out: &mut String, n: Id, torn: Option<[u8; 16]>) -> Result<(), 
     write_digits(out, n, digits)
 }
 
-/// Puts the line of an event behind a text, without its end.
+/// Appends the line of an event, without its LF, to a text.
 #[tactic(auto, unfolding(crate::specs::Recording::event_text))]
 fn write_event(out: &mut String, event: &Event) -> Result<(), AllocError>
     ensures { OnOk result (string_bytes out.new ≡ string_bytes out.old ++ event_text event.now) }
@@ -89,7 +89,7 @@ fn write_event(out: &mut String, event: &Event) -> Result<(), AllocError>
     }
 }
 
-/// Puts the line of an event behind a text.
+/// Appends the line of an event to a text.
 pub fn tell_event(out: &mut String, event: &Event) -> Result<(), AllocError>
     ensures { OnOk result (string_bytes out.new ≡ string_bytes out.old ++ event_line event.now) }
 {

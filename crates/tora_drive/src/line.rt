@@ -1,4 +1,4 @@
-//! The lines of a drive behind the links.
+//! The lines of a drive after the links.
 ghost use Rattle.std.specs.Prelude.{◌≡◌};
 ghost use Rattle.tora_drive.specs.DriveLines.{own_line_of, drive_line_of};
 ghost use Rattle.tora_drive.specs.Recording.{says_notice};
@@ -7,24 +7,24 @@ use tora_height::Id;
 use tora_lines::{after, words};
 use tora_script::{SimulationLine, is_word, pair, simulation_line};
 
-/// What a line behind the links asks for.
+/// A line after the links.
 #[derive(Clone, Copy, Debug)]
 pub enum DriveLine {
-    /// It is a line of a simulation file.
+    /// A line of a simulation file.
     Script(SimulationLine),
     /// A round in which no datagram is delivered.
     Step,
-    /// The routes that are required are to be printed.
+    /// Prints the routes that are required.
     Needs,
-    /// The end of the first node towards the second is no longer silent.
+    /// Ends the silence of the first node's end towards the second.
     Near(Id, Id),
-    /// The end of the first node towards the second sends nothing in a step.
+    /// Makes the first node's end towards the second silent: it sends nothing in a step.
     Far(Id, Id),
-    /// The end of the first node towards the second cuts the life that it is bound to.
+    /// Cuts the session of the first node's end towards the second.
     Notice(Id, Id),
-    /// The bytes of a datagram are to be printed, by its number from 1.
+    /// Prints the bytes of the datagram with this number, from 1.
     Bytes(u64),
-    /// The datagrams up to this number can't be named any more.
+    /// Forgets the datagrams up to this number: they can no longer be named.
     Forget(u64),
 }
 
@@ -54,7 +54,7 @@ fn own_line(text: &[u8]) -> Option<DriveLine>
     None
 }
 
-/// A line behind the links.
+/// A line after the links.
 #[tactic(auto, unfolding(crate::specs::DriveLines::drive_line_of))]
 pub fn drive_line(text: &[u8]) -> Option<DriveLine>
     ensures { result ≡ drive_line_of text.now }
@@ -71,7 +71,7 @@ pub fn drive_line(text: &[u8]) -> Option<DriveLine>
     }
 }
 
-/// Whether a line says `notice N K`.
+/// Whether a line is `notice N K`.
 pub fn says_notice(text: &[u8]) -> bool
     ensures { result ≡ says_notice text.now }
 {

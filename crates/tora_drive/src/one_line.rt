@@ -1,4 +1,4 @@
-//! A drive that is handed one line after another.
+//! A drive that takes one line per call.
 ghost use Rattle.std.specs.Prelude.{◌≡◌, [], None, IfErr, OnOk, string_bytes};
 ghost use Rattle.tora_arq.specs.Settings.{IsTimes};
 ghost use Rattle.tora_lines.specs.Shortened.{shortened};
@@ -14,7 +14,7 @@ use tora_arq::Times;
 use tora_lines::LONGEST_LINE;
 use tora_script::{Stage, WorldOptions};
 
-/// The line, or an empty one where it is too long.
+/// The line, or an empty one if it is too long.
 fn shortened(line: &[u8]) -> &[u8]
     ensures { result.now ≡ shortened line.now }
 {
@@ -22,7 +22,7 @@ fn shortened(line: &[u8]) -> &[u8]
 }
 
 impl<S: Driven> Drive<S> {
-    /// A drive to which no line came: its world will have these options, and its link ends these times, none of which
+    /// A drive before its first line. Its world will have these options, and its link ends these times, none of which
     /// is 0. It takes no memory.
     pub fn new(alloc: Global, options: WorldOptions, times: Times) -> Drive<S>
         requires { IsTimes times }
@@ -40,7 +40,7 @@ impl<S: Driven> Drive<S> {
         }
     }
 
-    /// Lets all go that lines made.
+    /// Resets the drive to the state that `new` makes.
     fn begin_anew(&mut self, alloc: Global)
         ensures view { view_of S.world self.new ≡ (drive_rules self.old.options self.old.times).start }
         ensures record { record_view self.new.own ≡ None }
@@ -52,12 +52,11 @@ impl<S: Driven> Drive<S> {
         self.own = Own::new(alloc);
     }
 
-    /// Takes a line, which is given without its end, as `drive_in` takes the lines of its input: one of more than 4,096
-    /// bytes as an empty one, which is a fault. The text is then the answer alone. Where the lines end, nothing is
-    /// printed.
+    /// Takes a line without its LF, as `drive_in` takes the lines of its input: a line of more than 4,096 bytes counts
+    /// as an empty one, which is a fault. The text is then the answer.
     ///
     /// # Errors
-    /// Where memory was refused: the text is empty, and the drive is as `new` made it.
+    /// Out of memory; then the text is empty, and the drive is as `new` makes it.
     pub fn answer(
         &mut self,
         alloc: Global,

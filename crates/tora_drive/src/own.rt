@@ -1,4 +1,4 @@
-//! What a drive keeps beside the simulation.
+//! The state that a drive has besides the simulation.
 ghost use Rattle.std.specs.Prelude.{◌≡◌, [], OnOk, Some, None, if◌then◌else◌};
 ghost use Rattle.tora_drive.specs.DriveText.{first_own, with_far, without_far};
 ghost use Rattle.tora_drive.specs.DriveView.{own_view, record_view};
@@ -10,17 +10,17 @@ use std::alloc::{AllocError, Global};
 use tora_height::Id;
 use tora_world::Event;
 
-/// The ends that are silent, each as its node and its neighbour, the number up to which datagrams can't be named any
-/// more, and the lines of a simulation file that stand for the last line.
+/// The silent ends, each as its node and its neighbour; the number up to which datagrams are forgotten; and the record
+/// of the last line.
 #[derive(Drop)]
 pub struct Own {
     pub far: Vec<(Id, Id)>,
     pub forgotten: u64,
-    /// None where nothing is recorded.
+    /// The lines of a simulation file for the last line; `None` if there is no record.
     pub recorded: Option<Vec<u8>>,
 }
 
-/// Takes an end away from silent ones.
+/// Removes an end from the silent ones.
 fn take_away(far: &mut Vec<(Id, Id)>, end: (Id, Id))
     ensures { far.new.items ≡ without_far end far.old.items }
 {
@@ -40,7 +40,7 @@ impl Own {
         }
     }
 
-    /// The same with a record, which is empty.
+    /// The same state, with an empty record.
     pub fn recorded(alloc: Global) -> Own
         ensures view { own_view result ≡ first_own }
         ensures record { record_view result ≡ Some [] }
@@ -52,7 +52,7 @@ impl Own {
         }
     }
 
-    /// Takes all out of the record, if there is one.
+    /// Empties the record, if there is one.
     pub fn clear_record(&mut self)
         ensures view { own_view self.new ≡ own_view self.old }
         ensures record { record_view self.new ≡ cleared (record_view self.old) }
@@ -62,7 +62,7 @@ impl Own {
         }
     }
 
-    /// Begins the record anew, where there is to be one.
+    /// Starts an empty record if `is_recorded`. Otherwise there is no record.
     pub fn renew_record(&mut self, alloc: Global, is_recorded: bool)
         ensures view { own_view self.new ≡ own_view self.old }
         ensures record { record_view self.new ≡ (if is_recorded then Some [] else None) }
@@ -74,7 +74,7 @@ impl Own {
         };
     }
 
-    /// Puts bytes behind the record, if there is one.
+    /// Appends bytes to the record, if there is one.
     pub fn put(&mut self, bytes: &[u8]) -> Result<(), AllocError>
         ensures view { own_view self.new ≡ own_view self.old }
         ensures record { OnOk result (record_view self.new ≡ with_record (record_view self.old) bytes.now) }
@@ -85,7 +85,7 @@ impl Own {
         Ok(())
     }
 
-    /// Puts a line and its end behind the record, if there is one.
+    /// Appends a line and its LF to the record, if there is one.
     pub fn put_line(&mut self, line: &[u8]) -> Result<(), AllocError>
         ensures view { own_view self.new ≡ own_view self.old }
         ensures record { OnOk result (record_view self.new ≡ with_line (record_view self.old) line.now) }
@@ -94,7 +94,7 @@ impl Own {
         self.put(b"\n")
     }
 
-    /// Puts the line of an event behind the record, if there is one.
+    /// Appends the line of an event to the record, if there is one.
     pub fn put_event(&mut self, alloc: Global, event: &Event) -> Result<(), AllocError>
         ensures view { own_view self.new ≡ own_view self.old }
         ensures record { OnOk result (record_view self.new ≡ with_record (record_view self.old) (event_line event.now)) }
@@ -122,7 +122,7 @@ impl Own {
         Ok(())
     }
 
-    /// Makes an end silent no longer.
+    /// Ends the silence of an end.
     pub fn wake(&mut self, end: (Id, Id))
         ensures view { own_view self.new ≡ record (own_view self.old) { far = without_far end (own_view self.old).far } }
         ensures record { record_view self.new ≡ record_view self.old }

@@ -25,7 +25,7 @@ pub struct Recording<'a, S, W> {
     out: &'a mut TraceOut<W>,
 }
 
-/// Writes what stands for the last line.
+/// Writes the record of the last line.
 fn hand_on<W: Output>(own: &Own, out: &mut TraceOut<W>)
     ensures { ArePut W.did_write out.old (record_view own.now) out.new }
 {
@@ -54,12 +54,11 @@ impl<S: Driven, W: Output> FileKind for Recording<'_, S, W> {
     }
 }
 
-/// Drives as `drive_in` does, and writes the record of the lines that are taken: a simulation file that stands for
-/// them. It has the lines in front of the world, the orders as they are, the line of each event that is not refused,
-/// and the events of each `step`, one by one; `needs`, `near`, `far`, `bytes` and `forget` change no world and have no
-/// line. `notice N K` has none either, and is a fault.
+/// Drives as `drive_in` does, and writes a record: a simulation file with the same effect. It has the lines before the
+/// world, the orders, the line of each accepted event, and the events of each `step`. `needs`, `near`, `far`, `bytes`
+/// and `forget` do not change the world and are not recorded. `notice N K` is a fault.
 ///
-/// A record that can't be written stops nothing; `out` says so then.
+/// The drive goes on if the record cannot be written; `out` then has the error.
 #[tactic(auto, unfolding(tora_lines::specs::Shortened::shortened_text_of))]
 pub fn drive_recorded<S: Driven, R: Input, W: Output, V: Output>(
     alloc: Global,
@@ -70,11 +69,11 @@ pub fn drive_recorded<S: Driven, R: Input, W: Output, V: Output>(
     out: &mut TraceOut<V>,
 ) -> Result<Ended, ReplayError>
     requires { IsTimes times }
-    // What was written is the answers to all lines, and the input ends so.
+    // The text written is the answers to all lines, and `ended` is how the input ends.
     ensures whole { IfOk result (λ ended. IfSome (R.remaining reader.old) (λ input.
         DrivesRecorded options times input (W.contents writer.old) (W.contents writer.new) ended)) }
     ensures at_end { result ≡ Ok Ended.Whole → IsAtEnd (R.remaining reader.new) }
-    // What was written begins the answers to what was read.
+    // The text written is a prefix of the answers to the lines that were read.
     ensures begun { IfErr result (λ e. e ≢ ReplayError.Write →
         IsRecordedBegun options times (R.remaining reader.old) (R.remaining reader.new) (W.contents writer.old)
         (W.contents writer.new)) }

@@ -16,22 +16,22 @@ use tora_script::{Running, SimulationLine, Simulator};
 use tora_trace::HopText;
 use tora_world::Event;
 
-/// How many bytes a HELLO has.
+/// The length of a HELLO in bytes.
 const HELLO_LENGTH: usize = 28;
 
-/// How many bytes an ACK has.
+/// The length of an ACK in bytes.
 const ACK_LENGTH: usize = 36;
 
-/// The next hop of a node to a destination, as it was.
+/// The next hop of a node to a destination before a line.
 #[derive(Clone, Copy, Debug)]
 pub struct Route {
     pub node: Id,
     pub destination: Id,
-    /// None where there was none.
+    /// `None` if there was none.
     pub hop: Option<Id>,
 }
 
-/// How many bytes a frame has; it is spelled for that only where it has packets.
+/// The length of a frame in bytes. Only a frame with packets is encoded for that.
 fn length_of(frame: &BorrowedFrame<'_>) -> usize
     ensures { result ≡ length (frame_spelling frame.now) }
 {
@@ -42,7 +42,7 @@ fn length_of(frame: &BorrowedFrame<'_>) -> usize
     }
 }
 
-/// How many bytes a frame has, as it is spelled.
+/// The length of a frame's encoding.
 #[inline(never)]
 fn spelled_length(frame: &BorrowedFrame<'_>) -> usize
     ensures { result ≡ length (frame_spelling frame.now) }
@@ -50,7 +50,7 @@ fn spelled_length(frame: &BorrowedFrame<'_>) -> usize
     encode(&frame.to_frame()).len()
 }
 
-/// Puts `sent A B ID LENGTH` behind a text.
+/// Appends `sent A B ID LENGTH` to a text.
 #[tactic(auto, unfolding(crate::specs::Records::sent_line))]
 fn write_datagram(out: &mut String, i: u64, frame: &BorrowedFrame<'_>) -> Result<(), AllocError>
     ensures { OnOk result (string_bytes out.new ≡ string_bytes out.old ++ sent_line i frame.now) }
@@ -61,7 +61,7 @@ fn write_datagram(out: &mut String, i: u64, frame: &BorrowedFrame<'_>) -> Result
     writeln!(out, "sent {sender} {receiver} {i} {length}")
 }
 
-/// Puts the line of a datagram behind a text, by its number from 1.
+/// Appends the line of a datagram, given by its number from 1, to a text.
 fn write_sent_one<S: Driven>(out: &mut String, sim: &S, i: u64) -> Result<(), AllocError>
     requires { 0 < i }
     ensures { OnOk result (string_bytes out.new ≡ string_bytes out.old ++ sent_of (S.world sim.now) (i)) }
@@ -72,7 +72,7 @@ fn write_sent_one<S: Driven>(out: &mut String, sim: &S, i: u64) -> Result<(), Al
     }
 }
 
-/// Puts the lines of the datagrams behind a text that come after the first ones.
+/// Appends the lines of the datagrams numbered above `first` to a text.
 pub fn write_sent<S: Driven>(out: &mut String, sim: &S, first: u64) -> Result<(), AllocError>
     ensures { OnOk result (string_bytes out.new ≡ string_bytes out.old
         ++ sent_from (S.world sim.now) (first) (length (S.world sim.now).datagrams - first)) }
@@ -83,7 +83,7 @@ pub fn write_sent<S: Driven>(out: &mut String, sim: &S, first: u64) -> Result<()
     Ok(())
 }
 
-/// Puts the next hops of a node behind others.
+/// Appends the next hops of a node to a list.
 fn put_routes<S: Simulator>(
     routes: &mut Vec<Route>,
     sim: &S,
@@ -102,7 +102,7 @@ fn put_routes<S: Simulator>(
     Ok(())
 }
 
-/// Puts `bytes ID` and hexadecimal digits behind a text.
+/// Appends `bytes ID` and hexadecimal digits to a text.
 fn write_digits(out: &mut String, i: u64, digits: &str) -> Result<(), AllocError>
     ensures { OnOk result (string_bytes out.new ≡ string_bytes out.old ++ codes "bytes " ++ decimal i ++ codes " "
         ++ digits.now ++ 10 ∷ []) }
@@ -110,7 +110,7 @@ fn write_digits(out: &mut String, i: u64, digits: &str) -> Result<(), AllocError
     writeln!(out, "bytes {i} {digits}")
 }
 
-/// Puts `bytes ID HEX` behind a text.
+/// Appends `bytes ID HEX` to a text.
 #[tactic(auto, unfolding(crate::specs::DriveText::bytes_line))]
 pub fn write_frame(out: &mut String, i: u64, frame: &Frame) -> Result<(), AllocError>
     ensures { OnOk result (string_bytes out.new ≡ string_bytes out.old ++ bytes_line i frame.now) }
@@ -151,7 +151,7 @@ pub fn routes_in<S: Driven>(alloc: Global, running: &Running<S>) -> Result<Vec<R
     routes(alloc, &running.sim, &running.nodes, &running.dests)
 }
 
-/// Whether a line may turn a core, or make one anew: no other changes a next hop.
+/// Whether a line may change a next hop: it lets a core take items, or restarts a node.
 fn may_change_hops(line: &DriveLine) -> bool
     ensures { result ≡ may_change_hops line.now }
 {
@@ -164,7 +164,7 @@ fn may_change_hops(line: &DriveLine) -> bool
     }
 }
 
-/// The next hops before a line, where it may change them.
+/// The next hops before a line that may change them; none for another line.
 pub fn routes_before<S: Driven>(
     alloc: Global,
     running: &Running<S>,
@@ -191,7 +191,7 @@ fn is_same_hop(a: Option<Id>, b: Option<Id>) -> bool
     }
 }
 
-/// Puts `hop N D K` behind a text, where the next hop is another one now.
+/// Appends `hop N D K` to a text if the next hop has changed.
 #[tactic(auto, unfolding(crate::specs::Records::hop_line))]
 fn write_hop<S: Simulator>(out: &mut String, sim: &S, route: &Route) -> Result<(), AllocError>
     ensures { OnOk result (string_bytes out.new ≡ string_bytes out.old ++ hop_line (S.world sim.now) route.now) }
@@ -205,7 +205,7 @@ fn write_hop<S: Simulator>(out: &mut String, sim: &S, route: &Route) -> Result<(
     writeln!(out, "hop {n} {d} {hop}")
 }
 
-/// Puts the lines of the next hops that are others now behind a text.
+/// Appends a line for each next hop that has changed to a text.
 pub fn write_hops<S: Simulator>(
     out: &mut String,
     sim: &S,

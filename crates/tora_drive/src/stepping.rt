@@ -21,7 +21,7 @@ pub fn is_far(far: &[(Id, Id)], end: (Id, Id)) -> bool
     far.iter().any(|e| end.0 == e.0 && end.1 == e.1)
 }
 
-/// Lets an end send its frames, unless it is silent. The place is that of the end.
+/// Lets an end send its due frames, unless it is silent. `place` is its index.
 fn send_of<S: Simulator>(
     sim: &mut S,
     place: usize,
@@ -37,8 +37,8 @@ fn send_of<S: Simulator>(
     turn_end(sim, EndTurn::Transmit, place, end, MOST_TIMES)
 }
 
-/// Lets each end send its frames that is not silent. Where it is known that these are the ends of the simulator, those
-/// at which nothing is due are passed over.
+/// Lets each end that is not silent send its due frames. If `known`, these are the ends of the simulator, and those
+/// that have nothing to do are skipped.
 fn send_all<S: Simulator>(
     sim: &mut S,
     known: bool,
@@ -62,7 +62,7 @@ fn send_all<S: Simulator>(
     Ok(some)
 }
 
-/// One pass, and whether it had an event.
+/// Makes one pass, and returns whether an event happened in it.
 #[tactic(auto, unfolding(crate::specs::Steps::step_pass))]
 fn pass<S: Simulator>(
     sim: &mut S,
@@ -82,8 +82,9 @@ fn pass<S: Simulator>(
     Ok(either(turned, either(pulled, either(sent, pumped))))
 }
 
-/// Passes until one has no event. The simulator settles behind that one, too: what was delivered since the last step
-/// may have left it unknown whether anything is to be done, and so the steps that follow would look at all.
+/// Makes passes until one has no event, at most `MOST_PASSES`, and lets the simulator settle after each, also after the
+/// last: deliveries since the last step may have left it unknown whether anything is to be done, and then each later
+/// step would visit every end.
 fn make_passes<S: Simulator>(
     sim: &mut S,
     nodes: &[Id],
@@ -113,7 +114,7 @@ pub fn tick<S: Simulator>(sim: &mut S) -> Result<(), AllocError>
     Ok(())
 }
 
-/// What a step does behind its tick.
+/// Does what a step does after its tick.
 pub fn finish_step<S: Simulator>(
     sim: &mut S,
     nodes: &[Id],

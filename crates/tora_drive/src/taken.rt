@@ -1,4 +1,4 @@
-//! Bytes that came to a node, as the datagram that they are.
+//! A received datagram, found by its bytes.
 ghost use Rattle.std.specs.Prelude.{◌≡◌};
 ghost use Rattle.std.specs.Result.{result_ok};
 ghost use Rattle.hex.specs.Hex.{decode_of};
@@ -16,7 +16,7 @@ use tora_lines::{after, words};
 use tora_script::{SimulationLine, is_word};
 use tora_world::Event;
 
-/// Whether a datagram went from one node to another, and has these bytes.
+/// Whether a datagram was sent from one node to another and has these bytes.
 fn is_sent_so(frame: &Frame, sender: Id, receiver: Id, bytes: &[u8]) -> bool
     ensures { result ≡ is_sent_so sender receiver bytes.now frame.now }
 {
@@ -35,7 +35,8 @@ fn is_sent_at<S: Driven>(sim: &S, i: u64, sender: Id, receiver: Id, bytes: &[u8]
     }
 }
 
-/// The number of the last datagram from a node to another that has these bytes, and is not forgotten; 0 for none.
+/// The number of the last datagram from one node to another that has these bytes and is not forgotten; 0 if there is
+/// none.
 fn number_of_bytes<S: Driven>(
     sim: &S,
     forgotten: u64,
@@ -58,7 +59,7 @@ fn number_of_bytes<S: Driven>(
     0
 }
 
-/// The bytes that hexadecimal digits stand for.
+/// The bytes that hexadecimal digits encode.
 fn bytes_of(alloc: Global, digits: &[u8]) -> Result<Vec<u8>, LineError>
     ensures { Gives (λ v. v.items) result (result_ok (decode_of digits.now)) }
 {
@@ -96,7 +97,7 @@ fn taking<S: Driven>(
     Ok(DriveLine::Script(SimulationLine::Happens(Event::Deliver(i))))
 }
 
-/// What a line says in a world.
+/// The line of a drive with this text. `take A B HEX` is the delivery of the datagram with these bytes.
 #[tactic(auto, unfolding(crate::specs::Taking::line_in))]
 pub fn line_in<S: Driven>(
     alloc: Global,

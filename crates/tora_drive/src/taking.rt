@@ -1,4 +1,4 @@
-//! A drive takes a line.
+//! How a drive takes a line.
 ghost use Rattle.std.specs.Prelude.{◌≡◌, ◌++◌, [], length, false, OnOk, IfOk, Err, string_bytes};
 ghost use Rattle.tora_arq.specs.Settings.{IsTimes};
 ghost use Rattle.tora_lines.specs.Gives.{Gives};
@@ -23,8 +23,8 @@ use tora_script::{
     LinkLines, Running, Setup, Stage, WorldOptions, first_line, link, mark, take_link, take_mark,
 };
 
-/// Takes a line behind the last link and what is said of single nodes, which makes the world; at least one link is
-/// required. A line that is a fault changes nothing.
+/// Takes the first line after the links and the lines about nodes, and makes the world; at least one link is required.
+/// A line that is a fault changes nothing.
 fn begin<S: Driven>(
     alloc: Global,
     options: WorldOptions,
@@ -55,14 +55,14 @@ fn begin<S: Driven>(
     Ok(running)
 }
 
-/// Puts `ok` behind a text.
+/// Appends `ok` to a text.
 fn acknowledge(text: &mut String) -> Result<(), AllocError>
     ensures { OnOk result (string_bytes text.new ≡ string_bytes text.old ++ closing false) }
 {
     writeln!(text, "ok")
 }
 
-/// Puts `ok` behind a text, and a line behind the record, if there is one.
+/// Appends `ok` to a text, and a line to the record, if there is one.
 fn take_in(own: &mut Own, line: &[u8], text: &mut String) -> Result<(), AllocError>
     ensures text { OnOk result (string_bytes text.new ≡ string_bytes text.old ++ closing false) }
     ensures view { own_view own.new ≡ own_view own.old }
@@ -72,10 +72,9 @@ fn take_in(own: &mut Own, line: &[u8], text: &mut String) -> Result<(), AllocErr
     acknowledge(text)
 }
 
-/// Takes the first line; the links come behind it.
+/// Takes the first line, after which the links follow.
 ///
-/// As `begin_run` it stands in a function of its own, which is never put into its caller: else every line of a drive
-/// would make room for a simulation.
+/// Like `begin_run` it is never inlined; otherwise every line of a drive would need stack space for a simulation.
 #[inline(never)]
 fn begin_links<S: Driven>(stage: &mut Stage<S>, alloc: Global, line: &[u8]) -> Result<(), LineError>
     ensures gives { Gives (λ _. progress_of S.world stage.new) result (first_progress line.now) }
@@ -85,8 +84,8 @@ fn begin_links<S: Driven>(stage: &mut Stage<S>, alloc: Global, line: &[u8]) -> R
     Ok(())
 }
 
-/// Takes a line behind the links that is none of them and says nothing of a node; the simulation runs behind it. At any
-/// other place there is no such line, and nothing changes.
+/// Takes the first line after the links and the lines about nodes, and starts the simulation. At any other stage it is
+/// a fault, and nothing changes.
 #[inline(never)]
 fn begin_run<S: Driven>(
     stage: &mut Stage<S>,
@@ -114,8 +113,8 @@ fn begin_run<S: Driven>(
     Ok(())
 }
 
-/// Takes a line, puts the answer behind an empty text, and what stands for the line behind the record, if there is one.
-/// A line that is a fault changes nothing.
+/// Takes a line. Writes the answer to an empty text, and appends the lines for it to the record, if there is one. A
+/// line that is a fault changes nothing.
 #[tactic(auto, unfolding(crate::specs::DriveText::place_reply, crate::specs::Recording::place_recorded))]
 fn take_line<S: Driven>(
     stage: &mut Stage<S>,
@@ -201,7 +200,7 @@ impl<S: Driven> Drive<S> {
         }
     }
 
-    /// Takes a line that no line of a record stands for, as a fault: it puts the answer behind an empty text.
+    /// Refuses, as a fault, a line that cannot be recorded, and writes the answer to an empty text.
     pub fn refuse(&mut self, text: &mut String) -> Result<(), AllocError>
         requires { string_bytes text.old ≡ [] }
         ensures answer { OnOk result ((view_of S.world self.new, string_bytes text.new)

@@ -1,4 +1,4 @@
-//! A step whose events are told: the same as `stepping`, with the line of each event that happened.
+//! A step that also writes the line of each event that happened; otherwise as in `stepping`.
 ghost use Rattle.std.specs.Prelude.{IfOk, string_bytes};
 ghost use Rattle.tora_script.specs.Rounds.{repeats, each, each_core};
 ghost use Rattle.tora_drive.specs.Recording.{HappenedTold, Told, turns_of};
@@ -57,7 +57,7 @@ fn tell_cores<S: Simulator>(
     Ok(some)
 }
 
-/// Gives an end its turn, unless it is one of those that are left out. The place is that of the end.
+/// Gives an end its turn, unless it is in `left_out`. `place` is its index.
 fn tell_end<S: Simulator>(
     sim: &mut S,
     place: usize,
@@ -77,7 +77,7 @@ fn tell_end<S: Simulator>(
     repeat_told(sim, place, &kind.event(end), most, text)
 }
 
-/// Gives each end its turn that is not left out.
+/// Gives each end its turn, except those in `left_out`.
 fn tell_ends<S: Simulator>(
     sim: &mut S,
     ends: &[(Id, Id)],
@@ -98,7 +98,7 @@ fn tell_ends<S: Simulator>(
     Ok(some)
 }
 
-/// One pass, and whether it had an event.
+/// Makes one pass, and returns whether an event happened in it.
 fn pass_told<S: Simulator>(
     sim: &mut S,
     nodes: &[Id],
@@ -117,7 +117,7 @@ fn pass_told<S: Simulator>(
     Ok(either(turned, either(pulled, either(sent, pumped))))
 }
 
-/// Passes until one has no event.
+/// Makes passes until one has no event, at most `MOST_PASSES`.
 fn make_passes_told<S: Simulator>(
     sim: &mut S,
     nodes: &[Id],

@@ -27,7 +27,7 @@ use tora_seat::{Cargo, OutLanes};
 #[derive(Drop)]
 pub struct Links {
     list: Vec<Link>,
-    /// Buffers for the frame that is read or spelled. They are kept, since to make one is to write all of it.
+    /// Buffers for the frame that is decoded or encoded. They are reused, because making one writes all of it.
     packets: Packets,
     bytes: ArrayVec<u8, LONGEST_FRAME>,
 }

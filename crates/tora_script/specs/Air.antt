@@ -34,12 +34,12 @@ air_view air = record { round = air.round; later = air.later.items }
 abbrev pub first_air : AirView
 first_air = record { round = 0; later = [] }
 
--- 1 where a datagram went this way
+-- 1 if the datagram was sent in this direction, otherwise 0
 abbrev pub goes : ℕ × ℕ → Option FrameParts → ℕ
 goes way None = 0
 goes way (Some f) = if (f.header.sender == way.0) && (f.header.receiver == way.1) then 1 else 0
 
--- how many went this way, of so many behind the first ones
+-- how many of the `count` datagrams after number `first` were sent in this direction
 unfoldable pub gone : World → ℕ × ℕ → ℕ → ℕ → ℕ
 gone w way first zero = 0
 gone w way first (suc count) = gone w way first count + goes way (datagram w (first + count + 1))
@@ -84,7 +84,7 @@ put_off_of parted m i w None = []
 put_off_of parted m i w (Some f) = if is_parted parted f.header.sender f.header.receiver then []
     else later_copies i (copies_in m i (f.header.sender, f.header.receiver) w)
 
--- what is put off, of so many datagrams since the round began
+-- the delayed copies of this many datagrams since the round began
 unfoldable pub put_off : List (ℕ × ℕ) → MomentView → ℕ → World → List (ℕ × ℕ)
 put_off parted m zero w = []
 put_off parted m (suc count) w = put_off parted m count w ++ put_off_of parted m (m.start + count + 1) w
@@ -94,7 +94,7 @@ put_off parted m (suc count) w = put_off parted m count w ++ put_off_of parted m
 abbrev pub still_later : List (ℕ × ℕ) → List (ℕ × ℕ)
 still_later later = map (λ p. (p.0 - 1, p.1)) (filter (λ p. nat_lt 1 p.0) later)
 
--- the air behind a round that led to a world
+-- the number of the round and the delayed copies after a round that led to a world
 abbrev pub after_air : List (ℕ × ℕ) → MomentView → AirView → World → AirView
 after_air parted m air w = record {
   round = (air.round + 1) % 2 ^ 64;

@@ -1,4 +1,4 @@
--- What the lines right behind the links say of single nodes.
+-- The lines about single nodes, directly after the links.
 use Rattle.std.specs.Prelude.{ℕ, filter_map, List, [], ◌∷◌, ◌++◌, Option, Some, None, if◌then◌else◌, fold}
 use Rattle.tora_core.specs.declared.erasure.Erasure.{Erasure}
 use Rattle.tora_world.specs.Topology.{Topology, is_node}
@@ -19,12 +19,11 @@ choice_in (Erases n erasure) = Some (n, erasure)
 abbrev pub choices_in : List Mark → List (ℕ × Erasure)
 choices_in marks = filter_map choice_in marks
 
--- the same topology, but for the link ends of a node, which speak version 1 of frames alone; where there is no such
--- node, nothing is changed
+-- the topology, in which the link ends of this node speak only version 1; unchanged if there is no such node
 abbrev pub with_old_node : Topology → ℕ → Topology
 with_old_node t n = if is_node t n then with_olds t (with_old n t.olds) else t
 
--- the same topology, but for what a node makes of erased levels; where there is no such node, nothing is changed
+-- the topology with this node's choice of erasure; unchanged if there is no such node
 abbrev pub with_choice : Topology → ℕ → Erasure → Topology
 with_choice t n erasure = if is_node t n then record t { choices = t.choices ++ (n, erasure) ∷ [] } else t
 

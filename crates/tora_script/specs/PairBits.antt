@@ -15,6 +15,6 @@ place_of key = key.1 % 64
 abbrev pub has_bit : List ℕ → ℕ × ℕ → Bool
 has_bit words key = bit_at (slice_index words (word_of key)) (place_of key) == 1
 
--- the bits tell of any two nodes below 1,024 whether they are parted
+-- for any two nodes below 1,024 their bit is set exactly if they are parted
 abbrev pub AreBits : List ℕ → List (ℕ × ℕ) → Type 0
 AreBits words pairs = (a b : ℕ) → a < 1024 → b < 1024 → has_bit words (key_of (a, b)) ≡ is_parted pairs a b

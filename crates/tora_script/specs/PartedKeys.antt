@@ -8,6 +8,6 @@ use Rattle.tora_script.specs.Parted.{is_parted}
 abbrev pub key_of : ℕ × ℕ → ℕ × ℕ
 key_of p = (min p.0 p.1, max p.0 p.1)
 
--- the keys tell of any two nodes whether they are parted
+-- the keys have the pair of two nodes exactly if they are parted
 abbrev pub AreKeys : {S : Type 0} → HashSet (ℕ × ℕ) S → List (ℕ × ℕ) → Type 0
 AreKeys keys pairs = (a b : ℕ) → contains pair_eq keys (key_of (a, b)) ≡ is_parted pairs a b

@@ -78,13 +78,13 @@ delivery_of parted m i (Some f) w = if is_parted parted f.header.sender f.header
 abbrev pub delivery : List (ℕ × ℕ) → MomentView → ℕ → Plan
 delivery parted m i w = delivery_of parted m i (datagram w i) w
 
--- so many datagrams behind the first ones, in order
+-- the deliveries of this many datagrams after number `first`, in order
 unfoldable pub deliveries : List (ℕ × ℕ) → MomentView → ℕ → ℕ → Plan
 deliveries parted m first zero w = []
 deliveries parted m first (suc count) w = plan_then (delivery parted m (first + 1))
     (deliveries parted m (first + 1) count) w
 
--- each datagram that was sent since there were so many
+-- the deliveries of all datagrams numbered above `first`
 abbrev pub new_deliveries : List (ℕ × ℕ) → MomentView → ℕ → Plan
 new_deliveries parted m first w = deliveries parted m first (length w.datagrams - first) w
 
@@ -96,7 +96,7 @@ pass nodes ends parted m w =
     (plan_then (new_deliveries parted m (length w.datagrams))
     (each_end turn.Pump ends)))) w
 
--- passes until one has no event, and so many at most
+-- passes until one has no event, at most this many
 unfoldable pub passes : ℕ → List ℕ → List (ℕ × ℕ) → List (ℕ × ℕ) → MomentView → Plan
 passes zero nodes ends parted m w = []
 passes (suc k) nodes ends parted m w = if is_empty (pass nodes ends parted m w) then []
@@ -125,7 +125,7 @@ moment_of channel s = record { channel = channel; round = s.air.round; start = l
 abbrev pub sky_behind : List (ℕ × ℕ) → MomentView → AirView → World → Sky
 sky_behind parted m air w = record { world = w; air = after_air parted m air w }
 
--- one round: the world is the world behind its events
+-- one round: the world after its events
 unfoldable pub after_round : List ℕ → List (ℕ × ℕ) → List (ℕ × ℕ) → Channels → Sky → Sky
 after_round nodes ends parted channel s =
     sky_behind parted (moment_of channel s) s.air (world_after_all s.world
@@ -138,6 +138,6 @@ rounds (suc r) nodes ends parted channel s = rounds r nodes ends parted channel
 
 -- ---- what the code of a round does
 
--- these are the link ends of the world, in their order, where that is known
+-- if `known`, these are the link ends of the world, in their order
 abbrev pub AreKnown : Bool → List (ℕ × ℕ) → World → Type 0
 AreKnown known ends w = known ≡ true → ends ≡ ends_in w.topology

@@ -74,7 +74,7 @@ SpellsEvent text (CoreTurn n) = SpellsId (codes "turn ") text n
 SpellsEvent text (Arm n call) = SpellsArm text n call
 SpellsEvent text (Restart n torn) = SpellsRestart text n torn
 
--- a line behind the links
+-- a line after the links
 abbrev pub SpellsSimulationLine : List ℕ → SimulationLine → Type 0
 SpellsSimulationLine text (Happens event) = SpellsEvent text event
 SpellsSimulationLine text (Rounds r) = (r ≤ 10000) × SpellsNumber (codes "rounds ") text r

@@ -156,7 +156,7 @@ abbrev pub first_of_two : {A : Type 0} → Option A → Option A → Option A
 first_of_two (Some x) other = Some x
 first_of_two None other = other
 
--- a line behind the links
+-- a line after the links
 unfoldable pub simulation_line_of : List ℕ → Option SimulationLine
 simulation_line_of text =
     first_of_two (option_map (λ event. Happens event) (end_event_of text))

@@ -73,14 +73,14 @@ abbrev pub refusal_text : Option SimError → List ℕ
 refusal_text None = []
 refusal_text (Some error) = numbered (codes "refused ") (sim_error_number error)
 
--- an event: nothing, or `refused N` where it changes nothing
+-- an event: no text, or `refused N` if it changes nothing
 abbrev pub event_reply : RunningView → Event → Reply
 event_reply s event = (record s { world = world_after s.world event }, refusal_text (refusal_of s.world event))
 
 abbrev pub with_sky : RunningView → Sky → RunningView
 with_sky s sky = record s { world = sky.world; air = sky.air }
 
--- so many rounds over a channel
+-- the simulation after this many rounds over a channel
 abbrev pub after_rounds_on : Channels → ℕ → RunningView → RunningView
 after_rounds_on channel r s =
     with_sky s (rounds r s.nodes s.ends s.parted channel (record { world = s.world; air = s.air }))
@@ -110,7 +110,7 @@ part_of s a b = record s {
       else s.world;
 }
 
--- NULL where there is no height
+-- the height, or NULL if there is none
 abbrev pub known_height : Option (Option Quintuple) → Option Quintuple
 known_height None = None
 known_height (Some entry) = entry
@@ -143,15 +143,15 @@ exact_text is_exact = numbered (codes "exact ") (if is_exact then 1 else 0)
 abbrev pub exact_reply : RunningView → ℕ → Option Reply
 exact_reply s d = if has_number d s.dests then Some (s, exact_text (exact_in s.world d)) else None
 
--- a node behind the first of a walk
+-- a node of a walk after the first
 abbrev pub next_text : ℕ → List ℕ
 next_text n = 44 ∷ decimal n
 
--- the nodes behind the first, each after a comma
+-- the nodes of a walk after the first, each after a comma
 abbrev pub rest_text : List ℕ → List ℕ
 rest_text nodes = flat_map next_text nodes
 
--- `walk LIST`, and `walk -` where there is no walk
+-- `walk LIST`, or `walk -` if there is no walk
 abbrev pub nodes_text : List ℕ → List ℕ
 nodes_text [] = codes "walk -" ++ 10 ∷ []
 nodes_text (n ∷ nodes) = codes "walk " ++ decimal n ++ rest_text nodes ++ 10 ∷ []
@@ -185,7 +185,7 @@ running_reply s Rest = Some (at_rest_reply s)
 
 -- ---- a line of a simulation that ends with a round, and over a channel that the lines of a table change
 
--- nothing is done any more once so many rounds are done
+-- the last round was made: later lines do nothing
 abbrev pub is_done : Option ℕ → ℕ → Bool
 is_done None round = false
 is_done (Some until) round = nat_le until round
@@ -228,7 +228,7 @@ with_link dests links (mark ∷ marks) link = None
 abbrev pub is_linked : ℕ → List (ℕ × ℕ) → Bool
 is_linked n links = list_any (λ p. (p.0 == n) || (p.1 == n)) links
 
--- what is said of one node more, where a link names it, and there is a topology of the links within the limits
+-- the lines with one more about a node, if a link names the node and there is a topology of the links within the limits
 abbrev pub with_mark_line : Limits → List ℕ → List (ℕ × ℕ) → List Mark → Mark → Option Progress
 with_mark_line limits dests links marks mark = if is_linked (marked mark) links && has_topology limits links dests
     then Some (Links dests links (marks ++ mark ∷ [])) else None
@@ -242,26 +242,26 @@ left_by r = (Runs r.0, r.1)
 abbrev pub silent : Progress → Progress × List ℕ
 silent progress = (progress, [])
 
--- behind the links: the world is made, and the line is one of its simulation
+-- the first line after the links: the world is made, and carries out the line
 abbrev pub first_run : Setup → List ChannelLine → List ℕ → List (ℕ × ℕ) → List Mark → List ℕ → Option Reply
 first_run setup table dests links marks line = option_and_then (λ w.
     script_line_reply setup.until table (begun_in dests setup w) line)
     (started setup.options links dests marks setup.times)
 
--- the line behind the last link and what is said of single nodes: at least one link is required
+-- the first line after the links and the lines about nodes: at least one link is required
 abbrev pub behind_links : Setup → List ChannelLine → List ℕ → List (ℕ × ℕ) → List Mark → List ℕ
     → Option (Progress × List ℕ)
 behind_links setup table dests [] marks line = None
 behind_links setup table dests (link ∷ links) marks line = option_map left_by
     (first_run setup table dests (link ∷ links) marks line)
 
--- the same at any stage: only links can have such a line behind them
+-- `behind_links` at any stage; None unless the stage is `Links`
 abbrev pub run_begun : Setup → List ChannelLine → Progress → List ℕ → Option (Progress × List ℕ)
 run_begun setup table First line = None
 run_begun setup table (Links dests links marks) line = behind_links setup table dests links marks line
 run_begun setup table (Runs s) line = None
 
--- a line behind the first, which may say a link, or something of a node
+-- a line after the first line: a link, a line about a node, or the first line of the running simulation
 abbrev pub link_reply : Setup → List ChannelLine → List ℕ → List (ℕ × ℕ) → List Mark → List ℕ → Option (ℕ × ℕ)
     → Option Mark → Option (Progress × List ℕ)
 link_reply setup table dests links marks line (Some link) mark = option_map silent (with_link dests links marks link)
@@ -269,7 +269,7 @@ link_reply setup table dests links marks line None (Some mark) =
     option_map silent (with_mark_line setup.options.limits dests links marks mark)
 link_reply setup table dests links marks line None None = behind_links setup table dests links marks line
 
--- behind the first line
+-- the stage after the first line
 abbrev pub first_progress : List ℕ → Option Progress
 first_progress line = option_map (λ dests. Links dests [] []) (dests_of line)
 
@@ -281,8 +281,8 @@ simulation_reply setup table (Runs s) line = option_map left_by (script_line_rep
 
 -- ---- the end
 
--- the first line or a link is still required: a fault of the line that would come next; where there is no such
--- topology, of the last link's line
+-- the line that is a fault if the input ends after the first line: the next line if there is no link, the last line if
+-- there is no such topology
 abbrev pub end_of_links : Limits → ℕ → List ℕ → List (ℕ × ℕ) → Option ℕ
 end_of_links limits n dests [] = Some n
 end_of_links limits n dests (link ∷ links) = if has_topology limits (link ∷ links) dests then None else Some (n - 1)
@@ -300,7 +300,7 @@ rules_with setup table = record {
   at_end = simulation_at_end setup;
 }
 
--- the same without a table
+-- the rules without a table
 abbrev pub rules_over : Setup → Rules Progress
 rules_over setup = rules_with setup []
 
@@ -328,7 +328,7 @@ IsFirstFaultOver setup progress n lines m = IsFirstFaultBy (rules_over setup) pr
 abbrev pub SimulatesOver : Setup → List ℕ → Option (List ℕ) → Option (List ℕ) → Ended → Type 0
 SimulatesOver setup input old new ended = IsWholeText (whole_text (rules_over setup)) input old new ended
 
--- The reader gave some bytes, and the writer got a front of what is printed for them.
+-- The reader gave some bytes, and the text written is a prefix of the text for them.
 abbrev pub IsBegunOver : Setup → Option (List ℕ) → Option (List ℕ) → Option (List ℕ) → Option (List ℕ) → Type 0
 IsBegunOver setup old_reader new_reader old_writer new_writer =
     IsFrontOfText (whole_text (rules_over setup)) old_reader new_reader old_writer new_writer
@@ -355,7 +355,7 @@ IsFirstFaultWith setup table progress n lines m = IsFirstFaultBy (rules_with set
 abbrev pub SimulatesWith : Setup → List ChannelLine → List ℕ → Option (List ℕ) → Option (List ℕ) → Ended → Type 0
 SimulatesWith setup table input old new ended = IsWholeText (whole_text (rules_with setup table)) input old new ended
 
--- The reader gave some bytes, and the writer got a front of what is printed for them.
+-- The reader gave some bytes, and the text written is a prefix of the text for them.
 abbrev pub IsBegunWith : Setup → List ChannelLine → Option (List ℕ) → Option (List ℕ) → Option (List ℕ)
     → Option (List ℕ) → Type 0
 IsBegunWith setup table old_reader new_reader old_writer new_writer =

@@ -1,4 +1,4 @@
--- The kind of file that a simulation is whose refusals are told.
+-- A simulation that reports its refusals, as a kind of file.
 use Rattle.tora_world.specs.World.{World}
 use Rattle.tora_script.specs.declared.told_simulation.Told.{Told}
 use Rattle.tora_lines.specs.LineText.{text_from}

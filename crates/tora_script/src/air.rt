@@ -1,4 +1,5 @@
-//! What rounds have in the air.
+//! The copies of datagrams that the channel delays to later rounds. For its random numbers, the earlier datagrams of a
+//! round in the same direction are counted.
 ghost use Rattle.std.specs.Prelude.{◌≡◌, ◌+◌, ◌-◌, ◌++◌, ◌<◌, Option, Some, length, option_map, IfOk, OnOk, true};
 ghost use Rattle.tora_frame.specs.FrameParts.{FrameParts};
 ghost use Rattle.tora_channel.specs.Table.{over, copies_on};
@@ -15,17 +16,17 @@ use std::alloc::{AllocError, Global};
 use tora_channel::{Copies, Place};
 use tora_height::Id;
 
-/// How many rounds there were, and the datagrams that come in later ones.
+/// The number of rounds so far, and the datagrams that arrive in later rounds.
 #[derive(Drop)]
 pub struct Air {
-    /// How many rounds there were; behind 2^64 - 1 comes 0.
+    /// The number of rounds so far, modulo 2^64.
     pub round: u64,
-    /// In how many rounds a datagram comes, from 1, and its number.
+    /// For each delayed copy: after how many more rounds it arrives, at least 1, and the number of its datagram.
     pub later: Vec<(u64, u64)>,
 }
 
 impl Air {
-    /// Before the first round.
+    /// The state before the first round.
     pub fn new(alloc: Global) -> Air
         ensures { air_view result ≡ first_air }
     {
@@ -36,17 +37,17 @@ impl Air {
     }
 }
 
-/// A round.
+/// A round: its network, and how many rounds and datagrams there were before it.
 #[derive(Clone, Copy)]
 pub struct Moment<'a> {
     pub network: Network<'a>,
     /// Whether it is known that the network's link ends are those of the simulator, in its order.
     pub is_known: bool,
-    /// How many rounds were made before it.
+    /// The number of rounds before this one.
     pub round: u64,
-    /// How many datagrams were sent before it.
+    /// The number of datagrams sent before this round.
     pub start: u64,
-    /// Where it takes memory from.
+    /// The allocator that the round uses.
     pub alloc: Global,
 }
 
@@ -66,7 +67,7 @@ impl Moment<'_> {
     }
 }
 
-/// 1 where a datagram went this way, and else 0.
+/// 1 if a datagram was sent in this direction, otherwise 0.
 fn goes(way: (Id, Id), datagram: Option<(Id, Id)>) -> u64
     ensures bound { result < 2 }
     ensures value { (f : Option FrameParts) → datagram ≡ option_map (λ f. (f.header.sender, f.header.receiver)) f
@@ -82,7 +83,7 @@ fn goes(way: (Id, Id), datagram: Option<(Id, Id)>) -> u64
     }
 }
 
-/// How many datagrams went this way, behind the first ones and up to the end.
+/// How many of the datagrams numbered `first` + 1 to `end` were sent in this direction.
 #[tactic(auto, unfolding(crate::specs::Air::gone))]
 fn gone<S: Simulator>(sim: &S, way: (Id, Id), first: u64, end: u64) -> u64
     ensures { result ≡ gone (S.world sim.now) way first (end - first) }
@@ -94,7 +95,7 @@ fn gone<S: Simulator>(sim: &S, way: (Id, Id), first: u64, end: u64) -> u64
     gone
 }
 
-/// What becomes of a datagram that goes this way.
+/// The copies of datagram `i`, which was sent in this direction: how many rounds each is delayed.
 pub fn copies<S: Simulator>(sim: &S, moment: &Moment<'_>, i: u64, way: (Id, Id)) -> Copies
     ensures { result ≡ copies_in (moment_view moment.now) i way (S.world sim.now) }
 {
@@ -122,8 +123,8 @@ fn copies_behind(moment: &Moment<'_>, way: (Id, Id), before: u64) -> Copies
     moment.network.table.copies(moment.network.channel, place)
 }
 
-/// What becomes of datagram `i`, which goes this way, where those before it that the round sent are counted: it is
-/// counted, too.
+/// The copies of datagram `i`, which was sent in this direction. `ways` counts the earlier datagrams of the round, and
+/// then also this one.
 pub fn counted_copies<S: Simulator>(
     _sim: &S,
     moment: &Moment<'_>,
@@ -153,7 +154,7 @@ fn is_now(delay: Option<u64>) -> u64
     }
 }
 
-/// How often a datagram comes at once.
+/// How many copies of a datagram arrive in the round in which it is sent.
 pub fn at_once(copies: Copies) -> u64
     ensures { result ≡ at_once copies }
 {
@@ -161,7 +162,7 @@ pub fn at_once(copies: Copies) -> u64
 }
 
 impl Air {
-    /// Notes a copy that comes in a later round.
+    /// Stores a copy of datagram `i` that is delayed by at least one round. `delay` is in rounds; `None` means no copy.
     fn note(&mut self, i: u64, delay: Option<u64>) -> Result<(), AllocError>
         ensures later { OnOk result (self.new.later.items ≡ self.old.later.items ++ later_copy i delay) }
         ensures round { self.new.round ≡ self.old.round }
@@ -176,7 +177,7 @@ impl Air {
         }
     }
 
-    /// Notes both copies of a datagram, where they come in later rounds.
+    /// Stores those copies of a datagram that arrive in later rounds.
     fn note_both(&mut self, i: u64, copies: Copies) -> Result<(), AllocError>
         ensures later { OnOk result (self.new.later.items ≡ self.old.later.items ++ later_copies i copies) }
         ensures round { self.new.round ≡ self.old.round }
@@ -185,7 +186,7 @@ impl Air {
         self.note(i, copies.second)
     }
 
-    /// Notes the copies of a datagram that come in later rounds, unless its nodes are parted, and counts it.
+    /// Stores the copies of a datagram that arrive in later rounds, unless its nodes are parted. Counts the datagram.
     fn put_off_one<S: Simulator>(
         &mut self,
         sim: &S,
@@ -212,8 +213,8 @@ impl Air {
         Ok(())
     }
 
-    /// Notes what comes in later rounds, of all datagrams since the round began; over a clear channel there is nothing
-    /// such.
+    /// Stores the copies that arrive in later rounds, of all datagrams sent since the round began. Over a clear channel
+    /// there are none.
     #[tactic(auto, unfolding(crate::specs::Air::put_off))]
     fn put_off<S: Simulator>(&mut self, sim: &S, moment: &Moment<'_>) -> Result<(), AllocError>
         ensures later { OnOk result (self.new.later.items ≡ self.old.later.items
@@ -231,7 +232,7 @@ impl Air {
         Ok(())
     }
 
-    /// Keeps what comes still later than in the next round.
+    /// Removes the copies that arrived in this round, and lowers the delay of the others by 1.
     fn pass_on(&mut self) -> Result<(), AllocError>
         ensures later { OnOk result (self.new.later.items ≡ still_later self.old.later.items) }
         ensures round { self.new.round ≡ self.old.round }
@@ -247,7 +248,7 @@ impl Air {
         Ok(())
     }
 
-    /// Goes on to the next round, once the passes of this one are over.
+    /// Ends a round after its last pass: updates the delayed copies, and advances the number of the round.
     pub fn go_on<S: Simulator>(&mut self, sim: &S, moment: &Moment<'_>) -> Result<(), AllocError>
         ensures { OnOk result (air_view self.new ≡ after_air moment.now.network.parted.now (moment_view moment.now)
             (air_view self.old) (S.world sim.now)) }

@@ -54,7 +54,7 @@ pub enum SimulationCause {
 }
 
 impl SimulationCause {
-    /// What it says, up to the numbers that it has.
+    /// The text of the cause, without the numbers in it.
     fn words(self) -> &'static str {
         match self {
             Self::Missing => "the input ends where the first line is required",
@@ -89,7 +89,7 @@ impl SimulationCause {
         }
     }
 
-    /// What it says of a line after the links.
+    /// The text of a cause of a line after the links.
     fn words_behind_links(self) -> &'static str {
         match self {
             Self::Word =>
@@ -139,7 +139,7 @@ impl Display for SimulationCause {
 
 impl Error for SimulationCause {}
 
-/// What can be seen of a line without its words, if that is a fault.
+/// The fault of a line that does not depend on its words: it is empty, or ends with a carriage return or a blank.
 fn shape_cause(line: &[u8]) -> Option<SimulationCause> {
     if line.is_empty() {
         return Some(SimulationCause::Empty);

@@ -1,4 +1,4 @@
-//! What rounds are over the clear channel.
+//! Rounds over the clear channel.
 ghost use Rattle.std.specs.Prelude.{◌≡◌, ℕ, List, []};
 ghost use Rattle.tora_channel.specs.Table.{clear};
 ghost use Rattle.tora_world.specs.World.{World, datagram};
@@ -7,8 +7,8 @@ ghost use Rattle.tora_script.specs.Rounds.{arrival_of, delivery};
 
 use tora_channel::Channel;
 
-/// Over the clear channel each datagram of a pass is delivered in it, once, unless its nodes are parted, and nothing is
-/// put off.
+/// Over the clear channel each datagram of a pass is delivered in that pass, once, unless its nodes are parted, and
+/// none is delayed.
 pub fn clear_channel_delivers_at_once()
     ensures now { (parted : List (ℕ × ℕ)) (m : AnyMoment) (i : ℕ) (w : World) → m.channel ≡ clear
         → delivery parted m i w ≡ arrival_of parted i (datagram w i) w }

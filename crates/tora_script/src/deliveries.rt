@@ -1,4 +1,4 @@
-//! The datagrams of a pass are delivered.
+//! The deliveries of a pass.
 ghost use Rattle.std.specs.Prelude.{◌≡◌, ◌<◌, ◌≤◌, ◌-◌, true, IfOk, OnOk};
 ghost use Rattle.tora_world.specs.World.{datagram};
 ghost use Rattle.tora_script.specs.Air.{moment_view, IsClear};
@@ -11,10 +11,10 @@ use crate::turns::either;
 use crate::ways::Ways;
 use std::alloc::{AllocError, Global};
 
-/// Delivers the datagrams behind the first ones.
+/// Delivers the datagrams numbered above `first`.
 ///
-/// What becomes of a datagram over a channel depends on how many of its round went its way before it: they are counted
-/// as they come.
+/// What the channel does with a datagram depends on how many earlier ones of its round were sent in the same direction,
+/// so the datagrams are counted as they are delivered.
 pub fn deliver_new<S: Simulator>(
     sim: &mut S,
     moment: &Moment<'_>,
@@ -44,7 +44,7 @@ fn is_to_count<S: Simulator>(sim: &S, moment: &Moment<'_>, first: u64) -> bool
     first < sim.datagrams()
 }
 
-/// Delivers a datagram over a clear channel, unless its nodes are parted: it comes at once, and once.
+/// Delivers a datagram over a clear channel, at once and once, unless its nodes are parted.
 #[inline(always)]
 fn deliver_once<S: Simulator>(sim: &mut S, moment: &Moment<'_>, i: u64) -> Result<bool, AllocError>
     requires { IsClear (moment_view moment.now) }
@@ -61,8 +61,8 @@ fn deliver_once<S: Simulator>(sim: &mut S, moment: &Moment<'_>, i: u64) -> Resul
     Ok(some)
 }
 
-/// Delivers the datagrams behind the first ones over a clear channel. It stands apart, so that its loop has registers
-/// of its own.
+/// Delivers the datagrams numbered above `first` over a clear channel. It is not inlined, so that its loop has
+/// registers of its own.
 #[inline(never)]
 fn deliver_clear<S: Simulator>(
     sim: &mut S,
@@ -137,7 +137,7 @@ fn deliver_next<S: Simulator>(
     Ok(some)
 }
 
-/// Counts the datagrams behind the first ones and up to the end.
+/// Counts by direction the datagrams numbered `first` + 1 to `end`.
 fn count_gone<S: Simulator>(
     sim: &S,
     alloc: Global,
@@ -153,7 +153,7 @@ fn count_gone<S: Simulator>(
     Ok(ways)
 }
 
-/// Counts datagram `i`, where those before it, behind the first ones, are counted.
+/// Counts datagram `i`. Those from `first` + 1 to `i` - 1 are counted already.
 fn count_one<S: Simulator>(sim: &S, first: u64, i: u64, ways: &mut Ways) -> Result<(), AllocError>
     requires behind { first < i }
     requires counted { AreCounted (S.world sim.now) ways.old first (i - 1 - first) }
@@ -166,7 +166,7 @@ fn count_one<S: Simulator>(sim: &S, first: u64, i: u64, ways: &mut Ways) -> Resu
     Ok(())
 }
 
-/// Delivers the datagrams behind the first ones, and counts each.
+/// Delivers the datagrams numbered above `first`, and counts each.
 fn deliver_counted<S: Simulator>(
     sim: &mut S,
     moment: &Moment<'_>,

@@ -1,4 +1,4 @@
-//! Whether a simulation file has come to its last round.
+//! Whether a simulation file has reached its last round.
 ghost use Rattle.std.specs.Prelude.{◌≡◌};
 ghost use Rattle.tora_script.specs.Done.{is_done_at};
 ghost use Rattle.tora_script.specs.SimulationText.{is_done};

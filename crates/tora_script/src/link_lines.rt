@@ -1,4 +1,4 @@
-//! The lines of a simulation file up to its links, and those that say something of single nodes right behind them.
+//! The lines of a simulation file up to its last link, and the lines about single nodes directly after the links.
 ghost use Rattle.std.specs.Prelude.{◌≡◌, ◌<◌, ◌++◌, ◌∷◌, [], ⊤, true, MatchBool, OnOk};
 ghost use Rattle.tora_script.specs.Simulator.{ArePairs, AreIds, has_topology};
 ghost use Rattle.tora_script.specs.KnownLimits.{is_same_limits, are_limits, has_known_topology};
@@ -8,28 +8,28 @@ use std::alloc::AllocError;
 use tora_height::Id;
 use tora_world::Limits;
 
-/// The lines before a simulation runs: the destinations, the links so far, and what is said so far of single nodes. No
-/// number of the first two is 0.
+/// The lines before a simulation runs: the destinations, the links so far, and the lines about nodes so far. No link
+/// and no destination has the number 0.
 #[derive(Drop)]
 pub struct LinkLines {
     pub dests: Vec<Id>,
     pub links: Vec<(Id, Id)>,
     pub marks: Vec<Mark>,
-    /// Limits within which it is known that there is a topology of these links and destinations.
+    /// Limits within which a topology of these links and destinations is known to exist.
     pub(crate) known: Option<Limits>,
     ghost dests_are_ids: { ∥ AreIds dests.items ∥₁ },
     ghost links_are_pairs: { ∥ ArePairs links.items ∥₁ },
     ghost topology_is_known: { has_known_topology known links.items dests.items ≡ true },
 }
 
-/// Whether two limits are the same.
+/// Whether two limits are equal.
 fn is_same_limits(a: Limits, b: Limits) -> bool
     ensures { result ≡ is_same_limits a b }
 {
     a.neighbours == b.neighbours && a.destinations == b.destinations && a.nodes == b.nodes
 }
 
-/// Whether the limits that are known, if any are, are these.
+/// Whether `known` has these limits.
 fn are_limits(known: Option<Limits>, limits: Limits) -> bool
     ensures { result ≡ are_limits known limits }
 {
@@ -40,7 +40,7 @@ fn are_limits(known: Option<Limits>, limits: Limits) -> bool
 }
 
 impl LinkLines {
-    /// Puts a link behind the others.
+    /// Appends a link.
     pub fn push(&mut self, link: (Id, Id)) -> Result<(), AllocError>
         requires { (0 < link.0) × (0 < link.1) }
         ensures dests { self.new.dests.items ≡ self.old.dests.items }
@@ -52,7 +52,7 @@ impl LinkLines {
         Ok(())
     }
 
-    /// Puts what is said of a node behind the others.
+    /// Appends a line about a node.
     pub fn push_mark(&mut self, mark: Mark) -> Result<(), AllocError>
         ensures dests { self.new.dests.items ≡ self.old.dests.items }
         ensures links { self.new.links.items ≡ self.old.links.items }
@@ -62,14 +62,14 @@ impl LinkLines {
         Ok(())
     }
 
-    /// Whether it is known that there is a topology of the links and destinations within these limits.
+    /// Whether a topology of the links and destinations is known to exist within these limits.
     pub(crate) fn is_known(&self, limits: Limits) -> bool
         ensures { MatchBool result (has_topology limits self.now.links.items self.now.dests.items ≡ true) ⊤ }
     {
         are_limits(self.known, limits)
     }
 
-    /// Keeps that there is a topology of the links and destinations within these limits, until a link comes.
+    /// Stores limits within which a topology of the links and destinations exists. A new link clears them.
     pub(crate) fn note(&mut self, limits: Limits)
         requires { has_topology limits self.old.links.items self.old.dests.items ≡ true }
         ensures dests { self.new.dests.items ≡ self.old.dests.items }

@@ -9,9 +9,9 @@ use tora_height::Id;
 /// A line about a node, directly after the links.
 #[derive(Clone, Copy, Debug)]
 pub enum Mark {
-    /// The link ends of the node speak version 1 of frames alone.
+    /// The link ends of the node speak only version 1 of frames.
     Old(Id),
-    /// The node makes this of erased levels.
+    /// The node's choice of erasure.
     Erases(Id, Erasure),
 }
 
@@ -37,7 +37,7 @@ fn choice_in(mark: Mark) -> Option<(Id, Erasure)>
     }
 }
 
-/// What single nodes make of erased levels, in the order in which it was said.
+/// The choices of erasure of single nodes, in the order of the lines.
 pub fn choices(alloc: Global, marks: &[Mark]) -> Result<Vec<(Id, Erasure)>, AllocError>
     ensures { IfOk result (λ v. v.items ≡ choices_in marks.now) }
 {

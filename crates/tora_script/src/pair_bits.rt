@@ -1,4 +1,4 @@
-//! A bit for each two nodes of small numbers: one look at it tells whether they are parted.
+//! A bit for each pair of nodes below 1,024: whether the two are parted.
 ghost use Rattle.std.specs.Prelude.{◌≡◌, ◌<◌, ◌≤◌, ℕ, true, false, cond, length, OnOk};
 ghost use Rattle.tora_script.specs.Pairs.{pair_eq};
 ghost use Rattle.tora_script.specs.PairBits.{word_of, place_of, has_bit};
@@ -9,16 +9,16 @@ use tora_height::Id;
 /// Nodes below this number have bits.
 pub const SMALL: Id = 1024;
 
-/// How many bits a word has.
+/// The number of bits in a word.
 const BITS: Id = 64;
 
-/// How many words the row of a lesser node has.
+/// The number of words in the row of a lower node.
 const ROW: usize = 16;
 
-/// How many words there are in all, where there are any.
+/// The number of words of all rows, once they are allocated.
 const WORDS: usize = 16_384;
 
-/// In which word the bit of a lesser node and a greater one stands.
+/// The index of the word with the bit of a lower and a higher node.
 #[inline(always)]
 fn word_of(key: (Id, Id)) -> usize
     ensures { result ≡ word_of key }
@@ -26,7 +26,7 @@ fn word_of(key: (Id, Id)) -> usize
     key.0 as usize * ROW + (key.1 / BITS) as usize
 }
 
-/// At which place of its word it stands.
+/// The place of the bit in its word.
 #[inline(always)]
 fn place_of(key: (Id, Id)) -> Id
     ensures { result ≡ place_of key }
@@ -34,7 +34,7 @@ fn place_of(key: (Id, Id)) -> Id
     key.1 % BITS
 }
 
-/// Whether the bit of a lesser node and a greater one is set; beyond the words none is.
+/// Whether the bit of a lower and a higher node is set; false if there is no such word.
 #[inline(always)]
 pub fn has_bit(words: &Vec<u64>, key: (Id, Id)) -> bool
     ensures { result ≡ has_bit words.now.items key }
@@ -61,7 +61,7 @@ pub fn make_bits(words: &mut Vec<u64>, key: (Id, Id)) -> Result<(), AllocError>
     Ok(())
 }
 
-/// Sets the bit of a lesser node and a greater one, where these have one.
+/// Sets the bit of a lower and a higher node, if they have one.
 pub fn set_bit(words: &mut Vec<u64>, key: (Id, Id))
     requires ordered { key.0 ≤ key.1 }
     requires many { key.1 < 1024 → 16384 ≤ length words.old.items }
@@ -74,7 +74,7 @@ pub fn set_bit(words: &mut Vec<u64>, key: (Id, Id))
     }
 }
 
-/// Clears the bit of a lesser node and a greater one, where these have one.
+/// Clears the bit of a lower and a higher node, if they have one.
 pub fn clear_bit(words: &mut Vec<u64>, key: (Id, Id))
     ensures { (other : ℕ × ℕ) → other.1 < 1024 → has_bit words.new.items other
         ≡ cond (pair_eq key other) false (has_bit words.old.items other) }

@@ -1,4 +1,4 @@
-//! The pairs of nodes that are parted, as contracts read them. They take no bytes.
+//! The parted pairs of nodes, for contracts only: a ghost list, which takes no memory.
 ghost use Rattle.std.specs.Prelude.{◌≡◌, ℕ, not, List, [], ◌∷◌, ◌++◌, filter};
 ghost use Rattle.std.specs.Borrow.{ftrue};
 ghost use Rattle.tora_script.specs.Parted.{is_same_pair};
@@ -13,7 +13,7 @@ pub struct NodePair {
     pub second: Id,
 }
 
-/// The pairs, in the order in which they were parted. No memory holds them.
+/// The parted pairs, in the order in which they were parted. They take no memory at run time.
 #[derive(Drop)]
 pub struct PairRecord {
     pub ghost pairs: { List (ℕ × ℕ) },
@@ -31,14 +31,14 @@ impl PairRecord {
         PairRecord {}
     }
 
-    /// With one pair more.
+    /// The pairs with one more.
     pub fn with(_before: &PairRecord, _pair: &NodePair) -> PairRecord
         ensures { result.pairs ≡ _before.now.pairs ++ (_pair.now.first, _pair.now.second) ∷ [] }
     {
         PairRecord {}
     }
 
-    /// Without the pairs of two nodes.
+    /// The pairs without those of the two nodes.
     pub fn without(_before: &PairRecord, _pair: &NodePair) -> PairRecord
         ensures { result.pairs ≡ filter (λ r. not (is_same_pair (_pair.now.first, _pair.now.second) r))
             _before.now.pairs }

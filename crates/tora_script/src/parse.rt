@@ -1,4 +1,4 @@
-//! Lines of a simulation file to what they say.
+//! Parses the lines of a simulation file.
 ghost use Rattle.std.specs.Prelude.{◌≡◌, ℕ, ◌<◌, List, Some, IfSome, IfOk, All};
 ghost use Rattle.tora_script.specs.declared.node_marks.Mark.{Mark as AnyMark};
 ghost use Rattle.tora_script.specs.declared.script_line.SimulationLine.{SimulationLine as AnySimulationLine};
@@ -22,7 +22,7 @@ use tora_world::{Call, Event};
 /// The most rounds of one line.
 const MOST_ROUNDS: u64 = 10_000;
 
-/// The greatest number of a life.
+/// The greatest session number.
 const GREATEST_LIFE: u64 = 0x4000_0000_0000_0000;
 
 /// Whether the text is this word.
@@ -57,7 +57,7 @@ fn life_number(text: &[u8]) -> Option<u64>
     }
 }
 
-/// The two numbers of a life.
+/// The two numbers of a session.
 #[tactic(auto, unfolding(crate::specs::SimulationLines::life_of))]
 fn life(text: &[u8]) -> Option<Life>
     ensures { result ≡ life_of text.now }
@@ -68,7 +68,7 @@ fn life(text: &[u8]) -> Option<Life>
     Some(Life { own, peer })
 }
 
-/// Two nodes and a life.
+/// Two nodes and a session.
 #[tactic(auto, unfolding(crate::specs::SimulationLines::lane_of))]
 fn lane(text: &[u8]) -> Option<(Id, Id, Life)>
     ensures { result ≡ lane_of text.now }
@@ -255,7 +255,7 @@ fn order_line(text: &[u8]) -> Option<SimulationLine>
     walk_line(text)
 }
 
-/// A line behind the links.
+/// A line after the links.
 #[tactic(auto, unfolding(crate::specs::SimulationLines::simulation_line_of))]
 pub fn simulation_line(text: &[u8]) -> Option<SimulationLine>
     ensures { result ≡ simulation_line_of text.now }
@@ -323,7 +323,7 @@ pub fn mark(text: &[u8]) -> Option<Mark>
     erases(after(b"erasure ", text)?)
 }
 
-/// A line of a simulation file is read exactly where it is written as the formats say.
+/// The parser accepts a line exactly if the grammar has it, and returns what the grammar says.
 pub fn simulation_lines_are_read_as_written()
     ensures found { (text : List ℕ) (line : AnySimulationLine) → simulation_line_of text ≡ Some line
         → SpellsSimulationLine text line }

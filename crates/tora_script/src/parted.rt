@@ -12,15 +12,15 @@ use std::collections::HashSet;
 use std::marker::Model;
 use tora_height::Id;
 
-/// Whether the same two nodes are named, in either order.
+/// Whether two pairs name the same two nodes, in either order.
 pub fn is_same_pair(p: (Id, Id), q: (Id, Id)) -> bool
     ensures { result ≡ is_same_pair p q }
 {
     (p.0 == q.0 && p.1 == q.1) || (p.0 == q.1 && p.1 == q.0)
 }
 
-/// Whether the nodes are parted. It looks at every pair: several at once take less time than one after another up to
-/// the one that fits.
+/// Whether the nodes are parted. It compares every pair, several at once, which is faster than a search for the first
+/// that is equal.
 pub fn is_parted(parted: &[(Id, Id)], a: Id, b: Id) -> bool
     ensures { result ≡ is_parted parted.now a b }
 {
@@ -31,16 +31,16 @@ pub fn is_parted(parted: &[(Id, Id)], a: Id, b: Id) -> bool
     found
 }
 
-/// The pairs of nodes that are parted: whether two nodes are takes the look at one key, or at one bit where both are
-/// below 1,024; that they no longer are, the look at both.
+/// The parted pairs of nodes. A test reads one bit if both nodes are below 1,024, otherwise one key. Mending changes
+/// both.
 ///
-/// Contracts see the pairs in the order in which they were parted. Only their keys and their bits are in memory.
+/// Contracts see the pairs in the order in which they were parted. Only their keys and bits are in memory.
 #[derive(Drop)]
 pub struct Parted {
     pairs: PairRecord,
-    /// The lesser node of each pair, and the greater.
+    /// The lower and the higher node of each pair.
     keys: HashSet<(Id, Id)>,
-    /// A bit for each two nodes below 1,024: 128 kB, which are taken when two such nodes are first parted.
+    /// A bit for each pair of nodes below 1,024: 128 kB, allocated when two such nodes are first parted.
     bits: Vec<u64>,
 }
 
@@ -81,7 +81,7 @@ impl Parted {
         Ok(parted)
     }
 
-    /// Whether the nodes are parted. Of nodes below 1,024 their bit tells it.
+    /// Whether the nodes are parted. For nodes below 1,024 only their bit is read.
     #[inline(always)]
     pub fn is_parted(&self, a: Id, b: Id) -> bool
         ensures { result ≡ is_parted self.now a b }
@@ -122,7 +122,7 @@ impl Parted {
         self.pairs = PairRecord::without(&self.pairs, &nodes);
     }
 
-    /// Puts a pair behind the others.
+    /// Appends a pair.
     fn push(&mut self, pair: (Id, Id)) -> Result<(), AllocError>
         ensures { OnOk result (self.new ≡ self.old ++ pair ∷ []) }
     {
@@ -139,7 +139,7 @@ impl Parted {
     }
 }
 
-/// The lesser node, and the greater.
+/// The lower and the higher node.
 #[inline(always)]
 fn key_of(a: Id, b: Id) -> (Id, Id)
     ensures { result ≡ key_of (a, b) }

@@ -32,7 +32,7 @@ fn arrive<S: Simulator>(sim: &mut S, moment: &Moment<'_>, i: u64) -> Result<bool
     sim.deliver(i, 1)
 }
 
-/// Delivers a datagram, unless it comes in a later round.
+/// Delivers a delayed datagram, if it arrives in this round.
 fn arrive_in<S: Simulator>(
     sim: &mut S,
     moment: &Moment<'_>,
@@ -47,7 +47,7 @@ fn arrive_in<S: Simulator>(
     arrive(sim, moment, copy.1)
 }
 
-/// Delivers the datagrams that come in this round, of those that were sent before it.
+/// Delivers the delayed datagrams that arrive in this round.
 fn arrive_all<S: Simulator>(
     sim: &mut S,
     moment: &Moment<'_>,
@@ -64,7 +64,7 @@ fn arrive_all<S: Simulator>(
     Ok(some)
 }
 
-/// One pass, and whether it had an event.
+/// Makes one pass, and returns whether an event happened in it.
 #[tactic(auto, unfolding(crate::specs::Rounds::pass))]
 fn pass<S: Simulator>(sim: &mut S, moment: &Moment<'_>) -> Result<bool, AllocError>
     requires { AreKnown moment.now.is_known moment.now.network.ends.now (S.world sim.old) }
@@ -86,7 +86,7 @@ fn pass<S: Simulator>(sim: &mut S, moment: &Moment<'_>) -> Result<bool, AllocErr
     ))
 }
 
-/// Passes until one has no event.
+/// Makes passes until one has no event, at most `MOST_PASSES`.
 fn make_passes<S: Simulator>(sim: &mut S, moment: &Moment<'_>) -> Result<(), AllocError>
     requires { AreKnown moment.now.is_known moment.now.network.ends.now (S.world sim.old) }
     ensures { IfOk result (λ _. S.world sim.new ≡ world_after_all (S.world sim.old)
@@ -123,7 +123,7 @@ fn round<S: Simulator>(
     Ok(())
 }
 
-/// One round, and what it leaves in the air.
+/// Makes one round, and updates the datagrams in flight.
 #[tactic(auto, unfolding(crate::specs::Rounds::after_round))]
 fn make_round<S: Simulator>(
     sim: &mut S,

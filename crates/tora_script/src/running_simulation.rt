@@ -1,4 +1,4 @@
-//! A simulation behind its links.
+//! A simulation after its links.
 ghost use Rattle.std.specs.Prelude.{◌≡◌, ◌==◌, ◌&&◌, ◌++◌, [], OnOk, Some, None, if◌then◌else◌, true, length};
 ghost use Rattle.std.specs.Prelude.{string_bytes, option_map};
 ghost use Rattle.tora_core.specs.Numbers.{has_number};
@@ -29,7 +29,7 @@ use tora_lines::words::LineError;
 use tora_trace::{HeightText, HopText};
 use tora_world::{Event, SimError};
 
-/// A simulation behind its links: what the links fix, the pairs of nodes that are parted, and the world.
+/// A simulation after its links: what the links fix, the parted pairs of nodes, and the world.
 #[derive(Drop)]
 pub struct Running<S> {
     pub dests: Vec<Id>,
@@ -38,7 +38,7 @@ pub struct Running<S> {
     pub parted: Parted,
     pub channel: Channel,
     pub air: Air,
-    /// Whether both ends notice at once that their link is parted.
+    /// Whether both ends of a link cut its session at once when the link is parted.
     pub has_notice: bool,
     /// Why the event of the last line was refused, if it was.
     pub refused: Option<SimError>,
@@ -52,8 +52,8 @@ pub fn has_number(n: Id, numbers: &[Id]) -> bool
     numbers.iter().any(|m| *m == n)
 }
 
-/// Whether there is a link between the nodes: it is found by halves where the ends are in ascending order, and all ends
-/// are looked at only where it is not found so.
+/// Whether there is a link between the nodes. A binary search finds it if the ends are in ascending order. If it finds
+/// nothing, every end is compared.
 pub fn has_end(a: Id, b: Id, ends: &[(Id, Id)]) -> bool
     ensures { result ≡ has_end a b ends.now }
 {
@@ -66,7 +66,7 @@ fn is_among(a: Id, b: Id, ends: &[(Id, Id)]) -> bool
     ends.iter().any(|e| e.0 == a && e.1 == b)
 }
 
-/// Whether a link end is found by halves.
+/// Whether a binary search finds the link end.
 fn is_found(a: Id, b: Id, ends: &[(Id, Id)]) -> bool
     ensures { result ≡ true → has_end a b ends.now ≡ true }
 {
@@ -76,7 +76,7 @@ fn is_found(a: Id, b: Id, ends: &[(Id, Id)]) -> bool
     }
 }
 
-/// Whether it is this end.
+/// Whether `end` is the end of node `a` towards `b`.
 fn is_end(a: Id, b: Id, end: (Id, Id)) -> bool
     ensures { result ≡ ((end.0 == a) && (end.1 == b)) }
 {
@@ -92,7 +92,7 @@ fn known_height(height: Option<Entry>) -> Entry
     }
 }
 
-/// Puts `node N H hop K` behind a text.
+/// Appends `node N H hop K` to a text.
 #[tactic(auto, unfolding(crate::specs::SimulationText::node_line))]
 fn write_node<S: Simulator>(out: &mut String, sim: &S, d: Id, n: Id) -> Result<(), AllocError>
     ensures { OnOk result (string_bytes out.new ≡ string_bytes out.old ++ node_line (S.world sim.now) d n) }
@@ -116,7 +116,7 @@ fn write_heights<S: Simulator>(
     Ok(())
 }
 
-/// Puts the nodes of a walk behind the first, each after a comma, behind a text.
+/// Appends the nodes of a walk after the first, each after a comma, to a text.
 fn write_rest(out: &mut String, nodes: &[Id]) -> Result<(), AllocError>
     ensures { OnOk result (string_bytes out.new ≡ string_bytes out.old ++ rest_text nodes.now) }
 {
@@ -126,7 +126,7 @@ fn write_rest(out: &mut String, nodes: &[Id]) -> Result<(), AllocError>
     Ok(())
 }
 
-/// Puts `walk LIST` behind a text, `walk -` for no nodes.
+/// Appends `walk LIST` to a text, or `walk -` if there are no nodes.
 fn write_nodes(out: &mut String, nodes: &[Id]) -> Result<(), AllocError>
     ensures { OnOk result (string_bytes out.new ≡ string_bytes out.old ++ nodes_text nodes.now) }
 {
@@ -140,7 +140,7 @@ fn write_nodes(out: &mut String, nodes: &[Id]) -> Result<(), AllocError>
     }
 }
 
-/// Puts a walk behind a text.
+/// Appends a walk to a text.
 #[tactic(auto, unfolding(crate::specs::SimulationText::walk_text))]
 fn write_walk(out: &mut String, walk: Option<Vec<Id>>) -> Result<(), AllocError>
     ensures { OnOk result (string_bytes out.new ≡ string_bytes out.old ++ walk_text (option_map (λ v. v.items) walk)) }
@@ -151,7 +151,7 @@ fn write_walk(out: &mut String, walk: Option<Vec<Id>>) -> Result<(), AllocError>
     }
 }
 
-/// Puts `rest yes` behind a text, or `rest no`.
+/// Appends `rest yes` or `rest no` to a text.
 fn write_at_rest(out: &mut String, is_at_rest: bool) -> Result<(), AllocError>
     ensures { OnOk result (string_bytes out.new ≡ string_bytes out.old ++ at_rest_text is_at_rest) }
 {
@@ -162,7 +162,7 @@ fn write_at_rest(out: &mut String, is_at_rest: bool) -> Result<(), AllocError>
     }
 }
 
-/// The first world; a fault where there is no such topology within the limits.
+/// The first world; a fault if there is no such topology within the limits.
 #[tactic(auto, unfolding(crate::specs::Simulator::started))]
 fn start<S: Simulator>(
     alloc: Global,
@@ -185,7 +185,7 @@ fn start<S: Simulator>(
 }
 
 impl<S: Simulator> Running<S> {
-    /// Begins in the first world; a fault where there is no such topology.
+    /// The simulation in its first world; a fault if there is no such topology.
     pub fn new(
         alloc: Global,
         dests: &[Id],
@@ -217,7 +217,7 @@ impl<S: Simulator> Running<S> {
         })
     }
 
-    /// Makes an event happen, and puts its refusal behind a text.
+    /// Makes an event happen, and appends its refusal, if any, to a text.
     fn happen(&mut self, event: &Event, out: &mut String) -> Result<(), AllocError>
         ensures { OnOk result (TakesReply (event_reply (running_view S.world self.old) event.now)
             (running_view S.world self.new) (string_bytes out.old) (string_bytes out.new)) }
@@ -349,8 +349,7 @@ impl<S: Simulator> Running<S> {
         write_at_rest(out, self.sim.is_at_rest())
     }
 
-    /// Does what a line asks for, and puts what is printed for it behind an empty text. A line that is a fault changes
-    /// nothing.
+    /// Carries out a line, and writes its output to an empty text. A line that is a fault changes nothing.
     #[tactic(auto, unfolding(crate::specs::SimulationText::running_reply))]
     pub fn answer(&mut self, line: SimulationLine, out: &mut String) -> Result<(), LineError>
         requires { string_bytes out.old ≡ [] }

@@ -1,4 +1,4 @@
-//! What a simulation is made with.
+//! The settings of a simulation.
 ghost use Rattle.std.specs.Prelude.{◌≡◌};
 ghost use Rattle.tora_script.specs.Setup.{options_within, plain};
 
@@ -15,7 +15,7 @@ pub struct WorldOptions {
 }
 
 impl WorldOptions {
-    /// With nodes that remember no erased level.
+    /// These limits, with nodes that do not remember erased levels.
     pub fn within(limits: Limits) -> WorldOptions
         ensures { result ≡ options_within limits }
     {
@@ -26,8 +26,8 @@ impl WorldOptions {
     }
 }
 
-/// The times of each link end, the channel of rounds, whether both ends notice at once that their link is parted, the
-/// options of the world, and how many rounds are made at most.
+/// The settings of a simulation: the times of each link end, the channel, whether both ends cut the session of a parted
+/// link at once, the options of the world, and the greatest number of rounds.
 #[derive(Clone, Copy, Debug, PartialEq, Eq)]
 pub struct Setup {
     pub times: Times,
@@ -39,8 +39,8 @@ pub struct Setup {
 }
 
 impl Setup {
-    /// With a channel over which every datagram comes at once, and once, without notice, within the standard limits,
-    /// with nodes that remember no erased level, and with no round that is the last.
+    /// The settings without options: a channel that delivers every datagram at once and once, no notice, the standard
+    /// limits, nodes that do not remember erased levels, and no last round.
     pub fn plain(times: Times) -> Setup
         ensures { result ≡ plain times }
     {

@@ -1,4 +1,4 @@
-//! What is kept of a simulation file.
+//! The state of a simulation file between two lines.
 ghost use Rattle.std.specs.Prelude.{◌≡◌, []};
 ghost use Rattle.tora_channel.specs.Table.{lines_of};
 ghost use Rattle.tora_arq.specs.Settings.{IsTimes};
@@ -8,14 +8,14 @@ use crate::running_simulation::Running;
 use crate::setup::Setup;
 use tora_channel::ChannelTable;
 
-/// What is kept between two lines of a simulation file.
+/// The state between two lines of a simulation file.
 #[derive(Drop)]
 pub enum Stage<S> {
     /// Before the first line.
     First,
-    /// Behind the first line.
+    /// After the first line.
     Links(LinkLines),
-    /// Behind the links and what is said of single nodes.
+    /// After the links and the lines about single nodes.
     Runs(Running<S>),
 }
 
@@ -30,7 +30,7 @@ pub struct Simulation<S> {
 }
 
 impl<S> Simulation<S> {
-    /// Before the first line, with a channel that no line of a table changes.
+    /// The state before the first line, with one channel for all rounds.
     pub fn new(setup: Setup) -> Simulation<S>
         requires { IsTimes setup.times }
         ensures setup { result.setup ≡ setup }
@@ -40,7 +40,7 @@ impl<S> Simulation<S> {
         Simulation::with_table(setup, ChannelTable::none())
     }
 
-    /// Before the first line, with a channel that the lines of a table change.
+    /// The state before the first line, with a channel that a table changes by round.
     pub fn with_table(setup: Setup, table: ChannelTable) -> Simulation<S>
         requires { IsTimes setup.times }
         ensures setup { result.setup ≡ setup }

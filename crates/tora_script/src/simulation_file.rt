@@ -46,7 +46,7 @@ pub fn first_line(alloc: Global, line: &[u8]) -> Result<LinkLines, LineError>
     })
 }
 
-/// Takes a link; it is a fault behind a line that says something of a node, and then changes nothing.
+/// Takes a link. After a line about a node it is a fault and changes nothing.
 pub fn take_link(lines: &mut LinkLines, link: (Id, Id)) -> Result<(), LineError>
     requires { (0 < link.0) × (0 < link.1) }
     ensures gives { Gives (λ _. Progress.Links lines.new.dests.items lines.new.links.items lines.new.marks.items) result
@@ -67,10 +67,10 @@ pub fn is_linked(n: Id, links: &[(Id, Id)]) -> bool
     links.iter().any(|link| link.0 == n || link.1 == n)
 }
 
-/// Takes what is said of a node; it is a fault where no link names the node, or there is no topology of the links
-/// within the limits, and then changes nothing.
+/// Takes a line about a node. It is a fault and changes nothing if no link names the node, or if there is no topology
+/// of the links within the limits.
 ///
-/// The topology is looked for at the first such line: no link comes behind it.
+/// The topology is checked at the first such line, because no link follows it.
 pub fn take_mark(limits: Limits, lines: &mut LinkLines, mark: Mark) -> Result<(), LineError>
     ensures gives { Gives (λ _. Progress.Links lines.new.dests.items lines.new.links.items lines.new.marks.items) result
         (with_mark_line limits lines.old.dests.items lines.old.links.items lines.old.marks.items mark) }
@@ -91,7 +91,7 @@ pub fn take_mark(limits: Limits, lines: &mut LinkLines, mark: Mark) -> Result<()
     Ok(())
 }
 
-/// Takes a line behind the links and what is said of single nodes, which makes the simulation run.
+/// Takes the first line after the links and the lines about nodes, and starts the simulation.
 fn first_run<S: Simulator>(
     alloc: Global,
     setup: Setup,
@@ -111,7 +111,7 @@ fn first_run<S: Simulator>(
     Ok(running)
 }
 
-/// Takes a line behind the last link and what is said of single nodes; at least one link is required.
+/// Takes a line after the links and the lines about nodes. At least one link is required.
 fn behind_links<S: Simulator>(
     alloc: Global,
     setup: Setup,
@@ -132,7 +132,7 @@ fn behind_links<S: Simulator>(
     first_run(alloc, setup, table, lines, line, text)
 }
 
-/// The number of the line that is a fault where the input ends behind links, if one is.
+/// The number of the line that is a fault if the input ends before the simulation runs; `None` if none is.
 fn end_of_links(limits: Limits, lines: &LinkLines, number: u64) -> Option<u64>
     ensures { result ≡ end_of_links limits number lines.now.dests.items lines.now.links.items }
 {
@@ -145,10 +145,9 @@ fn end_of_links(limits: Limits, lines: &LinkLines, number: u64) -> Option<u64>
     }
 }
 
-/// Takes the first line; the links come behind it.
+/// Takes the first line, after which the links follow.
 ///
-/// As `begin_run` it stands in a function of its own, which is never put into its caller: else every line of the file
-/// would make room for a simulation.
+/// Like `begin_run` it is never inlined; otherwise every line of the file would need stack space for a simulation.
 #[inline(never)]
 fn begin_links<S: Simulator>(
     stage: &mut Stage<S>,
@@ -184,7 +183,7 @@ fn begin_run<S: Simulator>(
     Ok(())
 }
 
-/// Takes a line, and puts what is printed for it behind an empty text.
+/// Takes a line, and writes its output to an empty text.
 #[tactic(auto, unfolding(crate::specs::SimulationText::simulation_reply))]
 fn take_line<S: Simulator>(
     stage: &mut Stage<S>,
@@ -244,13 +243,13 @@ pub fn simulate_in<S: Simulator, R: Input, W: Output>(
     writer: &mut W,
 ) -> Result<Ended, ReplayError>
     requires { IsTimes times }
-    // What was written is the text of the whole input, and the input ends so.
+    // The text written is that of the whole input, and `ended` is how the input ends.
     ensures whole { IfOk result (λ ended. IfSome (R.remaining reader.old) (λ input.
         Simulates times input (W.contents writer.old) (W.contents writer.new) ended)) }
     ensures at_end { result ≡ Ok Ended.Whole → IsAtEnd (R.remaining reader.new) }
     ensures fault { IfOk result (λ ended. IfSome (R.remaining reader.old) (λ input.
         fault_of ended ≡ first_simulation_fault times input)) }
-    // What was written begins the text of what was read.
+    // The text written is a prefix of the text for the input that was read.
     ensures begun { IfErr result (λ e. e ≢ ReplayError.Write →
         IsSimulationBegun times (R.remaining reader.old) (R.remaining reader.new) (W.contents writer.old)
         (W.contents writer.new)) }
@@ -261,8 +260,7 @@ pub fn simulate_in<S: Simulator, R: Input, W: Output>(
     read_lines(alloc, state, reader, writer)
 }
 
-/// The line whose number a fault of a simulation gives is the first that is none: all lines before it are taken, and it
-/// is not.
+/// The number in a fault is that of the first line that is a fault: every earlier line was accepted.
 pub fn simulation_fault_is_the_first()
     ensures found { (setup : AnySetup) (table : List AnyLine) (bytes : List ℕ) (n : ℕ) →
         first_fault_with setup table bytes ≡ Some n → IsFirstFaultWith setup table Progress.First 1 (pieces_of bytes)

@@ -1,4 +1,4 @@
-//! What the engine asks of a simulator.
+//! The simulator as the engine uses it.
 ghost use Rattle.std.specs.Prelude.{◌≡◌, ◌<◌, ◌≤◌, ℕ, true, false, Some, is_some, length, option_map, slice_get, IfOk};
 ghost use Rattle.tora_world.specs.World.{World, refusal_of, world_after, datagram, sent_packets, taken_packets};
 ghost use Rattle.tora_world.specs.declared.event.Event.TheVariants.{Transmit, Deliver, CoreTurn};
@@ -19,7 +19,7 @@ use tora_core::CoreError;
 use tora_height::{Entry, Id};
 use tora_world::{Event, SimError};
 
-/// A simulated world.
+/// A simulated world that the engine can run.
 pub trait Simulator: Drop {
     ghost world: { Self → World };
 
@@ -40,34 +40,32 @@ pub trait Simulator: Drop {
         requires times { IsTimes times }
         ensures { Starts world options links.now dests.now marks.now times result };
 
-    /// Whether an event may be possible now: where the answer is `false`, `happen` refuses it.
+    /// Whether an event may be possible now. If the answer is `false`, `happen` refuses the event.
     ///
-    /// It costs less than `happen`, and a round asks it before each turn of a core or a link end. The place says where
-    /// to look: the place of the event's node among `nodes`, or of its link end among `ends`, from 0 on. Where it is
-    /// another's, or the event is of neither, the answer may be `true` of any event.
+    /// It costs less than `happen`, and a round calls it before each turn of a core or a link end. `place` is the index
+    /// of the event's node among `nodes`, or of its link end among `ends`. If another node or end is there, or the
+    /// event has neither, the answer may be `true` for any event.
     fn may_happen(&self, place: usize, event: &Event) -> bool
         ensures { result ≡ false → is_some (refusal_of (world self.now) event.now) ≡ true };
 
     /// Whether it is known that nothing is to be done: `happen` refuses every `CoreTurn`, `Open`, `Pull`, `Transmit`
     /// and `Pump`.
     ///
-    /// It costs no more than the look at one number, and is asked before each part of a round. `settle` may make it
-    /// known.
+    /// A round calls it before it gives the link ends their turns. `Sim` compares a few deadlines, and reads for each
+    /// node how many items wait. `settle` may make it known.
     fn is_quiet(&self) -> bool
         ensures { result ≡ true → IsQuiet (world self.now) };
 
-    /// Whether a core may have an item to take: where the answer is `false`, `happen` refuses every `CoreTurn`.
+    /// Whether a core may have an item to take. If the answer is `false`, `happen` refuses every `CoreTurn`.
     ///
-    /// It costs no more than the look at one mark, and is asked before the cores' part of a round. `settle` may make it
-    /// known.
+    /// A round calls it before the turns of the cores. `Sim` reads for each node how many items wait.
     fn may_turn(&self) -> bool
         ensures { result ≡ false → (n : ℕ) → is_some (refusal_of (world self.now) (CoreTurn n)) ≡ true };
 
-    /// The first place from `place` on, among these nodes and from 0 on, at which a core may have an item to take: of
-    /// the nodes that are passed over `happen` refuses each `CoreTurn`. By itself none is passed over; a simulator that
-    /// looks at its cores itself passes over more.
+    /// The first index of `nodes` from `place` on at which a core may have an item to take. `happen` refuses a
+    /// `CoreTurn` of each skipped node. The default body skips none.
     ///
-    /// It is asked before each core's turn.
+    /// A round calls it before each core's turn.
     fn next_core(&self, _nodes: &[Id], place: usize) -> usize
         ensures onward { place ≤ result }
         ensures passed { (at n : ℕ) → place ≤ at → at < result → slice_get _nodes.now at ≡ Some n
@@ -80,21 +78,21 @@ pub trait Simulator: Drop {
     fn has_ends(&self, ends: &[(Id, Id)]) -> bool
         ensures { result ≡ true → ends.now ≡ ends_in (world self.now).topology };
 
-    /// The first place from `place` on at which a link end may have something to do, in the order of `ends` and from 0
-    /// on: of the ends that are passed over `happen` refuses each `Open`, `Pull`, `Transmit` and `Pump`.
+    /// The first index from `place` on, in the order of `ends`, at which a link end may have something to do. `happen`
+    /// refuses each `Open`, `Pull`, `Transmit` and `Pump` of a skipped end.
     ///
-    /// It is asked before each end's turn. `settle` may make known what is passed over.
+    /// A round calls it before each end's turn. After `settle` it may skip more ends.
     fn next_due(&self, place: usize) -> usize
         ensures onward { place ≤ result }
         ensures passed { (at : ℕ) (end : ℕ × ℕ) → place ≤ at → at < result
             → slice_get (ends_in (world self.now).topology) at ≡ Some end → IsQuietEnd (world self.now) end.0 end.1 };
 
-    /// Looks whether nothing is to be done, and until which tick, for `is_quiet`, `next_due` and the ticks that come; the
-    /// world stays as it is.
+    /// Finds out, for `is_quiet`, `next_due` and later ticks, whether nothing is to be done, and until which tick. The
+    /// world does not change.
     fn settle(&mut self)
         ensures { world self.new ≡ world self.old };
 
-    /// Makes an event happen, and says why it is refused, if it is: it then changes nothing.
+    /// Makes an event happen, or returns why it is refused. A refused event changes nothing.
     fn happen(&mut self, event: &Event) -> Result<Option<SimError>, AllocError>
         ensures refused { IfOk result (λ refused. refused ≡ refusal_of (world self.old) event.now) }
         ensures after { IfOk result (λ _. world self.new ≡ world_after (world self.old) event.now) };
@@ -108,10 +106,9 @@ pub trait Simulator: Drop {
         self.happen(event)
     }
 
-    /// Makes a core take its items one after another until none waits, and so many at most, and says whether it took
-    /// any: it is a `CoreTurn` up to the first that `happen` refuses. The place says where to look, as that of
-    /// `may_happen` does. By itself each turn is an event that happens for itself; a simulator that turns a core itself
-    /// asks less between two items.
+    /// Repeats `CoreTurn` of a node until `happen` refuses it, at most `most` times, and returns whether it happened at
+    /// all. `place` is the index of the node, as for `may_happen`. The default body makes one event after another; a
+    /// simulator may look the node up once.
     fn turn(&mut self, place: usize, n: Id, most: u64) -> Result<bool, AllocError>
         ensures { IfOk result (λ some. Happened (world self.old) (repeats most (CoreTurn n) (world self.old))
             (world self.new) some) }
@@ -130,24 +127,22 @@ pub trait Simulator: Drop {
         Ok(some)
     }
 
-    /// Makes a link end send its frames one after another until none is due, and so many at most, and says whether any
-    /// was sent: it is a `Transmit` up to the first that `happen` refuses. The place is that of the end among `ends`,
-    /// from 0 on; where it is another's, the end is searched.
+    /// Repeats `Transmit` at a link end until `happen` refuses it, at most `most` times, and returns whether it
+    /// happened at all. `place` is the index of the end among `ends`; if another end is there, it is searched for.
     ///
-    /// It costs less than to ask `may_happen` and `happen` by turns. Where memory is refused, the frames before are
-    /// sent.
+    /// It costs less than `may_happen` and `happen` in turn. If memory runs out, the earlier frames are sent.
     fn transmit(&mut self, place: usize, end: (Id, Id), most: u64) -> Result<bool, AllocError>
         ensures { IfOk result (λ some. Happened (world self.old) (repeats most (Transmit end.0 end.1) (world self.old))
             (world self.new) some) };
 
-    /// Makes a datagram come until that is refused, and so many times at most, and says whether it ever came: it is a
-    /// `Deliver` as often as `happen` takes it.
+    /// Repeats `Deliver` of a datagram until `happen` refuses it, at most `most` times, and returns whether it happened
+    /// at all.
     fn deliver(&mut self, i: u64, most: u64) -> Result<bool, AllocError>
         ensures { IfOk result (λ some. Happened (world self.old) (repeats most (Deliver i) (world self.old))
             (world self.new) some) };
 
-    /// Cuts the life that a link end is bound to, if it is bound, as a link layer has it that tells of a broken link;
-    /// nothing where there is no such link.
+    /// Cuts the session of a link end, if it is bound, as a link layer does that reports a broken link. Nothing changes
+    /// if there is no such link.
     fn cut(&mut self, n: Id, k: Id)
         ensures { world self.new ≡ after_cut_at (world self.old) n k };
 
@@ -175,11 +170,11 @@ pub trait Simulator: Drop {
     fn next_hop(&self, n: Id, d: Id) -> Option<Id>
         ensures { result ≡ hop_at (world self.now) n d };
 
-    /// How many packets the core of `a` sent to `b` in a life.
+    /// How many packets the core of `a` sent to `b` in a session.
     fn sent(&self, a: Id, b: Id, life: Life) -> usize
         ensures { result ≡ length (sent_packets (world self.now) a b life) };
 
-    /// How many packets the core of `b` took from `a` in a life.
+    /// How many packets the core of `b` took from `a` in a session.
     fn taken(&self, b: Id, a: Id, life: Life) -> usize
         ensures { result ≡ length (taken_packets (world self.now) b a life) };
 
@@ -187,11 +182,11 @@ pub trait Simulator: Drop {
     fn exact(&self, d: Id) -> bool
         ensures { result ≡ exact_in (world self.now) d };
 
-    /// The walk from a node to a destination, if there is one. It is asked of a node and a destination of the world.
+    /// The walk from a node to a destination, if there is one. The caller names a node and a destination of the world.
     fn walk(&self, alloc: Global, n: Id, d: Id) -> Result<Option<Vec<Id>>, AllocError>
         ensures { IfOk result (λ walk. option_map (λ v. v.items) walk ≡ walk_of (world self.now) n d) };
 
-    /// Whether the world is at rest: nothing is under way in it.
+    /// Whether the world is at rest.
     fn is_at_rest(&self) -> bool
         ensures { result ≡ rests (world self.now) };
 }

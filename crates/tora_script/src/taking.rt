@@ -1,4 +1,4 @@
-//! A simulation behind its links takes a line of its file.
+//! How a simulation takes a line after its links.
 ghost use Rattle.std.specs.Prelude.{◌≡◌, [], OnOk, string_bytes};
 ghost use Rattle.tora_lines.specs.Gives.{Gives};
 ghost use Rattle.tora_channel.specs.Table.{lines_of, over};
@@ -17,7 +17,7 @@ use tora_channel::ChannelTable;
 use tora_lines::words::LineError;
 
 impl<S: Simulator> Running<S> {
-    /// How many of some rounds are still made.
+    /// How many of `count` rounds `--until` still allows.
     fn rounds_left(&self, until: Option<u64>, count: u64) -> u64
         ensures { result ≡ rounds_left until self.now.air.round count }
     {
@@ -42,8 +42,8 @@ impl<S: Simulator> Running<S> {
         make_rounds(&mut self.sim, count, &network, &mut self.air)
     }
 
-    /// Does what a line of a simulation asks for, as `answer` does, but for rounds: not more than are left are made,
-    /// over the channel that the lines of a table change.
+    /// Carries out a line as `answer` does, except that rounds end at the last round of `--until`, and that a table may
+    /// change the channel by round.
     #[tactic(auto, unfolding(crate::specs::SimulationText::script_reply))]
     fn script(
         &mut self,
@@ -66,8 +66,8 @@ impl<S: Simulator> Running<S> {
         }
     }
 
-    /// Takes a line of a simulation, and puts what is printed for it behind an empty text. Nothing is done once so many
-    /// rounds are done; the rounds are over a channel that the lines of a table change.
+    /// Takes a line of a simulation, and writes its output to an empty text. After the last round of `--until` it does
+    /// nothing. A table may change the channel by round.
     pub fn take(
         &mut self,
         until: Option<u64>,

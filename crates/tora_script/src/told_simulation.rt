@@ -1,4 +1,4 @@
-//! A simulation whose refusals and fault are told on standard error.
+//! A simulation that reports refusals and its fault on standard error.
 ghost use Rattle.std.specs.Prelude.{◌≡◌, ◌≢◌, Ok, IfOk, IfErr, IfSome};
 ghost use Rattle.std.specs.Io.KnownBytes.{IsAtEnd};
 ghost use Rattle.tora_arq.specs.Settings.{IsTimes};
@@ -24,7 +24,7 @@ use tora_lines::words::LineError;
 use tora_lines::{Ended, FileKind, Input, Output, ReplayError, read_last_lines, read_lines};
 use tora_world::Event;
 
-/// A simulation file, and where is told why a line is a fault and, where it is verbose, why an event is refused.
+/// A simulation file, and where to report why a line is a fault and, if `is_verbose`, why an event is refused.
 #[derive(Drop)]
 pub struct Told<'a, S, T> {
     pub rt: &'a T,
@@ -34,7 +34,7 @@ pub struct Told<'a, S, T> {
     pub state: Simulation<S>,
 }
 
-/// Tells why a line is a fault.
+/// Reports why a line is a fault.
 pub fn tell_cause<T: Eprint>(rt: &T, number: u64, cause: SimulationCause) {
     let _ = rt.eprintln(format_args!("tora: line {number}: {cause}"));
 }
@@ -50,7 +50,8 @@ fn tell_need<T: Eprint>(rt: &T, number: u64, line: &[u8], dests: &[Id]) {
     }
 }
 
-/// Tells why the event of a line was refused, if it was, and of a need that the core refuses.
+/// Reports why the event of a line was refused, if it was; otherwise that the core refuses the need of the line, if it
+/// does.
 fn tell_refusal<S, T: Eprint>(rt: &T, number: u64, stage: &Stage<S>, line: &[u8]) {
     if let Stage::Runs(running) = stage {
         match running.refused {
@@ -97,8 +98,8 @@ impl<S: Simulator, T: Eprint> FileKind for Told<'_, S, T> {
     }
 }
 
-/// Simulates what is made with this over a channel that the lines of a table change, and tells on standard error why a
-/// line is a fault, unless it is too long, and where it is verbose, why an event is refused.
+/// Simulates with these settings, over a channel that the table changes by round. Reports on standard error why a line
+/// is a fault, unless it is too long, and, if `is_verbose`, why an event is refused.
 #[tactic(auto, unfolding(tora_lines::specs::Engine::text_of))]
 pub fn simulate_telling<S: Simulator, T: Eprint, R: Input, W: Output>(
     rt: &T,
@@ -130,8 +131,8 @@ pub fn simulate_telling<S: Simulator, T: Eprint, R: Input, W: Output>(
     read_lines(alloc, state, reader, writer)
 }
 
-/// Simulates as `simulate_telling` does, for a program that ends behind it: what the world took is left to the system,
-/// and not given back piece by piece, which for a world of a thousand nodes takes a tenth of the time.
+/// As `simulate_telling`, for a program that ends afterwards: the memory of the world is not freed, which saves a tenth
+/// of the time for a world of a thousand nodes.
 #[tactic(auto, unfolding(tora_lines::specs::Engine::text_of))]
 pub fn simulate_telling_last<S: Simulator, T: Eprint, R: Input, W: Output>(
     rt: &T,
@@ -163,7 +164,7 @@ pub fn simulate_telling_last<S: Simulator, T: Eprint, R: Input, W: Output>(
     read_last_lines(alloc, state, reader, writer)
 }
 
-/// Simulates with these times of each link end, and tells on standard error why an event is refused and why a line is a
+/// Simulates with these times of each link end. Reports on standard error why an event is refused, and why a line is a
 /// fault, unless it is too long.
 pub fn simulate_told<S: Simulator, T: Eprint, R: Input, W: Output>(
     rt: &T,

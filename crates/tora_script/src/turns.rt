@@ -10,10 +10,10 @@ use std::alloc::AllocError;
 use tora_height::Id;
 use tora_world::Event;
 
-/// The most times that an event is made to happen on end.
+/// The most times that one event is repeated in a turn.
 pub const MOST_TIMES: u64 = 1024;
 
-/// What a link end does in its turn.
+/// What a link end does in a turn.
 #[derive(Clone, Copy, Debug, PartialEq, Eq)]
 pub enum EndTurn {
     Open,
@@ -23,7 +23,7 @@ pub enum EndTurn {
 }
 
 impl EndTurn {
-    /// What an end does in such a turn.
+    /// The event of such a turn of an end.
     #[inline(always)]
     pub fn event(self, end: (Id, Id)) -> Event
         ensures { result ≡ end_event self end }
@@ -45,8 +45,8 @@ pub fn either(a: bool, b: bool) -> bool
     a || b
 }
 
-/// Whether an event may happen again. One that didn't happen yet is not asked about: who makes it happen asked, where
-/// the event has a place.
+/// Whether an event may happen again. For an event that has not happened yet the answer is true, because the caller has
+/// already asked.
 #[inline(always)]
 fn may_go_on<S: Simulator>(sim: &S, place: usize, event: &Event, some: bool) -> bool
     ensures { result ≡ false → is_some (refusal_of (S.world sim.now) event.now) ≡ true }
@@ -96,8 +96,8 @@ fn turn_core<S: Simulator>(sim: &mut S, place: usize, n: Id) -> Result<bool, All
     sim.turn(place, n, MOST_TIMES)
 }
 
-/// Lets each core take its items, unless it is known that none has one. Cores of which the simulator knows that they
-/// have none are passed over.
+/// Lets each core take its items, unless it is known that none has one. Skips the cores of which the simulator knows
+/// that they have none.
 #[inline(always)]
 pub fn turn_cores<S: Simulator>(sim: &mut S, nodes: &[Id]) -> Result<bool, AllocError>
     ensures { IfOk result (λ some. Happened (S.world sim.old) (each_core nodes.now (S.world sim.old)) (S.world sim.new)
@@ -116,7 +116,7 @@ pub fn turn_cores<S: Simulator>(sim: &mut S, nodes: &[Id]) -> Result<bool, Alloc
     Ok(some)
 }
 
-/// Gives a link end its turn, so many times at most, one event at a time.
+/// Gives a link end its turn, one event at a time, at most `most` events.
 #[inline(always)]
 fn repeat_turn<S: Simulator>(
     sim: &mut S,
@@ -134,8 +134,8 @@ fn repeat_turn<S: Simulator>(
     repeat(sim, place, &kind.event(end), most)
 }
 
-/// Gives a link end its turn, so many times at most. In most rounds frames are what most ends have to give: so the
-/// simulator sends them on end.
+/// Gives a link end its turn, at most `most` events. Frames are sent by one call of the simulator, because they are
+/// what most ends have to do in most rounds.
 #[inline(always)]
 pub fn turn_end<S: Simulator>(
     sim: &mut S,
@@ -155,8 +155,8 @@ pub fn turn_end<S: Simulator>(
     }
 }
 
-/// The first place from `place` on at which a link end may have a turn, where it is known that these are the ends of
-/// the simulator; else the place itself.
+/// The first index from `place` on at which a link end may have a turn, if these are known to be the ends of the
+/// simulator. Otherwise `place`.
 #[inline(always)]
 pub fn next_place<S: Simulator>(sim: &S, known: bool, _ends: &[(Id, Id)], place: usize) -> usize
     requires { AreKnown known _ends.now (S.world sim.now) }
@@ -168,8 +168,7 @@ pub fn next_place<S: Simulator>(sim: &S, known: bool, _ends: &[(Id, Id)], place:
     if known { sim.next_due(place) } else { place }
 }
 
-/// Gives each link end its turn, so many times at most. Where it is known that these are the ends of the simulator,
-/// those that have nothing to do are passed over.
+/// Gives each link end its turn, at most `most` events each. If `known`, the ends that have nothing to do are skipped.
 #[inline(always)]
 pub fn turn_known_ends<S: Simulator>(
     sim: &mut S,
@@ -195,8 +194,8 @@ pub fn turn_known_ends<S: Simulator>(
     Ok(some)
 }
 
-/// Whether it is known that these are the link ends of the simulator, and may be used: it isn't asked where nothing is
-/// to be done.
+/// Whether these are known to be the link ends of the simulator. If nothing is to be done, the answer is false and they
+/// are not compared.
 #[inline(always)]
 pub fn are_known<S: Simulator>(sim: &S, ends: &[(Id, Id)]) -> bool
     ensures { AreKnown result ends.now (S.world sim.now) }

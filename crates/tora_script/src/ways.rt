@@ -1,4 +1,4 @@
-//! How many datagrams went each way.
+//! Counts of datagrams by direction.
 ghost use Rattle.std.specs.Prelude.{◌≡◌, ℕ, OnOk};
 ghost use Rattle.tora_script.specs.Ways.{times, IsOneMore};
 
@@ -6,14 +6,14 @@ use std::alloc::{AllocError, Global};
 use std::collections::BTreeMap;
 use tora_height::Id;
 
-/// How many datagrams went each way, from a sender to a receiver, of those that were counted.
+/// For each direction, from a sender to a receiver, how many datagrams were counted.
 #[derive(Drop)]
 pub struct Ways {
     counts: BTreeMap<(Id, Id), u64>,
 }
 
 impl Ways {
-    /// Before any is counted.
+    /// No counts.
     pub fn new(alloc: Global) -> Ways
         ensures { (way : ℕ × ℕ) → times result way ≡ 0 }
     {
@@ -22,17 +22,17 @@ impl Ways {
         }
     }
 
-    /// How many went this way.
+    /// The count of a direction.
     pub fn times(&self, way: (Id, Id)) -> u64
         ensures { result ≡ times self.now way }
     {
         self.counts.get(&way).copied().unwrap_or(0)
     }
 
-    /// Counts a datagram that went this way.
+    /// Counts a datagram in its direction.
     ///
     /// # Errors
-    /// Want of memory, also where 2^64 - 1 are counted.
+    /// Out of memory, also if the count is 2^64 - 1.
     pub fn count(&mut self, way: (Id, Id)) -> Result<(), AllocError>
         ensures { OnOk result (IsOneMore self.old self.new way) }
     {

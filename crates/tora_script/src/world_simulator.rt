@@ -15,7 +15,7 @@ use tora_height::{Entry, Id};
 use tora_sim::{Sim, Topology};
 use tora_world::{Event, SimError};
 
-/// Makes a node of a topology old; where there is no such node, nothing is changed.
+/// Makes the link ends of a node speak only version 1. If there is no such node, nothing changes.
 fn make_old(topology: &mut Topology, n: Id)
     ensures { topology.new ≡ with_old_node topology.old n }
 {
@@ -34,7 +34,7 @@ fn choose(topology: &mut Topology, n: Id, erasure: Erasure) -> Result<(), AllocE
     }
 }
 
-/// Puts what is said of a node into a topology; where there is no such node, nothing is changed.
+/// Applies a line about a node to a topology. If there is no such node, nothing changes.
 fn put_mark(topology: &mut Topology, mark: Mark) -> Result<(), AllocError>
     ensures { OnOk result (topology.new ≡ with_mark topology.old mark) }
 {
@@ -47,7 +47,7 @@ fn put_mark(topology: &mut Topology, mark: Mark) -> Result<(), AllocError>
     }
 }
 
-/// Puts what is said of nodes into a topology, in order.
+/// Applies lines about nodes to a topology, in order.
 fn put_marks(topology: &mut Topology, marks: &[Mark]) -> Result<(), AllocError>
     ensures { OnOk result (topology.new ≡ with_marks topology.old marks.now) }
 {
@@ -57,7 +57,7 @@ fn put_marks(topology: &mut Topology, marks: &[Mark]) -> Result<(), AllocError>
     Ok(())
 }
 
-/// The topology of these links and destinations, with what is said of its nodes.
+/// The topology of these links and destinations, with the lines about its nodes applied.
 fn mixed_topology(
     alloc: Global,
     options: WorldOptions,

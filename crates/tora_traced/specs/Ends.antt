@@ -10,7 +10,7 @@ use Rattle.tora_trace.specs.Records.{line_end}
 abbrev pub field : ℕ → List ℕ
 field n = codes " " ++ decimal n
 
--- 1 where it is so
+-- 1 for true, 0 for false
 abbrev pub flag : Bool → ℕ
 flag is = if is then 1 else 0
 
@@ -18,7 +18,7 @@ abbrev pub word_text : Option (List ℕ) → List ℕ
 word_text None = codes "-"
 word_text (Some text) = text
 
--- ` UNTIL FILE`, where one of them is there
+-- ` UNTIL FILE` if there is a last round or a channel file
 abbrev pub more_fields : Option ℕ → Option (List ℕ) → List ℕ
 more_fields None None = []
 more_fields (Some until) file = codes " " ++ decimal until ++ codes " " ++ word_text file
@@ -32,11 +32,11 @@ unfoldable pub file_field : Option (List ℕ) → List ℕ
 file_field None = codes " -"
 file_field (Some file) = codes " " ++ file
 
--- ` UNTIL FILE remembered`, with `-` for what there is not
+-- ` UNTIL FILE remembered`, with `-` for a missing last round or channel file
 abbrev pub remembered_fields : Option ℕ → Option (List ℕ) → List ℕ
 remembered_fields until file = until_field until ++ file_field file ++ codes " remembered"
 
--- the last fields, which tell what nodes make of erased levels where that is not plain
+-- the last fields; the choice of erasure is among them unless it is plain
 abbrev pub erasure_fields : Erasure → Option ℕ → Option (List ℕ) → List ℕ
 erasure_fields Plain until file = more_fields until file
 erasure_fields Remembered until file = remembered_fields until file

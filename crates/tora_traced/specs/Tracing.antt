@@ -1,4 +1,4 @@
--- What a trace has of each event.
+-- The records of each event.
 use Rattle.std.specs.Prelude.{◌≡◌, ℕ, ◌==◌, if◌then◌else◌, List, length, drop, slice_get, Option, Some, None}
 use Rattle.tora_arq.specs.declared.life.Life.{Life}
 use Rattle.tora_frame.specs.FrameParts.{FrameParts}
@@ -18,7 +18,7 @@ use Rattle.tora_script.specs.declared.script_line.SimulationLine.{SimulationLine
 use Rattle.tora_script.specs.declared.script_line.SimulationLine.TheVariants.{Happens, Rounds, Part, Mend, Heights, Sent, Taken, Exact, Walk, Rest}
 use Rattle.tora_traced.specs.declared.traced_simulator.Before.{Before}
 
--- the life that an item tells to be up
+-- the session that an item reports as up
 abbrev pub life_of_what : What → Option Life
 life_of_what (Tells.Up life) = Some life
 life_of_what (Tells.Packet life packet) = None
@@ -82,7 +82,7 @@ before_of w event = record {
   life = life_before w event;
 }
 
--- An event that was not refused led to a world, and the trace has its records.
+-- An accepted event led to this world, and the trace has its records.
 abbrev pub HasRecords : List (ℕ × ℕ) → Before → Event → World → TraceState → TraceState → Type 0
 HasRecords parted b (Need n d) after old new = new ≡ with_text old (need_record b.clock n d)
 HasRecords parted b Tick after old new = new ≡ after_frames old b.clock
@@ -96,7 +96,7 @@ HasRecords parted b (Deliver i) after old new = new ≡ old
 HasRecords parted b (Pump n k) after old new = new ≡ old
 HasRecords parted b (Arm n call) after old new = new ≡ old
 
--- An event has its records in the trace; one that is refused has none.
+-- The trace has the records of an event; a refused event has none.
 abbrev pub Records : List (ℕ × ℕ) → World → Event → World → TraceState → TraceState → Option SimError → Type 0
 Records parted w event after old new None = HasRecords parted (before_of w event) event after old new
 Records parted w event after old new (Some error) = new ≡ old

@@ -1,4 +1,4 @@
--- The kind of file that a simulation is whose trace is written.
+-- A traced simulation as a kind of file.
 use Rattle.tora_world.specs.World.{World}
 use Rattle.tora_traced.specs.declared.traced_simulator.Traced.{Traced}
 use Rattle.tora_traced.specs.declared.traced_simulation.Tracing.{Tracing}

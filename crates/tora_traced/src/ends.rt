@@ -10,21 +10,21 @@ use tora_core::Erasure;
 use tora_lines::Output;
 use tora_script::Setup;
 
-/// Puts a blank and a number behind a text.
+/// Appends a blank and a number to a text.
 fn field(out: &mut String, n: u64) -> Result<(), AllocError>
     ensures { OnOk result (string_bytes out.new ≡ string_bytes out.old ++ field n) }
 {
     write!(out, " {n}")
 }
 
-/// 1 where it is so, and else 0.
+/// 1 for true, 0 for false.
 fn flag(is: bool) -> u64
     ensures { result ≡ flag is }
 {
     if is { 1 } else { 0 }
 }
 
-/// Puts ` UNTIL FILE` behind a text, where there is a last round or a channel file, with `-` for the other.
+/// Appends ` UNTIL FILE` to a text if there is a last round or a channel file, with `-` for the one that is missing.
 fn more_fields(out: &mut String, until: Option<u64>, file: Option<&str>) -> Result<(), AllocError>
     ensures { OnOk result (string_bytes out.new ≡ string_bytes out.old
         ++ more_fields until (option_map (λ w. w.now) file.entry)) }
@@ -37,7 +37,7 @@ fn more_fields(out: &mut String, until: Option<u64>, file: Option<&str>) -> Resu
     }
 }
 
-/// Appends a blank and the last round to a text; `-` if there is none.
+/// Appends ` N` for the last round N to a text, or ` -` if there is none.
 #[tactic(auto, unfolding(crate::specs::Ends::until_field))]
 fn until_field(out: &mut String, until: Option<u64>) -> Result<(), AllocError>
     ensures { OnOk result (string_bytes out.new ≡ string_bytes out.old ++ until_field until) }
@@ -48,7 +48,7 @@ fn until_field(out: &mut String, until: Option<u64>) -> Result<(), AllocError>
     }
 }
 
-/// Appends a blank and the digest of the channel file to a text; `-` if there is none.
+/// Appends a blank and the digest of the channel file to a text, or ` -` if there is no such file.
 #[tactic(auto, unfolding(crate::specs::Ends::file_field))]
 fn file_field(out: &mut String, file: Option<&str>) -> Result<(), AllocError>
     ensures { OnOk result (string_bytes out.new ≡ string_bytes out.old
@@ -60,7 +60,7 @@ fn file_field(out: &mut String, file: Option<&str>) -> Result<(), AllocError>
     }
 }
 
-/// Puts ` UNTIL FILE remembered` behind a text, with `-` for what there is not.
+/// Appends ` UNTIL FILE remembered` to a text, with `-` for a missing last round or channel file.
 fn remembered_fields(
     out: &mut String,
     until: Option<u64>,
@@ -74,7 +74,7 @@ fn remembered_fields(
     out.push_str(" remembered")
 }
 
-/// Puts the last fields of the first record behind a text.
+/// Appends the last fields of the first record to a text.
 fn erasure_fields(
     out: &mut String,
     erasure: Erasure,
@@ -90,8 +90,8 @@ fn erasure_fields(
     }
 }
 
-/// `0 trace 1 HELLO SILENCE RETRY TRIES LOSS LEAST MOST REPEAT SEED NOTICE`, and ` UNTIL FILE` where there is a last
-/// round or a channel file, or ` UNTIL FILE remembered` where nodes remember erased levels, a line.
+/// The line `0 trace 1 HELLO SILENCE RETRY TRIES LOSS LEAST MOST REPEAT SEED NOTICE`, with ` UNTIL FILE` if there is a
+/// last round or a channel file, or with ` UNTIL FILE remembered` if nodes remember erased levels.
 #[tactic(auto, unfolding(crate::specs::Ends::first_record))]
 fn first_line(alloc: Global, setup: Setup, file: Option<&str>) -> Result<String, AllocError>
     ensures { IfOk result (λ text. string_bytes text ≡ first_record setup (option_map (λ w. w.now) file.entry)) }
@@ -114,7 +114,7 @@ fn first_line(alloc: Global, setup: Setup, file: Option<&str>) -> Result<String,
     Ok(text)
 }
 
-/// `T end DIGEST`, a line.
+/// The line `T end DIGEST`.
 #[tactic(auto, unfolding(crate::specs::Ends::last_record))]
 fn last_line(alloc: Global, now: u64, digest: &str) -> Result<String, AllocError>
     ensures { IfOk result (λ text. string_bytes text ≡ last_record now digest.now) }
@@ -125,8 +125,8 @@ fn last_line(alloc: Global, now: u64, digest: &str) -> Result<String, AllocError
 }
 
 impl<W: Output> TraceOut<W> {
-    /// Writes the first record: the version of the format, what the simulation is made with, and the digest of the
-    /// channel file, if there is one. Want of memory is a failure of the writer.
+    /// Writes the first record: the version of the format, the settings of the simulation, and the digest of the
+    /// channel file, if there is one. If memory runs out, the writer counts as failed.
     pub fn begin(&mut self, alloc: Global, setup: Setup, file: Option<&str>)
         ensures { is_some self.new.failure ≡ false → Appends (W.contents self.old.writer) (W.contents self.new.writer)
             (first_record setup (option_map (λ w. w.now) file.entry)) }
@@ -137,8 +137,8 @@ impl<W: Output> TraceOut<W> {
         }
     }
 
-    /// Writes the last record, at the clock of the last line: the digest of the input. Want of memory is a failure of
-    /// the writer.
+    /// Writes the last record, at the clock of the last line: the digest of the input. If memory runs out, the writer
+    /// counts as failed.
     pub fn finish(&mut self, alloc: Global, digest: &str)
         ensures { is_some self.new.failure ≡ false → Appends (W.contents self.old.writer) (W.contents self.new.writer)
             (last_record self.old.clock digest.now) }

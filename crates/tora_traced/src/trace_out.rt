@@ -1,4 +1,4 @@
-//! Where a trace goes.
+//! The writer of a trace.
 ghost use Rattle.std.specs.Prelude.{◌≡◌, false, true, is_some};
 ghost use Rattle.std.specs.Io.KnownBytes.{Appends, Keeps};
 ghost use Rattle.tora_traced.specs.TraceOuts.{IsPut, IsHandedOn};
@@ -6,17 +6,17 @@ ghost use Rattle.tora_traced.specs.TraceOuts.{IsPut, IsHandedOn};
 use std::io;
 use tora_lines::Output;
 
-/// A writer that is given up once it fails, and why it failed.
+/// A writer that is no longer used after it fails, and why it failed.
 #[derive(Drop)]
 pub struct TraceOut<W> {
     pub writer: W,
-    /// The clock of what was written last.
+    /// The clock, in ticks, of the last write.
     pub clock: u64,
     failure: Option<io::Error>,
 }
 
 impl<W: Output> TraceOut<W> {
-    /// Nothing was written yet.
+    /// A writer to which nothing was written.
     pub fn new(writer: W) -> TraceOut<W>
         ensures writer { result.writer ≡ writer }
         ensures clock { result.clock ≡ 0 }
@@ -46,14 +46,14 @@ impl<W: Output> TraceOut<W> {
         self.clock = now;
     }
 
-    /// The writer is given up for want of memory.
+    /// Marks the writer as failed, because memory ran out.
     pub fn fail(&mut self)
         ensures { is_some self.new.failure ≡ true }
     {
         self.failure = Some(io::Error::from(io::ErrorKind::OutOfMemory));
     }
 
-    /// Hands on what was written, unless the writer has failed.
+    /// Flushes the writer, unless it has failed.
     pub fn flush(&mut self)
         ensures call { IsHandedOn W.did_flush self.old self.new }
         ensures bytes { Keeps (W.contents self.old.writer) (W.contents self.new.writer) }

@@ -23,15 +23,15 @@ use tora_lines::words::LineError;
 use tora_lines::{Ended, FileKind, Input, Output, ReplayError, read_lines};
 use tora_script::{Running, Setup, Simulation, SimulationLine, Stage, Told, simulation_line};
 
-/// A simulation file whose trace is written line by line; why a line is a fault is told and, where it is verbose, why
-/// an event is refused.
+/// A simulation file whose trace is written line by line. It reports why a line is a fault and, if `is_verbose`, why an
+/// event is refused.
 #[derive(Drop)]
 pub struct Tracing<'a, S, T, W> {
     told: Told<'a, Traced<S>, T>,
     out: &'a mut TraceOut<W>,
 }
 
-/// Notes what a line did that is no event: a part, a mend, and the datagrams of rounds.
+/// Records what a line did besides its events: a part, a mend, and the datagrams of rounds.
 fn note<S: Watched>(running: &mut Running<Traced<S>>, line: &[u8]) -> Result<(), AllocError>
     ensures view { running_view (traced_world S.world) running.new ≡ running_view (traced_world S.world) running.old }
     ensures trace { OnOk result (running.new.sim.trace ≡ after_line (S.world running.old.sim.sim).clock
@@ -68,7 +68,7 @@ fn hand_on<S: Watched, W: Output>(stage: &mut Stage<Traced<S>>, out: &mut TraceO
     }
 }
 
-/// Notes what a line did that was taken, and writes the records that were not written yet.
+/// Records what an accepted line did, and writes the records that were not written yet.
 fn tell<S: Watched, W: Output>(
     stage: &mut Stage<Traced<S>>,
     line: &[u8],
@@ -116,11 +116,11 @@ impl<S: Watched, T: Eprint, W: Output> FileKind for Tracing<'_, S, T, W> {
     }
 }
 
-/// Simulates what is made with this over a channel that the lines of a table change, and writes the trace: of each
-/// line, what happened in it. It tells on standard error why a line is a fault, unless it is too long, and where it is
-/// verbose, why an event is refused.
+/// Simulates with these settings, over a channel that the table changes by round, and writes the trace of what happened
+/// in each line. Reports on standard error why a line is a fault, unless it is too long, and, if `is_verbose`, why an
+/// event is refused.
 ///
-/// A trace that can't be written stops nothing; `out` says so then.
+/// The simulation goes on if the trace cannot be written; `out` then has the error.
 #[tactic(auto, unfolding(tora_lines::specs::Engine::text_of))]
 pub fn simulate_traced<S: Watched, T: Eprint, R: Input, W: Output, V: Output>(
     rt: &T,

@@ -29,15 +29,15 @@ pub struct Traced<S> {
     pub parted: Parted,
 }
 
-/// What is read of a world before an event.
+/// What the records of an event need of the world before it.
 #[derive(Clone, Copy)]
 struct Before {
     clock: u64,
     /// How many datagrams were ever sent.
     datagrams: u64,
-    /// How many inputs the core accepted whose turn the event is.
+    /// For a `CoreTurn`: how many inputs the core had accepted; otherwise 0.
     inputs: usize,
-    /// The life that its item tells to be up.
+    /// For a `CoreTurn`: the session that the core's next item reports as up, if it does.
     life: Option<Life>,
 }
 
@@ -57,7 +57,7 @@ fn life_of_what(what: &What) -> Option<Life>
     }
 }
 
-/// The life that an item tells to be up.
+/// The session that an item reports as up, if it does.
 fn life_told(item: Option<Item>) -> Option<Life>
     ensures { result ≡ life_told item }
 {
@@ -78,7 +78,7 @@ fn behind(inputs: &[(Input, u64)], count: usize) -> &[(Input, u64)]
 }
 
 impl<S: Watched> Traced<S> {
-    /// A simulator whose world begins anew, and its trace, with the choices of its nodes.
+    /// A simulator in its first world, with an empty trace and its nodes' choices of erasure.
     fn begun(
         alloc: Global,
         sim: S,
@@ -146,7 +146,7 @@ impl<S: Watched> Traced<S> {
         }
     }
 
-    /// Tells what an event did that was not refused.
+    /// Records what an accepted event did.
     fn tell(&mut self, event: &Event, before: Before) -> Result<(), AllocError>
         ensures kept { self.new ≡ record self.old { trace = self.new.trace } }
         ensures told { OnOk result (HasRecords self.old.parted before event.now (S.world self.old.sim) self.old.trace
@@ -188,8 +188,8 @@ impl<S: Watched> Traced<S> {
         }
     }
 
-    /// Makes an event happen until it is refused, at most `most` times, and records each time what it did. Returns
-    /// whether it happened at all. `place` is the index of its node or link end.
+    /// Repeats an event until it is refused, at most `most` times, and records each time what it did. Returns whether
+    /// it happened at all. `place` is the index of its node or link end.
     fn step_on(&mut self, place: usize, event: &Event, most: u64) -> Result<bool, AllocError>
         ensures { IfOk result (λ some. Happened (S.world self.old.sim) (repeats most event.now (S.world self.old.sim))
             (S.world self.new.sim) some) }

@@ -1,4 +1,4 @@
-//! What a trace asks of a simulator.
+//! The simulator as a trace uses it.
 ghost use Rattle.std.specs.Prelude.{◌≡◌, slice_get};
 ghost use Rattle.tora_world.specs.World.{datagram};
 
@@ -9,7 +9,7 @@ use tora_script::Simulator;
 use tora_seat::Item;
 use tora_sim::Sim;
 
-/// A simulator that a trace can be written of.
+/// A simulator whose trace can be written.
 pub trait Watched: Simulator {
     /// How many ticks have passed.
     fn clock(&self) -> u64
