@@ -31,7 +31,7 @@ pub record IsNoTableText {R : Type 0} (opened : Result R Error → Type 0) (did_
   pub first : channel_lines_of bytes ≡ Err line
   pub status_is : status ≡ 1
 
--- Opening or reading the file gave an error, a line is none, or memory was refused.
+-- Opening or reading the file gave an error, a line is at fault, or memory ran out.
 abbrev pub IsNoTable : {R : Type 0} → (Result R Error → Type 0) → (R → Result (List ℕ) Error → Type 0)
     → (R → Option (List ℕ)) → ℕ → Type 0
 IsNoTable opened did_read remaining status =

@@ -15,7 +15,7 @@ use Rattle.tora_script.specs.SimulationLines.{erasure_of}
 use Rattle.tora_commands.specs.declared.setup_words.SetupWords.{SetupWords}
 use Rattle.tora_commands.specs.TimesWord.{asked_times}
 
--- a number below 2^64, 0 where none is asked for
+-- the seed in a word, a number below 2^64; 0 without a word
 abbrev pub asked_seed : Option (List ℕ) → Option ℕ
 asked_seed None = Some 0
 asked_seed (Some text) = number_of text
@@ -26,18 +26,18 @@ channel_asked text seed = do
   parts ← parts_of text
   Some (channel_by parts n)
 
--- the channel of a word and a seed; the clear one where no word is there, and then a seed is for the lines of a channel
+-- the channel in a word, with a seed; without a word the clear channel, and a seed is then allowed only with a channel
 -- file
 abbrev pub asked_channel : Option (List ℕ) → Option (List ℕ) → Bool → Option Channel
 asked_channel None None has_file = Some clear
 asked_channel None (Some seed) has_file = if has_file then option_map (channel_by no_parts) (number_of seed) else None
 asked_channel (Some text) seed has_file = channel_asked text seed
 
--- the limits of a world, which are the greatest where a large one is asked for
+-- the greatest limits if a large world is requested, otherwise the standard ones
 abbrev pub asked_limits : Bool → Limits
 asked_limits large = if large then greatest_limits else standard_limits
 
--- what nodes make of erased levels: `plain` or `remembered`, and plain where no word is there
+-- the choice of erasure in a word, `plain` or `remembered`; plain without a word
 abbrev pub asked_erasure : Option (List ℕ) → Option Erasure
 asked_erasure None = Some Plain
 asked_erasure (Some text) = erasure_of text

@@ -29,7 +29,7 @@ status_of_fault NoConfig = 1
 status_of_fault NoSocket = 3
 status_of_fault NoLife = 4
 
--- 0 where its commands ended the node; otherwise by its fault
+-- 0 if the commands ended the node; otherwise the status of its fault
 abbrev pub status_of_node : {A : Type 0} → Result A NodeError → ℕ
 status_of_node (Ok ended) = 0
 status_of_node (Err Node.Memory) = 5
@@ -70,7 +70,7 @@ pub record HasNoWays (text : List ℕ) (status : ℕ) : Type 0 where
   pub exact : (table : Members) → parse_document text ≡ Some table → Fails error (ways_in table)
   pub status_is : status ≡ 1
 
--- `read_ways` answers so many ways of the text.
+-- `read_ways` returns this many ways from the text.
 pub record HasWays (text : List ℕ) (count : ℕ) : Type 0 where
   pub ways : List WaySaid
   pub exact : (table : Members) → parse_document text ≡ Some table → ways_in table ≡ Ok ways
@@ -83,7 +83,7 @@ pub record IsUneven (text : List ℕ) (config : NodeConfig) (status : ℕ) : Typ
   pub uneven : count ≢ length config.links.items
   pub status_is : status ≡ 1
 
--- Opening the file with the key of a link gave an error, or it gave a file that can't be read or has no key.
+-- Opening the key file of a link gave an error, or the file cannot be read or has no key.
 pub record HasNoKey {R : Type 0} (did_open : List ℕ → Result R Error → Type 0) (status : ℕ) : Type 0 where
   pub path : List ℕ
   pub file : Result R Error
@@ -97,14 +97,14 @@ IsRefused did_open text status =
     ⊎ (((config : NodeConfig) × IsConfigOf text config × IsUneven text config status)
     ⊎ (HasNoWays text status ⊎ (HasNoKey did_open status ⊎ (status ≡ 5))))
 
--- Opening or reading the file at a path gave an error, or what was read is refused.
+-- Opening or reading the file at a path gave an error, or its text is refused.
 abbrev pub IsUnconfigured : {R : Type 0} → (List ℕ → Result R Error → Type 0) → (R → Result (List ℕ) Error → Type 0)
     → (R → Option (List ℕ)) → List ℕ → ℕ → Type 0
 IsUnconfigured did_open did_read remaining path status =
     IsFailed (IsUnread (did_open path) did_read) status
     ⊎ ((text : List ℕ) × IsRead (did_open path) did_read remaining text × IsRefused did_open text status)
 
--- Opening a path gave a reader, and the bytes that reading it to its end gave say this configuration.
+-- The file at a path was opened and read to its end, and its text gives this configuration.
 pub record IsConfigured {R : Type 0} (did_open : List ℕ → Result R Error → Type 0) (did_read : R → Result (List ℕ) Error
     → Type 0) (remaining : R → Option (List ℕ)) (path : List ℕ) (config : NodeConfig) : Type 0 where
   pub text : List ℕ

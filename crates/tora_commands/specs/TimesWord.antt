@@ -24,7 +24,7 @@ times_of text = do
   tries ← positive_of c.1
   Some (record { hello = hello; silent = silent; retry = retry; tries = tries })
 
--- the times that are asked for, the standard ones where none are
+-- the times in a word; the standard times without a word
 abbrev pub asked_times : Option (List ℕ) → Option Times
 asked_times None = Some STANDARD
 asked_times (Some text) = times_of text

@@ -1,4 +1,4 @@
-//! `--progress` of `tora sim`: a bar on a terminal, which is drawn as the lines of the file are read.
+//! `--progress` of `tora sim`: a bar on a terminal, drawn while the lines of the file are read.
 ghost use Rattle.std.specs.Prelude.{◌≡◌};
 ghost use Rattle.std.specs.Io.{ReadsAtMost};
 ghost use Rattle.std.specs.Io.KnownBytes.{ReadConsumes};
@@ -11,17 +11,16 @@ use std::io;
 use std::time::Clock;
 use tora_lines::Input;
 
-/// The most bytes that are read at once: those of a line or two, so that the lines before are done when the next are
-/// read.
+/// The most bytes read at once: about a line or two, so that earlier lines are carried out before the next are read.
 const PIECE: usize = 16;
 
-/// The milliseconds from a drawing to the next.
+/// The milliseconds between two drawings.
 const PAUSE: u64 = 100;
 
-/// What wipes away the line of a terminal.
+/// The text that erases the line of a terminal.
 const WIPE: &str = "\r\x1b[K";
 
-/// The milliseconds of a clock, 0 where it can't be read.
+/// The milliseconds of a clock; 0 if it cannot be read.
 fn millis<T: Clock>(clock: &T) -> u64 {
     match clock.monotonic() {
         Ok(now) => u64::try_from(now.as_millis()).unwrap_or(0),
@@ -29,7 +28,7 @@ fn millis<T: Clock>(clock: &T) -> u64 {
     }
 }
 
-/// A runtime whose messages take the place of a bar.
+/// A runtime whose messages erase the bar first.
 #[derive(Clone, Copy)]
 pub struct Wiping<'a, T> {
     rt: &'a T,
@@ -69,16 +68,16 @@ struct Bar<'a, T> {
     count: RoundCount,
     /// The last round.
     until: Option<u64>,
-    /// The rounds that there will be, where that is known.
+    /// The number of rounds in all, if it is known.
     total: Option<u64>,
-    /// The clock as the simulation began, in milliseconds.
+    /// The clock in milliseconds when the simulation began.
     begun: u64,
     /// The clock at the last drawing.
     drawn: u64,
 }
 
 impl<T: Eprint + Clock> Bar<'_, T> {
-    /// Draws what is done now.
+    /// Draws the progress at the clock `now`, in milliseconds.
     fn draw(&mut self, now: u64) {
         self.drawn = now;
         let progress = Progress {
@@ -90,7 +89,7 @@ impl<T: Eprint + Clock> Bar<'_, T> {
         let _ = self.rt.eprint(format_args!("{wipe}{progress}"));
     }
 
-    /// Draws what is done, where the last drawing is some time ago.
+    /// Draws the progress, if the last drawing was long enough ago.
     fn show(&mut self) {
         let now = millis(self.rt);
         if now.saturating_sub(self.drawn) >= PAUSE {
@@ -98,7 +97,7 @@ impl<T: Eprint + Clock> Bar<'_, T> {
         }
     }
 
-    /// Draws what is done at the end of the file, and ends the line.
+    /// Draws the progress at the end of the file, and ends the line.
     fn end(&mut self) {
         self.count.end_line();
         let now = millis(self.rt);
@@ -107,7 +106,7 @@ impl<T: Eprint + Clock> Bar<'_, T> {
     }
 }
 
-/// Reads a piece at most.
+/// Reads at most one piece.
 fn read_piece<R: Input>(reader: &mut R, buf: &mut [u8]) -> io::Result<usize>
     ensures call { R.did_read reader.old (given_by result buf.new) reader.new }
     ensures bound { ReadsAtMost result buf.new }
@@ -118,7 +117,7 @@ fn read_piece<R: Input>(reader: &mut R, buf: &mut [u8]) -> io::Result<usize>
     Ok(n)
 }
 
-/// Hands on what a reader gives, piece by piece, and draws how far the simulation of its lines is.
+/// Passes on what a reader gives, piece by piece, and draws the progress of the simulation.
 #[derive(Drop)]
 pub struct Paced<'a, T, R> {
     pub(crate) reader: R,

@@ -15,7 +15,7 @@ use tora_lines::Output;
 use tora_script::{Setup, Simulator};
 use tora_simulate::{Opened, Paths};
 
-/// Simulates the lines of the file at a path as `sim_command::run` does, and draws on standard error how far it is.
+/// Simulates the lines of the file at a path as `sim_command::run` does, and draws the progress on standard error.
 pub fn run<S: Simulator, T: Paths + AllocGlobal + Eprint + Clock, W: Output>(
     rt: &T,
     setup: Setup,

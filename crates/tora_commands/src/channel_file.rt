@@ -11,8 +11,8 @@ use std::process::ExitCode;
 use tora_channel::{ChannelTable, LineCause, TableError, channel_table};
 use tora_simulate::{Paths, bytes_at};
 
-/// What a channel file says: its table, and the SHA-256 of its bytes as 64 hexadecimal digits. Without a file there is
-/// no line and no digest.
+/// The content of a channel file: its table, and the SHA-256 of its bytes as 64 hexadecimal digits. Without a file the
+/// table is empty and there is no digest.
 #[derive(Drop)]
 pub struct ChannelFile {
     pub table: ChannelTable,
@@ -41,10 +41,10 @@ fn refuse_line<T: Eprint>(rt: &T, path: &str, number: u64, cause: LineCause) -> 
     code
 }
 
-/// Reads the channel file at a path. What is wrong is said on standard error.
+/// Reads the channel file at a path. Reports on standard error what is wrong with it.
 ///
 /// # Errors
-/// The status 1 where the file can't be read, or a line is none, and 5 where memory was refused.
+/// The status 1 if the file cannot be read or a line is at fault, and 5 if memory ran out.
 pub(crate) fn channel_file<T: Paths + AllocGlobal + Eprint>(
     rt: &T,
     path: &str,

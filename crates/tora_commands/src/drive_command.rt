@@ -77,12 +77,11 @@ fn run_with<T: AllocGlobal + Eprint, R: Input + Drop, W: Output>(
     status(rt, result)
 }
 
-/// Drives a world by the lines that a reader gives, with the times of link ends and the erasure that words ask for,
-/// within the greatest limits where it `is_large` and else within the standard ones, and ends with a status: 0 at the
-/// end of the input, 1 where reading or writing failed, 5 where memory was refused. A word that gives no times or no
-/// erasure is a fault of usage, and nothing is written.
+/// Drives a world by the lines of a reader, and returns a status: 0 at the end of the input, 1 if reading or writing
+/// failed, 5 if memory ran out. `times` and `erasure` are words of the command line; if one is malformed, the command
+/// line is at fault (2), and nothing is written. `is_large` selects the greatest limits.
 ///
-/// The writer has to hand on at once what is written: whoever drives waits for it.
+/// The writer must pass on at once what is written, because the other program waits for it.
 pub fn run<T: AllocGlobal + Eprint, R: Input + Drop, W: Output>(
     rt: &T,
     times: Option<&str>,

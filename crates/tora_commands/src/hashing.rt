@@ -1,4 +1,4 @@
-//! A reader that takes the digest of what is read.
+//! A reader that computes the digest of what is read.
 ghost use Rattle.std.specs.Prelude.{◌≡◌};
 
 use sha2::{Digest, Sha256};
@@ -6,7 +6,7 @@ use std::alloc::{AllocError, Global};
 use std::io;
 use tora_lines::Input;
 
-/// Hands on what a reader gives, and takes its SHA-256.
+/// Passes on what a reader gives, and computes its SHA-256.
 #[derive(Drop)]
 pub struct Hashing<R> {
     pub reader: R,

@@ -22,8 +22,8 @@ fn line_of(alloc: Global, key: &[u8]) -> Result<String, AllocError>
     Ok(line)
 }
 
-/// Writes a new key, 64 hexadecimal digits from the random numbers of the operating system, and a line feed. The status
-/// is 0, 1 where there are no random numbers or writing failed, 5 where memory was refused.
+/// Writes a new key, 64 hexadecimal digits from the random numbers of the operating system, and LF. The status is 0; 1
+/// if there are no random numbers or writing failed; 5 if memory ran out.
 pub fn run<T: RandomSource + AllocGlobal + Eprint, W: Output>(rt: &T, writer: &mut W) -> ExitCode
     ensures key { exit_status result ≡ 0 → (key : List ℕ) × (length key ≡ 32)
         × Appends (W.contents writer.old) (W.contents writer.new) (encode_lower key ++ 10 ∷ []) }

@@ -12,13 +12,13 @@ use std::rt::Files;
 use tora_keyed::{Key, LONGEST_KEY_FILE, key_in, overwrite};
 use tora_simulate::{Paths, tell_at};
 
-/// The permissions of a file that its group or others may read.
+/// The permissions by which the group or others may read a file.
 const READ_BY_OTHERS: u32 = 0o044;
 
-/// What is said of a file that has no key.
+/// The message about a file without a key.
 const NO_KEY: &str = "is no key: a key is 64 hexadecimal digits on one line";
 
-/// Reads as much of a file as there is room for.
+/// Reads as much of a file as fits the buffer.
 fn read_front(file: &mut File, buf: &mut [u8]) -> io::Result<usize> {
     let mut count = 0;
     for _ in 0..buf.len() {
@@ -34,7 +34,7 @@ fn read_front(file: &mut File, buf: &mut [u8]) -> io::Result<usize> {
     Ok(count)
 }
 
-/// Warns where others than the owner may read the file with a key.
+/// Warns if users other than the owner may read the key file.
 fn warn_of_readers(rt: &impl Eprint, file: &File, path: &str) {
     let Ok(about) = file.metadata() else {
         return;
@@ -44,8 +44,8 @@ fn warn_of_readers(rt: &impl Eprint, file: &File, path: &str) {
     }
 }
 
-/// The key in the file at a path. What is wrong is said on standard error, and never what the file holds. The room into
-/// which the file was read is overwritten at the end.
+/// The key in the file at a path. Reports on standard error what is wrong, but never the content of the file. The
+/// buffer into which the file was read is overwritten at the end.
 pub(crate) fn key_at<R: Paths + Files<File = File> + Eprint>(
     rt: &R,
     path: &str,
@@ -58,7 +58,7 @@ pub(crate) fn key_at<R: Paths + Files<File = File> + Eprint>(
     key
 }
 
-/// Reads the file at a path into a room, and makes the key that it says.
+/// Reads the file at a path into a buffer, and makes the key in it.
 fn read_key<R: Paths + Files<File = File> + Eprint>(
     rt: &R,
     path: &str,
@@ -81,7 +81,7 @@ fn read_key<R: Paths + Files<File = File> + Eprint>(
     }
 }
 
-/// Says on standard error what is wrong with the file at a path.
+/// Reports on standard error what is wrong with the file at a path.
 fn tell_fault<D: Display>(rt: &impl Eprint, path: &str, cause: &D) -> Fault
     ensures { result ≡ Fault.Config }
 {

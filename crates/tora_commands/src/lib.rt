@@ -54,7 +54,7 @@ pub use tora_simulate::{
 };
 use tora_simulate::{Paths, tell, tell_at};
 
-/// Says which words ask for no simulation, and why.
+/// Reports which words of the command line are not a setup, and why.
 fn refuse_setup<T: Eprint>(rt: &T, fault: SetupFault<'_>) -> ExitCode
     ensures { exit_status result ≡ 2 }
 {
@@ -68,7 +68,7 @@ fn refuse_setup<T: Eprint>(rt: &T, fault: SetupFault<'_>) -> ExitCode
     ExitCode::from(USAGE)
 }
 
-/// Says that the trace would take the place of a file that is read.
+/// Reports that the trace would replace a file that is read.
 fn refuse_place<T: Eprint>(rt: &T, path: &str) -> ExitCode
     ensures { exit_status result ≡ 1 }
 {
@@ -77,7 +77,7 @@ fn refuse_place<T: Eprint>(rt: &T, path: &str) -> ExitCode
     code
 }
 
-/// What the channel file of these words says, or the status where it can't be read, or would be the trace's.
+/// The content of the channel file. The status if it cannot be read, or if the trace would replace it.
 fn asked_file<T: Paths + AllocGlobal + Eprint>(
     rt: &T,
     path: Option<&str>,
@@ -100,8 +100,8 @@ fn asked_file<T: Paths + AllocGlobal + Eprint>(
     channel_file::channel_file(rt, path)
 }
 
-/// Simulates the lines of the file at a path, made with this and over the channel of a channel file, and writes the
-/// trace where a path is given for it; with a bar or without.
+/// Simulates the lines of the file at a path with these settings and the channel file, and writes a trace if there is a
+/// path for one; with or without a bar.
 fn simulate_over<T: Paths + AllocGlobal + Eprint + Clock, W: Output>(
     rt: &T,
     setup: Setup,
@@ -129,9 +129,9 @@ fn simulate_over<T: Paths + AllocGlobal + Eprint + Clock, W: Output>(
     }
 }
 
-/// Simulates the lines of the file at a path, made with what words ask for, and writes the trace where a path is given
-/// for it. Words that ask for none are a fault of usage, and nothing is written; nor is it where the channel file can't
-/// be read. What is shown on standard error: why events are refused, and a bar that tells how far the simulation is.
+/// Simulates the lines of the file at a path with the settings that words of the command line ask for, and writes a
+/// trace if there is a path for one. If a word is malformed, or the channel file cannot be read, nothing is written.
+/// `shown` says whether standard error has why events are refused, and whether it has a bar.
 pub fn simulate_file<T: Paths + AllocGlobal + Eprint + Clock, W: Output>(
     rt: &T,
     words: SetupWords<'_>,

@@ -13,7 +13,7 @@ use tora_height::Id;
 use tora_life::{Disk, FileDisk, LifeError, Owner, Tag};
 use tora_simulate::tell_at;
 
-/// Says on standard error why a life file cannot be opened.
+/// Reports on standard error why a life file cannot be opened.
 fn tell_file(rt: &impl Eprint, path: &str, error: &io::Error) {
     if error.kind() == ErrorKind::WouldBlock {
         tell_at(rt, "life: ", path, &"a running node uses this file");
@@ -60,7 +60,7 @@ pub(crate) fn open<R: Files<File = File> + Eprint>(
     Ok(disks)
 }
 
-/// Whose a life file is, where its tag says so.
+/// The owner of a life file, if its tag names one.
 fn owner_in<R: Files<File = File>>(rt: &R, path: &str) -> Option<Owner> {
     let Ok(mut disk) = FileDisk::open(rt, path) else {
         return None;

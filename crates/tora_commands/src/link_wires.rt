@@ -19,7 +19,7 @@ use tora_keyed::{Key, LinkWire};
 use tora_neighbour::{NodeClock, SocketWaker, UnixClock, WakingWire};
 use tora_simulate::{Paths, tell_at};
 
-/// How the datagrams of a link go, and its key: there is one just where it has a file with a key.
+/// The addresses of a link, and its key: it has one exactly if it has a key file.
 #[derive(Drop)]
 pub(crate) struct KeyedWay {
     way: LinkWay,
@@ -30,10 +30,10 @@ pub(crate) struct KeyedWay {
 /// The wire of a link of the program.
 pub(crate) type ProgramWire<'a, R, L> = LinkWire<'a, WakingWire<'a, &'a R>, UnixClock<&'a R>, L>;
 
-/// What ends the waits of a link of the program.
+/// The waker of a link of the program, which ends its waits.
 pub(crate) type ProgramWaker<'a, R> = SocketWaker<'a, &'a R>;
 
-/// The key of a link, where it has one.
+/// The key of a link, if it has one.
 fn key_of<R: Paths + Files<File = File> + Eprint>(
     rt: &R,
     way: &LinkWay,
@@ -50,8 +50,8 @@ fn key_of<R: Paths + Files<File = File> + Eprint>(
     }
 }
 
-/// How the datagrams of each link go, by ascending neighbour, from the text of the configuration at a path, and the
-/// keys from their files. What is wrong is said on standard error.
+/// The addresses of each link, by ascending neighbour, from the configuration text at a path, and the keys from their
+/// files. Reports on standard error what is wrong.
 pub(crate) fn ways_in<R: Paths + Files<File = File> + AllocGlobal + Eprint>(
     rt: &R,
     path: &str,
@@ -73,7 +73,7 @@ pub(crate) fn ways_in<R: Paths + Files<File = File> + AllocGlobal + Eprint>(
     with_keys(rt, ways)
 }
 
-/// The ways by ascending neighbour, with the keys from their files. What is wrong is said on standard error.
+/// The addresses by ascending neighbour, with the keys from their files. Reports on standard error what is wrong.
 fn with_keys<R: Paths + Files<File = File> + AllocGlobal + Eprint>(
     rt: &R,
     ways: Vec<LinkWay>,
@@ -96,16 +96,16 @@ fn with_keys<R: Paths + Files<File = File> + AllocGlobal + Eprint>(
     Ok(keyed)
 }
 
-/// Says on standard error why the socket of a link can't be bound.
+/// Reports on standard error why the socket of a link cannot be bound.
 fn tell_socket(rt: &impl Eprint, way: &LinkWay, error: &impl Display) {
     let (peer, port) = (way.peer, way.local.port());
     let _ = rt.eprintln(format_args!("tora: socket: port {port} of the link to {peer}: {error}"));
 }
 
-/// The wire of a link, and what ends its waits.
+/// The wire of a link, and its waker.
 type Woken<'a, R, L> = (ProgramWire<'a, R, L>, ProgramWaker<'a, R>);
 
-/// Binds the socket of a link, and puts a wire over it, with its key where it has one, which logs to `log`.
+/// Binds the socket of a link and wraps it as a wire, with the link's key if it has one. The wire logs to `log`.
 fn wire_of<'a, R: Net + Eprint + Clock, L: Log>(
     rt: &'a R,
     log: &'a L,
@@ -132,8 +132,7 @@ fn wire_of<'a, R: Net + Eprint + Clock, L: Log>(
     }
 }
 
-/// Binds the socket of each link, in this order, and puts a wire over it; and what ends the waits of each wire,
-/// likewise.
+/// Binds the socket of each link, in this order. Returns the wires and their wakers.
 pub(crate) fn bind<'a, R: Net + Eprint + Clock, L: Log>(
     rt: &'a R,
     log: &'a L,
@@ -155,7 +154,7 @@ pub(crate) fn bind<'a, R: Net + Eprint + Clock, L: Log>(
     Ok((wires, wakers))
 }
 
-/// Lends each wire, in this order. `None` where memory was refused.
+/// Borrows each wire, in this order. `None` if memory ran out.
 pub(crate) fn lend<W>(alloc: Global, wires: &mut [W]) -> Option<Vec<&mut W>>
     ensures { IfSome result (λ lent. map (λ l. l.now) lent.items ≡ wires.old) }
 {
@@ -169,8 +168,7 @@ pub(crate) fn lend<W>(alloc: Global, wires: &mut [W]) -> Option<Vec<&mut W>>
     Some(lent)
 }
 
-/// Closes each wire, once the node has ended: the last counts of its links with keys are logged, and their keys are
-/// overwritten.
+/// Closes each wire after the node has ended: logs the last counts of the links with keys, and overwrites their keys.
 pub(crate) fn close<R: Net + Clock, L: Log>(wires: &mut [ProgramWire<'_, R, L>])
     ensures { wires.new ≡ map cleared wires.old }
 {

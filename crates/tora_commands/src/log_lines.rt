@@ -1,4 +1,4 @@
-//! Log lines on standard error, with the time where it is asked for.
+//! Log lines on standard error, with the time if requested.
 ghost use Rattle.std.specs.Prelude.{◌≡◌, true, [], Some};
 
 use jiff::Timestamp;
@@ -29,7 +29,7 @@ impl<R> LogLines<R> {
 }
 
 impl<R: Eprint + Clock> LogLines<R> {
-    /// The time that stands before a line.
+    /// The time before a line.
     fn time(&self) -> Option<Timestamp> {
         if self.has_time {
             Timestamp::now(&self.rt).ok()

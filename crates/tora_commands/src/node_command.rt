@@ -86,7 +86,7 @@ fn status(rt: &impl Eprint, ended: Result<Ended, NodeError>) -> ExitCode
     }
 }
 
-/// The text at a path. Why it can't be read is said on standard error.
+/// The text at a path. Reports on standard error why it cannot be read.
 fn text_of<R: Paths + AllocGlobal + Eprint>(rt: &R, path: &str) -> Result<String, Fault>
     ensures read { IfOk result (λ text. IsRead (R.did_open rt.now path.now) R.did_read R.File.remaining
         (string_bytes text)) }
@@ -106,7 +106,7 @@ fn text_of<R: Paths + AllocGlobal + Eprint>(rt: &R, path: &str) -> Result<String
     }
 }
 
-/// The configuration that the text at a path says. What is wrong is said on standard error.
+/// The configuration in the text at a path. Reports on standard error what is wrong.
 fn config_of<R: AllocGlobal + Eprint>(rt: &R, path: &str, text: &str) -> Result<NodeConfig, Fault>
     ensures says { IfOk result (IsConfigOf text.now) }
     ensures refused { IfErr result (λ fault. IsNoConfig text.now (status_of_fault fault)
@@ -123,7 +123,7 @@ fn config_of<R: AllocGlobal + Eprint>(rt: &R, path: &str, text: &str) -> Result<
     }
 }
 
-/// Reads the configuration at a path, and the keys of its links. What is wrong is said on standard error.
+/// Reads the configuration at a path, and the keys of its links. Reports on standard error what is wrong.
 fn read<R: Paths + Files<File = File> + AllocGlobal + Eprint>(
     rt: &R,
     path: &str,
@@ -158,7 +158,7 @@ fn plural(count: usize) -> &'static str {
     if count == 1 { "" } else { "s" }
 }
 
-/// Says on standard error that a configuration is one, and of how many of two things.
+/// Reports on standard error that the configuration is valid, with two counts.
 fn praise_counts(
     rt: &impl Eprint,
     path: &str,
@@ -169,19 +169,19 @@ fn praise_counts(
     let _ = rt.eprintln(format_args!("tora: {path}: ok, {m} {first}{p}, {n} {second}{q}"));
 }
 
-/// Says on standard error that a configuration is one, and of how many links and destinations.
+/// Reports on standard error that the configuration is valid, and how many links and destinations it has.
 fn praise(rt: &impl Eprint, path: &str, config: &NodeConfig) {
     let links = (config.links.len(), "link");
     let dests = (config.dests.len(), "destination");
     praise_counts(rt, path, links, dests);
 }
 
-/// Says on standard error that the socket of the link to `peer` failed.
+/// Reports on standard error that the socket of the link to `peer` failed.
 fn tell_failing(rt: &impl Eprint, peer: Id) {
     let _ = rt.eprintln(format_args!("tora: socket: the calls of the link to {peer} keep failing"));
 }
 
-/// Says on standard error why a node that ran has ended.
+/// Reports on standard error why a node that ran has ended.
 fn tell_ended<R: Files<File = File> + AllocGlobal + Eprint>(
     rt: &R,
     folder: &str,
@@ -196,7 +196,7 @@ fn tell_ended<R: Files<File = File> + AllocGlobal + Eprint>(
     }
 }
 
-/// The exit status of a node that has ended, after its line on standard error and what says more of the cause. Its life
+/// The exit status of a node that has ended, after its line on standard error and the lines about the cause. Its life
 /// files are in `folder`.
 fn finish<R: Files<File = File> + AllocGlobal + Eprint>(
     rt: &R,
@@ -220,13 +220,13 @@ fn finish<R: Files<File = File> + AllocGlobal + Eprint>(
 /// Reads the configuration, binds the sockets, opens the life files, and runs the node, which logs to `log`, until its
 /// commands end it.
 ///
-/// The first fault ends it before a thread is started: the configuration or a file with a key (status 1), then a
-/// socket, by ascending neighbour (3), then a life file, likewise (4), memory at any point (5). With `is_check` it
-/// reads the configuration and the keys, says that it is one, and ends. Standard error has the cause of a fault, and
-/// with `is_verbose` of a life file of another node whose it is.
+/// The first fault ends it before a thread is started: the configuration or a key file (status 1), then a socket, by
+/// ascending neighbour (3), then a life file, by ascending neighbour (4); memory at any point (5). With `is_check` it
+/// reads the configuration and the keys, reports that they are valid, and ends. Standard error has the cause of a fault
+/// and, if `is_verbose`, the owner of a life file of another node.
 ///
-/// At the end it logs how many datagrams of each link with a key were not authentic, and overwrites the keys. The
-/// writer is given back, with what it held where no node ran; it is `None` only where memory was refused.
+/// At the end it logs how many datagrams of each link with a key were not authentic, and overwrites the keys. It
+/// returns the writer, unchanged if no node ran, or `None`, only if memory ran out.
 pub fn run<
     'a,
     R: Paths + Files<File = File> + AllocGlobal + Eprint + Net + Clock + Sync,
@@ -268,7 +268,7 @@ pub fn run<
     ended
 }
 
-/// Opens the life files and runs the node of a configuration over its wires, which are lent to it, and wakes its links.
+/// Opens the life files, runs the node of a configuration over borrowed wires, and wakes its links.
 fn run_bound<
     'a,
     R: Files<File = File> + AllocGlobal + Eprint + Net + Clock + Sync,
@@ -305,8 +305,8 @@ fn run_bound<
     (finish(rt, folder, ended, is_verbose), writer)
 }
 
-/// Runs the node of a configuration over its wires, which are lent to it, and its disks, and wakes its links. It is
-/// `Memory` where memory was refused before, and then nothing is written.
+/// Runs the node of a configuration over borrowed wires and its disks, and wakes its links. `Memory` if memory ran out
+/// before; then nothing is written.
 fn run_over<
     'a,
     L: Threads + Wait + Log + Sync,
@@ -351,7 +351,7 @@ fn run_over<
     )
 }
 
-/// A clock for each of so many links, which share it. `None` where memory was refused.
+/// `count` copies of a clock, one for each link. `None` if memory ran out.
 #[tactic(auto, using(crate::proofs::NodeEnds::one_more_of))]
 fn shared<C: Copy + Drop>(alloc: Global, clock: C, count: usize) -> Option<Vec<C>>
     ensures { IfSome result (λ all. all.items ≡ replicate count clock) }
@@ -365,7 +365,7 @@ fn shared<C: Copy + Drop>(alloc: Global, clock: C, count: usize) -> Option<Vec<C
     Some(all)
 }
 
-/// The node of a configuration. `None` where memory was refused.
+/// The node of a configuration. `None` if memory ran out.
 fn node_of(alloc: Global, config: &NodeConfig) -> Option<Config>
     requires { IsNodeConfig config.now }
     ensures node { IfSome result (λ node. node ≡ core_of config.now) }

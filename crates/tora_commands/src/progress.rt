@@ -1,29 +1,29 @@
-//! How far a simulation is: the rounds of its file, and what is said of them.
+//! The progress of a simulation: the number of rounds in its file, and the text of the bar.
 use std::fmt::{self, Display, Formatter, Write};
 use std::fs;
 use std::io::Read;
 use std::rt::Files;
 use tora_script::{SimulationLine, simulation_line};
 
-/// The bytes of the longest line that says rounds, and one: a longer front says none.
+/// One byte more than the longest line `rounds R`: a line with this many stored bytes is not such a line.
 const FRONT: usize = 13;
 
 /// The most reads of a file.
 const MOST_READS: u64 = 0x1_0000_0000;
 
-/// How many rounds the lines of a simulation file ask for, as its bytes come.
+/// How many rounds the lines of a simulation file ask for, counted while its bytes are read.
 #[derive(Clone, Copy)]
 pub struct RoundCount {
-    /// The front of the line that has not ended.
+    /// The first bytes of the unfinished line.
     front: [u8; FRONT],
-    /// How many bytes of it are there.
+    /// How many of these bytes are stored.
     len: usize,
-    /// The rounds of the lines that have ended.
+    /// The number of rounds in the finished lines.
     pub rounds: u64,
 }
 
 impl RoundCount {
-    /// Before the first byte.
+    /// The count before the first byte.
     pub fn new() -> RoundCount {
         RoundCount {
             front: [0; FRONT],
@@ -32,7 +32,7 @@ impl RoundCount {
         }
     }
 
-    /// The line ends here.
+    /// Ends a line, and adds its rounds.
     pub fn end_line(&mut self) {
         let line = self.front.get(..self.len).unwrap_or(&[]);
         if let Some(SimulationLine::Rounds(count)) = simulation_line(line) {
@@ -49,7 +49,7 @@ impl RoundCount {
         }
     }
 
-    /// Takes the bytes behind those that came.
+    /// Counts the rounds in further bytes.
     pub fn take(&mut self, bytes: &[u8]) {
         for byte in bytes {
             if *byte == b'\n' {
@@ -61,8 +61,8 @@ impl RoundCount {
     }
 }
 
-/// How many rounds the file at a path asks for. Nothing where it is no regular file, which could not be read again, or
-/// can't be read.
+/// How many rounds the file at a path asks for. `None` if it cannot be read, or is not a regular file, which could not
+/// be read again.
 pub(crate) fn rounds_of<T: Files>(rt: &T, path: &str) -> Option<u64> {
     let about = rt.metadata(path).ok()?;
     if !about.is_file() {
@@ -82,7 +82,7 @@ pub(crate) fn rounds_of<T: Files>(rt: &T, path: &str) -> Option<u64> {
     None
 }
 
-/// A number, and not more than the most, if there is one.
+/// A number, but at most `most`, if that is given.
 pub(crate) fn within(number: u64, most: Option<u64>) -> u64 {
     match most {
         None => number,
@@ -90,12 +90,12 @@ pub(crate) fn within(number: u64, most: Option<u64>) -> u64 {
     }
 }
 
-/// How far a simulation is.
+/// The progress of a simulation.
 #[derive(Clone, Copy, Debug, PartialEq, Eq)]
 pub struct Progress {
     /// The rounds that are done.
     pub done: u64,
-    /// The rounds that there will be, where that is known.
+    /// The number of rounds in all, if it is known.
     pub total: Option<u64>,
     /// The milliseconds since it began.
     pub millis: u64,
@@ -119,13 +119,13 @@ const BARS: &[&str] = &[
 const WHOLE: &str = "[##########]";
 
 impl Progress {
-    /// How many rounds are done in a second.
+    /// The rounds per second.
     fn rate(&self) -> u64 {
         let thousandths = self.done.saturating_mul(1000);
         thousandths.checked_div(self.millis).unwrap_or(0)
     }
 
-    /// The bar of so many rounds.
+    /// The bar for `done` of `total` rounds.
     fn bar(&self, total: u64) -> &'static str {
         let tenths = self.done.saturating_mul(10).checked_div(total);
         match tenths {
@@ -134,7 +134,7 @@ impl Progress {
         }
     }
 
-    /// In how many seconds the rest is done, if it takes as long for a round as those that are done.
+    /// The seconds until the end, if each remaining round takes as long as those done.
     fn left(&self, total: u64) -> Option<u64> {
         let rest = total.saturating_sub(self.done);
         let millis = rest.saturating_mul(self.millis).checked_div(self.done)?;

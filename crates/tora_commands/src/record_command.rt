@@ -51,8 +51,7 @@ fn drive_and_flush<S: Driven, R: Input, W: Output, V: Output>(
     flushed(writer, result)
 }
 
-/// Drives a world with these options, whose link ends have these times, writes the record to what goes to the file at a
-/// path, and hands both on.
+/// Drives a world with these options and times, writes the record to the file at a path, and flushes both.
 pub fn run_over<T: AllocGlobal + Eprint, R: Input + Drop, W: Output, V: Output>(
     rt: &T,
     options: WorldOptions,
@@ -85,7 +84,7 @@ pub fn run_over<T: AllocGlobal + Eprint, R: Input + Drop, W: Output, V: Output>(
     traced_status(rt, result, out, path)
 }
 
-/// Drives a world with these options, whose link ends have these times, and writes the record to the file at a path.
+/// Drives a world with these options and times of link ends, and writes the record to the file at a path.
 fn run_with<T: Paths + AllocGlobal + Eprint, R: Input + Drop, W: Output>(
     rt: &T,
     options: WorldOptions,
@@ -109,12 +108,12 @@ fn run_with<T: Paths + AllocGlobal + Eprint, R: Input + Drop, W: Output>(
     run_over::<T, R, W, BufWriter<T::File>>(rt, options, times, reader, writer, path, &mut out)
 }
 
-/// Drives a world by the lines that a reader gives, as `drive_command::run` does, and writes its record to the file at
-/// a path, which is made anew first.
+/// Drives a world by the lines of a reader, as `drive_command::run` does, and writes its record to the file at a path,
+/// which is created or emptied first.
 ///
-/// It ends with the status of the drive, or with 1 where that is 0 and the record could not be written; with 1, before
-/// anything is written, where its file can't be made; and with 5 where memory was refused. A word that gives no times
-/// or no erasure is a fault of usage.
+/// The status is that of the drive, or 1 if that is 0 and the record could not be written; 1, before anything is
+/// written, if the file cannot be created; 5 if memory ran out. If the word for times or erasure is malformed, the
+/// command line is at fault (2).
 pub fn run<T: Paths + AllocGlobal + Eprint, R: Input + Drop, W: Output>(
     rt: &T,
     times: Option<&str>,

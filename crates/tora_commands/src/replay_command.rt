@@ -1,4 +1,4 @@
-//! `tora replay`: a replay of what a reader gives.
+//! `tora replay`: a replay of the lines of a reader.
 ghost use Rattle.std.specs.Prelude.{◌≡◌, false, None, IfSome, option_map};
 ghost use Rattle.std.specs.Process.{exit_status};
 ghost use Rattle.tora_simulate.specs.Endings.{EndsBy};
@@ -15,17 +15,17 @@ use tora_lines::{Ended, Input, Output, ReplayError};
 use tora_replay::cause_of;
 use tora_simulate::{Recent, tell as tell_error};
 
-/// Says why a line is a fault.
+/// Reports why a line is a fault.
 fn tell_line(rt: &impl Eprint, number: u64, cause: &impl Display) {
     let _ = rt.eprintln(format_args!("tora: line {number}: {cause}"));
 }
 
-/// Says that a line that is a fault was not kept, since memory was refused.
+/// Reports that the line at fault was not stored, because memory ran out.
 fn tell_lost_line(rt: &impl Eprint, number: u64) {
     let _ = rt.eprintln(format_args!("tora: line {number}: no memory was left to keep the line"));
 }
 
-/// Says why a line is a fault, or what failed.
+/// Reports why a line is a fault, or what failed.
 fn tell<T: AllocGlobal + Eprint, R: Input>(
     rt: &T,
     reader: &Recent<R>,
@@ -44,7 +44,7 @@ fn tell<T: AllocGlobal + Eprint, R: Input>(
     }
 }
 
-/// Replays what a reader gives for a node that makes this of erased levels, and ends with the status of the replay.
+/// Replays the lines of a reader for a node with this choice of erasure, and returns the status of the replay.
 fn run_with<T: AllocGlobal + Eprint, R: Input + Drop, W: Output>(
     rt: &T,
     erasure: Erasure,
@@ -62,8 +62,8 @@ fn run_with<T: AllocGlobal + Eprint, R: Input + Drop, W: Output>(
     code
 }
 
-/// Replays what a reader gives, and ends with a status: 0 at its end, 1 where a line is a fault or reading or writing
-/// failed, 2 where the word for its erasure is none, 5 where memory was refused. It says why a line is a fault and what
+/// Replays the lines of a reader, and returns a status: 0 at the end of the input, 1 if a line is a fault or reading or
+/// writing failed, 2 if the word for erasure is malformed, 5 if memory ran out. Reports why a line is a fault, and what
 /// failed.
 pub fn run<T: AllocGlobal + Eprint, R: Input + Drop, W: Output>(
     rt: &T,

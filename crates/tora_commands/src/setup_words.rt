@@ -1,4 +1,4 @@
-//! What a simulation is made with, as words of the command line.
+//! The settings of a simulation as words of the command line.
 ghost use Rattle.std.specs.Prelude.{◌≡◌, IfOk, option_map};
 ghost use Rattle.std.specs.Result.{result_ok};
 ghost use Rattle.tora_arq.specs.Settings.{IsTimes};
@@ -14,43 +14,43 @@ use tora_lines::words;
 use tora_script::{Setup, WorldOptions, erasure_word};
 use tora_world::Limits;
 
-/// The words after options of `tora sim`; nothing where the option is not there.
+/// The words after the options of `tora sim`; `None` for an option that is not given.
 #[derive(Clone, Copy)]
 pub struct SetupWords<'a> {
     pub times: Option<&'a str>,
     pub channel: Option<&'a str>,
     pub seed: Option<&'a str>,
-    /// Whether `--notice` is there.
+    /// Whether `--notice` is given.
     pub has_notice: bool,
-    /// Whether `--large` is there.
+    /// Whether `--large` is given.
     pub is_large: bool,
     /// The last round.
     pub until: Option<&'a str>,
-    /// What nodes make of erased levels.
+    /// The choice of erasure of the nodes.
     pub erasure: Option<&'a str>,
     /// The path of the channel file.
     pub channel_file: Option<&'a str>,
 }
 
-/// Why words are no setup.
+/// Why words are not a setup.
 #[derive(Clone, Copy)]
 pub enum SetupFault<'a> {
-    /// The word after `--times` gives no times.
+    /// The word after `--times` is not `HELLO,SILENCE,RETRY,TRIES`.
     Times,
     /// The word after `--seed` is no number.
     Seed,
-    /// There is a seed, and no channel and no channel file.
+    /// There is a seed, but no channel and no channel file.
     SeedAlone,
     /// The word after `--until` is no number.
     Until,
     /// The word after `--erasure` is neither `plain` nor `remembered`.
     Erasure,
-    /// This is no part of a channel.
+    /// This is not a part of a channel.
     Part(&'a [u8]),
 }
 
 impl SetupFault<'_> {
-    /// What is said of it.
+    /// The message about the fault.
     pub fn cause(&self) -> &'static str {
         match self {
             SetupFault::Times => {
@@ -67,7 +67,7 @@ impl SetupFault<'_> {
     }
 }
 
-/// The seed that a word asks for.
+/// The seed in a word.
 fn seed(word: Option<&str>) -> Option<u64>
     ensures { result ≡ asked_seed (option_map (λ w. w.now) word.entry) }
 {
@@ -77,7 +77,7 @@ fn seed(word: Option<&str>) -> Option<u64>
     }
 }
 
-/// The channel that a word and one for its seed ask for.
+/// The channel in a word, with the seed in another.
 #[tactic(auto, unfolding(crate::specs::SetupWords::channel_asked))]
 fn channel_of<'a>(channel: &'a str, seeded: Option<&str>) -> Result<Channel, SetupFault<'a>>
     ensures { result_ok result ≡ channel_asked channel.now (option_map (λ w. w.now) seeded.entry) }
@@ -104,7 +104,7 @@ fn seeded<'a>(seed: &str) -> Result<Channel, SetupFault<'a>>
     }
 }
 
-/// The channel that words ask for.
+/// The channel that the words of `--channel` and `--seed` give.
 fn channel<'a>(
     channel: Option<&'a str>,
     seed: Option<&str>,
@@ -121,7 +121,7 @@ fn channel<'a>(
     }
 }
 
-/// The limits of a world, which are the greatest where a large one is asked for.
+/// The limits of a world: the greatest with `--large`, otherwise the standard ones.
 fn limits(is_large: bool) -> Limits
     ensures { result ≡ asked_limits is_large }
 {
@@ -160,7 +160,7 @@ pub(crate) fn asked_options(is_large: bool, erasure: Option<&str>) -> Option<Wor
     Some(options(is_large, erasure))
 }
 
-/// The last round that a word asks for.
+/// The last round in a word.
 fn until<'a>(word: Option<&str>) -> Result<Option<u64>, SetupFault<'a>>
     ensures { result_ok result ≡ asked_until (option_map (λ w. w.now) word.entry) }
 {
@@ -173,7 +173,7 @@ fn until<'a>(word: Option<&str>) -> Result<Option<u64>, SetupFault<'a>>
     }
 }
 
-/// What the words ask for, or the first fault: of the times, then of the seed and the channel, then of the last round,
+/// The setup in the words, or the first fault: of the times, then of the seed and the channel, then of the last round,
 /// then of the erasure.
 #[tactic(auto, unfolding(crate::specs::SetupWords::asked_setup))]
 pub fn asked_setup<'a>(words: SetupWords<'a>) -> Result<Setup, SetupFault<'a>>

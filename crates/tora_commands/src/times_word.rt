@@ -6,7 +6,7 @@ ghost use Rattle.tora_commands.specs.TimesWord.{positive_of, times_of, asked_tim
 use tora_arq::{Times, standard_times};
 use tora_lines::words;
 
-/// A number from 1 on.
+/// A number that is at least 1.
 #[tactic(auto, unfolding(crate::specs::TimesWord::positive_of))]
 fn positive(text: &[u8]) -> Option<u64>
     ensures value { result ≡ positive_of text.now }
@@ -16,7 +16,7 @@ fn positive(text: &[u8]) -> Option<u64>
     if 0 < n { Some(n) } else { None }
 }
 
-/// The times of `HELLO,SILENCE,RETRY,TRIES`, four numbers from 1 on below 2^64, without leading zeros.
+/// The times in `HELLO,SILENCE,RETRY,TRIES`: four numbers, each at least 1 and below 2^64, without leading zeros.
 #[tactic(auto, unfolding(crate::specs::TimesWord::times_of))]
 fn times(text: &[u8]) -> Option<Times>
     ensures value { result ≡ times_of text.now }

@@ -29,7 +29,7 @@ use tora_script::Setup;
 use tora_simulate::{Opened, Paths, Recent, tell_at};
 use tora_traced::{TraceOut, Watched, simulate_traced};
 
-/// Says which path can't be the trace's or the record's, and why, and ends with the status of the cause.
+/// Reports which path cannot be that of the trace or the record, and why, and returns the status of the cause.
 pub fn refuse_trace<T: Eprint>(rt: &T, path: &str, error: &io::Error) -> ExitCode
     ensures { IsStatusOfError error.now (exit_status result) }
 {
@@ -41,7 +41,7 @@ pub fn refuse_trace<T: Eprint>(rt: &T, path: &str, error: &io::Error) -> ExitCod
     code
 }
 
-/// Ends with the status of the simulation, or with 1 where that is 0 and the trace or the record could not be written.
+/// Returns the status of the simulation, or 1 if that is 0 and the trace or the record could not be written.
 pub fn traced_status<T: Eprint, V: Output>(
     rt: &T,
     ended: Result<Ended, ReplayError>,
@@ -64,8 +64,8 @@ pub fn traced_status<T: Eprint, V: Output>(
     code
 }
 
-/// Simulates what is made with this over a channel that the lines of a table change, writes the trace, and flushes the
-/// writer: `Write` where that alone fails.
+/// Simulates with these settings, over a channel that the table changes by round, writes the trace, and flushes the
+/// writer. The error is `Write` if only the flush fails.
 fn simulate_and_flush<S: Watched, T: Eprint, R: Input, W: Output, V: Output>(
     rt: &T,
     alloc: Global,
@@ -92,7 +92,7 @@ fn simulate_and_flush<S: Watched, T: Eprint, R: Input, W: Output, V: Output>(
     flushed(writer, result)
 }
 
-/// Writes the last record of a trace whose input was taken whole, with the digest of the input.
+/// Writes the last record of a trace, with the digest of the input, if the whole input was read.
 fn finish<R: Input + Drop, V: Output>(
     alloc: Global,
     reader: Hashing<R>,
@@ -108,8 +108,8 @@ fn finish<R: Input + Drop, V: Output>(
     }
 }
 
-/// Simulates the lines that a reader gives, in a world that is made with this and over the channel of a channel file,
-/// writes the trace to the file at a path, and hands both on.
+/// Simulates the lines of a reader with these settings and the channel file, writes the trace to the file at a path,
+/// and flushes both.
 pub fn run_over<S: Watched, T: AllocGlobal + Eprint, R: Input + Drop, W: Output, V: Output>(
     rt: &T,
     setup: Setup,
@@ -148,8 +148,7 @@ pub fn run_over<S: Watched, T: AllocGlobal + Eprint, R: Input + Drop, W: Output,
     traced_status(rt, result, out, path)
 }
 
-/// The file of a trace at a path, which is made anew, or the status where it can't be had, after its lines on standard
-/// error.
+/// Creates or empties the file of a trace at a path. Returns the status if that fails, after lines on standard error.
 fn make_trace<T: Paths + AllocGlobal + Eprint>(
     rt: &T,
     path: &str,
@@ -168,13 +167,13 @@ fn make_trace<T: Paths + AllocGlobal + Eprint>(
     }
 }
 
-/// Simulates the lines of the file at a path, in a world that is made with this and over the channel of a channel file,
-/// and writes the trace to the file at another one, which is made anew. It is shown on standard error why events are
-/// refused, and with a bar how far the simulation is.
+/// Simulates the lines of the file at a path with these settings and the channel file, and writes the trace to the file
+/// at another path, which is created or emptied. `shown` says whether standard error has why events are refused, and
+/// whether it has a bar.
 ///
-/// It ends with the status of the simulation, or with 1 where that is 0 and the trace could not be written; with 1,
-/// before anything is simulated, where the file can't be opened, where that of the trace can't be made, or where both
-/// paths are one; and with 5 where memory was refused.
+/// The status is that of the simulation, or 1 if that is 0 and the trace could not be written; 1, before anything is
+/// simulated, if the file cannot be opened, that of the trace cannot be created, or both paths are the same; 5 if
+/// memory ran out.
 pub fn run<S: Watched, T: Paths + AllocGlobal + Eprint + Clock, W: Output>(
     rt: &T,
     setup: Setup,

@@ -1,4 +1,4 @@
--- How a run over a file of lines ended, and with which status.
+-- The status and the output of a run over a file of lines.
 use Rattle.std.specs.Prelude.{◌≡◌, ◌≢◌, ◌⊎◌, ℕ, Bool, false, List, Option, Some, None, Result, Ok, Err, IfOk, IfErr, IfSome}
 use Rattle.std.specs.declared.io.Error.{Error}
 use Rattle.std.specs.Io.KnownBytes.{IsAtEnd}
@@ -31,29 +31,30 @@ pub record EndsWith {R W : Type 0} (text : List ℕ → Text) (remaining : R →
   pub flushed : IsFlushed did_write did_flush ended new
   pub status_is : status ≡ traced_status is_lost ended
 
--- The same, where rules make the text.
+-- `EndsWith` for the text that these rules make.
 abbrev pub EndsBy : {S R W : Type 0} → Rules S → (R → Option (List ℕ)) → (R → Given → R → Type 0)
     → (W → Option (List ℕ)) → (W → List ℕ → Bool → W → Type 0) → (W → Bool → W → Type 0) → R → W → W → Bool → ℕ → Type 0
 EndsBy rules remaining did_read contents did_write did_flush reader old new is_lost status =
     EndsWith (whole_text rules) remaining did_read contents did_write did_flush reader old new is_lost status
 
--- A call for a file gave an error: the status says which, and nothing was written.
+-- Opening or creating a file gave an error; the status is that of the error, and nothing was written.
 pub record IsUnopened {W : Type 0} (gave : Error → Type 0) (old new : W) (status : ℕ) : Type 0 where
   pub failed : IsFailed gave status
   pub nothing : new ≡ old
 
--- Memory was refused, and nothing was written.
+-- Memory ran out, and nothing was written.
 pub record HasNoMemory {W : Type 0} (old new : W) (status : ℕ) : Type 0 where
   pub status_is : status ≡ 5
   pub nothing : new ≡ old
 
--- One path is that of a file that is read and of one that is written: nothing was written.
+-- A file that is read and one that is written have the same path; nothing was written.
 pub record IsOnePlace {W : Type 0} (path place : List ℕ) (old new : W) (status : ℕ) : Type 0 where
   pub same : path ≡ place
   pub status_is : status ≡ 1
   pub nothing : new ≡ old
 
--- Opening this path gave a reader, and the status is that of an end of the engine over it; or it gave an error.
+-- The file at the path was opened, and the status is that of the engine's run over it; or it was not opened, with an
+-- error.
 abbrev pub EndsFile : {R S W : Type 0} → (List ℕ → Result R Error → Type 0) → (R → Option (List ℕ))
     → (R → Given → R → Type 0)
     → Rules S → (W → Option (List ℕ)) → (W → List ℕ → Bool → W → Type 0) → (W → Bool → W → Type 0) → List ℕ → W → W
@@ -63,14 +64,14 @@ EndsFile {R} did_open remaining did_get rules contents did_write did_flush path 
     × EndsBy rules remaining did_get contents did_write did_flush reader old new false status)
     ⊎ IsUnopened (λ e. did_open path (Err e)) old new status
 
--- Opening a path gave this error, or it gave a reader and making the trace's path anew gave the error.
+-- Opening the file at `path` gave this error; or it was opened, and creating the file at `trace` gave the error.
 abbrev pub IsUntraced : {R : Type 0} → (List ℕ → Result R Error → Type 0) → (List ℕ → Result R Error → Type 0) → List ℕ
     → List ℕ → Error → Type 0
 IsUntraced {R} did_open did_create path trace error = did_open path (Err error)
     ⊎ ((reader : R) × did_open path (Ok reader) × did_create trace (Err error))
 
--- The same where a trace is written, and lost or not, to the file that making its path anew gave; none is where that
--- would take the place of the file.
+-- A run that writes its trace to a new file at `trace`. The trace may be lost. There is no run if a file cannot be
+-- opened or created, if memory runs out, or if the trace would replace the file that is read.
 abbrev pub EndsTraced : {R S W : Type 0} → (List ℕ → Result R Error → Type 0) → (List ℕ → Result R Error → Type 0)
     → (R → Option (List ℕ)) → (R → Given → R → Type 0)
     → Rules S → (W → Option (List ℕ)) → (W → List ℕ → Bool → W → Type 0) → (W → Bool → W → Type 0)
@@ -81,7 +82,7 @@ EndsTraced {R} did_open did_create remaining did_get rules contents did_write di
     ⊎ (IsUnopened (IsUntraced did_open did_create path trace) old new status
     ⊎ (HasNoMemory old new status ⊎ IsOnePlace path trace old new status))
 
--- The same with a trace or without one.
+-- A run with a trace or without one.
 abbrev pub EndsSimulated : {R S W : Type 0} → (List ℕ → Result R Error → Type 0) → (List ℕ → Result R Error → Type 0)
     → (R → Option (List ℕ)) → (R → Given → R → Type 0)
     → Rules S → (W → Option (List ℕ)) → (W → List ℕ → Bool → W → Type 0) → (W → Bool → W → Type 0)

@@ -41,8 +41,8 @@ pub fn simulate_telling_and_flush<S: Simulator, T: Eprint, R: Input, W: Output>(
     flushed(writer, ended)
 }
 
-/// Simulates as `simulate_telling_and_flush` does, for a program that ends behind it: what the world took is not given
-/// back (`simulate_telling_last`).
+/// As `simulate_telling_and_flush`, for a program that ends afterwards: the memory of the world is not freed
+/// (`simulate_telling_last`).
 pub fn simulate_last_and_flush<S: Simulator, T: Eprint, R: Input, W: Output>(
     rt: &T,
     alloc: Global,

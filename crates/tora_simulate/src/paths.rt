@@ -1,4 +1,4 @@
-//! Files by their paths, whose calls contracts tell.
+//! Files by their paths, with calls whose results contracts can name.
 ghost use Rattle.std.specs.Prelude.{◌≡◌, List, ℕ, Result, Ok, Err, IfOk, IfErr, IfSome, string_bytes};
 ghost use Rattle.std.specs.declared.io.Error.{Error};
 ghost use Rattle.std.specs.Io.{ReadsAtMost};
@@ -12,15 +12,15 @@ use std::rt::Files;
 use std::{fs, io};
 use tora_lines::Input;
 
-/// Files by their paths, whose calls contracts tell: which file or error a call gave. All `Files` are such.
+/// Files by their paths. Contracts can name the file or the error that a call returned. Every `Files` implements it.
 pub trait Paths: Files {
-    /// What opening the file at a path gave.
+    /// The result of opening the file at a path.
     ghost did_open: { Self → List ℕ → Result Self.File Error → Type 0 };
 
-    /// What making the file at a path anew gave.
+    /// The result of creating the file at a path.
     ghost did_create: { Self → List ℕ → Result Self.File Error → Type 0 };
 
-    /// What reading a file to its end gave.
+    /// The result of reading a file to its end.
     ghost did_read: { Self.File → Result (List ℕ) Error → Type 0 };
 
     /// What one read of a file made of it: what it gave, and the file after it.
@@ -30,7 +30,7 @@ pub trait Paths: Files {
     fn open_path(&self, path: &str) -> io::Result<Self::File>
         ensures { did_open self.now path.now result };
 
-    /// Makes the file at a path anew, to write it.
+    /// Creates the file at a path for writing, and empties it if it exists.
     fn create_path(&self, path: &str) -> io::Result<Self::File>
         ensures { did_create self.now path.now result };
 
@@ -40,7 +40,7 @@ pub trait Paths: Files {
         ensures failed { IfErr result (λ error. did_read file (Err error)) }
         ensures bytes { IfOk result (λ bytes. IfSome (Self.File.remaining file) (λ input. bytes.items ≡ input)) };
 
-    /// Reads a file to its end, whose bytes are a text.
+    /// Reads a file to its end as a text.
     fn read_text(&self, alloc: Global, file: Self::File) -> io::Result<String>
         ensures read { IfOk result (λ text. did_read file (Ok (string_bytes text))) }
         ensures failed { IfErr result (λ error. did_read file (Err error)) }

@@ -19,7 +19,7 @@ use tora_channel::ChannelTable;
 use tora_lines::{Ended, Input, LONGEST_LINE, Output, ReplayError};
 use tora_script::{Setup, SimulationCause, Simulator, tell_cause};
 
-/// Says why there is no file, and ends with the status of the cause. The cause is said without `-v`, too.
+/// Reports why a file is not available, and returns the status of the cause. It reports the cause without `-v`, too.
 pub fn refuse<R: Eprint>(rt: &R, path: &str, error: &io::Error) -> ExitCode
     ensures { IsStatusOfError error.now (exit_status result) }
 {
@@ -31,7 +31,7 @@ pub fn refuse<R: Eprint>(rt: &R, path: &str, error: &io::Error) -> ExitCode
     code
 }
 
-/// Says why a line is too long, or what failed: what else is a fault was told as it came.
+/// Reports that a line is too long, or what failed. All other faults were reported when they came.
 pub fn tell<T: Eprint, R: Input>(rt: &T, reader: &Recent<R>, ended: Result<Ended, ReplayError>) {
     match ended {
         Ok(Ended::Whole) => {}
@@ -45,10 +45,10 @@ pub fn tell<T: Eprint, R: Input>(rt: &T, reader: &Recent<R>, ended: Result<Ended
     }
 }
 
-/// Simulates the lines that a reader gives, in a world that is made with this and over a channel that the lines of a
-/// table change, and ends with a status: 0 at its end, 1 where a line is a fault or reading or writing failed, 5 where
-/// memory was refused. It says why a line is a fault and what failed, and with `is_verbose` why events are refused. The
-/// program ends behind it: what the world took is not given back.
+/// Simulates the lines of a reader with these settings, over a channel that the table changes by round, and returns a
+/// status: 0 at the end of the input, 1 if a line is a fault or reading or writing failed, 5 if memory ran out. Reports
+/// why a line is a fault and what failed, and, if `is_verbose`, why events are refused. The program ends afterwards, so
+/// the memory of the world is not freed.
 pub fn run_over<S: Simulator, T: AllocGlobal + Eprint, R: Input + Drop, W: Output>(
     rt: &T,
     setup: Setup,
@@ -76,9 +76,8 @@ pub fn run_over<S: Simulator, T: AllocGlobal + Eprint, R: Input + Drop, W: Outpu
     status(rt, result)
 }
 
-/// Simulates the lines of the file at a path, in a world that is made with this and over a channel that the lines of a
-/// table change, and ends with a status: that of `run_over` over the file, 1 where it can't be opened, and 5 where
-/// memory was refused for that. Nothing is written where it is not opened.
+/// As `run_over`, for the lines of the file at a path. The status is 1 if the file cannot be opened, and 5 if memory
+/// ran out for that; then nothing is written.
 pub fn run<S: Simulator, T: Paths + AllocGlobal + Eprint, W: Output>(
     rt: &T,
     setup: Setup,

@@ -32,13 +32,13 @@ pub fn simulate<R: Input, W: Output>(
     reader: &mut R,
     writer: &mut W,
 ) -> Result<Ended, ReplayError>
-    // What was written is the text of the whole input, and the input ends so.
+    // The text written is that of the whole input, and `ended` is how the input ends.
     ensures whole { IfOk result (λ ended. IfSome (R.remaining reader.old) (λ input.
         Simulates STANDARD input (W.contents writer.old) (W.contents writer.new) ended)) }
     ensures at_end { result ≡ Ok Ended.Whole → IsAtEnd (R.remaining reader.new) }
     ensures fault { IfOk result (λ ended. IfSome (R.remaining reader.old) (λ input.
         fault_of ended ≡ first_simulation_fault STANDARD input)) }
-    // What was written begins the text of what was read.
+    // The text written is a prefix of the text for the input that was read.
     ensures begun { IfErr result (λ e. e ≢ ReplayError.Write →
         IsSimulationBegun STANDARD (R.remaining reader.old) (R.remaining reader.new) (W.contents writer.old)
         (W.contents writer.new)) }
@@ -60,13 +60,13 @@ pub fn simulate_with<R: Input, W: Output>(
     writer: &mut W,
 ) -> Result<Ended, ReplayError>
     requires { IsTimes times }
-    // What was written is the text of the whole input, and the input ends so.
+    // The text written is that of the whole input, and `ended` is how the input ends.
     ensures whole { IfOk result (λ ended. IfSome (R.remaining reader.old) (λ input.
         Simulates times input (W.contents writer.old) (W.contents writer.new) ended)) }
     ensures at_end { result ≡ Ok Ended.Whole → IsAtEnd (R.remaining reader.new) }
     ensures fault { IfOk result (λ ended. IfSome (R.remaining reader.old) (λ input.
         fault_of ended ≡ first_simulation_fault times input)) }
-    // What was written begins the text of what was read.
+    // The text written is a prefix of the text for the input that was read.
     ensures begun { IfErr result (λ e. e ≢ ReplayError.Write →
         IsSimulationBegun times (R.remaining reader.old) (R.remaining reader.new) (W.contents writer.old)
         (W.contents writer.new)) }

@@ -1,4 +1,4 @@
-//! The exit statuses of the program, and the word that stands on standard error before one that tells of a fault.
+//! The exit statuses of the program, and the word that it prints on standard error before a fault.
 ghost use Rattle.std.specs.Prelude.{◌≡◌};
 ghost use Rattle.std.specs.Process.{exit_status};
 ghost use Rattle.tora_simulate.specs.Statuses.{status_of};
@@ -7,23 +7,23 @@ use crate::telling::tell;
 use std::process::ExitCode;
 use tora_lines::{Ended, ReplayError};
 
-/// The exit status of a fault of input or configuration, and of a failed read or write. 0 stands for an end without a
+/// The exit status if the input or the configuration is at fault, or a read or a write failed. 0 means an end without a
 /// fault.
 pub const INPUT: u8 = 1;
 
-/// The exit status of a fault of usage.
+/// The exit status of a wrong command line.
 pub const USAGE: u8 = 2;
 
-/// The exit status where a socket can't be bound, or failed.
+/// The exit status if a socket cannot be bound, or failed.
 pub const SOCKET: u8 = 3;
 
-/// The exit status where a life file can't be opened or gives no number.
+/// The exit status if a life file cannot be opened, or draws no number.
 pub const LIFE: u8 = 4;
 
-/// The exit status where memory was refused.
+/// The exit status if memory ran out.
 pub const MEMORY: u8 = 5;
 
-/// Says on standard error why the program stops.
+/// Reports on standard error why the program stops.
 pub fn stop(rt: &impl Eprint, status: u8, cause: &str) -> ExitCode
     ensures { exit_status result ≡ status }
 {

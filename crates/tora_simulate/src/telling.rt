@@ -1,12 +1,13 @@
-//! What is said on standard error. Each form of a line is written, and proved, once.
+//! The reports on standard error. Each form of a line is written, and proved, in one place.
 use std::fmt::Display;
 
-/// Says why something failed.
+/// Reports why something failed.
 pub fn tell(rt: &impl Eprint, cause: &impl Display) {
     let _ = rt.eprintln(format_args!("tora: {cause}"));
 }
 
-/// Says why something failed, and where: at a place behind a word with its colon and blank, or behind none.
+/// Reports why something failed, and at which place. `word` goes before the place: a word with a colon and a blank, or
+/// nothing.
 pub fn tell_at(rt: &impl Eprint, word: &str, place: &str, cause: &impl Display) {
     let _ = rt.eprintln(format_args!("tora: {word}{place}: {cause}"));
 }

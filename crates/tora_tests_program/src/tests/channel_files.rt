@@ -124,7 +124,7 @@ fn expect_simulated<T: Files + AllocGlobal + Eprint + Clock + Abort>(
     expect_written(rt, (FILE, "", 0, ""), writer.text(), text);
 }
 
-/// Whether a file holds a text, or where there is none, is not there.
+/// Whether a file has this text; without a text, whether there is no such file.
 fn holds<R: Files<File = File>>(rt: &R, path: &str, text: Option<&str>) -> bool {
     let mut bytes = [0; 256];
     let Ok(mut file) = fs::open(rt, path) else {
@@ -139,7 +139,7 @@ fn holds<R: Files<File = File>>(rt: &R, path: &str, text: Option<&str>) -> bool 
     }
 }
 
-/// The folder anew, without a trace.
+/// Makes the folder again, with its files and without a trace.
 fn make_folder<R: Files<File = File> + AllocGlobal>(rt: &R) -> Result<(), Fail> {
     let _ = fs::remove_dir_all(rt, FOLDER);
     fs::create_dir(rt, FOLDER)?;
@@ -163,8 +163,8 @@ fn expect_all<T: Files<File = File> + AllocGlobal + Eprint + Clock + Abort>(
     Ok(())
 }
 
-/// A channel file is read before the simulation's, and neither is written; the trace tells of it and of the last round.
-/// A bar changes nothing of that.
+/// The channel file is read before the simulation file, and neither is written. The trace names the channel file and
+/// the last round. A bar changes nothing of this.
 #[test]
 fn channel_files_are_read(rt: HostRuntime) -> Result<(), Fail> {
     expect_all(&rt, false)?;

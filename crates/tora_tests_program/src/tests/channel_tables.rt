@@ -84,7 +84,7 @@ fn has_fault(alloc: Global, text: &str, number: u64, cause: LineCause) -> bool {
     matches!(table_of(alloc, text), Err(TableError::Line(n, c)) if n == number && c == cause)
 }
 
-/// The first line that is none is told with its number and the cause.
+/// The first faulty line is reported with its number and the cause.
 #[test]
 fn faults_are_told(rt: HostRuntime) {
     for (text, number, cause) in FAULTS {
@@ -156,7 +156,7 @@ fn runs_so<T: AllocGlobal + Eprint + Abort>(
     ended == ExitCode::from(status) && writer.text() == text.as_bytes()
 }
 
-/// A channel file changes what comes, and nothing is done behind the last round.
+/// A channel file changes which datagrams arrive, and nothing happens after the last round.
 #[test]
 fn files_and_last_rounds(rt: HostRuntime) {
     for row in RUNS {

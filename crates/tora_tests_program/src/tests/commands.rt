@@ -20,7 +20,7 @@ use tora_script::Setup;
 use tora_sim::Sim;
 use tora_traced::TraceOut;
 
-/// A command over lines of its kind, which writes a trace where it is traced.
+/// A command over lines of its kind; a traced one writes a trace.
 #[derive(Clone, Copy)]
 enum Run {
     Replay,
@@ -67,7 +67,7 @@ impl Run {
     }
 }
 
-/// A command, its lines and what they print, where its output and its trace fail, and its status.
+/// A command, its lines, their output, where the output and the trace fail, and the status.
 type Row = (Run, &'static str, &'static str, (Fails, Fails), u8);
 
 /// Whether an exit status is this number.
@@ -87,8 +87,8 @@ fn left<T: AllocGlobal + Eprint>(
     (status, writer, out.failure().is_some())
 }
 
-/// A run prints its text and ends with its status, and its trace is lost where it fails. Where memory was refused it
-/// runs again, since one refusal is no reason for a second.
+/// Checks that a run prints its text, ends with its status, and loses its trace if that fails. If memory runs out, it
+/// runs once more.
 fn expect_status<T: AllocGlobal + Eprint + Abort>(rt: &T, row: Row, is_verbose: bool) {
     let (_, lines, text, (output, trace), wanted) = row;
     let (mut status, mut writer, mut is_lost) = left(rt, row, is_verbose);
@@ -176,7 +176,7 @@ const FAILED_OUTPUTS: &[Row] = &[
     ),
 ];
 
-/// 1 where a write fails, and where only the last flush does; all was written then.
+/// The status is 1 if a write fails, and if only the last flush fails; then all was written.
 #[test]
 fn statuses_of_failed_outputs(rt: HostRuntime) {
     expect_statuses(&rt, FAILED_OUTPUTS);
@@ -280,7 +280,7 @@ fn holds<R: Files<File = File>>(rt: &R, path: &str, text: &str) -> bool {
     }
 }
 
-/// The folder anew, with the file alone.
+/// Makes the folder again, with only the file.
 fn make_folder<R: Files<File = File> + AllocGlobal>(rt: &R) -> Result<(), Fail> {
     let _ = fs::remove_dir_all(rt, FOLDER);
     fs::create_dir(rt, FOLDER)?;

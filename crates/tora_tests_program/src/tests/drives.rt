@@ -3,7 +3,7 @@ use super::runs::{Files, NOTHING, Row, Way, expect_files, expect_rows};
 use super::simulation_rows::LINKS_OF_A_LINE;
 use tora_lines::Ended;
 
-/// A link, and a first step behind it: each end has sent a HELLO of each version.
+/// A link, and its first step, in which each end sends a HELLO of each version.
 const STEPPED: &str = "dests 2\nlink 1 2\nneed 1 2\nstep\n";
 
 /// What that prints.
@@ -13,7 +13,7 @@ const STEPPED_TEXT: &str =
 /// Lines at each place of a drive, with the answers to those in front of them.
 const ANSWERS: &[Row] = &[
     (NOTHING, NOTHING, "", Ended::Whole),
-    // The end of the input is no fault, wherever it stands, and a last line without its end is a line.
+    // The input may end anywhere without a fault, and a last line without LF is a line.
     (&["dests 2"], &["", "\n"], "ok\n", Ended::Whole),
     (
         &["dests 2\nlink 1 2\nneed 1 2"],
@@ -41,10 +41,10 @@ const ANSWERS: &[Row] = &[
     ),
 ];
 
-/// Lines of a drive's own behind the first step.
+/// Lines that only a drive has, after the first step.
 const OWN_LINES: &[Row] = &[
     (&[STEPPED], NOTHING, STEPPED_TEXT, Ended::Whole),
-    // The input ends behind a line, in front of its end, and in the middle of a word.
+    // The input ends after a line, before its LF, and within a word.
     (
         &[STEPPED],
         &["needs\n", "needs"],
@@ -70,7 +70,7 @@ const OWN_LINES: &[Row] = &[
          refused 3\nrefused 3\nrefused 3\nok\nrefused 3\nrefused 3\nok\nrefused 3\nok\n",
         Ended::Whole,
     ),
-    // Numbers go on behind datagrams that are forgotten.
+    // The numbers of datagrams continue after those that are forgotten.
     (
         &[STEPPED],
         &[
@@ -110,8 +110,8 @@ const OWN_LINES: &[Row] = &[
          sent 2 1 1 28\nsent 2 1 2 28\nok\nok\nsent 1 2 3 28\nsent 1 2 4 28\nok\n",
         Ended::Whole,
     ),
-    // A notice cuts the life that an end is bound in; the node's next hop is gone in the step behind it. It is refused
-    // where the end is not bound, and a fault where there is no such end.
+    // A notice cuts the session of an end, and the node loses its next hop in the following step. It is refused if the
+    // end is not bound, and a fault if there is no such end.
     (
         &[
             "dests 2\nlink 1 2\nneed 1 2\nstep\nnotice 1 2\ndeliver 1\ndeliver 2\ndeliver 3\ndeliver 4\nstep\ndeliver 5\ndeliver 6\nstep\n",
@@ -140,7 +140,7 @@ const OWN_LINES: &[Row] = &[
     ),
 ];
 
-/// Lines that are too long are faults wherever they stand, and the drive goes on.
+/// A line that is too long is always a fault, and the drive goes on.
 const LONG: &[Files] = &[
     Files {
         front: "dests 2\n",
@@ -158,7 +158,7 @@ const LONG: &[Files] = &[
         text: "fault 1 the first line is `dests LIST`, the destinations\nok\n",
         ended: Ended::Whole,
     },
-    // The world stays as it stood.
+    // The world does not change.
     Files {
         front: STEPPED,
         middles: &["xxxxxxxx", "notice 1"],
@@ -213,7 +213,7 @@ const LONG_LINE: &[Files] = &[Files {
     ended: Ended::Whole,
 }];
 
-/// The same within the greatest limits.
+/// 65 nodes in a row, which only the greatest limits allow.
 const LARGE_WORLD: &[Files] = &[Files {
     front: "dests 4\n",
     middles: &[LINKS_OF_A_LINE],

@@ -150,7 +150,7 @@ const NODES: [Id; 4] = [1, 2, 3, 4];
 
 const ENDS: [(Id, Id); 6] = [(1, 2), (2, 1), (2, 3), (3, 2), (3, 4), (4, 3)];
 
-/// Rounds over a channel, where no nodes are parted.
+/// Makes rounds over a channel, with no nodes parted.
 fn rounds_over<S: Simulator>(
     sim: &mut S,
     count: u64,
@@ -242,7 +242,7 @@ fn each_call(rt: HostRuntime) {
     }
 }
 
-/// A simulator behind a need of node 1 and sixty rounds over a channel, and what the rounds left in the air.
+/// A simulator after a need of node 1 and sixty rounds over a channel, and the datagrams that are still delayed.
 fn over_channel(rt: &impl Abort, alloc: Global, channel: Channel) -> (Sim, Air) {
     let topology = Topology::new(alloc, &LINKS, &[4]).expect(rt, "a topology");
     let mut sim = Sim::new(alloc, &topology).expect(rt, "a simulator");
@@ -253,7 +253,7 @@ fn over_channel(rt: &impl Abort, alloc: Global, channel: Channel) -> (Sim, Air) 
     (sim, air)
 }
 
-/// Where every datagram comes twice, and a round or two later, the route is found; where every one is lost, it is not.
+/// If every datagram arrives twice, one or two rounds later, the route is found. If every one is lost, it is not.
 #[test]
 fn routes_over_channels(rt: HostRuntime) {
     let late = Channel {

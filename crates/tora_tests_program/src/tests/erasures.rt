@@ -90,7 +90,7 @@ fn expect_simulated<T: Files + AllocGlobal + Eprint + Clock + Abort>(
     expect_written(rt, (FILE, "", 0, ""), writer.text(), text);
 }
 
-/// Whether a file holds a text, or where there is none, is not there.
+/// Whether a file has this text; without a text, whether there is no such file.
 fn holds<R: Files<File = File>>(rt: &R, path: &str, text: Option<&str>) -> bool {
     let mut bytes = [0; 256];
     let Ok(mut file) = fs::open(rt, path) else {
@@ -105,8 +105,8 @@ fn holds<R: Files<File = File>>(rt: &R, path: &str, text: Option<&str>) -> bool 
     }
 }
 
-/// `plain` and `remembered` are taken, another word is a fault of usage, and the trace's first line tells what is not
-/// plain.
+/// `plain` and `remembered` are accepted, any other word is a fault of the command line, and the first record of the
+/// trace names a choice other than `plain`.
 #[test]
 fn words_behind_the_option(rt: HostRuntime) -> Result<(), Fail> {
     for (asked, wanted, text, trace) in ASKED {
@@ -132,7 +132,7 @@ const CHOSEN: &[Row] = &[(
     Ended::Whole,
 )];
 
-/// Lines that are a fault: another word, no such node, and a link behind a choice.
+/// Faults: another word, a node that does not exist, and a link after a choice.
 const FAULTS: &[Row] = &[(
     &["dests 3\nlink 1 2\n"],
     &[

@@ -1,8 +1,8 @@
-//! A reader of lines and a writer without memory of its own: both fail where they are told to.
+//! A reader of lines, and a writer that allocates no memory. Both fail at a given call.
 use std::io;
 use std::io::{Error, ErrorKind as IoErrorKind, Read, Write};
 
-/// A file of lines: its front, a middle that stands so many times, and its end.
+/// A file of lines: its front, a middle, how often the middle is repeated, and its end.
 pub type Lines<'a> = (&'a str, &'a str, usize, &'a str);
 
 /// A reader of a file of lines that gives a few bytes at a time, and fails at one of its calls, counted from 1.
@@ -33,7 +33,7 @@ impl<'a> LinesReader<'a> {
         }
     }
 
-    /// Goes on to the next part where one is at its end.
+    /// Moves to the next part if one is at its end.
     fn turn_page(&mut self) {
         if self.bytes.is_empty() {
             if self.times > 0 {
@@ -63,13 +63,13 @@ impl Read for LinesReader<'_> {
     }
 }
 
-/// Where a writer fails.
+/// The call at which a writer fails.
 #[derive(Clone, Copy, Debug, PartialEq)]
 pub enum Fails {
     Never,
-    /// At this write and those behind it, counted from 1.
+    /// This write and all later ones, counted from 1.
     Write(u64),
-    /// Where it is to hand on what was written.
+    /// The flush.
     Flush,
 }
 

@@ -27,7 +27,7 @@ impl Clock for SetClock<'_> {
     }
 }
 
-/// A wire that gives a datagram at each receive, tagged under a key, and with another tag where that is asked for.
+/// A wire that returns a datagram at each receive, tagged under a key or, if requested, with a wrong tag.
 #[derive(Drop)]
 struct GivingWire<'a> {
     key: Key,
@@ -66,8 +66,8 @@ impl Wire for GivingWire<'_> {
 /// The tick at which a datagram comes, and whether it is forged.
 type Turn = (u64, bool);
 
-/// In the minute from 10 on one line, and so in each from then on, where there is a new count; and where the clock goes
-/// back.
+/// The count is logged at tick 10, then at most once a minute (600 ticks), if it has changed, and also after the clock
+/// has gone back.
 const TURNS: &[Turn] = &[
     (9, false),
     (10, true),

@@ -10,7 +10,7 @@ use std::time::{Clock, Duration};
 use std::{io, str};
 use tora_commands::LogLines;
 
-/// A standard error that is kept, and a clock that stands or can't be read.
+/// A standard error that stores its text, and a clock that stands still or cannot be read.
 #[derive(Drop)]
 pub struct Desk {
     told: RefCell<ArrayWriter>,
@@ -18,7 +18,7 @@ pub struct Desk {
 }
 
 impl Desk {
-    /// Nothing was told, and the clock reads so many milliseconds since 1970.
+    /// A desk with an empty text, and a clock at this many milliseconds since 1970.
     pub fn new(now: Option<u64>) -> Desk {
         Desk {
             told: RefCell::new(ArrayWriter::new(Fails::Never)),
@@ -26,7 +26,7 @@ impl Desk {
         }
     }
 
-    /// What was told.
+    /// The text that was written.
     pub fn into_told(self) -> ArrayWriter {
         self.told.into_inner()
     }
@@ -102,7 +102,7 @@ fn expect_lines<T: Abort>(rt: &T, row: &Row) {
     same_at(rt, &str::from_utf8(told.text()).unwrap_or(""), &wanted, row);
 }
 
-/// Lines have their level and module, and the time where it is asked for and the clock can be read.
+/// Lines have their level and module, and the time if it is requested and the clock can be read.
 #[test]
 fn log_lines_have_levels_and_times(rt: HostRuntime) {
     for row in ROWS {

@@ -52,7 +52,7 @@ const ORDERS: &[Row] = &[(
     Ended::Whole,
 )];
 
-/// The order of the old nodes does not matter, and one may stand twice.
+/// The order of the old nodes does not matter, and a node may be named twice.
 #[test]
 fn old_nodes_in_any_order(rt: HostRuntime) {
     expect_rows(&rt, Way::Simulation, ORDERS);
@@ -82,7 +82,7 @@ fn old_node_says_hello_once(rt: HostRuntime) {
     expect_rows(&rt, Way::Simulation, HELLOS);
 }
 
-/// Lines behind four nodes, and whole inputs in two parts.
+/// Lines after four nodes, and whole inputs in two parts.
 const NO_OLD: &[Row] = &[
     (
         &[FOUR],
@@ -148,13 +148,13 @@ fn old_nodes_that_are_faults(rt: HostRuntime) {
 
 const LAST_OLD: &[Row] = &[(&[FOUR], &["old 2\n", "old 2"], "", Ended::Whole)];
 
-/// The input may end behind an old node.
+/// The input may end after an old node.
 #[test]
 fn input_ends_behind_an_old_node(rt: HostRuntime) {
     expect_rows(&rt, Way::Simulation, LAST_OLD);
 }
 
-/// A route that is found, and what there is of it 30 rounds behind the loss of a link.
+/// A route that is found, and the heights 30 rounds after the loss of a link.
 const THIRTY_ROUNDS: &str = "need 1 4\nrounds 3\nheights 4\npart 3 4\nrounds 30\nheights 4\n";
 
 const LOST: &[Row] = &[(&[FOUR], &[THIRTY_ROUNDS], FOUND_AND_LOST, Ended::Whole)];
@@ -176,7 +176,7 @@ fn route_is_lost_after_the_silence_asked_for(rt: HostRuntime) {
     expect_rows(&rt, Way::ShortSilence, LOST);
 }
 
-/// Each of these words behind `--times` asks for its times.
+/// Checks the times for each of these words after `--times`.
 fn expect_times(rt: &impl Abort, rows: &[(Option<&str>, Option<Times>)]) {
     for (word, times) in rows {
         same_at(rt, &asked_times(*word), times, word);
@@ -190,7 +190,7 @@ const LONGEST_RETRY: Times = Times {
     tries: 1000,
 };
 
-/// Words behind `--times`, and the times that they ask for.
+/// Words after `--times`, and the times in them.
 const TIMES: &[(Option<&str>, Option<Times>)] = &[
     (None, Some(Times::STANDARD)),
     (Some("10,50,5,8"), Some(Times::STANDARD)),
@@ -217,13 +217,13 @@ const TIMES: &[(Option<&str>, Option<Times>)] = &[
     (Some("18446744073709551616,50,5,8"), None),
 ];
 
-/// Words behind `--times`, and the times that they ask for.
+/// Words after `--times`, and the times in them.
 #[test]
 fn times_are_asked_for(rt: HostRuntime) {
     expect_times(&rt, TIMES);
 }
 
-/// The words behind `--times` of those command lines, and the times that they ask for.
+/// The words after `--times` of those command lines, and the times in them.
 const WORDS_OF_TIMES: &[(Option<&str>, Option<Times>)] = &[
     (None, Some(Times::STANDARD)),
     (Some("10,20,5,8"), Some(SHORT_SILENCE)),

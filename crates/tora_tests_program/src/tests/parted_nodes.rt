@@ -30,7 +30,7 @@ fn pairs_of_nodes(rt: HostRuntime) {
     sees(&rt, parted.is_parted(7, 7), "a pair that stays");
 }
 
-/// Node 1,023 is the last that has a bit for each pair; pairs with nodes behind it are kept and mended all the same.
+/// Node 1,023 is the last with a bit for each pair. Pairs with higher nodes are parted and mended, too.
 #[test]
 fn pairs_behind_the_bits(rt: HostRuntime) {
     let mut parted = Parted::of(rt.alloc(), &[]).expect(&rt, "no pairs");
@@ -49,7 +49,7 @@ fn pairs_behind_the_bits(rt: HostRuntime) {
     sees(&rt, parted.is_parted(1_023, 0), "the second stays");
 }
 
-/// A simulator of a line of three nodes behind a need of node 1.
+/// A simulator of a line of three nodes after a need of node 1.
 fn needing(rt: &impl Abort, alloc: Global) -> Sim {
     let topology = Topology::new(alloc, &[(1, 2), (2, 3)], &[3]).expect(rt, "a topology");
     let mut sim = Sim::new(alloc, &topology).expect(rt, "a simulator");
@@ -57,7 +57,7 @@ fn needing(rt: &impl Abort, alloc: Global) -> Sim {
     sim
 }
 
-/// Makes sixty rounds, and tells the next hop of node 1.
+/// Makes sixty rounds, and returns the next hop of node 1.
 fn hop_behind(rt: &impl Abort, alloc: Global, sim: &mut Sim, parted: &[(Id, Id)]) -> Option<Id> {
     let mut air = Air::new(alloc);
     let parted = Parted::of(alloc, parted).expect(rt, "the parted pairs");

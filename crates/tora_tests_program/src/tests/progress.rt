@@ -10,7 +10,7 @@ use std::{io, str};
 use tora_commands::{Paced, Progress, RoundCount, Wiping};
 use tora_lines::Input;
 
-/// A terminal that is kept, and a clock that goes on by so many milliseconds each time that it is read.
+/// A terminal that stores its text, and a clock that advances by `step` milliseconds at each reading.
 #[derive(Drop)]
 struct Terminal {
     told: RefCell<ArrayWriter>,
@@ -19,7 +19,7 @@ struct Terminal {
 }
 
 impl Terminal {
-    /// Nothing was told.
+    /// A terminal with an empty text.
     fn new(step: u64) -> Terminal {
         Terminal {
             told: RefCell::new(ArrayWriter::new(Fails::Never)),
@@ -57,7 +57,7 @@ impl Clock for Terminal {
     }
 }
 
-/// What was told on a terminal is this.
+/// Checks the text of a terminal.
 fn expect_told<T: Abort, P: Debug>(rt: &T, terminal: Terminal, wanted: &str, place: &P) {
     let told = terminal.told.into_inner();
     same_at(
@@ -106,7 +106,7 @@ const TEXTS: &[((u64, Option<u64>, u64), &str)] = &[
     ((7, None, 2000), "7 rounds, 3 a second"),
 ];
 
-/// The bar has a mark for each tenth, and the rest is told by the rounds so far.
+/// The bar has a mark for each tenth, and the remaining time is computed from the rounds so far.
 #[test]
 fn texts_of_a_bar(rt: HostRuntime) {
     for ((done, total, millis), wanted) in TEXTS {

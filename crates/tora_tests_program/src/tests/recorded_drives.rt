@@ -18,7 +18,7 @@ use tora_traced::TraceOut;
 /// The lines of a drive, its answers, its record, and what a simulation of the record prints.
 type Row = (&'static str, &'static str, &'static str, &'static str);
 
-/// A link, and a first step behind it, in which each end opens and sends a HELLO of each version.
+/// A link, and its first step, in which each end opens and sends a HELLO of each version.
 const STEPPED: Row = (
     "dests 2\nlink 1 2\nneed 1 2\nstep\nheights 2\n",
     "ok\nok\nok\nsent 1 2 1 28\nsent 1 2 2 28\nsent 2 1 3 28\nsent 2 1 4 28\nok\n\
@@ -134,7 +134,7 @@ fn expect_simulated<T: AllocGlobal + Eprint + Abort>(rt: &T, (_, _, record, text
     );
 }
 
-/// Each line that is taken has in the record what stands for it, and no other line has anything.
+/// The record has lines for each accepted line, and nothing for any other.
 #[test]
 fn taken_lines_are_recorded(rt: HostRuntime) {
     for row in ROWS {
@@ -178,8 +178,8 @@ fn command_once<T: Files + AllocGlobal + Eprint>(
     (status, writer)
 }
 
-/// Records to a path, and expects its status and the answers behind the greeting. Where memory was refused it drives
-/// again.
+/// Records a drive to a path, and checks the status and the answers after the greeting. If memory runs out, it drives
+/// once more.
 fn expect_command<T: Files + AllocGlobal + Eprint + Abort>(
     rt: &T,
     (times, path): (Option<&'static str>, &'static str),
@@ -206,12 +206,13 @@ fn holds_record<R: Files<File = File>>(rt: &R, path: &str) -> bool {
     }
 }
 
-/// The answers to the first row, behind the greeting.
+/// The answers to the first row, after the greeting.
 const GREETED: &str =
     "tora drive 1\nok\nok\nok\nsent 1 2 1 28\nsent 1 2 2 28\nsent 2 1 3 28\nsent 2 1 4 28\nok\n\
      node 1 - hop -\nnode 2 (0,0,0,0,2) hop -\nok\n";
 
-/// The record is written to the file named; where it can't be made, and for times that are none, nothing is written.
+/// The record is written to the named file. If the file cannot be created, or the word for times is malformed, nothing
+/// is written.
 #[test]
 fn records_are_written_to_files(rt: HostRuntime) -> Result<(), Fail> {
     let _ = fs::remove_dir_all(&rt, FOLDER);

@@ -136,7 +136,7 @@ const REFUSED: &[&str] = &[
     "1 show",
 ];
 
-/// First lines with nothing behind them.
+/// First lines without a further line.
 pub const FIRST_LINES: &[Row] = &[
     (ACCEPTED, NOTHING, "", Ended::Whole),
     (REFUSED, NOTHING, "fault 1\n", Ended::Fault(1)),
@@ -144,7 +144,7 @@ pub const FIRST_LINES: &[Row] = &[
 
 pub const FIRST: &str = "node 3 links 2 dests 4\n";
 
-/// Lines behind it that are faults.
+/// Faulty lines after the first line.
 const NO_LINES: &[&str] = &[
     "\n",
     " ",
@@ -190,7 +190,7 @@ const NO_LINES: &[&str] = &[
 
 pub const FAULTS: &[Row] = &[(&[FIRST], NO_LINES, "fault 2\n", Ended::Fault(2))];
 
-/// Lines behind a first line, with what is printed for them.
+/// Lines after a first line, with their output.
 pub const ENDS_OF_RANGES: &[(&str, &str)] = &[
     ("0 show", "to 4 height - flag 0 hop -\n"),
     (
@@ -230,7 +230,7 @@ pub const LONGEST_LINES: &[Files] = &[
     },
 ];
 
-/// Lines behind the first, and why they are faults.
+/// Lines after the first line, and why they are faults.
 pub const CAUSES: &[(Option<&str>, Cause)] = &[
     (Some(""), Cause::Empty),
     (Some("1 show\r"), Cause::CarriageReturn),

@@ -88,7 +88,7 @@ fn expect_causes(rt: &impl Abort, alloc: Global, number: u64, rows: &[(Option<&s
     }
 }
 
-/// Why a line behind the first is a fault, as `-v` says it.
+/// Why a line after the first is a fault, in the words of `-v`.
 #[test]
 fn causes_of_faults(rt: HostRuntime) {
     expect_causes(&rt, rt.alloc(), 2, CAUSES);

@@ -199,8 +199,8 @@ pub const TOLD: &[Row] = &[
     ),
 ];
 
-/// A world is at rest before its links are up, and once a route is found; it is not while a need waits, nor where a
-/// link is up at one end alone.
+/// A world is at rest before its links are up, and after a route is found. It is not while a need waits, nor if a link
+/// is up at only one of its ends.
 pub const RESTS: &[Row] = &[(
     &[FOUR],
     &["rest\nneed 1 4\nrest\nrounds 3\nrest\nrestart 2 -\nrest\nrounds 60\nrest\n"],
@@ -208,7 +208,7 @@ pub const RESTS: &[Row] = &[(
     Ended::Whole,
 )];
 
-/// Nothing stands behind `rest`.
+/// Lines that are faults: `rest` with a further word, or misspelled.
 pub const NO_RESTS: &[Row] = &[(
     &[FOUR],
     &["rest 4\n", "rest yes\n", "rests\n", "Rest\n"],

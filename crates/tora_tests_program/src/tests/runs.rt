@@ -25,7 +25,7 @@ pub enum Way {
     Simulation,
     /// A simulation that hands on what it wrote.
     FlushedSimulation,
-    /// A simulation that tells on standard error why.
+    /// A simulation that reports causes on standard error.
     ToldSimulation,
     /// A simulation whose link ends are asked to have the standard times.
     StandardTimes,
@@ -139,7 +139,7 @@ pub fn expect_run<T: AllocGlobal + Eprint + Abort>(
     expect_written(rt, lines, writer.text(), text);
 }
 
-/// Files that print the same and end alike: each of the fronts with each of the ends behind it, what they print, and
+/// Files with the same output and the same end: each of the fronts with each of the ends after it, their output, and
 /// how they end.
 pub type Row = (
     &'static [&'static str],
@@ -163,8 +163,7 @@ pub fn expect_rows<T: AllocGlobal + Eprint + Abort>(rt: &T, way: Way, rows: &[Ro
     }
 }
 
-/// Files of three parts that print the same and end alike: each of the middles stands so many times between front and
-/// end.
+/// Files of three parts with the same output and the same end: each of the middles is repeated between front and end.
 pub struct Files {
     pub front: &'static str,
     pub middles: &'static [&'static str],
@@ -184,7 +183,7 @@ pub fn expect_files<T: AllocGlobal + Eprint + Abort>(rt: &T, way: Way, rows: &[F
     }
 }
 
-/// These lines behind the front print these texts, and all are taken.
+/// Checks that these lines after the front are accepted and print these texts.
 pub fn expect_lines<T: AllocGlobal + Eprint + Abort>(
     rt: &T,
     way: Way,

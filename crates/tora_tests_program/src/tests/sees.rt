@@ -1,5 +1,6 @@
-//! What every test sees: an assertion that compares and formats is proved once, here. The line that a failure names is
-//! one of these, so each text tells what was seen, or where.
+//! The checks of the tests. Each check is a call of a function here, which is proved once. An assertion inside a test
+//! would be proved there, with the text that it prints. A failure names a line of this module, so each call passes a
+//! text that says what it checks.
 use std::fmt::Debug;
 use std::process::Abort;
 use std::test::*;

@@ -1,9 +1,9 @@
-//! Lines behind the links of simulation files that are faults.
+//! Faulty lines after the links of simulation files.
 use super::runs::{Files, NOTHING, Row};
 use super::simulation_rows::THREE;
 use tora_lines::Ended;
 
-/// Lines that name what there is not.
+/// Lines that name a link, a node or a destination that does not exist.
 const OTHER_LINKS: &[&str] = &[
     "part 1 3",
     "part 1 1",
@@ -18,10 +18,10 @@ const OTHER_LINKS: &[&str] = &[
     "heights 4",
 ];
 
-/// Those lines behind the links.
+/// The lines `OTHER_LINKS` directly after the links.
 pub const OTHERS: &[Row] = &[(&[THREE], OTHER_LINKS, "fault 4\n", Ended::Fault(4))];
 
-/// Those lines between two ticks.
+/// The lines `OTHER_LINKS` between two ticks.
 pub const OTHERS_BETWEEN_TICKS: &[Files] = &[Files {
     front: "dests 3,7\nlink 1 2\nlink 2 3\ntick\n",
     middles: OTHER_LINKS,
@@ -75,7 +75,7 @@ const NO_PAIRS: &[&str] = &[
     "pump 1 2 ",
 ];
 
-/// Other events that are faults.
+/// Other faulty lines: blank ones, other words, and `tick`, `deliver` and `turn` with wrong words.
 const NO_EVENTS: &[&str] = &[
     "\n",
     " ",

@@ -59,7 +59,7 @@ const NO_DESTINATIONS: &[&str] = &[
     "node 3 links 2 dests 4\n",
 ];
 
-/// First lines, and a link behind them.
+/// First lines, and a link after them.
 pub const FIRST_LINES: &[Row] = &[
     (
         DESTINATIONS,
@@ -71,7 +71,7 @@ pub const FIRST_LINES: &[Row] = &[
     (NO_DESTINATIONS, NOTHING, "fault 1\n", Ended::Fault(1)),
 ];
 
-/// A first line and two links, of which the second or the first line is refused by what stands behind them.
+/// A first line and two links. A later line shows that the second link or the first line is refused.
 const TWO_LINKS: &[&str] = &[
     "dests 4\nlink 1 2\nlink 1 2",
     "dests 4\nlink 1 2\nlink 2 1",
@@ -84,10 +84,10 @@ const TWO_LINKS: &[&str] = &[
     65\nlink 1 2\nlink 2 3",
 ];
 
-/// What may stand behind those links.
+/// What may follow those links.
 const BEHIND_LINKS: &[&str] = &["\ntick\n", "\n\n", "\nlink 5 0\n", "\nheights 4\ntick\n"];
 
-/// A topology that is refused is a fault of the line behind the links, whatever it is, or of the last link.
+/// A refused topology is a fault of the line after the links, whatever that is, or of the last link.
 pub const TOPOLOGIES: &[Row] = &[
     (TWO_LINKS, NOTHING, "fault 3\n", Ended::Fault(3)),
     (TWO_LINKS, BEHIND_LINKS, "fault 4\n", Ended::Fault(4)),
@@ -169,10 +169,10 @@ pub const LINKS_OF_A_LINE: &str = "link 1 2\nlink 2 3\nlink 3 4\nlink 4 5\nlink 
     link 55 56\nlink 56 57\nlink 57 58\nlink 58 59\nlink 59 60\nlink 60 61\n\
     link 61 62\nlink 62 63\nlink 63 64\n";
 
-/// Two links, and what is printed behind them.
+/// A first line with two destinations, and two links.
 pub const THREE: &str = "dests 3,7\nlink 1 2\nlink 2 3\n";
 
-/// Lines behind the links that are faults.
+/// Faulty lines after the links.
 const NO_LINKS: &[&str] = &[
     "link\n",
     "link \n",
@@ -225,7 +225,7 @@ pub const MOST_ROUNDS: &[Row] = &[
     ),
 ];
 
-/// Each kind of line behind the links, and what it prints.
+/// Each kind of line after the links, and its output.
 pub const TAKEN: &[(&str, &str)] = &[
     ("need 1 3", ""),
     ("need 1 9", ""),

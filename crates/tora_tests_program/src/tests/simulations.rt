@@ -9,7 +9,7 @@ fn route_is_found_and_lost(rt: HostRuntime) {
     expect_rows(&rt, Way::Simulation, ROUTE);
 }
 
-/// A write of a life file fails, so that the node's ends stay closed until it begins anew.
+/// A write of a life file fails, so the node's ends stay closed until the node restarts.
 #[test]
 fn restart_mends_a_life_file(rt: HostRuntime) {
     expect_rows(&rt, Way::Simulation, MENDED_FILE);
@@ -21,13 +21,13 @@ fn route_is_found_whatever_call_fails(rt: HostRuntime) {
     expect_files(&rt, Way::Simulation, ARMED);
 }
 
-/// Behind a route that was found entries are exact, and the walk is the route; a node that begins anew ends both.
+/// After a route was found, entries are exact and the walk is the route. A restart of a node ends both.
 #[test]
 fn exact_entries_give_a_walk(rt: HostRuntime) {
     expect_rows(&rt, Way::Simulation, WALK);
 }
 
-/// A line of walks is a fault where it names no node or no destination.
+/// A line `exact` or `walk` is a fault if it names a node or a destination that does not exist.
 #[test]
 fn walks_of_others_are_faults(rt: HostRuntime) {
     expect_rows(&rt, Way::Simulation, WALKS);
@@ -39,13 +39,13 @@ fn packets_are_counted_by_life(rt: HostRuntime) {
     expect_rows(&rt, Way::Simulation, COUNTED);
 }
 
-/// First lines, and a link behind them.
+/// First lines, and a link after them.
 #[test]
 fn destinations_accepted_and_refused(rt: HostRuntime) {
     expect_rows(&rt, Way::Simulation, FIRST_LINES);
 }
 
-/// A topology that is refused is a fault of the line behind the links, whatever it is, or of the last link.
+/// A refused topology is a fault of the line after the links, whatever that is, or of the last link.
 #[test]
 fn topologies_refused(rt: HostRuntime) {
     expect_rows(&rt, Way::Simulation, TOPOLOGIES);
@@ -74,7 +74,7 @@ fn links_taken_and_not(rt: HostRuntime) {
     expect_rows(&rt, Way::Simulation, LINKS);
 }
 
-/// Each kind of line behind the links.
+/// Each kind of line after the links.
 #[test]
 fn lines_taken(rt: HostRuntime) {
     expect_lines(&rt, Way::Simulation, THREE, TAKEN);
@@ -85,7 +85,7 @@ fn most_rounds(rt: HostRuntime) {
     expect_rows(&rt, Way::Simulation, MOST_ROUNDS);
 }
 
-/// Lines that name what there is not.
+/// Lines that name a link, a node or a destination that does not exist.
 #[test]
 fn lines_of_other_links(rt: HostRuntime) {
     expect_rows(&rt, Way::Simulation, OTHERS);
@@ -119,14 +119,14 @@ fn longest_simulation_line(rt: HostRuntime) {
     expect_files(&rt, Way::Simulation, LONGEST_LINES);
 }
 
-/// What is told on standard error does not change what is printed.
+/// Reports on standard error do not change the output.
 #[test]
 fn told_simulation_prints_the_same(rt: HostRuntime) {
     expect_rows(&rt, Way::ToldSimulation, TOLD);
 }
 
-/// A world is at rest before its links are up, and once a route is found; it is not while a need waits, nor where a
-/// link is up at one end alone.
+/// A world is at rest before its links are up, and after a route is found. It is not while a need waits, nor if a link
+/// is up at only one of its ends.
 #[test]
 fn rest_is_told(rt: HostRuntime) {
     expect_rows(&rt, Way::Simulation, RESTS);

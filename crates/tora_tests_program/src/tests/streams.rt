@@ -36,7 +36,8 @@ fn expect_whole<T: AllocGlobal + Eprint + Abort>(
     true
 }
 
-/// Where a call fails a run ends so, or memory was refused before, and what was written begins the text.
+/// Checks that a run whose call fails ends with this error, or with `Memory` before, and that the text written is a
+/// prefix of the whole text.
 fn expect_failure<T: AllocGlobal + Eprint + Abort>(
     rt: &T,
     (way, lines, text, _): Run,
@@ -150,7 +151,7 @@ fn recent_lines_are_kept(rt: HostRuntime) {
     expect_few_refusals(&rt, refused);
 }
 
-/// Lines that are run by a call which hands on, what they print, and how they end where that does not fail.
+/// Lines for a call that flushes at the end, their output, and how they end if the flush succeeds.
 type Handed = (Way, &'static str, &'static str, Ended);
 
 /// Each of these prints its text, and ends so where what was written can be handed on, and else with a failed write.
@@ -181,7 +182,7 @@ const HANDED_SIMULATIONS: &[Handed] = &[(
     Ended::Whole,
 )];
 
-/// A flush that fails at the end is a failed write, also behind a fault; all was written.
+/// A flush that fails at the end is a failed write, also after a fault; all was written.
 #[test]
 fn failed_flushes(rt: HostRuntime) {
     expect_handed(&rt, HANDED_REPLAYS);
@@ -193,7 +194,7 @@ fn failed_flushes_of_a_simulation(rt: HostRuntime) {
     expect_handed(&rt, HANDED_SIMULATIONS);
 }
 
-/// Where memory is refused, that is answered, and what was written begins the text.
+/// If memory runs out, the call reports it, and the text written is a prefix of the whole text.
 #[test]
 fn want_of_memory_in_a_simulation(rt: HostRuntime) {
     let lines = (FOUR_FOUND_AND_LOST, "", 0, "");

@@ -59,8 +59,8 @@ const FULL_LANE: &[Files] = &[Files {
     ended: Ended::Whole,
 }];
 
-/// The lane into a core has room for 1,024 items: behind 1,023 needs a pump goes in, and then neither a pump nor a
-/// need; behind a turn one of them does.
+/// The queue into a core has room for 1,024 items. After 1,023 needs a pump fits, and then neither a pump nor a need;
+/// after a turn one of them does.
 #[test]
 fn lane_into_a_core_fills(rt: HostRuntime) {
     expect_files(&rt, Way::Simulation, FULL_LANE);

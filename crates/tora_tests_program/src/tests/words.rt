@@ -79,7 +79,7 @@ const VERBOSE: &[(&[&str], Asked)] = &[
     (&["tora"], Asked::Verbose(false)),
 ];
 
-/// `-v` stands before or behind the word.
+/// `-v` comes before or after the word.
 #[test]
 fn verbose_words(rt: HostRuntime) {
     expect_words(&rt, rt.alloc(), VERBOSE);
@@ -116,7 +116,7 @@ const OPTIONS: &[(&[&str], Asked)] = &[
     ),
 ];
 
-/// The options of `sim` stand before or behind its file.
+/// The options of `sim` come before or after its file.
 #[test]
 fn options_of_sim(rt: HostRuntime) {
     expect_words(&rt, rt.alloc(), OPTIONS);
