@@ -11,7 +11,7 @@ use Rattle.tora_drive.specs.DriveText.{drive_rules, shortened_text, greeting}
 use Rattle.tora_drive.specs.Recording.{recorded_rules}
 use Rattle.tora_simulate.specs.Endings.{EndsWith, IsUnopened, HasNoMemory}
 
--- The greeting was written, and behind it the status is that of an end of the engine over this reader.
+-- The greeting was written, and then the engine ended over this reader with this status.
 pub record EndsGreeted {R W : Type 0} (text : List ℕ → Text) (remaining : R → Option (List ℕ))
     (did_read : R → Given → R → Type 0)
     (contents : W → Option (List ℕ)) (did_write : W → List ℕ → Bool → W → Type 0) (did_flush : W → Bool → W → Type 0)
@@ -20,13 +20,13 @@ pub record EndsGreeted {R W : Type 0} (text : List ℕ → Text) (remaining : R 
   pub greets : Appends (contents old) (contents greeted) greeting
   pub ends : EndsWith text remaining did_read contents did_write did_flush reader greeted new is_lost status
 
--- Writing the greeting failed, or handing it on did.
+-- The greeting could not be written or flushed.
 pub record IsUngreeted {W : Type 0} (did_write : W → List ℕ → Bool → W → Type 0) (did_flush : W → Bool → W → Type 0)
     (new : W) (status : ℕ) : Type 0 where
   pub failed : FailedWriting did_write did_flush new
   pub status_is : status ≡ 1
 
--- A drive that was greeted ended so, or it could not be greeted.
+-- A drive: it was greeted and ended with this status, or it could not be greeted.
 abbrev pub EndsDrive : {R W : Type 0} → WorldOptions → Times → (R → Option (List ℕ)) → (R → Given → R → Type 0)
     → (W → Option (List ℕ)) → (W → List ℕ → Bool → W → Type 0) → (W → Bool → W → Type 0) → R → W → W → ℕ → Type 0
 EndsDrive options times remaining did_read contents did_write did_flush reader old new status =
@@ -34,7 +34,7 @@ EndsDrive options times remaining did_read contents did_write did_flush reader o
     old new false status
     ⊎ IsUngreeted did_write did_flush new status
 
--- The same of a drive that is recorded, whose record is lost or not.
+-- A recorded drive, whose record may be lost.
 abbrev pub EndsRecorded : {R W : Type 0} → WorldOptions → Times → (R → Option (List ℕ)) → (R → Given → R → Type 0)
     → (W → Option (List ℕ)) → (W → List ℕ → Bool → W → Type 0) → (W → Bool → W → Type 0) → R → W → W → Bool → ℕ → Type 0
 EndsRecorded options times remaining did_read contents did_write did_flush reader old new is_lost status =
@@ -42,8 +42,7 @@ EndsRecorded options times remaining did_read contents did_write did_flush reade
     reader old new is_lost status
     ⊎ IsUngreeted did_write did_flush new status
 
--- The same of a record whose file making a path anew gave; or that gave an error or memory was refused, and nothing was
--- written.
+-- A drive whose record goes to a new file. If the file cannot be created or memory runs out, nothing is written.
 abbrev pub EndsRecordedTo : {F R W : Type 0} → (Result F Error → Type 0) → WorldOptions → Times
     → (R → Option (List ℕ)) → (R → Given → R → Type 0)
     → (W → Option (List ℕ)) → (W → List ℕ → Bool → W → Type 0) → (W → Bool → W → Type 0) → R → W → W → ℕ → Type 0

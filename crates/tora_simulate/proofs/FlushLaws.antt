@@ -1,4 +1,4 @@
--- The end of a run whose output is handed on last.
+-- Runs whose output is flushed at the end.
 use Rattle.std.proofs.Common.{◌≡◌, inl, inr, ℕ, Bool, true, false, List, Result, Ok, Err, refl, subst, sym}
 use Rattle.std.specs.Prelude.{IfErr}
 use Rattle.tora_lines.specs.Flushing.{after_flush}

@@ -14,8 +14,8 @@ use Rattle.tora_lines.specs.declared.ended.ReplayError.TheVariants.{Write}
 use Rattle.tora_simulate.specs.Flushing.{IsFlushed}
 
 -- The status is that of an end of the engine over this reader: the whole text of its input was written, or a front of
--- it where memory or the reader failed, and all of it was handed on. A read or a write failed where the end says so.
--- Where a trace is lost the status is not 0.
+-- it if memory ran out or a read failed, and then the writer was flushed. If the end says that a read or a write failed,
+-- one did. If a trace is lost, the status is not 0.
 pub record EndsWith {R W : Type 0} (text : List ℕ → Text) (remaining : R → Option (List ℕ))
     (did_read : R → Given → R → Type 0)
     (contents : W → Option (List ℕ)) (did_write : W → List ℕ → Bool → W → Type 0) (did_flush : W → Bool → W → Type 0)

@@ -1,4 +1,4 @@
-//! What was written is handed on: the engine of the command, and bytes of any command.
+//! Writes that are flushed: the output of the command's engine, and bytes of any command.
 ghost use Rattle.std.specs.Prelude.{◌≡◌, ◌≢◌, Ok, OnOk, OnErr, IfOk, IfErr, IfSome};
 ghost use Rattle.std.specs.Io.KnownBytes.{Appends, IsAtEnd};
 ghost use Rattle.tora_arq.specs.Settings.{IsTimes};
