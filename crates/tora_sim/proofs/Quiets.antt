@@ -90,9 +90,9 @@ module _ (t : Topology) (times : Times) (clock : ℕ) (nodes : List NodeView) (l
           is_impossible w (CoreTurn n) (turn_refused t times clock nodes links ds h n f.place x (read_first_node n nodes f.place x h.rising_nodes (slice_get_within nodes f.place x f.there) read f.passes) read (idle_at nodes f.place x idle f.there))
 
   pub quiet_now : (until : ℕ) → clock < until → list_all is_idle nodes ≡ true → EachOf (IsIdleUntil until) links → IsQuiet w
-  quiet_now until lt idle idle =
+  quiet_now until lt cores idle =
       record {
-        cores = λ n. at_nodes n idle;
+        cores = λ n. at_nodes n cores;
         opens = λ n k. at_ends (Open n k) n k until idle (λ e. no_link w n k (is_closed (w.ends n k)) e) (λ x place first read s. is_impossible w (Open n k) (open_refused t times clock nodes links ds h n k place x first read s.opened));
         pulls = λ n k. at_ends (Pull n k) n k until idle (λ e. no_link w n k (not (is_empty (w.cargoes n k))) e) (λ x place first read s. is_impossible w (Pull n k) (pull_refused t times clock nodes links ds h n k place x first read (ltb-false x.pulled (length x.put) s.lane)));
         sends = λ n k. at_ends (Transmit n k) n k until idle (λ e. no_link w n k (is_some (frame_due (settings w n k) (w.ends n k) clock)) e) (λ x place first read s. is_impossible w (Transmit n k) (transmit_refused t times clock nodes links ds h n k place x first read (s.frames clock lt)));
