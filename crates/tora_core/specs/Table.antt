@@ -1,4 +1,4 @@
--- The views of a core's table, each with the neighbours for which it has a place.
+-- The views of the table of a core; each view has the neighbours for which it has a place.
 use Rattle.std.specs.Prelude.{◌≡◌, ℕ, List, map}
 use Rattle.std.specs.List.{AllByRecursion}
 use Rattle.tora_core.specs.declared.erasure.Erasure.{Erasure}

@@ -12,7 +12,7 @@ use Rattle.tora_packet.specs.AnyPacket.{IsPacket}
 
 -- ---- the encoding of a packet
 
--- version 1, the kind, two zeros, and then each number in its bytes, the highest first
+-- version 1, the kind and two zeros; then each number in network byte order; three zeros follow the byte of r
 abbrev pub packet_spelling : Packet → List ℕ
 packet_spelling (Qry q) = 1 ∷ 1 ∷ 0 ∷ 0 ∷ to_be_bytes w32 q
 packet_spelling (Upd u) = 1 ∷ 2 ∷ 0 ∷ 0 ∷ to_be_bytes w32 u.destination
