@@ -7,7 +7,7 @@ use Rattle.std.proofs.lemmas.List.{length-set}
 use Rattle.std.specs.Prelude.{slice_index_or}
 use Rattle.tora_arq.specs.LinkEnd.{first_end}
 use Rattle.tora_arq.specs.EndRange.{LinkEndView, link_end_of}
-use Rattle.tora_datagrams.proofs.EachItem.{set_same, set_other}
+use Rattle.tora_sim.proofs.EachItem.{set_same, set_other}
 use Rattle.tora_sim.specs.Links.{LinkView, AreChanged}
 use Rattle.tora_sim.specs.Restarts.{restarted, AreFresh}
 

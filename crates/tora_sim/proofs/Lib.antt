@@ -47,3 +47,10 @@ pub mod UnreadyEnds
 pub mod TickEnds
 pub mod TakenItems
 pub mod CoreEnds
+pub mod LaneRooms
+pub mod KeptMore
+pub mod LaneLists
+pub mod InTurn
+pub mod EachItem
+pub mod KeptFrames
+pub mod SentFrames

@@ -8,9 +8,9 @@ use Rattle.tora_sim.specs.Lanes.{HasRoom, HasRoomAt, IsReady, AreReadyEach}
 use Rattle.tora_sim.specs.Links.{LinkView, AreChanged}
 use Rattle.tora_sim.specs.Possible.{has_cargo}
 use Rattle.tora_sim.specs.Restarts.{restarted}
-use Rattle.tora_datagrams.proofs.EachItem.{set_same, set_other}
+use Rattle.tora_sim.proofs.EachItem.{set_same, set_other}
 use Rattle.tora_sim.proofs.FreshEnds.{item_at}
-use Rattle.tora_datagrams.proofs.EachItem.{before_or_not}
+use Rattle.tora_sim.proofs.EachItem.{before_or_not}
 use Rattle.tora_sim.proofs.Stores.{set_read, map_read}
 
 pub room_of : (link : LinkView) → IsReady link → HasRoom link

@@ -6,14 +6,14 @@ use Rattle.std.proofs.lemmas.Option.{same_Some, slice_get_read}
 use Rattle.std.specs.Prelude.{slice_index_or}
 use Rattle.tora_seat.specs.declared.cargo.Cargo.{Cargo}
 use Rattle.tora_seat.specs.declared.TheConstants.{MOST_CARGOES}
-use Rattle.tora_cargoes.specs.declared.inline_cargoes.TheConstants.{INLINE_CARGOES}
+use Rattle.tora_sim.specs.declared.store.inline_cargoes.TheConstants.{INLINE_CARGOES}
 use Rattle.tora_sim.specs.declared.unready.Unready.{Unready}
 use Rattle.tora_sim.specs.Links.{LinkView}
 use Rattle.tora_sim.specs.Unready.{IsOutside}
-use Rattle.tora_cargoes.specs.Lane.{Fits, AreWhole, AreOthersAsWhole}
+use Rattle.tora_sim.specs.Lane.{Fits, AreWhole, AreOthersAsWhole}
 use Rattle.tora_sim.specs.Lanes.{bare, bare_between, AreAlike, AreFitting, AreOthersSame, HasRoom, HasRoomAt, HaveRoom, AreReady, lanes_of, after_offer_at, has_place, DidOffer}
 use Rattle.tora_sim.proofs.Bared.{between_set, between_within}
-use Rattle.tora_datagrams.proofs.EachItem.{set_same, set_other}
+use Rattle.tora_sim.proofs.EachItem.{set_same, set_other}
 use Rattle.tora_sim.proofs.FreshEnds.{below_next}
 use Rattle.tora_sim.proofs.UnreadyEnds.{ready_but}
 use Rattle.tora_sim.proofs.Stores.{set_read}

@@ -8,7 +8,7 @@ use Rattle.tora_sim.specs.Deadlines.{AreLater}
 use Rattle.tora_sim.proofs.FreshEnds.{item_at, was, one_changed}
 use Rattle.tora_sim.proofs.NodeEnds.{by_places}
 use Rattle.tora_sim.proofs.Quiets.{set_same, idle_tick}
-use Rattle.tora_datagrams.proofs.EachItem.{before_or_not}
+use Rattle.tora_sim.proofs.EachItem.{before_or_not}
 
 read_of : (xs : List LinkView) (i : ℕ) (x : LinkView) → slice_get xs i ≡ Some x → x ≡ slice_index_or xs i x
 read_of [] i x e = absurd (none-some x e)

@@ -23,11 +23,11 @@ use Rattle.tora_sim.specs.Quiet.{AreForgottenWhere}
 use Rattle.tora_sim.specs.Store.{IsStore, state_of}
 use Rattle.tora_sim.specs.Turns.{IsServed, IsNoted, Turns}
 use Rattle.tora_sim.specs.Unready.{IsOutside, IsRemarked, AreRemarked}
-use Rattle.tora_datagrams.proofs.EachItem.{set_same, set_other}
+use Rattle.tora_sim.proofs.EachItem.{set_same, set_other}
 use Rattle.tora_sim.proofs.FreshEnds.{item_at, below_next}
 use Rattle.tora_sim.proofs.ReadyEnds.{room_of, mark_there}
 use Rattle.tora_sim.proofs.Served.{lanes_stay}
-use Rattle.tora_datagrams.proofs.EachItem.{before_or_not}
+use Rattle.tora_sim.proofs.EachItem.{before_or_not}
 use Rattle.tora_sim.proofs.Stores.{set_read}
 
 -- ---- marks

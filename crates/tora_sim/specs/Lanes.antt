@@ -5,7 +5,7 @@ use Rattle.tora_seat.specs.declared.TheConstants.{MOST_CARGOES}
 use Rattle.tora_seat.specs.Serving.{Parcel}
 use Rattle.tora_sim.specs.declared.unready.Unready.{Unready}
 use Rattle.tora_sim.specs.Links.{LinkView, waiting}
-use Rattle.tora_cargoes.specs.Lane.{Fits}
+use Rattle.tora_sim.specs.Lane.{Fits}
 use Rattle.tora_sim.specs.Unready.{IsOutside}
 
 pub record LanesView : Type 0 where

@@ -21,3 +21,7 @@ pub mod Quiet
 pub mod Deadlines
 pub mod Taking
 pub mod SteadyLinks
+pub mod KeptCargoes
+pub mod Lane
+pub mod Datagrams
+pub mod SentFrames

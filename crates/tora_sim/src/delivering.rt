@@ -13,7 +13,7 @@ use crate::nodes::node_near;
 use crate::places::home_at;
 use crate::sim::Sim;
 use std::alloc::AllocError;
-use tora_datagrams::Datagrams;
+use crate::store::Datagrams;
 use tora_frame::{BorrowedFrame, Header};
 
 impl Sim {

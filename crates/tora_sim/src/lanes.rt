@@ -1,7 +1,7 @@
 //! The lanes from a node's core to its neighbours.
 ghost use Rattle.std.specs.Prelude.{◌≡◌, ◌+◌, ◌<◌, ◌≤◌, ◌++◌, ◌∷◌, [], ⊤, Some, length, slice_get, slice_set, OnOk};
 ghost use Rattle.std.specs.Prelude.{IfErr, MatchOption};
-ghost use Rattle.tora_cargoes.specs.Lane.{AreWhole};
+ghost use Rattle.tora_sim.specs.Lane.{AreWhole};
 ghost use Rattle.tora_sim.specs.Lanes.{lanes_of, bare_between, AreReady, AreReadyEach, AreReadyOutside, AreAlike};
 ghost use Rattle.tora_sim.specs.Lanes.{AreOthersSame, HasRoomAt, HaveRoom, HaveRoomBut};
 ghost use Rattle.tora_sim.specs.Links.{LinkView};
@@ -12,7 +12,7 @@ use crate::link_slot::LinkSlot;
 use crate::ready::{is_ready, set_ready};
 use crate::unready::Unready;
 use std::marker::Model;
-use tora_cargoes::Pool;
+use crate::store::Pool;
 use tora_seat::{Cargo, OutLanes, Stepped};
 
 /// The lanes of one node, among all link ends: the node's ends are adjacent, in the order of its neighbours. The lanes

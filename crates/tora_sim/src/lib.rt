@@ -47,6 +47,7 @@ mod rest;
 mod restarts;
 mod sending;
 mod sim;
+mod store;
 mod taking;
 mod ticking;
 mod topology;

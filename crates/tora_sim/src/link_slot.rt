@@ -11,7 +11,7 @@ ghost use Rattle.tora_sim.specs.SteadyLinks.{IsKept, is_none, shown};
 use crate::links::LinkParts;
 use std::marker::Model;
 use tora_arq::Steady;
-use tora_datagrams::Datagrams;
+use crate::store::Datagrams;
 use tora_frame::{BorrowedBody, BorrowedFrame, Header, Packets, Version};
 
 /// One end of a link. While the end is idle, the few fields that a HELLO reads are stored here, and all others in a

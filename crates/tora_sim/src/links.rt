@@ -12,7 +12,7 @@ ghost use Rattle.tora_arq.specs.EndRange.{link_end_of};
 ghost use Rattle.tora_sim.specs.Restarts.{restarted};
 ghost use Rattle.tora_sim.specs.SteadyLinks.{IsSteadyLink};
 ghost use Rattle.tora_arq.specs.Steady.{resumed};
-ghost use Rattle.tora_cargoes.specs.Lane.{AreOthersAsWhole, Fits};
+ghost use Rattle.tora_sim.specs.Lane.{AreOthersAsWhole, Fits};
 ghost use Rattle.tora_sim.specs.Lanes.{after_offer_at, has_place, bare, HasRoom, IsReady};
 
 use crate::SimError;
@@ -22,7 +22,7 @@ use std::alloc::Global;
 use std::marker::Model;
 use std::mem;
 use tora_arq::{ArqError, GrowingEnd, Life, LinkEvent, Steady, Times, lives_are_bound_once};
-use tora_cargoes::{KeptCargoes, Lane, Pool};
+use crate::store::{KeptCargoes, Lane, Pool};
 use tora_frame::{BorrowedFrame, Header, Packets, Version};
 use tora_height::Id;
 use tora_life::{DiskCall, MemDisk, Owner};

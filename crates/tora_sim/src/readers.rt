@@ -6,7 +6,7 @@ ghost use Rattle.tora_world.specs.World.{sent_packets, taken_packets, datagram};
 ghost use Rattle.tora_world.specs.Walks.{height_at, hop_at};
 ghost use Rattle.tora_world.specs.Lists.{packets_of, parcels_in};
 ghost use Rattle.tora_sim.specs.Store.{world_of, numbered};
-ghost use Rattle.tora_datagrams.specs.Datagrams.{way_of};
+ghost use Rattle.tora_sim.specs.Datagrams.{way_of};
 ghost use Rattle.tora_sim.specs.Readers.{ends_at, ends_in};
 
 use crate::end_keys::place;
@@ -16,9 +16,9 @@ use crate::sim::Sim;
 use crate::topology::Topology;
 use std::alloc::{AllocError, Global};
 use tora_arq::Life;
-use tora_cargoes::{count_kept, list_kept};
+use crate::store::{count_kept, list_kept};
 use tora_core::numbers_come_and_go;
-use tora_datagrams::Datagrams;
+use crate::store::Datagrams;
 use tora_height::{Entry, Id};
 use tora_packet::Packet;
 

@@ -10,7 +10,7 @@ ghost use Rattle.tora_world.specs.declared.event.Event.TheVariants.{Transmit};
 ghost use Rattle.tora_frame.specs.FrameParts.{IsHeader, frame_of};
 ghost use Rattle.tora_frame.specs.declared.parts.Body.TheVariants.{Hello};
 ghost use Rattle.tora_world.specs.World.{with_datagram};
-ghost use Rattle.tora_datagrams.specs.Datagrams.{HasRoom};
+ghost use Rattle.tora_sim.specs.Datagrams.{HasRoom};
 
 use crate::SimError;
 use crate::deadlines::{set_deadline, short};
@@ -20,7 +20,7 @@ use crate::places::{far_end_at, home_at};
 use crate::sim::Sim;
 use std::alloc::AllocError;
 use tora_arq::{calls_keep_an_end, data_frames_are_what_was_submitted};
-use tora_datagrams::Datagrams;
+use crate::store::Datagrams;
 use tora_frame::{BorrowedFrame, Header, Packets};
 use tora_height::Id;
 

@@ -11,8 +11,8 @@ use crate::topology::Topology;
 use crate::{Event, SimError};
 use std::marker::Model;
 use tora_arq::Times;
-use tora_cargoes::Pool;
-use tora_datagrams::Datagrams;
+use crate::store::Pool;
+use crate::store::Datagrams;
 use tora_height::Id;
 
 /// A simulated world.

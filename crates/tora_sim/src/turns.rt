@@ -1,6 +1,6 @@
 //! Turns of a node's core.
 ghost use Rattle.std.specs.Prelude.{◌≡◌, ◌+◌, ◌<◌, ◌≤◌, length, OnOk, IfErr};
-ghost use Rattle.tora_cargoes.specs.Lane.{AreWhole};
+ghost use Rattle.tora_sim.specs.Lane.{AreWhole};
 ghost use Rattle.tora_sim.specs.Lanes.{lanes_of, bare_between, AreAlike, AreReady, AreReadyOutside, AreOthersKept};
 ghost use Rattle.tora_sim.specs.Lanes.{HaveRoom, HaveRoomBut};
 ghost use Rattle.tora_sim.specs.Quiet.{AreForgottenWhere, IsForgottenWhere};
@@ -16,7 +16,7 @@ use crate::nodes::NodeSlot;
 use crate::ready::set_ready;
 use crate::unready::Unready;
 use std::mem;
-use tora_cargoes::Pool;
+use crate::store::Pool;
 use tora_core::Sends;
 use tora_seat::offers_are_their_own_answers;
 

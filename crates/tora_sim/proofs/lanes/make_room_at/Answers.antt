@@ -1,6 +1,6 @@
 use Rattle.std.proofs.Common.{◌<◌, length, refl, arith}
 use Rattle.std.proofs.lemmas.Option.{slice_get_read}
-use Rattle.tora_datagrams.proofs.EachItem.{set_other}
+use Rattle.tora_sim.proofs.EachItem.{set_other}
 use Rattle.tora_sim.proofs.ReadyEnds.{ready_room, unknown_ready, known_ready, room_set}
 use Rattle.tora_sim.proofs.Rooms.{alike_set}
 use Rattle.tora_sim.proofs.lanes.make_room_at.Goals as goal

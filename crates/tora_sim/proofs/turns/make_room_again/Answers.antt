@@ -1,7 +1,7 @@
 use Rattle.std.proofs.Common.{◌<◌, ◌+◌, length, refl, arith}
 use Rattle.std.proofs.lemmas.Option.{slice_get_read}
 use Rattle.std.specs.Prelude.{slice_set}
-use Rattle.tora_datagrams.proofs.EachItem.{set_other}
+use Rattle.tora_sim.proofs.EachItem.{set_other}
 use Rattle.tora_sim.proofs.ReadyEnds.{room_set}
 use Rattle.tora_sim.proofs.Rooms.{alike_set}
 use Rattle.tora_sim.proofs.TakenItems.{room_known, room_made, room_still, ready_still, others_still}

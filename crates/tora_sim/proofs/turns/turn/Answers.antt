@@ -1,6 +1,6 @@
 use Rattle.std.proofs.Common.{◌≡◌, ◌<◌, List, slice_get, MatchOption, ap, ◌∙◌, sym, subst, arith, ℕ}
 use Rattle.std.specs.Prelude.{⊤}
-use Rattle.tora_cargoes.specs.Lane.{AreWhole}
+use Rattle.tora_sim.specs.Lane.{AreWhole}
 use Rattle.tora_sim.specs.Lanes.{LanesView, lanes_of, bare_between}
 use Rattle.tora_sim.specs.Links.{LinkView}
 use Rattle.tora_sim.proofs.Bared.{lanes_before, same_between, others_between, others_stay, turned_from}

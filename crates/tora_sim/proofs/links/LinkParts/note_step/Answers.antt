@@ -4,7 +4,7 @@ use Rattle.tora_seat.specs.Serving.{Parcel}
 use Rattle.tora_world.specs.Lists.{parcel_of, parcels_in}
 use Rattle.tora_world.proofs.EndViews.{parcels-append}
 use Rattle.tora_sim.specs.Files.{disk_of}
-use Rattle.tora_cargoes.specs.KeptCargoes.{CargoList}
+use Rattle.tora_sim.specs.KeptCargoes.{CargoList}
 use Rattle.tora_sim.specs.Links.{LinkView, link_of}
 use Rattle.tora_sim.proofs.links.LinkParts.note_step.Goals as goal
 

@@ -5,7 +5,7 @@ use Rattle.tora_seat.specs.declared.cargo.Cargo.{Cargo}
 use Rattle.tora_seat.specs.Between.{after_cargo}
 use Rattle.tora_world.specs.Lists.{parcels_in}
 use Rattle.tora_world.specs.World.{owner_of}
-use Rattle.tora_cargoes.specs.Lane.{LaneView}
+use Rattle.tora_sim.specs.Lane.{LaneView}
 use Rattle.tora_sim.specs.Links.{LinkView, link_of, after_pull_at}
 use Rattle.tora_sim.proofs.Lasts.{cargo_stays, stays_drawn}
 use Rattle.tora_sim.proofs.links.LinkParts.pull.Goals as goal

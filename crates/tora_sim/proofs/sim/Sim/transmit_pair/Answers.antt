@@ -3,7 +3,7 @@ use Rattle.std.specs.Prelude.{slice_set}
 use Rattle.std.proofs.lemmas.Bool.{both_ways}
 use Rattle.tora_arq.specs.LinkEnd.{frame_due}
 use Rattle.tora_world.specs.declared.event.Event.TheVariants.{Transmit}
-use Rattle.tora_datagrams.specs.Datagrams.{DatagramList}
+use Rattle.tora_sim.specs.Datagrams.{DatagramList}
 use Rattle.tora_sim.specs.Store.{SimState, state_of, world_of}
 use Rattle.tora_sim.specs.Steps.{AllAreDone}
 use Rattle.tora_sim.proofs.PairSends.{pair_done, pair_store}

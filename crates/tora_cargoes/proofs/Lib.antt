@@ -1,4 +1,0 @@
-pub mod LaneRooms
-pub mod KeptMore
-pub mod LaneLists
-pub mod InTurn

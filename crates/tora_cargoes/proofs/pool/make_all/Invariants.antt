@@ -1,7 +1,0 @@
-use Rattle.std.proofs.Common.{◌≤◌, length}
-use Rattle.tora_cargoes.specs.Lane.{AreWhole}
-use Rattle.tora_cargoes.proofs.pool.make_all.Given as goal
-
--- the lists so far are whole
-abbrev pub invariant-loop-place : goal.invariant-loop-place
-invariant-loop-place l = (l.from ≤ l.place) × (l.place ≤ length l.lists.items) × AreWhole l.lists.items l.place

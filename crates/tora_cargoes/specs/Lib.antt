@@ -1,2 +1,0 @@
-pub mod KeptCargoes
-pub mod Lane

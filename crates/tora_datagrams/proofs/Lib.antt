@@ -1,3 +1,0 @@
-pub mod EachItem
-pub mod KeptFrames
-pub mod SentFrames

@@ -1,2 +1,0 @@
-pub mod Datagrams
-pub mod SentFrames
