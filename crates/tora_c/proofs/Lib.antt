@@ -1,1 +1,3 @@
 pub mod NewRouter
+pub mod Handles
+pub mod Parts

@@ -5,3 +5,4 @@ pub mod RouterHeld
 pub mod RouterParts
 pub mod Version
 pub mod WorldHeld
+pub mod Held

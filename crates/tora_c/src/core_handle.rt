@@ -1,7 +1,7 @@
 //! A core that C holds by a pointer.
 ghost use Rattle.std.specs.Prelude.{◌≡◌, MatchOption, None, Option, Some};
 ghost use Rattle.tora_c.specs.CoreNode.{NodeView};
-ghost use Rattle.tora_handle.specs.Held.{coded_held, owned};
+ghost use Rattle.tora_c.specs.Held.{coded_held, owned};
 ghost use Rattle.tora_c.specs.contracts.core_node.CoreNode.{the_row};
 
 use crate::core_node::CoreNode;
@@ -9,7 +9,7 @@ use std::alloc::Global;
 use std::marker::Model;
 use std::mem::replace;
 use std::ptr::null_mut;
-use tora_handle::RawBox;
+use crate::handle::RawBox;
 
 /// The pointer to a core, or null, as `tora_core` of the header.
 #[repr(C)]

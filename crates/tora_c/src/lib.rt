@@ -17,6 +17,7 @@ mod core_calls;
 mod core_handle;
 mod core_node;
 mod core_readers;
+mod handle;
 mod heights;
 mod router_calls;
 mod router_handle;

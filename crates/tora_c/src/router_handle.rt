@@ -2,13 +2,13 @@
 ghost use Rattle.std.specs.Prelude.{◌≡◌, MatchOption, None, Option, Some};
 ghost use Rattle.tora_router.specs.Router.{RouterView};
 ghost use Rattle.tora_router.specs.contracts.router.Router.{the_row};
-ghost use Rattle.tora_handle.specs.Held.{coded_held, owned};
+ghost use Rattle.tora_c.specs.Held.{coded_held, owned};
 
 use std::alloc::Global;
 use std::marker::Model;
 use std::mem::replace;
 use std::ptr::null_mut;
-use tora_handle::RawBox;
+use crate::handle::RawBox;
 use tora_router::Router;
 
 /// The pointer to a router, or null, as `tora_router` of the header.

@@ -1,7 +1,7 @@
 //! A driven world that C holds by a pointer.
 ghost use Rattle.std.specs.Prelude.{◌≡◌, MatchOption, None, Option, Some};
 ghost use Rattle.tora_c.specs.declared.world_node.WorldNode.{WorldNode};
-ghost use Rattle.tora_handle.specs.Held.{coded_held, owned};
+ghost use Rattle.tora_c.specs.Held.{coded_held, owned};
 ghost use Rattle.tora_c.specs.contracts.world_node.WorldNode.{the_row};
 
 use crate::world_node::WorldNode;
@@ -9,7 +9,7 @@ use std::alloc::Global;
 use std::marker::Model;
 use std::mem::replace;
 use std::ptr::null_mut;
-use tora_handle::RawBox;
+use crate::handle::RawBox;
 
 /// The pointer to a driven world, or null, as `tora_world` of the header.
 #[repr(C)]

@@ -6,7 +6,7 @@ ghost use Rattle.std.specs.Process.{exit_status};
 ghost use Rattle.tora_arq.specs.Settings.{IsTimes};
 ghost use Rattle.tora_lines.specs.Reads.{IsReadSo};
 ghost use Rattle.tora_simulate.specs.Flushing.{IsFlushed};
-ghost use Rattle.tora_traced.specs.TraceOuts.{IsHandedOn};
+ghost use Rattle.tora_script.specs.TraceOuts.{IsHandedOn};
 ghost use Rattle.tora_drive.specs.Recording.{DrivesRecorded, IsRecordedBegun};
 ghost use Rattle.tora_commands.specs.Driving.{EndsRecorded, EndsRecordedTo};
 ghost use Rattle.tora_commands.specs.SetupWords.{asked_options};
@@ -26,7 +26,7 @@ use tora_lines::{Ended, Input, Output, ReplayError, flushed};
 use tora_script::WorldOptions;
 use tora_sim::Sim;
 use tora_simulate::{Paths, Recent};
-use tora_traced::TraceOut;
+use tora_script::TraceOut;
 
 /// Runs `tora drive` and writes its record, then flushes the writer. The error is `Write` if only the flush fails.
 fn drive_and_flush<S: Driven, R: Input, W: Output, V: Output>(

@@ -10,7 +10,7 @@ ghost use Rattle.tora_simulate.specs.Paths.{IsFailed, IsStatusOfError};
 ghost use Rattle.tora_channel.specs.Table.{lines_of};
 ghost use Rattle.tora_script.specs.SimulationText.{rules_with, SimulatesWith, IsBegunWith};
 ghost use Rattle.tora_simulate.specs.Statuses.{traced_status};
-ghost use Rattle.tora_traced.specs.TraceOuts.{IsHandedOn};
+ghost use Rattle.tora_script.specs.TraceOuts.{IsHandedOn};
 
 use crate::bar::{Paced, Wiping};
 use crate::channel_file::ChannelFile;
@@ -27,7 +27,7 @@ use tora_channel::ChannelTable;
 use tora_lines::{Ended, Input, Output, ReplayError, flushed};
 use tora_script::Setup;
 use tora_simulate::{Opened, Paths, Recent, tell_at};
-use tora_traced::{TraceOut, Watched, simulate_traced};
+use tora_script::{TraceOut, Watched, simulate_traced};
 
 /// Reports which path cannot be that of the trace or the record, and why, and returns the status of the cause.
 pub fn refuse_trace<T: Eprint>(rt: &T, path: &str, error: &io::Error) -> ExitCode

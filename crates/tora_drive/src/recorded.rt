@@ -2,7 +2,7 @@
 ghost use Rattle.std.specs.Prelude.{◌≡◌, ◌≢◌, Ok, IfOk, IfErr, IfSome};
 ghost use Rattle.std.specs.Io.KnownBytes.{IsAtEnd};
 ghost use Rattle.tora_arq.specs.Settings.{IsTimes};
-ghost use Rattle.tora_traced.specs.TraceOuts.{ArePut};
+ghost use Rattle.tora_script.specs.TraceOuts.{ArePut};
 ghost use Rattle.tora_drive.specs.DriveView.{record_view, recording_kind};
 ghost use Rattle.tora_drive.specs.Recording.{DrivesRecorded, IsRecordedBegun};
 ghost use Rattle.tora_lines.specs.Reads.{IsReadSo, IsUnwritten};
@@ -16,7 +16,7 @@ use tora_arq::Times;
 use tora_lines::words::LineError;
 use tora_lines::{Ended, FileKind, Input, Output, ReplayError, read_shortened_lines};
 use tora_script::{Stage, WorldOptions};
-use tora_traced::TraceOut;
+use tora_script::TraceOut;
 
 /// A drive whose record is written line by line.
 #[derive(Drop)]

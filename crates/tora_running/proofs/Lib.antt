@@ -9,3 +9,12 @@ pub mod ThreadExchanges
 pub mod NodeHistories
 pub mod LinkHistories
 pub mod Orders
+pub mod Answered
+pub mod Neighbours
+pub mod Nodes
+pub mod PartsOfCalls
+pub mod Calls
+pub mod HostedRuns
+pub mod HostLaws
+pub mod SameWorlds
+pub mod Refusals

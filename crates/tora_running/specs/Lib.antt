@@ -6,3 +6,6 @@ pub mod Exchanges
 pub mod Nodes
 pub mod Laws
 pub mod Worked
+pub mod Hosts
+pub mod RouterLaws
+pub mod WorkedRouters

@@ -16,3 +16,7 @@ pub mod SimulationView
 pub mod Simulator
 pub mod ToldView
 pub mod Ways
+pub mod Ends
+pub mod TraceOuts
+pub mod Tracing
+pub mod TracingView

@@ -29,6 +29,7 @@ mod simulation_file;
 mod simulator;
 mod taking;
 mod told_simulation;
+mod traced;
 mod turns;
 mod ways;
 mod world_simulator;
@@ -55,6 +56,7 @@ pub use simulator::Simulator;
 pub use told_simulation::{
     Told, simulate_telling, simulate_telling_last, simulate_told, tell_cause,
 };
+pub use traced::{TraceOut, Traced, Tracing, Watched, simulate_traced};
 pub use turns::{
     EndTurn, MOST_TIMES, are_known, either, next_place, repeat, turn_cores, turn_end,
     turn_known_ends,

@@ -18,7 +18,7 @@ use tora_commands::{
 };
 use tora_script::Setup;
 use tora_sim::Sim;
-use tora_traced::TraceOut;
+use tora_script::TraceOut;
 
 /// A command over lines of its kind; a traced one writes a trace.
 #[derive(Clone, Copy)]

@@ -13,7 +13,7 @@ use tora_drive::drive_recorded;
 use tora_lines::{Ended, ReplayError};
 use tora_script::WorldOptions;
 use tora_sim::{Limits, Sim};
-use tora_traced::TraceOut;
+use tora_script::TraceOut;
 
 /// The lines of a drive, its answers, its record, and what a simulation of the record prints.
 type Row = (&'static str, &'static str, &'static str, &'static str);

@@ -9,7 +9,7 @@ use tora_channel::ChannelTable;
 use tora_lines::{Ended, ReplayError};
 use tora_script::Setup;
 use tora_sim::Sim;
-use tora_traced::{TraceOut, simulate_traced};
+use tora_script::{TraceOut, simulate_traced};
 
 /// How a simulation is traced: where its output and its trace fail, and whether with `-v`.
 type How = (Fails, Fails, bool);

@@ -25,8 +25,8 @@ use Rattle.core.proofs.option.Made.{Some-of, none_of}
 use Rattle.std_alloc.proofs.ResultValues.{and_tt}
 use Rattle.std.proofs.raw_atomic.Walks.{proved_at, leaves}
 use Rattle.std.specs.contracts.impls.GlobalAllocator.TheImpl.{ghosts}
-use Rattle.tora_handle.proofs.Parts.{words, typed, close_parts}
-use Rattle.tora_handle.proofs.Handles.{Heap, laws, heap, Raw, word, open_handle}
+use Rattle.tora_c.proofs.Parts.{words, typed, close_parts}
+use Rattle.tora_c.proofs.Handles.{Heap, laws, heap, Raw, word, open_handle}
 use Rattle.tora_c.specs.contracts.core_node.CoreNode.{the_row}
 use Rattle.tora_c.specs.contracts.core_handle.CoreHandle as handle
 use Rattle.tora_c.specs.contracts.core_handle.CoreHandle.into_raw as own

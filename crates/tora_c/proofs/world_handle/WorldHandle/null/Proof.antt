@@ -19,7 +19,7 @@ use Rattle.core.specs.declared.option.Option.{Option}
 use Rattle.core.specs.declared.option.Option.TheVariants.{None}
 use Rattle.core.proofs.cell.Inside.{Good}
 use Rattle.std.proofs.raw_atomic.Walks.{proved_at, leaves}
-use Rattle.tora_handle.proofs.Handles.{word, close_null}
+use Rattle.tora_c.proofs.Handles.{word, close_null}
 use Rattle.tora_c.specs.contracts.world_node.WorldNode.{the_row}
 use Rattle.tora_c.specs.contracts.world_handle.WorldHandle as handle
 use Rattle.tora_c.specs.contracts.world_handle.WorldHandle.null as own

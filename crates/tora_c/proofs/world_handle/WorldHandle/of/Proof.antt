@@ -20,8 +20,8 @@ use Rattle.core.specs.declared.option.Option.{Option}
 use Rattle.core.specs.declared.option.Option.TheVariants.{Some}
 use Rattle.std.proofs.raw_atomic.Walks.{proved_at, leaves}
 use Rattle.std.specs.contracts.impls.GlobalAllocator.TheImpl.{ghosts}
-use Rattle.tora_handle.proofs.Parts.{words, typed, open_parts}
-use Rattle.tora_handle.proofs.Handles.{Heap, laws, Raw, word, close_block}
+use Rattle.tora_c.proofs.Parts.{words, typed, open_parts}
+use Rattle.tora_c.proofs.Handles.{Heap, laws, Raw, word, close_block}
 use Rattle.tora_c.specs.contracts.world_node.WorldNode.{the_row}
 use Rattle.tora_c.specs.contracts.world_handle.WorldHandle.of as own
 use Rattle.tora_c.proofs.world_handle.WorldHandle.of.Statement.{statement}

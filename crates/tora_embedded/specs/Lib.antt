@@ -1,3 +1,0 @@
-pub mod Hosts
-pub mod Laws
-pub mod Worked

@@ -1,0 +1,7 @@
+use Rattle.tora_running.specs.Network.{first_network, after_parts}
+use Rattle.tora_running.specs.Hosts.{first_hosts, after_calls}
+use Rattle.tora_running.proofs.SameWorlds.{resting_entries}
+use Rattle.tora_running.proofs.routers.laws.router_entries_at_rest_are_heights.Goals as goal
+
+pub returns : goal.returns
+returns c = λ t times calls routers hosted. let x = c.routers_are_a_world.ensures t times calls routers hosted in resting_entries t times (after_calls calls (first_hosts t times)) (after_parts x.parts (first_network t times)) x.same (c.running_entries_at_rest_are_heights.ensures t times x.parts x.run)

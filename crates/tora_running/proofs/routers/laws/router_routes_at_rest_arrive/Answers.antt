@@ -1,0 +1,7 @@
+use Rattle.tora_running.specs.Network.{first_network, after_parts}
+use Rattle.tora_running.specs.Hosts.{first_hosts, after_calls}
+use Rattle.tora_running.proofs.SameWorlds.{resting_routes}
+use Rattle.tora_running.proofs.routers.laws.router_routes_at_rest_arrive.Goals as goal
+
+pub returns : goal.returns
+returns c = λ t times calls routers hosted. let x = c.routers_are_a_world.ensures t times calls routers hosted in resting_routes t times (after_calls calls (first_hosts t times)) (after_parts x.parts (first_network t times)) x.same (c.running_routes_at_rest_arrive.ensures t times x.parts x.run)

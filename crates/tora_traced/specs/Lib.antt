@@ -1,4 +1,0 @@
-pub mod Ends
-pub mod TraceOuts
-pub mod Tracing
-pub mod TracingView
