@@ -11,9 +11,9 @@ work=$(mktemp -d)
 trap 'rm -rf "$work"' EXIT
 cp -r "$top/bench/lane_base" "$work/base"
 (cd "$work/base" && cargo build --release --offline >/dev/null 2>&1)
-(cd "$top/crates/tora_bench_link" && rt run >/dev/null 2>&1)
+(cd "$top/crates/tora_bench" && rt run >/dev/null 2>&1)
 for _ in $(seq "$rounds"); do
-  "$top/crates/tora_bench_link/out/tora_bench_link" lane "$count" >>"$work/ours"
+  "$top/crates/tora_bench/out/tora_bench" lanes "$count" >>"$work/ours"
   "$work/base/target/release/lane_base" "$count" >>"$work/theirs"
 done
 python3 - "$work/ours" "$work/theirs" <<'P'

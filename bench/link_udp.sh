@@ -12,10 +12,10 @@ rounds=${2:-5}
 work=$(mktemp -d)
 trap 'rm -rf "$work"' EXIT
 gcc -O2 -w -o "$work/link_bench" "${YARDSTICK:-$top/bench/baseline/link}/link_bench.c" -lenet
-(cd "$top/crates/tora_bench_link" && rt run >/dev/null 2>&1)
+(cd "$top/crates/tora_bench" && rt run >/dev/null 2>&1)
 for _ in $(seq "$rounds"); do
-  "$top/crates/tora_bench_link/out/tora_bench_link" link "$count" >>"$work/ours"
-  "$top/crates/tora_bench_link/out/tora_bench_link" keyed "$count" >>"$work/keyed"
+  "$top/crates/tora_bench/out/tora_bench" udp "$count" >>"$work/ours"
+  "$top/crates/tora_bench/out/tora_bench" udp-keyed "$count" >>"$work/keyed"
   for mode in enet tcp w32; do
     timeout 60 "$work/link_bench" "$mode" "$count" >>"$work/$mode"
   done

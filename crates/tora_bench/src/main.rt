@@ -1,4 +1,4 @@
-//! Times the calls of the lower crates, for the scripts under `bench/`. With no words it prints nothing.
+//! Times calls of the crates, for the scripts under `bench/`. With no words it prints nothing.
 //!
 //! `tora_bench hold-least N`, `hold-small N` and `hold-large N` hold N cores at once. `tora_bench core N` times N steps
 //! of a core on mixes of inputs, four with 8 neighbours and 16 destinations, three with 32 and 64, `tora_bench link N`
@@ -7,12 +7,22 @@
 //! then N DATA frames of version 1 with an update each, and then N DATA frames of version 2 with sixteen updates each.
 //! `tora_bench node N` passes N datagrams as bytes between two nodes, each with a core and a link end.
 //! Each line is a name, nanoseconds an operation (the best of seven runs), and a number that depends on every result.
+//!
+//! `tora_bench lanes N` puts N items from each of three threads into the queue into the core, while the core takes them,
+//! and sends N outbound messages from one thread to another through one queue. Each line has a name, nanoseconds an
+//! operation (the best of seven runs), and the number of operations.
+//!
+//! `tora_bench udp N` binds two sockets of the loopback, runs `run_neighbour` at each end, and passes N updates of 32
+//! bytes from one end to the other, each in a DATA frame of 76 bytes, with at most 32 unacknowledged. It prints
+//! nanoseconds a packet, from the first submission to the last delivery, and the number of delivered packets. With
+//! `udp-keyed` the wires have a key.
 #![tactic(auto)]
 
 mod codec;
 mod inputs;
 mod links;
 mod nodes;
+mod threads;
 
 use codec::Coded;
 use inputs::{
@@ -24,6 +34,7 @@ use nodes::Talk;
 use std::alloc::Global;
 use std::io;
 use std::time::{Duration, Instant};
+use threads::Timed;
 use tora_core::{Core, Input, Sends};
 use tora_frame::Version;
 use tora_packet::{Packet, decode};
@@ -311,6 +322,9 @@ fn main(rt: HostRuntime) -> io::Result<()> {
     };
     if let Some(size) = size_named(word.as_str()) {
         return hold(&rt, size, steps);
+    }
+    if let Some(timed) = Timed::named(word.as_str()) {
+        return timed.run(&rt, rt.alloc(), steps);
     }
     time_sizes(&rt, word.as_str(), steps)?;
     time_others(&rt, word.as_str(), steps)

@@ -1,9 +1,9 @@
 -- What a channel file says.
 use Rattle.std.specs.Prelude.{◌≡◌, ◌⊎◌, ℕ, Bool, List, Option, Some, Result, Ok, Err}
 use Rattle.std.specs.declared.io.Error.{Error}
-use Rattle.tora_channel.specs.declared.line.ChannelLine.{ChannelLine}
-use Rattle.tora_channel.specs.TableOrder.{IsTableOf}
-use Rattle.tora_channel.specs.TableText.{channel_lines_of}
+use Rattle.tora_script.specs.declared.channel.line.ChannelLine.{ChannelLine}
+use Rattle.tora_script.specs.TableOrder.{IsTableOf}
+use Rattle.tora_script.specs.TableText.{channel_lines_of}
 use Rattle.tora_script.specs.declared.setup.Setup.{Setup}
 use Rattle.tora_script.specs.SimulationText.{rules_with}
 use Rattle.tora_lines.specs.Reads.{Given}

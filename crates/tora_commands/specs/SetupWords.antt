@@ -1,8 +1,8 @@
 -- What a simulation is made with, as words of the command line.
 use Rattle.std.specs.Prelude.{ℕ, Bool, if◌then◌else◌, is_some, option_map, List, Option, Some, None}
-use Rattle.tora_channel.specs.declared.channel.Channel.{Channel}
-use Rattle.tora_channel.specs.Channel.{clear}
-use Rattle.tora_channel.specs.Parts.{parts_of, no_parts, channel_by}
+use Rattle.tora_script.specs.declared.channel.channel.Channel.{Channel}
+use Rattle.tora_script.specs.Channel.{clear}
+use Rattle.tora_script.specs.Parts.{parts_of, no_parts, channel_by}
 use Rattle.tora_lines.specs.Words.{number_of}
 use Rattle.tora_lines.specs.Fronts.{◌>>=◌}
 use Rattle.tora_core.specs.declared.erasure.Erasure.{Erasure}

@@ -1,7 +1,7 @@
 //! `tora sim --progress FILE`: a simulation of a file of lines, with a bar.
 ghost use Rattle.std.specs.Process.{exit_status};
 ghost use Rattle.tora_arq.specs.Settings.{IsTimes};
-ghost use Rattle.tora_channel.specs.Table.{lines_of};
+ghost use Rattle.tora_script.specs.Table.{lines_of};
 ghost use Rattle.tora_script.specs.SimulationText.{rules_with};
 ghost use Rattle.tora_simulate.specs.Endings.{EndsFile};
 
@@ -10,7 +10,7 @@ use crate::progress::rounds_of;
 use crate::sim_command::{refuse, run_over};
 use std::process::ExitCode;
 use std::time::Clock;
-use tora_channel::ChannelTable;
+use tora_script::ChannelTable;
 use tora_lines::Output;
 use tora_script::{Setup, Simulator};
 use tora_simulate::{Opened, Paths};

@@ -1,14 +1,14 @@
 //! `--channel-file` of `tora sim`.
 ghost use Rattle.std.specs.Prelude.{◌≡◌, [], None, IfOk, IfErr};
 ghost use Rattle.std.specs.Process.{exit_status};
-ghost use Rattle.tora_channel.specs.Table.{lines_of};
+ghost use Rattle.tora_script.specs.Table.{lines_of};
 ghost use Rattle.tora_commands.specs.ChannelFiles.{IsTableFile, IsNoTable};
 
 use crate::hashing::digest;
 use crate::sim_command::refuse;
 use crate::{INPUT, MEMORY, stop};
 use std::process::ExitCode;
-use tora_channel::{ChannelTable, LineCause, TableError, channel_table};
+use tora_script::{ChannelTable, LineCause, TableError, channel_table};
 use tora_simulate::{Paths, bytes_at};
 
 /// The content of a channel file: its table, and the SHA-256 of its bytes as 64 hexadecimal digits. Without a file the

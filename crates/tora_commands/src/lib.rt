@@ -11,7 +11,7 @@ ghost use Rattle.clap.specs.Words.{kind_of};
 ghost use Rattle.tora_script.specs.SimulationText.{rules_over, rules_with};
 ghost use Rattle.tora_commands.specs.SetupWords.{asked_by};
 ghost use Rattle.tora_arq.specs.Settings.{IsTimes};
-ghost use Rattle.tora_channel.specs.Table.{lines_of};
+ghost use Rattle.tora_script.specs.Table.{lines_of};
 ghost use Rattle.tora_commands.specs.ChannelFiles.{IsTableFile, IsNoTable, IsTracePlace, EndsFiled};
 ghost use Rattle.tora_simulate.specs.Endings.{EndsSimulated};
 

@@ -3,12 +3,12 @@ ghost use Rattle.std.specs.Prelude.{◌≡◌, IfOk, option_map};
 ghost use Rattle.std.specs.Result.{result_ok};
 ghost use Rattle.tora_arq.specs.Settings.{IsTimes};
 ghost use Rattle.tora_lines.specs.Words.{number_of};
-ghost use Rattle.tora_channel.specs.Parts.{no_parts, channel_by};
+ghost use Rattle.tora_script.specs.Parts.{no_parts, channel_by};
 ghost use Rattle.tora_commands.specs.SetupWords.{asked_seed, channel_asked, asked_channel, asked_limits, asked_erasure};
 ghost use Rattle.tora_commands.specs.SetupWords.{options_by, asked_options, asked_until, asked_by};
 
 use crate::times_word::asked_times;
-use tora_channel::{Channel, channel_parts};
+use tora_script::{Channel, channel_parts};
 use tora_core::Erasure;
 use tora_lines::words;
 use tora_script::{Setup, WorldOptions, erasure_word};

@@ -20,7 +20,7 @@ use Rattle.tora_world.specs.Walks.{exact_in, walk_of, AreIds}
 use Rattle.tora_packet.specs.PacketParts.{IsId}
 use Rattle.tora_sim.specs.Topologies.{link_in, topology_of}
 use Rattle.tora_script.specs.declared.script_line.SimulationLine.TheVariants.{Happens, Rounds, Part, Mend, Heights, Sent, Taken, Exact, Walk, Rest}
-use Rattle.tora_channel.specs.Table.{Channels, alone}
+use Rattle.tora_script.specs.Table.{Channels, alone}
 use Rattle.tora_script.specs.Rounds.{Sky, moment_of, round, after_round, rounds}
 use Rattle.tora_script.specs.Setup.{plain}
 use Rattle.tora_script.specs.declared.node_marks.Mark.{Mark}

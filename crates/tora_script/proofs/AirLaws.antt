@@ -3,9 +3,9 @@ use Rattle.std.proofs.Common.{◌≡◌, ℕ, zero, suc, ◌+◌, ◌-◌, ◌�
 use Rattle.std.proofs.lemmas.Bool.{cond-true, cond-false}
 use Rattle.std.proofs.lemmas.Option.{none-some, same_Some}
 use Rattle.tora_frame.specs.FrameParts.{FrameParts}
-use Rattle.tora_channel.specs.declared.channel.Copies.{Copies}
-use Rattle.tora_channel.specs.declared.channel.Place.{Place}
-use Rattle.tora_channel.specs.Table.{copies_on}
+use Rattle.tora_script.specs.declared.channel.channel.Copies.{Copies}
+use Rattle.tora_script.specs.declared.channel.channel.Place.{Place}
+use Rattle.tora_script.specs.Table.{copies_on}
 use Rattle.tora_world.specs.World.{World, datagram}
 use Rattle.tora_script.specs.Parted.{is_parted}
 use Rattle.tora_script.specs.Air.{MomentView, copies_in, later_copies, put_off_of, put_off}

@@ -1,11 +1,11 @@
 -- What rounds are over the clear channel.
 use Rattle.std.proofs.Common.{◌≡◌, ℕ, zero, suc, ◌+◌, Bool, true, false, if◌then◌else◌, List, [], ◌++◌, Option, Some, None, refl, ap, ap₂, ◌∙◌}
 use Rattle.tora_frame.specs.FrameParts.{FrameParts}
-use Rattle.tora_channel.specs.declared.channel.Copies.{Copies}
-use Rattle.tora_channel.specs.declared.channel.Place.{Place}
-use Rattle.tora_channel.specs.Channel as Base
-use Rattle.tora_channel.specs.Channel.{copies_of}
-use Rattle.tora_channel.specs.Table.{clear, channel_on, copies_on}
+use Rattle.tora_script.specs.declared.channel.channel.Copies.{Copies}
+use Rattle.tora_script.specs.declared.channel.channel.Place.{Place}
+use Rattle.tora_script.specs.Channel as Base
+use Rattle.tora_script.specs.Channel.{copies_of}
+use Rattle.tora_script.specs.Table.{clear, channel_on, copies_on}
 use Rattle.tora_world.specs.declared.event.Event.TheVariants.{Deliver}
 use Rattle.tora_world.specs.World.{World, datagram}
 use Rattle.tora_script.specs.Air.{MomentView, copies_in, at_once, later_copies, put_off_of, put_off}

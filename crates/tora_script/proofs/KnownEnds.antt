@@ -12,7 +12,7 @@ use Rattle.tora_world.specs.declared.event.Event.TheVariants.{Need, Tick, Open, 
 use Rattle.tora_world.specs.declared.call.Call.{Call}
 use Rattle.tora_world.specs.declared.call.Call.TheVariants as Fails
 use Rattle.tora_world.specs.World.{World, Choice, settings, datagram, refusal_of, refusal_by, own_choice, after_pull, after_sending, after_receiving, after_pump, after_turn, after_arming, effect_by, world_by, world_after, world_after_all}
-use Rattle.tora_channel.specs.Table.{Channels}
+use Rattle.tora_script.specs.Table.{Channels}
 use Rattle.tora_sim.specs.Quiet.{IsQuietEnd}
 use Rattle.tora_sim.specs.Readers.{ends_in}
 use Rattle.tora_script.specs.declared.turns.EndTurn.{EndTurn}

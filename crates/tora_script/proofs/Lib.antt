@@ -14,3 +14,4 @@ pub mod SimulationHere
 pub mod SimulationLaws
 pub mod Starting
 pub mod WayCounts
+mod TableReading

@@ -8,8 +8,8 @@ use Rattle.tora_world.specs.declared.event.Event.{Event}
 use Rattle.tora_world.specs.declared.event.Event.TheVariants.{Deliver}
 use Rattle.tora_world.specs.declared.sim_error.SimError.{SimError}
 use Rattle.tora_world.specs.World.{World, is_empty, refusal_of, world_by, world_after, world_after_all}
-use Rattle.tora_channel.specs.declared.channel.Copies.{Copies}
-use Rattle.tora_channel.specs.Table.{Channels}
+use Rattle.tora_script.specs.declared.channel.channel.Copies.{Copies}
+use Rattle.tora_script.specs.Table.{Channels}
 use Rattle.tora_script.specs.Parted.{is_parted}
 use Rattle.tora_script.specs.Air.{MomentView, copies_in, at_once}
 use Rattle.tora_script.specs.Ways.{way_in}

@@ -4,7 +4,7 @@ use Rattle.tora_world.specs.World.{World}
 use Rattle.tora_lines.specs.declared.words.LineError.{LineError}
 use Rattle.tora_lines.specs.declared.words.LineError.TheVariants.{Memory, Fault}
 use Rattle.tora_script.specs.declared.simulation.Simulation.{Simulation}
-use Rattle.tora_channel.specs.Table.{lines_of}
+use Rattle.tora_script.specs.Table.{lines_of}
 use Rattle.tora_lines.specs.Gives.{Gives}
 use Rattle.tora_lines.specs.Session.{TakesLine}
 use Rattle.tora_script.specs.SimulationText.{simulation_reply, rules_with}

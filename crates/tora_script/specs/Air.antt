@@ -1,9 +1,9 @@
 -- What a channel makes of the datagrams of rounds: which come at once, and which in later rounds.
 use Rattle.std.specs.Prelude.{◌≡◌, ℕ, zero, suc, ◌+◌, ◌-◌, ◌%◌, ◌^◌, ◌==◌, ◌&&◌, nat_lt, if◌then◌else◌, List, [], ◌∷◌, ◌++◌, length, map, filter, Option, Some, None}
 use Rattle.tora_frame.specs.FrameParts.{FrameParts}
-use Rattle.tora_channel.specs.declared.channel.Copies.{Copies}
-use Rattle.tora_channel.specs.declared.channel.Place.{Place}
-use Rattle.tora_channel.specs.Table.{Channels, over, copies_on}
+use Rattle.tora_script.specs.declared.channel.channel.Copies.{Copies}
+use Rattle.tora_script.specs.declared.channel.channel.Place.{Place}
+use Rattle.tora_script.specs.Table.{Channels, over, copies_on}
 use Rattle.tora_world.specs.World.{World, datagram}
 use Rattle.tora_script.specs.Parted.{is_parted}
 use Rattle.tora_script.specs.declared.air.Air.{Air}

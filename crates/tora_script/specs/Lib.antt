@@ -20,3 +20,8 @@ pub mod Ends
 pub mod TraceOuts
 pub mod Tracing
 pub mod TracingView
+pub mod Channel
+pub mod Parts
+pub mod Table
+pub mod TableOrder
+pub mod TableText

@@ -7,7 +7,7 @@ use Rattle.tora_frame.specs.FrameParts.{FrameParts}
 use Rattle.tora_world.specs.declared.event.Event.{Event}
 use Rattle.tora_world.specs.declared.event.Event.TheVariants.{Tick, Open, Pull, Transmit, Deliver, Pump, CoreTurn}
 use Rattle.tora_world.specs.World.{World, datagram, is_empty, world_after_all}
-use Rattle.tora_channel.specs.Table.{Channels}
+use Rattle.tora_script.specs.Table.{Channels}
 use Rattle.tora_sim.specs.Readers.{ends_in}
 use Rattle.tora_script.specs.Air.{MomentView, AirView, air_view, copies_in, at_once, after_air}
 use Rattle.tora_script.specs.declared.air.Air.{Air}

@@ -1,7 +1,7 @@
 -- What a simulation is made with.
 use Rattle.std.specs.Prelude.{false, None}
 use Rattle.tora_arq.specs.declared.times.Times.{Times}
-use Rattle.tora_channel.specs.Channel.{clear}
+use Rattle.tora_script.specs.Channel.{clear}
 use Rattle.tora_core.specs.declared.erasure.Erasure.TheVariants.{Plain}
 use Rattle.tora_world.specs.declared.limits.Limits.{Limits}
 use Rattle.tora_world.specs.Topology.{standard_limits}

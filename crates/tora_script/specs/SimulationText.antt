@@ -16,9 +16,9 @@ use Rattle.tora_lines.specs.Engine.{IsWholeText, IsFrontOfText}
 use Rattle.tora_script.specs.SimulationLines.{dests_of, link_of, mark_of, simulation_line_of}
 use Rattle.tora_script.specs.Rounds.{Sky, is_same_pair, is_parted, rounds}
 use Rattle.tora_script.specs.Air.{AirView, first_air}
-use Rattle.tora_channel.specs.declared.channel.Channel.{Channel}
-use Rattle.tora_channel.specs.declared.line.ChannelLine.{ChannelLine}
-use Rattle.tora_channel.specs.Table.{Channels, alone}
+use Rattle.tora_script.specs.declared.channel.channel.Channel.{Channel}
+use Rattle.tora_script.specs.declared.channel.line.ChannelLine.{ChannelLine}
+use Rattle.tora_script.specs.Table.{Channels, alone}
 use Rattle.tora_world.specs.declared.limits.Limits.{Limits}
 use Rattle.tora_script.specs.declared.setup.Setup.{Setup}
 use Rattle.tora_script.specs.Setup.{plain}

@@ -7,7 +7,7 @@ use Rattle.tora_lines.specs.LineText.{text_from}
 use Rattle.tora_lines.specs.Engine.{Kind}
 use Rattle.tora_lines.specs.Kinds.{long_lines_are_faults}
 use Rattle.tora_script.specs.RunningView.{running_view}
-use Rattle.tora_channel.specs.Table.{lines_of}
+use Rattle.tora_script.specs.Table.{lines_of}
 use Rattle.tora_script.specs.SimulationText.{Progress, rules_with}
 
 abbrev pub progress_of : {S : Type 0} → (S → World) → Stage S → Progress

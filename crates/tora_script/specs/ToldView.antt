@@ -5,7 +5,7 @@ use Rattle.tora_lines.specs.LineText.{text_from}
 use Rattle.tora_lines.specs.Engine.{Kind}
 use Rattle.tora_lines.specs.Kinds.{long_lines_are_faults}
 use Rattle.tora_script.specs.SimulationView.{progress_of}
-use Rattle.tora_channel.specs.Table.{lines_of}
+use Rattle.tora_script.specs.Table.{lines_of}
 use Rattle.tora_script.specs.SimulationText.{rules_with}
 
 abbrev pub told_kind : {S T : Type 0} → (S → World) → Kind (Told S T)

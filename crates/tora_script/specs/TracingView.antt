@@ -6,7 +6,7 @@ use Rattle.tora_lines.specs.LineText.{text_from}
 use Rattle.tora_lines.specs.Engine.{Kind}
 use Rattle.tora_lines.specs.Kinds.{long_lines_are_faults}
 use Rattle.tora_script.specs.SimulationView.{progress_of}
-use Rattle.tora_channel.specs.Table.{lines_of}
+use Rattle.tora_script.specs.Table.{lines_of}
 use Rattle.tora_script.specs.SimulationText.{rules_with}
 
 -- the world of a simulator whose events are traced

@@ -2,7 +2,7 @@
 //! round in the same direction are counted.
 ghost use Rattle.std.specs.Prelude.{◌≡◌, ◌+◌, ◌-◌, ◌++◌, ◌<◌, Option, Some, length, option_map, IfOk, OnOk, true};
 ghost use Rattle.tora_frame.specs.FrameParts.{FrameParts};
-ghost use Rattle.tora_channel.specs.Table.{over, copies_on};
+ghost use Rattle.tora_script.specs.Table.{over, copies_on};
 ghost use Rattle.tora_world.specs.World.{datagram};
 ghost use Rattle.tora_script.specs.Air.{moment_view, IsClear, goes, gone, copies_in, at_once, is_now, later_copy};
 ghost use Rattle.tora_script.specs.Air.{later_copies, put_off_of, put_off, still_later, first_air, after_air, air_view};
@@ -13,7 +13,7 @@ use crate::network::Network;
 use crate::simulator::Simulator;
 use crate::ways::Ways;
 use std::alloc::{AllocError, Global};
-use tora_channel::{Copies, Place};
+use crate::channel::{Copies, Place};
 use tora_height::Id;
 
 /// The number of rounds so far, and the datagrams that arrive in later rounds.

@@ -1,11 +1,11 @@
 //! Rounds over the clear channel.
 ghost use Rattle.std.specs.Prelude.{◌≡◌, ℕ, List, []};
-ghost use Rattle.tora_channel.specs.Table.{clear};
+ghost use Rattle.tora_script.specs.Table.{clear};
 ghost use Rattle.tora_world.specs.World.{World, datagram};
 ghost use Rattle.tora_script.specs.Air.{put_off, MomentView as AnyMoment};
 ghost use Rattle.tora_script.specs.Rounds.{arrival_of, delivery};
 
-use tora_channel::Channel;
+use crate::channel::Channel;
 
 /// Over the clear channel each datagram of a pass is delivered in that pass, once, unless its nodes are parted, and
 /// none is delayed.

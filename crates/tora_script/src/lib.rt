@@ -10,6 +10,7 @@
 
 mod air;
 mod causes;
+mod channel;
 mod clear;
 mod deliveries;
 mod done;
@@ -36,6 +37,10 @@ mod world_simulator;
 
 pub use air::Air;
 pub use causes::{SimulationCause, simulation_cause, simulation_cause_within};
+pub use channel::{
+    Channel, ChannelLine, ChannelTable, Copies, LineCause, Parts, Place, TableError, channel_line,
+    channel_parts, channel_table,
+};
 pub use clear::clear_channel_delivers_at_once;
 pub use link_lines::LinkLines;
 pub use network::Network;

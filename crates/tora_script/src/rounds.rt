@@ -1,7 +1,7 @@
 //! Rounds of a simulation.
 ghost use Rattle.std.specs.Prelude.{◌≡◌, IfOk};
 ghost use Rattle.tora_world.specs.World.{datagram, world_after_all};
-ghost use Rattle.tora_channel.specs.Table.{over};
+ghost use Rattle.tora_script.specs.Table.{over};
 ghost use Rattle.tora_script.specs.Air.{moment_view};
 ghost use Rattle.tora_script.specs.Rounds.{arrival_of, arrival, arrivals, pass, passes, round, after_round, rounds};
 ghost use Rattle.tora_script.specs.Rounds.{sky_of, Happened, AreKnown};

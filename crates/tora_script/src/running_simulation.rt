@@ -21,7 +21,7 @@ use crate::setup::{Setup, WorldOptions};
 use crate::simulator::Simulator;
 use std::alloc::{AllocError, Global};
 use tora_arq::{Life, Times};
-use tora_channel::{Channel, ChannelTable};
+use crate::channel::{Channel, ChannelTable};
 use tora_core::CoreError;
 use tora_height::{Entry, Id};
 use tora_lines::numbered;

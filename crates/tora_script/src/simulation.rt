@@ -1,12 +1,12 @@
 //! The state of a simulation file between two lines.
 ghost use Rattle.std.specs.Prelude.{◌≡◌, []};
-ghost use Rattle.tora_channel.specs.Table.{lines_of};
+ghost use Rattle.tora_script.specs.Table.{lines_of};
 ghost use Rattle.tora_arq.specs.Settings.{IsTimes};
 
 use crate::link_lines::LinkLines;
 use crate::running_simulation::Running;
 use crate::setup::Setup;
-use tora_channel::ChannelTable;
+use crate::channel::ChannelTable;
 
 /// The state between two lines of a simulation file.
 #[derive(Drop)]

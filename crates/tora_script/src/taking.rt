@@ -1,7 +1,7 @@
 //! How a simulation takes a line after its links.
 ghost use Rattle.std.specs.Prelude.{◌≡◌, [], OnOk, string_bytes};
 ghost use Rattle.tora_lines.specs.Gives.{Gives};
-ghost use Rattle.tora_channel.specs.Table.{lines_of, over};
+ghost use Rattle.tora_script.specs.Table.{lines_of, over};
 ghost use Rattle.tora_script.specs.RunningView.{running_view};
 ghost use Rattle.tora_script.specs.SimulationText.{script_reply, script_line_reply, rounds_left, after_rounds_on};
 
@@ -13,7 +13,7 @@ use crate::running_simulation::Running;
 use crate::script_line::SimulationLine;
 use crate::simulator::Simulator;
 use std::alloc::AllocError;
-use tora_channel::ChannelTable;
+use crate::channel::ChannelTable;
 use tora_lines::words::LineError;
 
 impl<S: Simulator> Running<S> {

@@ -3,7 +3,7 @@ ghost use Rattle.std.specs.Prelude.{◌≡◌, ◌≢◌, Ok, IfOk, IfErr, IfSom
 ghost use Rattle.std.specs.Io.KnownBytes.{IsAtEnd};
 ghost use Rattle.tora_arq.specs.Settings.{IsTimes};
 ghost use Rattle.tora_lines.specs.LineText.{fault_of};
-ghost use Rattle.tora_channel.specs.Table.{lines_of};
+ghost use Rattle.tora_script.specs.Table.{lines_of};
 ghost use Rattle.tora_script.specs.ToldView.{told_kind};
 ghost use Rattle.tora_script.specs.SimulationText.{first_simulation_fault, Simulates, IsSimulationBegun};
 ghost use Rattle.tora_script.specs.SimulationText.{first_fault_with, SimulatesWith, IsBegunWith};
@@ -18,7 +18,7 @@ use crate::simulation::{Simulation, Stage};
 use crate::simulator::Simulator;
 use std::alloc::{AllocError, Global};
 use tora_arq::Times;
-use tora_channel::ChannelTable;
+use crate::channel::ChannelTable;
 use tora_height::Id;
 use tora_lines::words::LineError;
 use tora_lines::{Ended, FileKind, Input, Output, ReplayError, read_last_lines, read_lines};

@@ -2,7 +2,7 @@
 ghost use Rattle.std.specs.Prelude.{◌≡◌, ◌≢◌, Ok, OnOk, OnErr, IfOk, IfErr, IfSome};
 ghost use Rattle.std.specs.Io.KnownBytes.{Appends, IsAtEnd};
 ghost use Rattle.tora_arq.specs.Settings.{IsTimes};
-ghost use Rattle.tora_channel.specs.Table.{lines_of};
+ghost use Rattle.tora_script.specs.Table.{lines_of};
 ghost use Rattle.tora_lines.specs.LineText.{fault_of};
 ghost use Rattle.tora_script.specs.SimulationText.{first_fault_with, SimulatesWith, IsBegunWith};
 ghost use Rattle.tora_lines.specs.Reads.{IsReadSo};
@@ -10,7 +10,7 @@ ghost use Rattle.tora_simulate.specs.Flushing.{IsFlushed, FailedWriting};
 
 use std::alloc::Global;
 use std::io;
-use tora_channel::ChannelTable;
+use tora_script::ChannelTable;
 use tora_lines::{Ended, Input, Output, ReplayError, flushed};
 use tora_script::{Setup, Simulator, simulate_telling, simulate_telling_last};
 

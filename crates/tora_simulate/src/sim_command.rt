@@ -4,7 +4,7 @@ ghost use Rattle.std.specs.Process.{exit_status};
 ghost use Rattle.tora_simulate.specs.Endings.{EndsBy, EndsFile};
 ghost use Rattle.tora_simulate.specs.Paths.{IsStatusOfError};
 ghost use Rattle.tora_arq.specs.Settings.{IsTimes};
-ghost use Rattle.tora_channel.specs.Table.{lines_of};
+ghost use Rattle.tora_script.specs.Table.{lines_of};
 ghost use Rattle.tora_script.specs.SimulationText.{rules_with};
 
 use crate::flushing::simulate_last_and_flush;
@@ -15,7 +15,7 @@ use crate::telling::{tell as tell_error, tell_at};
 use std::io;
 use std::io::ErrorKind;
 use std::process::ExitCode;
-use tora_channel::ChannelTable;
+use tora_script::ChannelTable;
 use tora_lines::{Ended, Input, LONGEST_LINE, Output, ReplayError};
 use tora_script::{Setup, SimulationCause, Simulator, tell_cause};
 

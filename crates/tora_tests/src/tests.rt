@@ -1,9 +1,12 @@
 //! The tests, a module for each subject, and what they share.
 mod batches;
 mod carried;
+mod configurations;
 mod cores;
 mod frames;
 mod heights;
+mod hmacs;
+mod life_files;
 mod link_ends;
 mod link_limits;
 mod link_steps;
@@ -16,3 +19,4 @@ mod seats;
 mod sees;
 mod shuffled_frames;
 mod simulations;
+mod ways;

@@ -38,7 +38,7 @@ fn more_fields(out: &mut String, until: Option<u64>, file: Option<&str>) -> Resu
 }
 
 /// Appends ` N` for the last round N to a text, or ` -` if there is none.
-#[tactic(auto, unfolding(crate::traced::specs::Ends::until_field))]
+#[tactic(auto, unfolding(crate::specs::Ends::until_field))]
 fn until_field(out: &mut String, until: Option<u64>) -> Result<(), AllocError>
     ensures { OnOk result (string_bytes out.new ≡ string_bytes out.old ++ until_field until) }
 {
@@ -49,7 +49,7 @@ fn until_field(out: &mut String, until: Option<u64>) -> Result<(), AllocError>
 }
 
 /// Appends a blank and the digest of the channel file to a text, or ` -` if there is no such file.
-#[tactic(auto, unfolding(crate::traced::specs::Ends::file_field))]
+#[tactic(auto, unfolding(crate::specs::Ends::file_field))]
 fn file_field(out: &mut String, file: Option<&str>) -> Result<(), AllocError>
     ensures { OnOk result (string_bytes out.new ≡ string_bytes out.old
         ++ file_field (option_map (λ w. w.now) file.entry)) }
@@ -92,7 +92,7 @@ fn erasure_fields(
 
 /// The line `0 trace 1 HELLO SILENCE RETRY TRIES LOSS LEAST MOST REPEAT SEED NOTICE`, with ` UNTIL FILE` if there is a
 /// last round or a channel file, or with ` UNTIL FILE remembered` if nodes remember erased levels.
-#[tactic(auto, unfolding(crate::traced::specs::Ends::first_record))]
+#[tactic(auto, unfolding(crate::specs::Ends::first_record))]
 fn first_line(alloc: Global, setup: Setup, file: Option<&str>) -> Result<String, AllocError>
     ensures { IfOk result (λ text. string_bytes text ≡ first_record setup (option_map (λ w. w.now) file.entry)) }
 {
@@ -115,7 +115,7 @@ fn first_line(alloc: Global, setup: Setup, file: Option<&str>) -> Result<String,
 }
 
 /// The line `T end DIGEST`.
-#[tactic(auto, unfolding(crate::traced::specs::Ends::last_record))]
+#[tactic(auto, unfolding(crate::specs::Ends::last_record))]
 fn last_line(alloc: Global, now: u64, digest: &str) -> Result<String, AllocError>
     ensures { IfOk result (λ text. string_bytes text ≡ last_record now digest.now) }
 {

@@ -11,7 +11,7 @@ use std::process::{Abort, ExitCode};
 use std::test::Fail;
 use std::time::Clock;
 use tora_arq::Times;
-use tora_channel::ChannelTable;
+use tora_script::ChannelTable;
 use tora_commands::{
     ChannelFile, INPUT, MEMORY, SetupWords, USAGE, drive_command, replay_command, sim_command,
     simulate_file, traced_command, usage,

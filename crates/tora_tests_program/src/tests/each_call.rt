@@ -3,7 +3,7 @@ use super::sees::{sees, sees_at};
 use std::alloc::{AllocError, Global};
 use std::process::Abort;
 use tora_arq::{Life, Times};
-use tora_channel::{Channel, ChannelTable};
+use tora_script::{Channel, ChannelTable};
 use tora_core::CoreError;
 use tora_height::{Entry, Height, Id};
 use tora_script::{Air, Mark, Network, Parted, Simulator, WorldOptions, make_rounds};

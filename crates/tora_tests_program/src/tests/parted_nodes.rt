@@ -2,7 +2,7 @@
 use super::sees::sees;
 use std::alloc::Global;
 use std::process::Abort;
-use tora_channel::{Channel, ChannelTable};
+use tora_script::{Channel, ChannelTable};
 use tora_height::Id;
 use tora_script::{Air, Network, Parted, make_rounds};
 use tora_sim::{Sim, Topology};

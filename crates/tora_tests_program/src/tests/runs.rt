@@ -4,7 +4,7 @@ use super::failing_streams::{ArrayWriter, Fails, Lines, LinesReader};
 use std::alloc::Global;
 use std::process::Abort;
 use tora_arq::Times;
-use tora_channel::ChannelTable;
+use tora_script::ChannelTable;
 use tora_commands::{replay_and_flush, simulate_and_flush, simulate_told_and_flush};
 use tora_core::Erasure;
 use tora_drive::drive_in;

@@ -5,7 +5,7 @@ use super::route_rows::{FOUND_AND_LOST, FOUR_FOUND_AND_LOST};
 use super::sees::{same_at, sees_at};
 use std::process::Abort;
 use tora_arq::Times;
-use tora_channel::ChannelTable;
+use tora_script::ChannelTable;
 use tora_lines::{Ended, ReplayError};
 use tora_script::Setup;
 use tora_sim::Sim;

@@ -1,6 +1,6 @@
 use Rattle.std.proofs.Common.{◌∙◌, ap}
 use Rattle.std.specs.Prelude.{is_some}
-use Rattle.tora_channel.specs.Table.{lines_of}
+use Rattle.tora_script.specs.Table.{lines_of}
 use Rattle.tora_lines.proofs.ReadLaws.{read_so_within}
 use Rattle.tora_script.specs.SimulationText.{rules_with}
 use Rattle.tora_simulate.proofs.EndingLaws.{ends_from}

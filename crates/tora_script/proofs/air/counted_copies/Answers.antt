@@ -1,5 +1,5 @@
 use Rattle.std.proofs.Common.{◌∙◌, ℕ, ap}
-use Rattle.tora_channel.specs.Table.{over, copies_on}
+use Rattle.tora_script.specs.Table.{over, copies_on}
 use Rattle.tora_script.proofs.WayCounts.{some_more}
 use Rattle.tora_script.proofs.air.counted_copies.Goals as goal
 

@@ -1,5 +1,5 @@
 use Rattle.std.proofs.Common.{◌≡◌, ◌∙◌, sym, suc, ◌+◌, ◌-◌, arith}
-use Rattle.tora_channel.specs.Table.{over}
+use Rattle.tora_script.specs.Table.{over}
 use Rattle.tora_script.specs.Rounds.{rounds, sky_of}
 use Rattle.tora_script.proofs.RoundLaws.{rounds_on, no_rounds}
 use Rattle.tora_script.proofs.KnownEnds.{round_keeps}

@@ -1,5 +1,5 @@
 use Rattle.std.proofs.Common.{◌≡◌, ◌-◌}
-use Rattle.tora_channel.specs.Table.{over}
+use Rattle.tora_script.specs.Table.{over}
 use Rattle.tora_script.specs.Rounds.{rounds, sky_of, AreKnown}
 use Rattle.tora_script.proofs.rounds.make_rounds.Given as goal
 

@@ -1,5 +1,5 @@
 use Rattle.std.proofs.Common.{false, inl}
-use Rattle.tora_channel.specs.Table.{lines_of}
+use Rattle.tora_script.specs.Table.{lines_of}
 use Rattle.tora_lines.specs.LineText.{whole_text}
 use Rattle.tora_script.specs.SimulationText.{rules_with}
 use Rattle.tora_simulate.proofs.EndingLaws.{ends_within}

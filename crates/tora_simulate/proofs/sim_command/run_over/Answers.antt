@@ -1,5 +1,5 @@
 use Rattle.std.proofs.Common.{false}
-use Rattle.tora_channel.specs.Table.{lines_of}
+use Rattle.tora_script.specs.Table.{lines_of}
 use Rattle.tora_lines.proofs.ReadLaws.{read_so_within}
 use Rattle.tora_script.specs.SimulationText.{rules_with}
 use Rattle.tora_simulate.proofs.EndingLaws.{ends_from}

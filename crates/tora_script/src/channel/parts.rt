@@ -1,0 +1,178 @@
+//! A channel as a word of the command line.
+ghost use Rattle.std.specs.Prelude.{◌≡◌, ◌<◌, option_map};
+ghost use Rattle.std.specs.Result.{result_ok};
+ghost use Rattle.std.specs.List.{list_all};
+ghost use Rattle.std.specs.Char.{is_ascii_digit};
+ghost use Rattle.tora_script.specs.Parts.{digit_at, is_fraction, whole_share, share_of, delay_of, once, with_part};
+ghost use Rattle.tora_script.specs.Parts.{parts_of, channel_by};
+
+use crate::channel::channel::Channel;
+use tora_lines::words;
+
+/// The greatest delay in rounds.
+const MOST_DELAY: u64 = 10_000;
+
+/// The parts that a channel's word has.
+#[derive(Clone, Copy, Debug, PartialEq, Eq)]
+pub struct Parts {
+    /// How many of a million datagrams are lost.
+    pub loss: Option<u32>,
+    /// How many of a million arrive twice.
+    pub repeat: Option<u32>,
+    /// The least and the greatest delay in rounds.
+    pub delay: Option<(u32, u32)>,
+}
+
+/// The digit at an index; 0 after the last one.
+fn digit(text: &[u8], place: usize) -> u32
+    ensures value { result ≡ digit_at text.now place }
+    ensures small { result < 256 }
+{
+    u32::from(text.get(place).copied().unwrap_or(48).saturating_sub(48))
+}
+
+fn is_all_digits(text: &[u8]) -> bool
+    ensures { result ≡ list_all is_ascii_digit text.now }
+{
+    text.iter().all(|c| c.is_ascii_digit())
+}
+
+/// Whether these are one to six digits.
+fn is_fraction(text: &[u8]) -> bool
+    ensures { result ≡ is_fraction text.now }
+{
+    if text.is_empty() || text.len() > 6 {
+        return false;
+    }
+    is_all_digits(text)
+}
+
+/// Nothing or all, in millionths.
+fn whole_share(number: u64) -> Option<u32>
+    ensures { result ≡ whole_share number }
+{
+    match number {
+        0 => Some(0),
+        1 => Some(1_000_000),
+        _ => None,
+    }
+}
+
+/// A share of 1, in millionths: `0`, `1`, or up to six digits after `0.`.
+#[tactic(auto, unfolding(crate::specs::Parts::share_of))]
+fn share(text: &[u8]) -> Option<u32>
+    ensures { result ≡ share_of text.now }
+{
+    let Some((whole, fraction)) = words::cut(b'.', text) else {
+        return whole_share(words::number(text)?);
+    };
+    if words::number(whole)? != 0 || !is_fraction(fraction) {
+        return None;
+    }
+    Some(
+        digit(fraction, 0) * 100_000
+            + digit(fraction, 1) * 10_000
+            + digit(fraction, 2) * 1_000
+            + digit(fraction, 3) * 100
+            + digit(fraction, 4) * 10
+            + digit(fraction, 5),
+    )
+}
+
+/// A number of rounds, or the least and the most of them: `D` or `A-B`, A at most B and B at most 10,000.
+#[tactic(auto, unfolding(crate::specs::Parts::delay_of))]
+fn delay(text: &[u8]) -> Option<(u32, u32)>
+    ensures { result ≡ delay_of text.now }
+{
+    let (least, most) = words::cut(b'-', text).unwrap_or((text, text));
+    let least = words::number(least)?;
+    let most = words::number(most)?;
+    if least > most || most > MOST_DELAY {
+        return None;
+    }
+    Some((least as u32, most as u32))
+}
+
+/// `now`, if `before` is `None`; otherwise `None`.
+fn once<T: Copy>(before: Option<T>, now: Option<T>) -> Option<T>
+    ensures { result ≡ once before now }
+{
+    if before.is_some() { None } else { now }
+}
+
+impl Parts {
+    /// None of the parts.
+    const NONE: Parts = Parts {
+        loss: None,
+        repeat: None,
+        delay: None,
+    };
+
+    /// These parts with one more: `loss=SHARE`, `repeat=SHARE` or `delay=ROUNDS`. `None` if that part is invalid or
+    /// there already.
+    #[tactic(auto, unfolding(crate::specs::Parts::with_part))]
+    fn with(self, part: &[u8]) -> Option<Parts>
+        ensures { result ≡ with_part self part.now }
+    {
+        let (name, value) = words::cut(b'=', part)?;
+        if name == b"loss".as_slice() {
+            let loss = once(self.loss, share(value))?;
+            return Some(Parts {
+                loss: Some(loss),
+                ..self
+            });
+        }
+        if name == b"repeat".as_slice() {
+            let repeat = once(self.repeat, share(value))?;
+            return Some(Parts {
+                repeat: Some(repeat),
+                ..self
+            });
+        }
+        if name == b"delay".as_slice() {
+            let delay = once(self.delay, delay(value))?;
+            return Some(Parts {
+                delay: Some(delay),
+                ..self
+            });
+        }
+        None
+    }
+
+    /// The channel of these parts; a missing part is 0.
+    pub fn channel(self, seed: u64) -> Channel
+        ensures { result ≡ channel_by self seed }
+    {
+        let (least, most) = self.delay.unwrap_or((0, 0));
+        Channel {
+            seed,
+            loss: self.loss.unwrap_or(0),
+            repeat: self.repeat.unwrap_or(0),
+            least,
+            most,
+        }
+    }
+}
+
+/// The parts of `loss=SHARE,repeat=SHARE,delay=ROUNDS`, each once at most and in any order.
+///
+/// # Errors
+/// The first part that is not valid, or that is repeated.
+#[tactic(auto, unfolding(crate::specs::Parts::parts_from))]
+pub fn channel_parts(text: &[u8]) -> Result<Parts, &[u8]>
+    ensures { result_ok result ≡ parts_of text.now }
+{
+    let mut parts = Parts::NONE;
+    let mut rest = text;
+    for _ in 0..2u64 {
+        let Some((part, after)) = words::cut(b',', rest) else {
+            return parts.with(rest).ok_or(rest);
+        };
+        let Some(more) = parts.with(part) else {
+            return Err(part);
+        };
+        parts = more;
+        rest = after;
+    }
+    parts.with(rest).ok_or(rest)
+}
