@@ -16,7 +16,7 @@ use Rattle.tora_c.specs.Codes.{code_or_ok, core_code, packet_code, refused_code}
 
 pub record NodeView : Type 0 where
   pub core : CoreView
-  pub sent : List Packet  -- what the last step broadcast that was not refused
+  pub sent : List Packet  -- the packets that the last accepted step broadcast
 
 -- ---- a new core
 

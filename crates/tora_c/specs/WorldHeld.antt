@@ -17,7 +17,7 @@ pub record WorldView : Type 0 where
   pub options : WorldOptions
   pub times : Times
   pub drive : DriveView
-  pub answer : List ℕ  -- to the last line; none before the first one
+  pub answer : List ℕ  -- the answer to the last line; empty before the first one
 
 -- the view of a driven world, which is a function of the lists that the simulator stores
 abbrev pub world_view : WorldNode → WorldView

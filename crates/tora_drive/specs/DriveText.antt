@@ -41,7 +41,7 @@ use Rattle.tora_drive.specs.Taking.{line_in}
 
 pub record OwnView : Type 0 where
   pub far : List (ℕ × ℕ)  -- the silent ends
-  pub forgotten : ℕ  -- datagrams up to this number can't be named any more
+  pub forgotten : ℕ  -- the number up to which datagrams are forgotten
 
 abbrev pub first_own : OwnView
 first_own = record { far = []; forgotten = 0 }
@@ -291,7 +291,7 @@ fault_line n cause = codes "fault " ++ decimal n ++ codes " " ++ cause_words cau
 
 -- the state between two lines
 pub record DriveView : Type 0 where
-  pub lines : ℕ  -- how many came
+  pub lines : ℕ  -- the number of lines so far
   pub place : PlaceView
 
 -- the state after a line that is not a fault, and the answer

@@ -41,14 +41,14 @@ pub record RunningView : Type 0 where
   pub nodes : List ℕ  -- the nodes, ascending
   pub ends : List (ℕ × ℕ)  -- the link ends, by ascending node and then neighbour
   pub parted : List (ℕ × ℕ)  -- the pairs of nodes between which rounds deliver nothing
-  pub channel : Channel  -- of the rounds
-  pub air : AirView  -- what rounds left in the air
-  pub has_notice : Bool  -- both ends notice at once that their link is parted
+  pub channel : Channel  -- the channel of the rounds
+  pub air : AirView  -- the number of rounds so far, and the delayed copies
+  pub has_notice : Bool  -- whether both ends of a parted link cut its session at once
   pub world : World
 
 pub data Progress : Type 0 where
   First : Progress  -- before the first line
-  Links : (dests : List ℕ) (links : List (ℕ × ℕ)) (marks : List Mark) → Progress  -- the destinations, the links so far, and behind these what is said so far of single nodes
+  Links : (dests : List ℕ) (links : List (ℕ × ℕ)) (marks : List Mark) → Progress  -- the destinations, and the lines so far about links and about single nodes
   Runs : RunningView → Progress
 
 -- a simulation with these destinations and settings that begins in a world
