@@ -2,8 +2,9 @@
 //!
 //! C holds a core, a router or a world by a handle: a struct with one pointer, which is null at first. Each call checks
 //! its arguments, returns a code, and changes nothing unless the code is `OK`. There is one exception: if memory runs
-//! out for a line of a world, the world is as it was made. C must ensure two things only: each pointer leads to what
-//! its type says, and no two calls use one handle at once.
+//! out for a line of a world, the world is as it was made.
+//!
+//! C must ensure two things only: each pointer leads to what its type says, and no two calls use one handle at once.
 #![tactic(auto)]
 
 ghost use Rattle.std.specs.Prelude.{◌≡◌, length};

@@ -18,15 +18,14 @@ use tora_sim::Sim;
 ///
 /// The first line is `dests LIST`. Lines `link A B` follow, at least one, then any lines `old N` and `erasure N WORD`,
 /// and then the lines of `docs/formats.md`, "Simulation files". A line has at most 4,096 bytes without its LF. The
-/// output of a line is written by one call of the writer's `write_all`. The world keeps all that was ever sent, so its
-/// memory grows with the run. Its link ends have the times of the program, `Times::STANDARD`.
+/// output of a line is written by one call of the writer's `write_all`.
 ///
-/// A fault is not an error: `fault N` is written, and the result is `Ended::Fault(N)`.
+/// The world keeps all that was ever sent, so its memory grows with the run. Its link ends have the times of the
+/// program, `Times::STANDARD`. A fault is not an error: `fault N` is written, and the result is `Ended::Fault(N)`.
 ///
 /// # Errors
-/// `Memory` if memory ran out; `Read` if a read failed, or after 2^32 reads (an interrupted read is repeated, and
-/// counts); `Write` if a write failed. At `Memory` and `Read` the outputs of whole lines were written, never a part of
-/// one.
+/// `Memory` if memory ran out; `Read` if a read failed, or after 2^32 reads, interrupted ones included; `Write` if a
+/// write failed. At `Memory` and `Read` the outputs of whole lines were written.
 pub fn simulate<R: Input, W: Output>(
     alloc: Global,
     reader: &mut R,
