@@ -24,7 +24,7 @@ notice_goes options next_options times next_times v next line out short same_opt
     let is : recorded_reply options times v line ≡ unrecorded v = rw says refl in
     recorded_goes options next_options times next_times v next line out short same_options same_times (h ∙ sym is) n lines
 
--- the answer to any other line
+-- the answer to a line other than `notice N K`
 pub other_goes : (options next_options : WorldOptions) (times next_times : Times) (v next : DriveView) (line out : List ℕ) → length line ≤ 4096 → next_options ≡ options → next_times ≡ times → says_notice line ≡ false → (next, out) ≡ drive_reply options times v line
     → (n : ℕ) (lines : List (List ℕ)) → text_from (recorded_rules options times) v n (line ∷ lines) ≡ prepend out (text_from (recorded_rules next_options next_times) next (n + 1) lines)
 other_goes options next_options times next_times v next line out short same_options same_times says h n lines =

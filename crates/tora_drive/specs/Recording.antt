@@ -155,7 +155,7 @@ abbrev pub cleared : Record → Record
 cleared None = None
 cleared (Some text) = Some []
 
--- the record of this line alone; a fault has none
+-- the record of this line alone, which is empty for a fault
 abbrev pub drive_recorded : Record → WorldOptions → Times → DriveView → List ℕ → Record
 drive_recorded r options times v line =
     option_map_or (λ q. place_recorded (cleared r) options times v.place.own v.place.progress line)

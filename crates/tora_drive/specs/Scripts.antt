@@ -113,7 +113,7 @@ abbrev pub first_script : WorldOptions → Times → OwnView → List ℕ → Li
 first_script options times o dests links marks line =
     option_map_or (λ w. script_in (begun_in dests (plain times) w) o line) (started options links dests marks times) []
 
--- the lines of the record for a line before the simulation runs: none, unless this line makes the world
+-- the recorded lines after the links, for a line before the simulation runs: none, unless this line makes the world
 abbrev pub link_script : WorldOptions → Times → OwnView → List ℕ → List (ℕ × ℕ) → List Mark → List ℕ → Option (ℕ × ℕ)
     → Option Mark → List SimulationLine
 link_script options times o dests links marks line (Some link) mark = []
@@ -126,7 +126,7 @@ place_script options times o (Progress.Links dests links marks) line =
     link_script options times o dests links marks line (link_of line) (mark_of line)
 place_script options times o (Progress.Runs s) line = script_in s o line
 
--- the lines of the record for any line; a fault has none
+-- the recorded lines after the links, for any line; none for a fault
 abbrev pub line_script : WorldOptions → Times → DriveView → List ℕ → List SimulationLine
 line_script options times v line =
     if says_notice line then [] else option_map_or (λ q. place_script options times v.place.own v.place.progress line)
