@@ -82,7 +82,7 @@ fn exchange_all(from: &mut LinkEnd, to: &mut LinkEnd, kept: &mut Kept, passed: P
     count
 }
 
-/// Two bound ends, and the life as the first one writes it.
+/// Two bound ends, and the session as the first one writes it.
 struct Link {
     one: LinkEnd,
     two: LinkEnd,

@@ -1,6 +1,6 @@
--- Why there is no router, as a code.
---     coded          the code of what the library says is that of the first cause
---     unrefused      where there is no cause, only memory lacks
+-- Why a new router is refused, as a code.
+--     coded          the code of the error is that of the first cause
+--     unrefused      without a cause, the only error is that memory ran out
 use Rattle.std.proofs.Common.{◌≡◌, ◌⊎◌, inr, ℕ, List, Option, Some, None, Result, Ok, Err, MatchOption, sym, ap, ◌∙◌, subst}
 use Rattle.std.specs.Prelude.{option_map}
 use Rattle.std.specs.Option.{option_map_or}

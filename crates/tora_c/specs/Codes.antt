@@ -1,4 +1,4 @@
--- What a call answers: the code of each cause.
+-- The codes that calls return, one for each cause.
 use Rattle.std.specs.Prelude.{ℕ, ◌+◌, Option}
 use Rattle.std.specs.Option.{option_map_or}
 use Rattle.tora_packet.specs.declared.PacketError.{PacketError}
@@ -33,7 +33,7 @@ router_code Fault.Repeated = REPEATED
 router_code Fault.OwnId = OWN_ID
 router_code Fault.Memory = MEMORY
 
--- what was made of a datagram
+-- the verdict on a frame, as a number from 1 to 6
 abbrev pub verdict_code : Verdict → ℕ
 verdict_code Accepted = 1
 verdict_code Repeated = 2
@@ -47,6 +47,6 @@ intake_code NoNeighbour = NO_NEIGHBOUR
 intake_code (Bad error) = NO_FRAME + frame_error_number error
 intake_code (Seen verdict) = verdict_code verdict
 
--- of a call that may be refused
+-- the code of a call that may be refused: that of the refusal, or `OK`
 abbrev pub code_or_ok : Option ℕ → ℕ
 code_or_ok refusal = option_map_or (λ code. code) refusal OK

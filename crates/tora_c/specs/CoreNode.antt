@@ -1,4 +1,4 @@
--- A core with what its last step broadcast: what a handle of a core holds, and what each call makes of it.
+-- A core with the packets that its last accepted step broadcast, as a handle holds it, and the effect of each call.
 use Rattle.std.specs.Prelude.{ℕ, ◌==◌, ◌||◌, Bool, is_some, is_none, if◌then◌else◌, List, [], Option, None, Some, option_map, Result, Ok, Err}
 use Rattle.std.specs.Option.{option_map_or}
 use Rattle.tora_packet.specs.declared.Packet.{Packet}
@@ -16,18 +16,18 @@ use Rattle.tora_c.specs.Codes.{code_or_ok, core_code, packet_code, refused_code}
 
 pub record NodeView : Type 0 where
   pub core : CoreView
-  pub sent : List Packet  -- what the last step broadcast that was not refused
+  pub sent : List Packet  -- the packets that the last accepted step broadcast
 
--- ---- a new one
+-- ---- a new core
 
 abbrev pub erasure_of : ℕ → Option Erasure
 erasure_of choice = if choice == 0 then Some Plain else if choice == 1 then Some Remembered else None
 
--- a number of a node is 0
+-- one of the numbers of the node, its neighbours and its destinations is 0
 abbrev pub has_zero : ℕ → List ℕ → List ℕ → Bool
 has_zero me neighbours destinations = (me == 0) || has_number 0 neighbours || has_number 0 destinations
 
--- why there is none, but for want of memory: the first cause that holds
+-- the code of the first cause for which a new core is refused, apart from memory
 abbrev pub new_refusal : ℕ → List ℕ → List ℕ → ℕ → Option ℕ
 new_refusal me neighbours destinations choice =
     if is_none (erasure_of choice) then Some CHOICE
@@ -43,7 +43,7 @@ first_node erasure me neighbours destinations = record {
 
 -- ---- a step
 
--- an input that is refused changes nothing, and what was sent before stays
+-- the core after an input, with the packets of its last accepted step; a refused input changes nothing
 abbrev pub node_after : NodeView → Input → ℕ → NodeView
 node_after n input now = if is_some (refusal_of n.core input) then n
     else record { core = core_after n.core input now; sent = sends_of n.core input now }

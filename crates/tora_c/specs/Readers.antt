@@ -1,4 +1,4 @@
--- What the readers answer, and what they write.
+-- The codes that the readers return, and the values that they write.
 use Rattle.std.specs.Prelude.{ℕ, Bool, true, false, nat_lt, if◌then◌else◌, List, ◌++◌, drop, length, Option, None, Some, slice_get}
 use Rattle.std.specs.Option.{option_map_or}
 use Rattle.tora_height.specs.Height.{Quintuple}
@@ -12,7 +12,7 @@ use Rattle.tora_c.specs.CoreNode.{NodeView}
 abbrev pub parts_of : Quintuple → HeightParts
 parts_of h = record { tau = h.tau; oid = h.oid; r = h.r; delta = h.delta; id = h.id }
 
--- None if the neighbour or the destination is unknown, Some None if the height is NULL
+-- the code for an entry: None if the neighbour or the destination is unknown, Some None if the height is NULL
 abbrev pub entry_code : Option (Option Quintuple) → ℕ
 entry_code None = UNKNOWN
 entry_code (Some None) = ABSENT
@@ -23,7 +23,7 @@ parts_after None old = old
 parts_after (Some None) old = old
 parts_after (Some (Some h)) old = parts_of h
 
--- of what a handle holds
+-- the code for an entry of what a handle holds
 abbrev pub held_entry_code : {H : Type 0} → (H → Option (Option Quintuple)) → Option H → ℕ
 held_entry_code entry None = NULL
 held_entry_code entry (Some n) = entry_code (entry n)
@@ -34,7 +34,7 @@ held_parts entry (Some n) old = parts_after (entry n) old
 
 -- ---- a number
 
--- of a number that may be absent
+-- the code for a number that may be absent
 abbrev pub held_number_code : {H : Type 0} → (H → Option ℕ) → Option H → ℕ
 held_number_code number None = NULL
 held_number_code number (Some n) = option_map_or (λ _. OK) (number n) ABSENT
@@ -49,7 +49,7 @@ bit true = 1
 
 -- ---- bytes into a buffer
 
--- a buffer that is too short stays as it was
+-- the code for bytes that are written to a buffer; a buffer that is too short does not change
 abbrev pub room_code : List ℕ → List ℕ → ℕ
 room_code bytes buffer = if nat_lt (length buffer) (length bytes) then ROOM else OK
 

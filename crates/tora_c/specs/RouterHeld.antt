@@ -1,4 +1,4 @@
--- A router that a handle holds: what each call makes of it, answers and writes.
+-- A router that a handle holds: its state after each call, and what the call returns and writes.
 use Rattle.std.specs.Prelude.{ℕ, ◌++◌, drop, length, nat_lt, is_some, Bool, if◌then◌else◌, List, Option, Some, is_none, option_map, Result, Ok, Err}
 use Rattle.std.specs.Option.{option_map_or}
 use Rattle.tora_frame.specs.declared.encoding.TheConstants.{LONGEST_FRAME}
@@ -19,15 +19,15 @@ use Rattle.tora_c.specs.Codes.{intake_code, refused_code, router_code}
 use Rattle.tora_c.specs.CoreNode.{erasure_of}
 use Rattle.tora_c.specs.RouterParts.{change_parts, tally_parts, times_of}
 
--- the router that is held, as the definitions have it
+-- the state of the router that a handle holds
 abbrev pub held_router : Option RouterView → Option RouterState
 held_router held = option_map router_of held
 
--- what a router in a handle gives, or the old value if the handle is null
+-- a value of the router in a handle, or the old value if the handle is null
 abbrev pub of_held : {A : Type 0} → (RouterState → A) → Option RouterView → A → A
 of_held value held old = option_map_or (λ r. value (router_of r)) held old
 
--- ---- a new one
+-- ---- a new router
 
 abbrev pub config_of : ℕ → TimesParts → Erasure → Config
 config_of me times erasure = record {
@@ -37,17 +37,17 @@ config_of me times erasure = record {
   limits = greatest_core_limits;
 }
 
--- the configuration that these words of C name, if there is such a choice of erasure
+-- the configuration for these arguments of a call; None if there is no such choice of erasure
 abbrev pub configured : ℕ → ℕ → TimesParts → Option Config
 configured me choice times = option_map (config_of me times) (erasure_of choice)
 
--- why there is none, but for want of memory: the first cause that holds
+-- the code of the first cause for which a new router is refused, apart from memory
 abbrev pub new_router_refusal : ℕ → List ℕ → List ℕ → ℕ → TimesParts → ℕ → Option ℕ
 new_router_refusal me neighbours destinations choice times first_life =
     option_map_or (λ config. option_map router_code (router_refusal config neighbours destinations first_life))
     (configured me choice times) (Some CHOICE)
 
--- ---- what comes in
+-- ---- inputs
 
 abbrev pub datagram_intake : ℕ → List ℕ → ℕ → RouterState → ℕ
 datagram_intake peer bytes now r = intake_code (intake_from peer now (frame_reading bytes) r)
@@ -62,9 +62,9 @@ need_code d now r = code_of_need (need_result r d now)
 abbrev pub cut_code : ℕ → RouterState → ℕ
 cut_code peer r = if is_some (first_in (to_peer peer) r.links) then OK else UNKNOWN_NEIGHBOUR
 
--- ---- what goes out
+-- ---- polls
 
--- no datagram is asked for where the buffer has no room for the longest one
+-- the buffer is shorter than the longest datagram, so the poll is refused
 abbrev pub is_short : List ℕ → Bool
 is_short buffer = nat_lt (length buffer) LONGEST_FRAME
 

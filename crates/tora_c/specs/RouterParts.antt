@@ -22,7 +22,7 @@ times_of parts = record {
   tries = or_standard parts.tries STANDARD.tries;
 }
 
--- no next hop is 0, which is the number of no node
+-- the parts of a next hop; 0, which is not the number of a node, means that there is none
 abbrev pub next_hop_parts : ℕ → Option ℕ → ChangeParts
 next_hop_parts d hop = record { kind = 3; node = d; hop = option_map_or (λ k. k) hop 0; reason = 0 }
 

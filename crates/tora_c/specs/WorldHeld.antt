@@ -1,4 +1,4 @@
--- A driven world that a handle holds, with the answer to its last line, and what each call makes of it.
+-- A driven world that a handle holds, with the answer to its last line, and the effect of each call.
 use Rattle.std.specs.Prelude.{ℕ, ◌==◌, if◌then◌else◌, List, []}
 use Rattle.std.specs.Prelude.{Option, None, Some, option_map, string_bytes}
 use Rattle.tora_arq.specs.declared.times.Times.{Times}
@@ -17,9 +17,9 @@ pub record WorldView : Type 0 where
   pub options : WorldOptions
   pub times : Times
   pub drive : DriveView
-  pub answer : List ℕ  -- to the last line; none before the first one
+  pub answer : List ℕ  -- the answer to the last line; empty before the first one
 
--- what a handle holds is the lists that the simulator stores, and the world is a function of them
+-- the view of a driven world, which is a function of the lists that the simulator stores
 abbrev pub world_view : WorldNode → WorldView
 world_view n = record {
   options = n.drive.options;
@@ -31,7 +31,7 @@ world_view n = record {
 abbrev pub held_world : Option WorldNode → Option WorldView
 held_world held = option_map world_view held
 
--- ---- a new one
+-- ---- a new world
 
 abbrev pub limits_of : ℕ → Option Limits
 limits_of choice = if choice == 0 then Some standard_limits else if choice == 1 then Some greatest_limits else None
@@ -41,7 +41,7 @@ options_with None erasure = None
 options_with (Some limits) None = None
 options_with (Some limits) (Some erasure) = Some (record { limits = limits; erasure = erasure })
 
--- the options of two choices; None if there is no such choice
+-- the options for the numbers of two choices; None if there is no such choice
 abbrev pub options_of : ℕ → ℕ → Option WorldOptions
 options_of limits erasure = options_with (limits_of limits) (erasure_of erasure)
 

@@ -10,7 +10,7 @@ use tora_router::{Intake, RouterError};
 /// The call succeeded.
 pub const OK: u32 = 0;
 
-/// There is not enough memory.
+/// Memory ran out.
 pub const MEMORY: u32 = 1;
 
 /// There are too many neighbours or destinations.
@@ -28,7 +28,7 @@ pub const NULL: u32 = 5;
 /// The number of a node is 0.
 pub const ZERO: u32 = 6;
 
-/// There is no such choice.
+/// The number of a choice of limits or of erasure is unknown.
 pub const CHOICE: u32 = 7;
 
 /// There is nothing to return: the height is NULL, there is no next hop, or no packet has this index.

@@ -96,7 +96,7 @@ fn step(alloc: Global, core: &mut CoreHandle, input: Input, now: u64) -> u32
     code
 }
 
-/// The link to neighbour `k` came up at the tick `now`.
+/// Reports that the link to neighbour `k` came up at the tick `now`.
 #[unsafe(no_mangle)]
 pub extern "C" fn tora_core_link_up(alloc: Global, core: &mut CoreHandle, k: u32, now: u64) -> u32
     ensures code { result ≡ held_code core.old.held (Input.LinkUp k) }
@@ -105,7 +105,7 @@ pub extern "C" fn tora_core_link_up(alloc: Global, core: &mut CoreHandle, k: u32
     step(alloc, core, Input::LinkUp(k), now)
 }
 
-/// The link to neighbour `k` went down at the tick `now`.
+/// Reports that the link to neighbour `k` went down at the tick `now`.
 #[unsafe(no_mangle)]
 pub extern "C" fn tora_core_link_down(alloc: Global, core: &mut CoreHandle, k: u32, now: u64) -> u32
     ensures code { result ≡ held_code core.old.held (Input.LinkDown k) }
@@ -114,7 +114,7 @@ pub extern "C" fn tora_core_link_down(alloc: Global, core: &mut CoreHandle, k: u
     step(alloc, core, Input::LinkDown(k), now)
 }
 
-/// A route to destination `d` is needed at the tick `now`.
+/// Reports that a route to destination `d` is needed at the tick `now`.
 #[unsafe(no_mangle)]
 pub extern "C" fn tora_core_need(alloc: Global, core: &mut CoreHandle, d: u32, now: u64) -> u32
     ensures code { result ≡ held_code core.old.held (Input.Need d) }
@@ -123,7 +123,7 @@ pub extern "C" fn tora_core_need(alloc: Global, core: &mut CoreHandle, d: u32, n
     step(alloc, core, Input::Need(d), now)
 }
 
-/// These bytes came from neighbour `k` at the tick `now`.
+/// Reports that these bytes came from neighbour `k` at the tick `now`.
 #[unsafe(no_mangle)]
 pub extern "C" fn tora_core_packet(
     alloc: Global,

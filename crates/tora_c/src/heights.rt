@@ -33,7 +33,7 @@ fn parts_of(height: &Height) -> HeightParts
     }
 }
 
-/// Writes a height that is known and not NULL, and answers which it is.
+/// Writes a height, unless it is unknown or NULL, and returns the code: `OK`, `UNKNOWN` or `ABSENT`.
 pub fn write_entry(entry: Option<Entry>, out: &mut HeightParts) -> u32
     ensures code { result ≡ entry_code entry }
     ensures parts { out.new ≡ parts_after entry out.old }

@@ -1,9 +1,10 @@
 //! TORA for C and other languages. `include/tora.h` is the header.
 //!
 //! C holds a core, a router or a world by a handle: a struct with one pointer, which is null at first. Each call checks
-//! its arguments, returns a code, and changes nothing unless the code is `OK`; but a line of a world for which memory
-//! is refused makes the world new. C must ensure two things only: each pointer leads to what its type says, and no two
-//! calls use one handle at once.
+//! its arguments, returns a code, and changes nothing unless the code is `OK`. There is one exception: if memory runs
+//! out for a line of a world, the world is as it was made.
+//!
+//! C must ensure two things only: each pointer leads to what its type says, and no two calls use one handle at once.
 #![tactic(auto)]
 
 ghost use Rattle.std.specs.Prelude.{◌≡◌, length};

@@ -133,7 +133,7 @@ pub extern "C" fn tora_router_tick(alloc: Global, router: &mut RouterHandle, now
     OK
 }
 
-/// A route to destination `d` is needed at the tick `now`.
+/// Reports that a route to destination `d` is needed at the tick `now`.
 #[unsafe(no_mangle)]
 pub extern "C" fn tora_router_need(
     alloc: Global,
@@ -155,7 +155,7 @@ pub extern "C" fn tora_router_need(
     }
 }
 
-/// The link to neighbour `peer` was lost at the tick `now`.
+/// Reports that the link to neighbour `peer` was lost at the tick `now`.
 #[unsafe(no_mangle)]
 pub extern "C" fn tora_router_cut(
     alloc: Global,

@@ -18,13 +18,13 @@ use Rattle.tora_node.specs.declared.fault.NodeError.{NodeError}
 use Rattle.tora_commands.specs.Statuses.{EndsNode, HasNoKey, HasNoWays, HasWays, IsConfigOf, IsConfigured, IsNoConfig, IsRefused, IsUnconfigured, IsUneven, IsUnstarted, RanAndEnded, status_of_node}
 use Rattle.tora_node.specs.declared.fault.NodeError.TheVariants.{Memory as NoRoom}
 
--- as many were made as ways were read
+-- as many items were made as there are ways
 pub ways_had : {K E : Type 0} (text : List ℕ) (ways : List LinkWay) (count : K → ℕ) (made : Result K E) → ((table : Members) → parse_document text ≡ Some table → ways_in table ≡ Ok (map said_way ways))
     → IfOk made (λ k. count k ≡ length ways) → IfOk made (λ k. HasWays text (count k))
 ways_had text ways count (Ok k) exact is = record { ways = map said_way ways; exact = exact; count_is = length-map ways said_way ∙ sym is }
 ways_had text ways count (Err e) exact is = search rules
 
--- one more of the same
+-- one more copy of the same value
 pub one_more_of : {C : Type 0} (n : ℕ) (clock : C) (all : List C) → all ≡ replicate n clock → all ++ clock ∷ [] ≡ replicate (n + 1) clock
 one_more_of {C = C} n clock all same = ap (λ (t : List C). t ++ clock ∷ []) same ∙ replicate-append-replicate n 1 clock
 
@@ -39,12 +39,12 @@ module _ {R : Type 0} (did_open : List ℕ → Result R Error → Type 0) where
   pub by_count : (text : List ℕ) (config : NodeConfig) (status : ℕ) → IsConfigOf text config → IsUneven text config status → IsRefused did_open text status
   by_count text config status says uneven = inr (inl (config, says, uneven))
 
-  -- what is said of a text that was read is refused
+  -- a fault of a text is the refusal of the file from which it was read
   pub refused : (did_read : R → Result (List ℕ) Error → Type 0) (remaining : R → Option (List ℕ)) (path text said : List ℕ) (status : ℕ) → said ≡ text
       → IsRead (did_open path) did_read remaining text → IsRefused did_open said status → IsUnconfigured did_open did_read remaining path status
   refused did_read remaining path text said status same read fault = inr (text, read, subst (λ (t : List ℕ). IsRefused did_open t status) same fault)
 
-  -- how a node ends without a configuration, where its configuration is only read, and where it is run
+  -- how a node ends without a configuration, after its configuration was only checked, and after it was run
   module _ (W : Type 0) (did_read : R → Result (List ℕ) Error → Type 0) (remaining : R → Option (List ℕ)) (path : List ℕ) (answers : NodeConfig → Result EndedView NodeError → Type 0) (old new : W) (is_check : Bool) where
     pub unconfigured : (fault status : ℕ) → status ≡ fault → IsUnconfigured did_open did_read remaining path fault → new ≡ old → EndsNode is_check did_open did_read remaining path answers old new status
     unconfigured fault status same refuses nothing = inl (subst (λ (s : ℕ). IsUnconfigured did_open did_read remaining path s) (sym same) refuses, nothing)
@@ -64,13 +64,13 @@ pub map_right : {A B C : Type 0} → A ⊎ B → (B → C) → A ⊎ C
 map_right (inl a) f = inl a
 map_right (inr b) f = inr (f b)
 
--- memory was refused before a node ran, or it ran
+-- memory ran out before a node ran, or it ran
 pub ran_or_memory : (W : Type 0) (old new : W) (answers : Result EndedView NodeError → Type 0) (ended : Result EndedView NodeError) (status : ℕ) → status ≡ status_of_node ended
     → ((ended ≡ Err NoRoom) × (new ≡ old)) ⊎ answers ended → (IsUnstarted status × (new ≡ old)) ⊎ RanAndEnded answers status
 ran_or_memory W old new answers ended status is (inl memory) = inl (inr (inr (is ∙ ap status_of_node memory.0)), memory.1)
 ran_or_memory W old new answers ended status is (inr ran) = inr (record { ended = ended; answer = ran; status_is = is })
 
--- what a node answers that began with the one core, where that is the other
+-- the results of a node that began with one core, if that is equal to another core
 pub answers_of : {W D C Wr : Type 0} (send : W → List ℕ → Result (Unit {0}) WireError → W → Type 0) (receive : W → Result (Option ℕ) WireError → List ℕ → W → Type 0) (tell : C → ℕ → C → Type 0) (opened : ℕ → ℕ → D → Result ℕ LifeError → Type 0)
     (contents : Wr → Option (List ℕ)) (first core : CoreView) (wires : List W) (disks : List D) (clocks : List C) (clock : C) (input : Option (List ℕ)) (writer : Wr) (left : Option Wr) (answer : Result EndedView NodeError)
     → first ≡ core → NodeAnswers send receive tell opened contents first wires disks clocks clock input writer left answer → NodeAnswers send receive tell opened contents core wires disks clocks clock input writer left answer

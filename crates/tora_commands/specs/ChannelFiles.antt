@@ -1,4 +1,4 @@
--- What a channel file says.
+-- The content of a channel file, and how a simulation over it ends.
 use Rattle.std.specs.Prelude.{◌≡◌, ◌⊎◌, ℕ, Bool, List, Option, Some, Result, Ok, Err}
 use Rattle.std.specs.declared.io.Error.{Error}
 use Rattle.tora_script.specs.declared.channel.line.ChannelLine.{ChannelLine}
@@ -22,7 +22,7 @@ abbrev pub IsTableFile : {R : Type 0} → (Result R Error → Type 0) → (R →
 IsTableFile opened did_read remaining table =
     (bytes : List ℕ) × IsRead opened did_read remaining bytes × IsTableText bytes table
 
--- A line of the bytes that were read from the file is none.
+-- A line of the bytes that were read from the file is invalid.
 pub record IsNoTableText {R : Type 0} (opened : Result R Error → Type 0) (did_read : R → Result (List ℕ) Error
     → Type 0) (remaining : R → Option (List ℕ)) (status : ℕ) : Type 0 where
   pub bytes : List ℕ
@@ -37,7 +37,7 @@ abbrev pub IsNoTable : {R : Type 0} → (Result R Error → Type 0) → (R → R
 IsNoTable opened did_read remaining status =
     IsFailed (IsUnread opened did_read) status ⊎ (IsNoTableText opened did_read remaining status ⊎ (status ≡ 5))
 
--- The trace would take the place of the channel file.
+-- The trace would replace the channel file.
 pub record IsTracePlace (path : List ℕ) (trace : Option (List ℕ)) (status : ℕ) : Type 0 where
   pub same : trace ≡ Some path
   pub status_is : status ≡ 1

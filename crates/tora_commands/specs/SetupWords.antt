@@ -1,4 +1,4 @@
--- What a simulation is made with, as words of the command line.
+-- The settings of a simulation, as words of the command line.
 use Rattle.std.specs.Prelude.{ℕ, Bool, if◌then◌else◌, is_some, option_map, List, Option, Some, None}
 use Rattle.tora_script.specs.declared.channel.channel.Channel.{Channel}
 use Rattle.tora_script.specs.Channel.{clear}
@@ -63,7 +63,7 @@ asked_setup times channel seed until erasure has_file notice large = do
   e ← asked_erasure erasure
   Some (record { times = t; channel = c; has_notice = notice; options = options_by large e; until = u })
 
--- what words ask for
+-- the settings that the words ask for
 abbrev pub asked_by : SetupWords → Option Setup
 asked_by w =
     asked_setup (option_map (λ t. t.now) w.times) (option_map (λ t. t.now) w.channel) (option_map (λ t. t.now) w.seed)

@@ -22,7 +22,8 @@ use Rattle.tora_commands.specs.declared.node_command.Fault.TheVariants.{Memory a
 use Rattle.tora_node.specs.declared.fault.NodeError.{NodeError}
 use Rattle.tora_node.specs.declared.fault.NodeError.TheVariants as Node
 
--- 5 where memory was refused, 1 for the configuration, 3 for a socket, 4 for a life file
+-- the status of a node that is not started: 5 if memory ran out, 1 for the configuration, 3 for a socket, 4 for a life
+-- file
 abbrev pub status_of_fault : NodeFault → ℕ
 status_of_fault NoMemory = 5
 status_of_fault NoConfig = 1
@@ -44,18 +45,18 @@ core_of config = first_core_of config.erasure config.node (peers_of config.links
 
 -- ---- the configuration of a node
 
--- What `read_config` says of a text whose configuration is this one.
+-- What `read_config` promises for a text that gives this configuration.
 pub record IsConfigOf (text : List ℕ) (config : NodeConfig) : Type 0 where
   pub range : IsNodeConfig config
   pub written : (table : Members) × (parse_document text ≡ Some table) × IsWritten table config
   pub exact : (table : Members) → parse_document text ≡ Some table → Reads (Ok config) (configuration_in table)
 
--- an error that isn't want of memory
+-- an error other than `Memory`
 abbrev pub IsFaulty : ConfigError → Type 0
 IsFaulty NoRoom = ⊥
 IsFaulty _ = Unit {0}
 
--- `read_config` answers this error of the text.
+-- `read_config` returns this error for the text.
 pub record IsNoConfig (text : List ℕ) (status : ℕ) : Type 0 where
   pub error : ConfigError
   pub is : IsFaulty error
@@ -63,7 +64,7 @@ pub record IsNoConfig (text : List ℕ) (status : ℕ) : Type 0 where
   pub syntax : parse_document text ≡ None → IsNoToml {X = NodeConfig} (Err error)
   pub status_is : status ≡ 1
 
--- `read_ways` answers this error of the text.
+-- `read_ways` returns this error for the text.
 pub record HasNoWays (text : List ℕ) (status : ℕ) : Type 0 where
   pub error : ConfigError
   pub is : IsFaulty error
@@ -90,7 +91,8 @@ pub record HasNoKey {R : Type 0} (did_open : List ℕ → Result R Error → Typ
   pub opens : did_open path file
   pub status_is : status ≡ 1
 
--- the text says no configuration, or not how the datagrams go, or a key is none; or memory was refused
+-- The text is not a configuration, or does not give the addresses of its links, or a key file has no key; or memory ran
+-- out.
 abbrev pub IsRefused : {R : Type 0} → (List ℕ → Result R Error → Type 0) → List ℕ → ℕ → Type 0
 IsRefused did_open text status =
     IsNoConfig text status
@@ -113,12 +115,13 @@ pub record IsConfigured {R : Type 0} (did_open : List ℕ → Result R Error →
 
 -- ---- how a node ends
 
--- a socket can't be bound, a life file can't be opened, or memory was refused
+-- the status of a node that is not started: 3 if a socket cannot be bound, 4 if a life file cannot be opened, 5 if
+-- memory ran out
 abbrev pub IsUnstarted : ℕ → Type 0
 IsUnstarted status = (status ≡ 3) ⊎ ((status ≡ 4) ⊎ (status ≡ 5))
 
--- A node ran that began with this core, over some wires, life files and a clock, which its threads share: what it
--- answers of this input and this writer, which is given back so.
+-- A node that began with this core ran over some wires and life files, and a clock that its threads share.
+-- `NodeAnswers` holds for its result, with this input, this writer, and the writer that was returned.
 abbrev pub RanNode : {W C D Wr : Type 0} → Wire.Ghosts W → Clock.Ghosts C → Disk.Ghosts D → (Wr → Option (List ℕ))
     → CoreView → Option (List ℕ) → Wr → Option Wr → Result EndedView NodeError → Type 0
 RanNode {W = W} {C = C} {D = D} wire clock disk contents first input writer left ended =
@@ -126,14 +129,14 @@ RanNode {W = W} {C = C} {D = D} wire clock disk contents first input writer left
     × NodeAnswers wire.did_send wire.did_receive clock.did_tell (IsOpened disk.syncs disk.reads disk.writes) contents
     first wires disks (replicate (length disks) shared) shared input writer left ended
 
--- A node ran and answered so, and the status is that of its answer.
+-- A node ran, and the status is that of its result.
 pub record RanAndEnded (answers : Result EndedView NodeError → Type 0) (status : ℕ) : Type 0 where
   pub ended : Result EndedView NodeError
   pub answer : answers ended
   pub status_is : status ≡ status_of_node ended
 
--- A node whose configuration is at a path ends: without one; with 0 where it is only read; before it is started; or as
--- `run_node` answers of the node of the configuration. Nothing is written where it did not run.
+-- How a node ends whose configuration is at a path: without a configuration; with 0 if the configuration is only
+-- checked; before it is started; or with the result of `run_node`. Nothing is written unless the node ran.
 abbrev pub EndsNode : {R W : Type 0} → Bool → (List ℕ → Result R Error → Type 0) → (R → Result (List ℕ) Error → Type 0)
     → (R → Option (List ℕ)) → List ℕ → (NodeConfig → Result EndedView NodeError → Type 0) → W → W → ℕ → Type 0
 EndsNode is_check did_open did_read remaining path answers old new status =

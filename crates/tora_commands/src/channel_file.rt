@@ -20,7 +20,7 @@ pub struct ChannelFile {
 }
 
 impl ChannelFile {
-    /// There is no channel file.
+    /// The content for a simulation without a channel file.
     pub fn none() -> ChannelFile
         ensures table { lines_of result.table ≡ [] }
         ensures digest { result.digest ≡ None }

@@ -24,7 +24,7 @@ use tora_script::WorldOptions;
 use tora_sim::Sim;
 use tora_simulate::{Recent, write_through};
 
-/// Greets who drives: writes `tora drive 1`, then flushes the writer.
+/// Writes the greeting `tora drive 1`, then flushes the writer.
 pub(crate) fn greet<W: Output>(writer: &mut W) -> io::Result<()>
     ensures greets { OnOk result (Appends (W.contents writer.old) (W.contents writer.new) greeting) }
     ensures failed { OnErr result (FailedWriting W.did_write W.did_flush writer.new) }

@@ -14,7 +14,7 @@ pub struct Hashing<R> {
 }
 
 impl<R> Hashing<R> {
-    /// Nothing was read yet.
+    /// A reader from which nothing was read yet.
     pub fn new(reader: R) -> Hashing<R>
         ensures { result.reader ≡ reader }
     {

@@ -131,7 +131,7 @@ fn simulate_over<T: Paths + AllocGlobal + Eprint + Clock, W: Output>(
 
 /// Simulates the lines of the file at a path with the settings that words of the command line ask for, and writes a
 /// trace if there is a path for one. If a word is malformed, or the channel file cannot be read, nothing is written.
-/// `shown` says whether standard error has why events are refused, and whether it has a bar.
+/// `shown` says whether standard error reports why events are refused, and whether it shows a bar.
 pub fn simulate_file<T: Paths + AllocGlobal + Eprint + Clock, W: Output>(
     rt: &T,
     words: SetupWords<'_>,

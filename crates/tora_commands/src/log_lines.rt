@@ -8,11 +8,11 @@ use log::{Line, Log, Metadata, Record};
 use std::fmt::Display;
 use std::time::Clock;
 
-/// Writes each record to the standard error of `R`, a line each; a write that fails is dropped.
+/// Writes each record to the standard error of `R`, a line each; if a write fails, the line is lost.
 ///
-/// With `has_time` the time stands before each line: in UTC, by RFC 3339, with thousandths of a second and a blank, as
-/// `2026-11-25T15:00:02.125Z `. Where the clock can't be read, or tells a time that no date has, the line stands
-/// without it. The line itself is that of the crate `log`: `[INFO  tora_node::log_hub] link 2 up`.
+/// With `has_time` each line begins with the time: in UTC, by RFC 3339, with thousandths of a second and a blank, such
+/// as `2026-11-25T15:00:02.125Z `. If the clock cannot be read, or its time is outside the range of dates, the line has
+/// no time. The rest of the line has the form of the crate `log`: `[INFO  tora_node::log_hub] link 2 up`.
 #[derive(Clone, Copy, Debug, Drop)]
 pub struct LogLines<R> {
     rt: R,

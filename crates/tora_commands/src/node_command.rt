@@ -34,13 +34,13 @@ use tora_simulate::{Paths, tell, tell_at, text_at};
 /// Why a node is not started.
 #[derive(Clone, Copy, Debug, PartialEq, Eq)]
 pub enum Fault {
-    /// There is no memory.
+    /// Memory ran out.
     Memory,
     /// The configuration cannot be read, or is at fault.
     Config,
-    /// A socket can't be bound.
+    /// A socket cannot be bound.
     Socket,
-    /// A life file can't be opened.
+    /// A life file cannot be opened.
     Life,
 }
 

@@ -32,7 +32,7 @@ pub struct SetupWords<'a> {
     pub channel_file: Option<&'a str>,
 }
 
-/// Why words are not a setup.
+/// Why words are not the settings of a simulation.
 #[derive(Clone, Copy)]
 pub enum SetupFault<'a> {
     /// The word after `--times` is not `HELLO,SILENCE,RETRY,TRIES`.
@@ -45,7 +45,7 @@ pub enum SetupFault<'a> {
     Until,
     /// The word after `--erasure` is neither `plain` nor `remembered`.
     Erasure,
-    /// This is not a part of a channel.
+    /// The text is not a part of a channel.
     Part(&'a [u8]),
 }
 

@@ -168,8 +168,8 @@ fn make_trace<T: Paths + AllocGlobal + Eprint>(
 }
 
 /// Simulates the lines of the file at a path with these settings and the channel file, and writes the trace to the file
-/// at another path, which is created or emptied. `shown` says whether standard error has why events are refused, and
-/// whether it has a bar.
+/// at another path, which is created or emptied. `shown` says whether standard error reports why events are refused,
+/// and whether it shows a bar.
 ///
 /// The status is that of the simulation, or 1 if that is 0 and the trace could not be written; 1, before anything is
 /// simulated, if the file cannot be opened, that of the trace cannot be created, or both paths are the same; 5 if

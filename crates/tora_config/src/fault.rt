@@ -74,7 +74,7 @@ impl Display for Place {
 /// Why a text is not a configuration.
 #[derive(Debug, Drop, Error)]
 pub enum ConfigError {
-    /// There is no memory.
+    /// Memory ran out.
     #[error("out of memory")]
     Memory,
     /// The text is not TOML.

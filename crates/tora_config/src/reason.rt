@@ -7,23 +7,23 @@ use std::fmt::{Display, Formatter};
 pub enum Reason {
     /// The key is missing.
     Missing,
-    /// It is not a whole number.
+    /// The value is not a whole number.
     NoNumber,
-    /// It is not the number of a node.
+    /// The value is not the number of a node.
     NoId,
-    /// It is not the number of a port.
+    /// The value is not the number of a port.
     NoPort,
-    /// It is not a text.
+    /// The value is not a text.
     NoText,
-    /// It is not a word for a treatment of erased levels.
+    /// The value is not a word for a treatment of erased levels.
     NoErasure,
-    /// It is not a list.
+    /// The value is not a list.
     NoList,
-    /// It is not a table.
+    /// The value is not a table.
     NoTable,
-    /// It is repeated.
+    /// The value is repeated.
     Repeated,
-    /// It is the node itself.
+    /// The value is the node itself.
     OwnId,
     /// The key is missing, and the link leaves the loopback.
     Unkeyed,

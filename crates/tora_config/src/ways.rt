@@ -73,7 +73,7 @@ fn way_of(alloc: Global, n: usize, value: &Value) -> Result<LinkWay, ConfigError
     })
 }
 
-// Reads the addresses and the key file of the link that follows these.
+// Reads the addresses and the key file of the link that follows those in `before`.
 fn way_beside(alloc: Global, before: &[LinkWay], value: &Value) -> Result<LinkWay, ConfigError>
     ensures { Gives said_way result (way_beside (map said_way before.now) (view value.now)) }
 {

@@ -1,4 +1,4 @@
--- The parts of an answer, put together.
+-- The parts of an answer, one after another.
 use Rattle.std.proofs.Common.{◌≡◌, ℕ, Bool, true, false, List, [], ◌++◌, if◌then◌else◌, Some, None, refl, sym, ap, ◌∙◌}
 use Rattle.std.specs.Prelude.{option_map}
 use Rattle.std.specs.List.{flat_map}
@@ -12,13 +12,13 @@ use Rattle.tora_drive.specs.Taking.{line_in}
 use Rattle.tora_drive.specs.DriveText.{OwnView, Outcome, outcome, outcome_of, may_change_hops, closing, told}
 use Rattle.tora_drive.proofs.HopLaws.{line_stays, no_hops}
 
--- the next hops that were looked up tell all changes
+-- the next hops that were read before the line show all changes
 hops_told : (s : RunningView) (o : OwnView) (line : DriveLine) (r : Outcome) (may : Bool) → may_change_hops line ≡ may → outcome_of s o line ≡ Some r
     → flat_map (hop_line r.run.world) (if may then routes_of s.world s.nodes s.dests else []) ≡ hops_text s.nodes s.dests s.world r.run.world
 hops_told s o line r true h e = refl
 hops_told s o line r false h e = sym (no_hops s.world r.run.world (line_stays s o line r h e) s.nodes s.dests)
 
--- the parts of an answer in their order are the answer
+-- the parts of an answer, in their order, are the answer
 pub answered : (s : RunningView) (o : OwnView) (line : DriveLine) (next : RunningView) (own : OwnView) (first with_sent with_hops last : List ℕ) (routes : List Route) (refused : Bool)
     → outcome_of s o line ≡ Some (outcome next own first refused) → with_sent ≡ first ++ sent_text s.world next.world
     → routes ≡ (if may_change_hops line then routes_of s.world s.nodes s.dests else []) → with_hops ≡ with_sent ++ flat_map (hop_line next.world) routes → last ≡ with_hops ++ closing refused
@@ -29,7 +29,7 @@ answered s o line next own first with_sent with_hops last routes refused reply s
     let whole : last ≡ first ++ sent_text s.world next.world ++ hops_text s.nodes s.dests s.world next.world ++ closing refused = rw (closed, hops, sent, tells) refl in
     rw (reply, whole) refl
 
--- a step of which nothing is recorded has nothing in a record
+-- a step without a record leaves no record
 pub unrecorded : (s : RunningView) (o : OwnView) (text : List ℕ) → line_in s.world o.forgotten text ≡ Some Step → answer_recorded None s o text ≡ None
 unfolding answer_recorded outcome_of
 unrecorded s o text is = rw is refl

@@ -1,4 +1,4 @@
--- The digits of hexadecimal numerals.
+-- Hexadecimal digits of numbers.
 use Rattle.std.proofs.Common.{◌≡◌, ℕ, ◌<◌, true, ltb, List, [], ◌∷◌, All, refl}
 use Rattle.std.specs.List.{list_all}
 use Rattle.std.specs.Str.{IsAscii}

@@ -1,4 +1,4 @@
--- An answer, as the text that goes on.
+-- An answer, as a continuation of the text.
 use Rattle.std.proofs.Common.{◌≡◌, ℕ, ◌+◌, ◌≤◌, List, ◌∷◌, length, true, false, Some, refl, sym, ap, ◌∙◌}
 use Rattle.tora_arq.specs.declared.times.Times.{Times}
 use Rattle.tora_script.specs.declared.setup.WorldOptions.{WorldOptions}
@@ -17,14 +17,14 @@ recorded_goes : (options next_options : WorldOptions) (times next_times : Times)
 recorded_goes options next_options times next_times v next line out short same_options same_times h n lines =
     rw (same_options, same_times) (goes_on (recorded_rules options times) v line next out short (ap (λ (x : DriveView × List ℕ). Some x) (sym h)) n lines)
 
--- a line that cuts a life
+-- the answer to a line `notice N K`, which cuts a session
 pub notice_goes : (options next_options : WorldOptions) (times next_times : Times) (v next : DriveView) (line out : List ℕ) → length line ≤ 4096 → next_options ≡ options → next_times ≡ times → says_notice line ≡ true → (next, out) ≡ unrecorded v
     → (n : ℕ) (lines : List (List ℕ)) → text_from (recorded_rules options times) v n (line ∷ lines) ≡ prepend out (text_from (recorded_rules next_options next_times) next (n + 1) lines)
 notice_goes options next_options times next_times v next line out short same_options same_times says h n lines =
     let is : recorded_reply options times v line ≡ unrecorded v = rw says refl in
     recorded_goes options next_options times next_times v next line out short same_options same_times (h ∙ sym is) n lines
 
--- any other line
+-- the answer to a line other than `notice N K`
 pub other_goes : (options next_options : WorldOptions) (times next_times : Times) (v next : DriveView) (line out : List ℕ) → length line ≤ 4096 → next_options ≡ options → next_times ≡ times → says_notice line ≡ false → (next, out) ≡ drive_reply options times v line
     → (n : ℕ) (lines : List (List ℕ)) → text_from (recorded_rules options times) v n (line ∷ lines) ≡ prepend out (text_from (recorded_rules next_options next_times) next (n + 1) lines)
 other_goes options next_options times next_times v next line out short same_options same_times says h n lines =

@@ -1,4 +1,4 @@
--- A line that turns no core changes no next hop.
+-- A line that gives no core a turn changes no next hop.
 use Rattle.std.proofs.Common.{◌≡◌, ℕ, Bool, true, false, List, [], ◌∷◌, if◌then◌else◌, is_some, Option, Some, None, refl, sym, ap, subst, ◌∙◌, ◌&&◌, length, arith}
 use Rattle.std.specs.Prelude.{nat_le, max, option_map}
 use Rattle.std.specs.List.{flat_map}
@@ -28,7 +28,7 @@ use Rattle.tora_drive.specs.DriveText.{OwnView, Outcome, outcome, quiet, shown, 
 
 -- ---- events
 
--- the same links and the same cores
+-- two worlds have the same links and the same cores
 pub record SameCores (before after : World) : Type 0 where
   pub seats : after.seats ≡ before.seats
   pub topology : after.topology ≡ before.topology
@@ -94,7 +94,7 @@ where_some false q r e = absurd cc
 this : (q r : Outcome) → Some q ≡ Some r → q ≡ r
 this q r e = cc
 
--- an outcome that leaves the world as it was
+-- an outcome with an unchanged world
 unchanged : (s : RunningView) (q r : Outcome) → q.run.world ≡ s.world → q ≡ r → SameCores s.world r.run.world
 unchanged s q r stays e =
     let w : s.world ≡ r.run.world = sym stays ∙ ap (λ (x : Outcome). x.run.world) e in
@@ -105,7 +105,7 @@ happened : (s : RunningView) (o : OwnView) (event : Event) (forgotten : Bool) (r
 happened s o event true r h e = unchanged s (unnamed s o) r refl e
 happened s o event false r h e = let w : world_after s.world event ≡ r.run.world = ap (λ (x : Outcome). x.run.world) e in subst (λ (x : World). SameCores s.world x) w (event_stays s.world event h)
 
--- a reply of a simulation that leaves the cores as they were
+-- a reply of a simulation with unchanged cores
 replied : (s : RunningView) (o : OwnView) (b : Bool) (q : Reply) (r : Outcome) → SameCores s.world q.0.world → option_map (quiet o) (if b then Some q else None) ≡ Some r → SameCores s.world r.run.world
 replied s o true q r stays e = subst (λ (x : World). SameCores s.world x) (ap (λ (x : Outcome). x.run.world) (this (quiet o q) r e)) stays
 replied s o false q r stays e = absurd cc

@@ -1,4 +1,4 @@
--- The events of a step are of its nodes and ends.
+-- The events of a step name only its nodes and link ends.
 use Rattle.std.proofs.Common.{ℕ, zero, suc, Bool, true, false, List, [], ◌∷◌, ◌++◌, if◌then◌else◌, is_some}
 use Rattle.std.specs.List.{AllByRecursion}
 use Rattle.tora_packet.specs.PacketParts.{IsId}

@@ -1,4 +1,4 @@
--- The orders of a drive are lines of a simulation file as they are.
+-- The orders of a drive are lines of a simulation file, unchanged.
 use Rattle.std.proofs.Common.{◌≡◌, ℕ, Bool, true, false, List, if◌then◌else◌, codes, Option, Some, None}
 use Rattle.std.specs.Prelude.{option_map}
 use Rattle.std.specs.Result.{result_ok}
@@ -20,14 +20,14 @@ module _ (order : SimulationLine) where
   from_option f None never e = absurd cc
   from_option f (Some x) never e = never x e
 
-  -- bytes that are taken in are no order
+  -- a line `take A B HEX` is not an order
   no_taking : (w : World) (forgotten : ℕ) (text : List ℕ) → IsOrder order → taking w forgotten text ≡ Some (Script order) → ⊥
   unfolding taking
   no_taking w forgotten text is e =
       from_option _ (cut 32 text) (λ a. from_option _ (id_of a.0) (λ receiver. from_option _ (cut 32 a.1) (λ b. from_option _ (id_of b.0)
       (λ sender. from_option _ (result_ok (decode_of b.1)) (λ bytes same. is (Deliver (number_of_bytes w forgotten sender receiver bytes)) cc))))) e
 
-  -- nor are the lines of a drive's own
+  -- a line that only a drive has is not an order
   either_never : (rest : Option (List ℕ)) (read : List ℕ → Option DriveLine) (other : Option DriveLine) → ((t : List ℕ) → read t ≡ Some (Script order) → ⊥) → (other ≡ Some (Script order) → ⊥) → or_else rest read other ≡ Some (Script order) → ⊥
   either_never None read other first second e = second e
   either_never (Some t) read other first second e = first t e

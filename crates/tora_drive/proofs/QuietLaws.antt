@@ -1,4 +1,4 @@
--- A step behind whose tick nothing is to be done.
+-- A step after whose tick nothing is to be done.
 use Rattle.std.proofs.Common.{◌≡◌, ℕ, zero, suc, ◌-◌, List, [], ◌∷◌, ◌++◌, length, Some, refl, sym, ap, ap₂, ◌∙◌, ◌+◌, arith, append-nil}
 use Rattle.std.specs.Prelude.{false, option_map}
 use Rattle.std.specs.List.{flat_map}
@@ -56,13 +56,13 @@ none_sent w =
     let none : length w.datagrams - length w.datagrams ≡ zero = omega arith in
     ap (sent_from w (length w.datagrams)) none
 
--- nothing is told of a world that stays as it is
+-- the answer has no line for a world that does not change
 pub nothing_told : (w : World) (nodes dests text : List ℕ) → text ≡ text ++ sent_text w w ++ hops_text nodes dests w w
 nothing_told w nodes dests text =
     sym (append-nil text) ∙ ap (λ (xs : List ℕ). text ++ xs) (sym (none_sent w)) ∙ sym (append-nil (text ++ sent_text w w))
     ∙ ap (λ (xs : List ℕ). text ++ sent_text w w ++ xs) (sym (no_hops w w (record { seats = refl; topology = refl }) nodes dests))
 
--- the datagrams and then the next hops, behind a text
+-- the lines of the datagrams and then those of the next hops, appended to a text
 pub told_in_order : (w v : World) (nodes dests old with_sent last : List ℕ) (routes : List Route)
     → with_sent ≡ old ++ sent_text w v → routes ≡ routes_of w nodes dests → last ≡ with_sent ++ flat_map (hop_line v) routes → last ≡ old ++ sent_text w v ++ hops_text nodes dests w v
 told_in_order w v nodes dests old with_sent last routes sent looked hops =
@@ -88,7 +88,7 @@ routes_stay w v h (n ∷ nodes) dests = ap₂ (λ (xs ys : List Route). xs ++ ys
 
 -- ---- a step
 
--- a step is its tick, and the rest
+-- a step is its tick, followed by the rest of its events
 step_is : (nodes : List ℕ) (ends far : List (ℕ × ℕ)) (w : World)
     → world_after_all w (step nodes ends far w) ≡ world_after_all (world_after w Tick) (plan_then (each_end_once turn.Open ends) (step_passes 1000 nodes ends far) (world_after w Tick))
 unfolding step repeats
@@ -98,15 +98,15 @@ module _ (s : RunningView) (o : OwnView) where
   abbrev ticked : World
   ticked = world_after s.world Tick
 
-  -- the world behind what follows the tick
+  -- the world after the events that follow the tick
   abbrev after : World → World
   after w = world_after_all w (plan_then (each_end_once turn.Open s.ends) (step_passes 1000 s.nodes s.ends o.far) w)
 
-  -- what is told of a world and one behind it
+  -- the lines for what changed between two worlds
   abbrev told_of : World → World → List ℕ
   told_of w v = sent_text w v ++ hops_text s.nodes s.dests w v
 
-  -- what is told behind the tick is told of the whole step
+  -- the lines for what changed after the tick are those for the whole step
   told_behind : (v : World) → told_of ticked v ≡ told_of s.world v
   told_behind v =
       let same = event_stays s.world Tick refl in
@@ -125,7 +125,7 @@ module _ (s : RunningView) (o : OwnView) where
       ap (λ (x : World). Some (told s (shown (record s { world = x }) o []))) stepped
       ∙ ap (λ (x : List ℕ). Some (record s { world = v }, o, x)) all_told
 
-  -- the parts of the answer to a step in their order are the answer
+  -- the parts of the answer to a step, in their order, are the answer
   pub step_answered : (u : World) (r : RunningView) (text last : List ℕ) → u ≡ ticked → r ≡ record s { world = after u } → text ≡ told_of u r.world → last ≡ text ++ closing false
       → option_map (told s) (outcome_of s o Step) ≡ Some (r, o, last)
   step_answered u r text last tick is tells closed =

@@ -1,4 +1,4 @@
--- A drive that is recorded is a drive, in which no line says `notice N K`.
+-- A recorded drive is a drive without lines `notice N K`.
 use Rattle.std.proofs.Common.{◌≡◌, ℕ, ◌+◌, Bool, true, false, List, [], ◌∷◌, length, map, if◌then◌else◌, Option, Some, None, refl, ap, ◌∙◌}
 use Rattle.std.specs.Prelude.{nat_lt, option_map}
 use Rattle.std.proofs.lemmas.Bool.{lt-ltb}
@@ -21,7 +21,7 @@ use Rattle.tora_drive.specs.RecordedRuns.{unnoticed, IsOfHappened, LongLinesAreF
 use Rattle.tora_drive.specs.Taking.{line_in}
 use Rattle.tora_drive.proofs.RunLaws.{happened_all, drives_are_runs}
 
--- ---- an empty line is a fault wherever it stands
+-- ---- an empty line is a fault at every stage
 
 no_line : drive_line_of [] ≡ None
 unfolding drive_line_of is_word simulation_line_of end_event_of node_event_of order_line_of walk_line_of own_line_of after
@@ -57,7 +57,7 @@ long_is_recorded_fault options times v line long =
     let over : nat_lt 4096 (length line) ≡ true = lt-ltb _ _ long in
     rw (over, no_line, no_place options times v.place.own v.place.progress) refl
 
--- ---- a line that says `notice N K` is like an empty one
+-- ---- a line `notice N K` is like an empty one
 
 module _ (options : WorldOptions) (times : Times) (last : DriveView) (line : List ℕ) (lines : List (List ℕ)) where
   on : (v : DriveView) (b c : Bool) → says_notice line ≡ b → nat_lt 4096 (length line) ≡ c

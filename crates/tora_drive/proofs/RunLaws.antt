@@ -1,4 +1,4 @@
--- The world behind the lines of a drive is the world behind events.
+-- The world after the lines of a drive is the result of events.
 use Rattle.std.proofs.Common.{◌≡◌, ℕ, Bool, true, false, List, [], ◌∷◌, ◌++◌, length, if◌then◌else◌, Option, Some, None, refl, sym, ap, subst, ◌∙◌, ◌&&◌, zero, suc, map, codes}
 use Rattle.std.specs.Prelude.{nat_lt, nat_le, max, is_some, option_map}
 use Rattle.std.specs.List.{AllByRecursion}
@@ -41,12 +41,13 @@ use Rattle.tora_drive.specs.Taking.{taking, line_in}
 
 -- ---- a line
 
--- events of the simulator alone lead where they lead
+-- events of the simulator lead to the same world, taken as events of a drive
 pub happened_all : (w : World) (events : List Event) → after_all_driven w (happening events) ≡ world_after_all w events
 happened_all w [] = refl
 happened_all w (event ∷ events) = happened_all (world_after w event) events
 
--- events lead from one simulation to another, neither of which notices parted links; unless it cuts, they are those of the simulator alone
+-- events lead from one simulation to another with the same notice; unless the line may cut a session, they are events
+-- of the simulator alone
 pub record Leads (MayCut : Type 0) (before after : RunningView) : Type 0 where
   pub events : List DriveEvent
   pub after_is : after.world ≡ after_all_driven before.world events
@@ -60,7 +61,7 @@ where_some false q r e = absurd cc
 this : (q r : Outcome) → Some q ≡ Some r → q ≡ r
 this q r e = cc
 
--- rounds are events
+-- rounds are a list of events
 sky_leads : (r : ℕ) (nodes : List ℕ) (ends parted : List (ℕ × ℕ)) (channel : Channels) (s : Sky) → (events : List Event) × ((rounds r nodes ends parted channel s).world ≡ world_after_all s.world events)
 unfolding rounds after_round
 sky_leads zero nodes ends parted channel s = ([], refl)
@@ -70,7 +71,7 @@ sky_leads (suc r) nodes ends parted channel s =
     (here ++ rest.0, rest.1 ∙ sym (after_append s.world here rest.0))
 
 module _ (MayCut : Type 0) where
-  -- an outcome with this world has that of these events
+  -- an outcome whose world is the result of these events
   leads_by : (s : RunningView) (q r : Outcome) (events : List Event) → q.run.world ≡ world_after_all s.world events → q.run.has_notice ≡ s.has_notice → q ≡ r → Leads MayCut s r.run
   leads_by s q r events is notice e = record {
     events = happening events;
@@ -130,7 +131,7 @@ module _ (MayCut : Type 0) where
   line_leads s o (Bytes i) r cut h e = bytes_shown s o i (named o s.world i) r (this _ r e)
   line_leads s o (Forget i) r cut h e = forgot s o (record o { forgotten = max o.forgotten i }) (nat_le i (length s.world.datagrams)) r (this _ r e)
 
-  -- the world of an answer
+  -- the world after a line, from its answer
   told_leads : (s : RunningView) (o : OwnView) (line : DriveLine) (found : Option Outcome) (r : DriveReply) → ((n k : ℕ) → line ≡ Notice n k → MayCut) → s.has_notice ≡ false → outcome_of s o line ≡ found → option_map (told s) found ≡ Some r → Leads MayCut s r.0
   told_leads s o line None r cut h is e = absurd cc
   told_leads s o line (Some q) r cut h is e =
@@ -147,7 +148,7 @@ module _ (MayCut : Type 0) where
   said_leads s o None r cut h e = absurd cc
   said_leads s o (Some line) r cut h e = told_leads s o line (outcome_of s o line) r (λ n k is. cut n k (rw is refl)) h refl e
 
--- bytes that are taken in are no notice
+-- a line `take A B HEX` is not a notice
 no_option : {A : Type 0} (n k : ℕ) (f : A → Option DriveLine) (found : Option A) → ((x : A) → f x ≡ Some (Notice n k) → ⊥) → (found >>= f) ≡ Some (Notice n k) → ⊥
 no_option n k f None never e = absurd cc
 no_option n k f (Some x) never e = never x e
@@ -169,9 +170,9 @@ answer_leads : (s : RunningView) (o : OwnView) (text : List ℕ) (r : DriveReply
 unfolding answer_to
 answer_leads s o text r h e = said_leads (IsNotice text) s o (line_in s.world o.forgotten text) r (λ n k is. is_notice s.world o.forgotten n k text is) h e
 
--- ---- where a drive is
+-- ---- the stage of a drive
 
--- its world, where there is one, is of events
+-- the world at this stage, if there is one, is the result of events
 abbrev Holds : WorldOptions → Times → Type 0 → Progress → Type 0
 Holds options times CutsNothing Progress.First = Unit {0}
 Holds options times CutsNothing (Progress.Links dests links marks) = AreIds (topology_of links dests)
@@ -194,7 +195,7 @@ one_more [] link h p = (p, tt)
 one_more (l ∷ links) link h p = (h.0, one_more links link h.1 p)
 
 module _ (options : WorldOptions) (times : Times) (CutsNothing : Type 0) where
-  -- events more
+  -- the world is still the result of events, after more of them
   onward : (MayCut : Type 0) → (CutsNothing → MayCut → ⊥) → (before after : RunningView) → IsOfEvents options times CutsNothing before.world → Leads MayCut before after → IsOfEvents options times CutsNothing after.world
   onward MayCut none before after h led = record {
     links = h.links;
@@ -214,7 +215,7 @@ module _ (options : WorldOptions) (times : Times) (CutsNothing : Type 0) where
   some_placed : (r q : Placed) → Some r ≡ Some q → r ≡ q
   some_placed r q e = cc
 
-  -- a reply of a running simulation
+  -- the stage after a line of a running simulation
   runs : (MayCut : Type 0) → (CutsNothing → MayCut → ⊥) → (before : RunningView) (found : Option DriveReply) (q : Placed) → (before.has_notice ≡ false) × IsOfEvents options times CutsNothing before.world → ((r : DriveReply) → found ≡ Some r → Leads MayCut before r.0) → option_map running_at found ≡ Some q → Holds options times CutsNothing q.0.progress
   runs MayCut none before None q h led e = absurd cc
   runs MayCut none before (Some r) q h led e = at_place (running_at r) q (some_placed _ q e) ((led r refl).notice ∙ h.0, onward MayCut none before r.0 h.1 (led r refl))

@@ -1,4 +1,4 @@
--- The worlds of drives are worlds of schedules, so that the laws of all schedules hold of them.
+-- The worlds of drives are the results of schedules, so the laws for all schedules hold for them.
 use Rattle.std.proofs.Common.{◌≡◌, ℕ, Bool, true, false, List, [], ◌∷◌, ◌++◌, if◌then◌else◌, is_some, fold, Option, Some, None, refl, sym, ap, subst, ◌∙◌}
 use Rattle.tora_arq.specs.declared.times.Times.{Times}
 use Rattle.tora_core.specs.declared.errors.CoreError.{CoreError}
@@ -55,7 +55,7 @@ begun : (options : WorldOptions) (links : List (ℕ × ℕ)) (dests : List ℕ) 
 unfolding started
 begun options links dests marks times first e = begun_by (topology_fault_within options.limits (topology_of links dests)) (first_world (mixed_topology options.erasure links dests marks) times) first e
 
--- what is said of a node refuses nothing, and names no number
+-- a line about a node causes no refusal and adds no number
 one_old : (limits : Limits) (b : Bool) (t : Topology) (olds : List ℕ) → topology_fault_within limits t ≡ None → topology_fault_within limits (if b then with_olds t olds else t) ≡ None
 one_old limits true t olds h = h
 one_old limits false t olds h = h
@@ -90,7 +90,7 @@ mixed_ids t (mark ∷ marks) h = mixed_ids (with_mark t mark) marks (one_mixed_i
 
 -- ---- the laws
 
--- the world is the one behind a schedule, over a topology that is not refused within some limits
+-- the world is the result of a schedule, over a topology that is not refused within some limits
 record IsOfRun (times : Times) (w : World) : Type 0 where
   topology : Topology
   sound : IsWithinLimits topology

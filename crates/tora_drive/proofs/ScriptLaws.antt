@@ -1,4 +1,4 @@
--- The lines that stand for a line of a drive leave what it leaves.
+-- The recorded lines for a line of a drive have the effect of that line.
 use Rattle.std.proofs.Common.{◌≡◌, ℕ, Bool, true, false, List, [], ◌∷◌, if◌then◌else◌, is_some, map, Option, Some, None, refl, sym, ap, ◌∙◌, ◌++◌, ◌*◌, codes, arith, append_assoc}
 use Rattle.std.specs.Prelude.{option_map, nat_le, length, max}
 use Rattle.std.specs.Option.{option_map_or, option_and_then}
@@ -19,13 +19,13 @@ use Rattle.tora_drive.specs.Recording.{torn_text, event_text}
 use Rattle.tora_drive.specs.Scripts.{simulated, ScriptsStandForLines, IsTorn, HasNumbers, EventsAreRead}
 use Rattle.tora_drive.specs.Steps.{step}
 
--- events leave the world behind them
+-- events, carried out as lines, lead to the world after them
 all_happen : (s : RunningView) (events : List Event) → simulated s (map (λ event. Happens event) events) ≡ Some (record s { world = world_after_all s.world events })
 unfolding running_reply
 all_happen s [] = refl
 all_happen s (event ∷ events) = all_happen (record s { world = world_after s.world event }) events
 
--- an event that is refused leaves the world
+-- a refused event does not change the world
 same_world : (w : World) (event : Event) → is_some (refusal_of w event) ≡ true → world_after w event ≡ w
 unfolding world_by
 same_world w event stop = rw stop refl
@@ -37,7 +37,7 @@ where_some : (b : Bool) (q r : Outcome) → (if b then Some q else None) ≡ Som
 where_some true q r e = cc
 where_some false q r e = absurd cc
 
--- a line that leaves the simulation as it was
+-- a line that does not change the simulation
 stays : (s : RunningView) (q r : Outcome) → q.run ≡ s → q ≡ r → simulated s [] ≡ Some r.run
 stays s q r same e = ap (λ (x : RunningView). Some x) (sym same ∙ ap (λ (x : Outcome). x.run) e)
 
@@ -92,7 +92,7 @@ torn_spelled (Some bytes) h =
     let two : length (encode_lower bytes) ≡ 2 * length bytes = length-encode_with lower_digits bytes in
     (omega (arith, two, h.0), decode_of-encode_lower bytes h.1)
 
--- two words behind another
+-- a word followed by two words with a blank between them
 paired : (word a b : List ℕ) → word ++ a ++ codes " " ++ b ≡ word ++ (a ++ 32 ∷ b)
 paired word a b = append_assoc (word ++ a) (32 ∷ []) b ∙ append_assoc word a (32 ∷ b)
 

@@ -1,4 +1,4 @@
--- Ends with no frame due are passed over, whether they are silent or not.
+-- Ends with no frame due are skipped, silent or not.
 use Rattle.std.proofs.Common.{◌≡◌, ℕ, ◌<◌, ◌≤◌, false, true, List, [], drop, slice_get, is_some, Some, refl, sym, subst}
 use Rattle.std.proofs.lemmas.Bool.{cond_both}
 use Rattle.tora_world.specs.declared.event.Event.{Event}

@@ -1,4 +1,4 @@
--- The simulation behind the lines of a recorded drive is what the lines that stand for them leave.
+-- The simulation after the lines of a recorded drive is the result of the lines of its record.
 use Rattle.std.proofs.Common.{◌≡◌, ℕ, Bool, true, false, List, [], ◌∷◌, ◌++◌, length, if◌then◌else◌, Option, Some, None, refl, sym, ap, subst, ◌∙◌, append_assoc}
 use Rattle.std.specs.Prelude.{nat_lt, option_map}
 use Rattle.std.specs.Option.{option_map_or, option_and_then}
@@ -56,10 +56,10 @@ module _ (s : RunningView) (o : OwnView) where
   unfolding answer_to
   text_stands text r none e = said_stands (line_in s.world o.forgotten text) r (λ n k is. not_notice text false none (is_notice s.world o.forgotten n k text is)) e
 
--- ---- where a drive is
+-- ---- the stage of a drive
 
 module _ (options : WorldOptions) (times : Times) where
-  -- its simulation, where there is one, is what these lines leave
+  -- the simulation at this stage, if there is one, is the result of these lines
   abbrev Holds : List SimulationLine → Progress → Type 0
   Holds done Progress.First = done ≡ []
   Holds done (Progress.Links dests links marks) = done ≡ []
@@ -84,7 +84,7 @@ module _ (options : WorldOptions) (times : Times) where
     leads = simulated_then (begun_in h.dests (plain times) h.first) before after done more h.leads led;
   }
 
-  -- a reply of a running simulation
+  -- the stage after a line of a running simulation
   runs : (done more : List SimulationLine) (before : RunningView) (found : Option DriveReply) (q : Placed) → IsSimulated options times done before → ((r : DriveReply) → found ≡ Some r → simulated before more ≡ Some r.0) → option_map running_at found ≡ Some q → Holds (done ++ more) q.0.progress
   runs done more before None q h led e = absurd cc
   runs done more before (Some r) q h led e = subst (λ (x : Placed). Holds (done ++ more) x.0.progress) (some_placed (running_at r) q e) (onward done more before r.0 h (led r refl))

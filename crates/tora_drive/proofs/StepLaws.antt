@@ -1,4 +1,4 @@
--- Passes of a step, one after the other.
+-- The passes of a step, one after another.
 use Rattle.std.proofs.Common.{◌≡◌, ℕ, zero, suc, Bool, true, false, not, List, [], ◌∷◌, refl, sym, ap, ◌∙◌}
 use Rattle.tora_world.specs.declared.event.Event.{Event}
 use Rattle.tora_world.specs.World.{World, is_empty, world_after_all}

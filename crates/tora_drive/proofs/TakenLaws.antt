@@ -1,4 +1,4 @@
--- The search of a datagram, one number after the other.
+-- The search for a datagram, one number after another.
 use Rattle.std.proofs.Common.{◌≡◌, ℕ, zero, suc, ◌-◌, ◌<◌, ◌≤◌, true, false, leb, List, refl, arith}
 use Rattle.std.proofs.lemmas.Bool.{le-leb, lt-leb}
 use Rattle.tora_world.specs.World.{World}

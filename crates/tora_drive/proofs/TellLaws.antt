@@ -1,4 +1,4 @@
--- Events that happen, and their lines behind a text.
+-- Events that happen, and their lines, which are appended to a text.
 use Rattle.std.proofs.Common.{◌≡◌, ℕ, zero, suc, ◌+◌, ◌<◌, ◌≤◌, Bool, true, false, not, ◌||◌, List, [], ◌∷◌, ◌++◌, length, drop, get_or, None, Some, refl, sym, ap, ◌∙◌, append_assoc}
 use Rattle.std.specs.Prelude.{is_some}
 use Rattle.std.proofs.lemmas.List.{append-nil, drop_more, drop_all}
@@ -15,7 +15,7 @@ use Rattle.tora_drive.proofs.StepLaws.{passes_on, passes_stop}
 events_append : (xs ys : List Event) → events_text (xs ++ ys) ≡ events_text xs ++ events_text ys
 events_append xs ys = flat_map-append event_line xs ys
 
--- of these events some have happened, or none, and are told behind a text, and these are left
+-- some of the events have happened, possibly none; their lines were appended to a text, and these events are left
 pub record OnwardTold (w : World) (events : List Event) (now : World) (some : Bool) (left : List Event) (before text : List ℕ) : Type 0 where
   pub onward : Onward w events now some left
   pub tells : text ++ events_text left ≡ before ++ events_text events
@@ -23,17 +23,17 @@ pub record OnwardTold (w : World) (events : List Event) (now : World) (some : Bo
 pub told_begins : (w : World) (events : List Event) (before : List ℕ) → OnwardTold w events w false events before before
 told_begins w events before = record { onward = begins w events; tells = refl }
 
--- none is left
+-- no event is left
 done : (events left : List Event) (before text : List ℕ) → left ≡ [] → text ++ events_text left ≡ before ++ events_text events → text ≡ before ++ events_text events
 done events left before text none tells = sym (append-nil text) ∙ ap (λ (x : List Event). text ++ events_text x) (sym none) ∙ tells
 
--- one plan, and another from there
+-- the lines of one plan, and then those of another in the world after it
 pub text_then : (w mid : World) (plan rest : Plan) (before between after : List ℕ) → mid ≡ world_after_all w (plan w) → between ≡ before ++ events_text (plan w) → after ≡ between ++ events_text (rest mid) → after ≡ before ++ events_text (plan_then plan rest w)
 text_then w mid plan rest before between after is first next =
     next ∙ ap (λ (x : List ℕ). x ++ events_text (rest mid)) first ∙ append_assoc before (events_text (plan w)) (events_text (rest mid))
     ∙ ap (λ (x : List ℕ). before ++ x) (sym (events_append (plan w) (rest mid))) ∙ ap (λ (x : World). before ++ events_text (plan w ++ rest x)) is
 
--- ---- an event again and again
+-- ---- one event, repeated
 
 one_left : (now : World) (j : ℕ) (event : Event) → refusal_of now event ≡ None → repeats (suc j) event now ≡ event ∷ repeats j event (world_after now event)
 unfolding repeats
@@ -67,7 +67,7 @@ told_refused w events now next some j event error before text o stop is = record
   told = done events (repeats (suc j) event now) before text (none_left now j event error stop) o.tells;
 }
 
--- it is refused, and so was not asked for
+-- the event is refused, so it was not tried
 pub told_impossible : (w : World) (events : List Event) (now : World) (some : Bool) (j : ℕ) (event : Event) (before text : List ℕ) → OnwardTold w events now some (repeats (suc j) event now) before text → is_some (refusal_of now event) ≡ true
     → HappenedTold w events now some before text
 told_impossible w events now some j event before text o stop = record {
@@ -81,7 +81,7 @@ told_no_more w events now some event before text o = record {
   told = done events (repeats zero event now) before text (no_times now event) o.tells;
 }
 
--- ---- a plan for each of a list
+-- ---- a plan for each item of a list
 
 pub told_part : {A : Type 0} (plan : A → Plan) (xs : List A) (i : ℕ) (d : A) (w : World) (events : List Event) (now next : World) (some any : Bool) (before text more : List ℕ) → i < length xs → OnwardTold w events now some (each plan (drop i xs) now) before text
     → HappenedTold now (plan (get_or xs i d) now) next any text more → OnwardTold w events next (some || any) (each plan (drop (i + 1) xs) next) before more
@@ -104,7 +104,7 @@ told_ends {A} plan xs i w events now some before text above o = record {
 pub told_nothing : (w : World) (before : List ℕ) → HappenedTold w [] w false before before
 told_nothing w before = record { happened = record { after_is = refl; some_is = refl }; told = sym (append-nil before) }
 
--- ---- plans in a row
+-- ---- one plan after another
 
 pub told_then : (w mid next : World) (some any : Bool) (plan rest : Plan) (before between after : List ℕ) → HappenedTold w (plan w) mid some before between → HappenedTold mid (rest mid) next any between after → HappenedTold w (plan_then plan rest w) next (some || any) before after
 told_then w mid next some any plan rest before between after p q = record {
@@ -123,7 +123,7 @@ all_told w events next some before after h = record { after_is = h.happened.afte
 
 -- ---- passes
 
--- what is left of the passes leads to a world and to a text
+-- the events that are left of the passes, with the world and the text so far
 pub record PassesLeft (w : World) (events : List Event) (now : World) (left : List Event) (before text : List ℕ) : Type 0 where
   pub goes : world_after_all now left ≡ world_after_all w events
   pub tells : text ++ events_text left ≡ before ++ events_text events

@@ -1,4 +1,4 @@
--- The lines of a drive, and what each says.
+-- The lines of a drive, parsed.
 use Rattle.std.specs.Prelude.{ℕ, if◌then◌else◌, codes, List, Option, Some, None, option_map}
 use Rattle.tora_lines.specs.Words.{number_of}
 use Rattle.tora_lines.specs.Fronts.{after, or_else, ◌>>=◌}
@@ -6,7 +6,7 @@ use Rattle.tora_script.specs.SimulationLines.{is_word, for_pair, simulation_line
 use Rattle.tora_drive.specs.declared.line.DriveLine.{DriveLine}
 use Rattle.tora_drive.specs.declared.line.DriveLine.TheVariants.{Script, Step, Needs, Near, Far, Notice, Bytes, Forget}
 
--- a word and the number of a datagram
+-- the line that `make` makes of the number of a datagram
 unfoldable pub for_number : (ℕ → DriveLine) → List ℕ → Option DriveLine
 for_number make text = do
   i ← number_of text
@@ -21,7 +21,7 @@ own_line_of text =
     (or_else (after (codes "bytes ") text) (for_number Bytes)
     (or_else (after (codes "forget ") text) (for_number Forget) None))))
 
--- `step`, `needs`, a line of a simulation file after its links, or another line that only a drive has
+-- the given line, or else a line that only a drive has
 abbrev pub or_own : Option DriveLine → List ℕ → Option DriveLine
 or_own (Some line) text = Some line
 or_own None text = own_line_of text

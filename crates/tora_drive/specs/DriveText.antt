@@ -1,4 +1,4 @@
--- What a drive prints for the lines that it is given.
+-- The answers of a drive to its lines.
 use Rattle.std.specs.Prelude.{ℕ, ◌+◌, Bool, true, false, not, nat_le, max, is_some, if◌then◌else◌, codes, List, [], ◌∷◌, ◌++◌, length, filter, map, Option, Some, None, option_map}
 use Rattle.std.specs.List.{flat_map}
 use Rattle.std.specs.Option.{option_map_or, option_and_then}
@@ -37,20 +37,20 @@ use Rattle.tora_drive.specs.Records.{sent_text, hops_text}
 use Rattle.tora_drive.specs.Steps.{is_end, is_far, step}
 use Rattle.tora_drive.specs.Taking.{line_in}
 
--- ---- what a drive keeps beside the simulation
+-- ---- the state that a drive has besides the simulation
 
 pub record OwnView : Type 0 where
   pub far : List (ℕ × ℕ)  -- the silent ends
-  pub forgotten : ℕ  -- datagrams up to this number can't be named any more
+  pub forgotten : ℕ  -- the number up to which datagrams are forgotten
 
 abbrev pub first_own : OwnView
 first_own = record { far = []; forgotten = 0 }
 
--- the datagram of a number from 1 on that can be named
+-- the datagram with a number, counted from 1, unless it is forgotten
 abbrev pub named : OwnView → World → ℕ → Option FrameParts
 named o w i = if nat_le i o.forgotten then None else datagram w i
 
--- an end that is silent is so once
+-- the silent ends with one more; an end that is already silent is not added again
 abbrev pub with_far : ℕ × ℕ → List (ℕ × ℕ) → List (ℕ × ℕ)
 with_far e far = if is_far far e then far else far ++ e ∷ []
 
@@ -59,7 +59,7 @@ without_far e far = filter (λ f. not (is_end e f)) far
 
 -- ---- a line of a running simulation
 
--- what a line leaves, what is printed first, and whether it is refused
+-- the effect of a line: the simulation and the drive's own state after it, its first output, and whether it is refused
 pub record Outcome : Type 0 where
   pub run : RunningView
   pub own : OwnView
@@ -69,23 +69,23 @@ pub record Outcome : Type 0 where
 abbrev pub outcome : RunningView → OwnView → List ℕ → Bool → Outcome
 outcome s o text refused = record { run = s; own = o; text = text; refused = refused }
 
--- nothing is refused
+-- the outcome of a line with this reply, which is not refused
 abbrev pub quiet : OwnView → Reply → Outcome
 quiet o r = record { run = r.0; own = o; text = r.1; refused = false }
 
--- nothing is changed
+-- the outcome of a line that is not refused, with this state and output
 abbrev pub shown : RunningView → OwnView → List ℕ → Outcome
 shown s o text = record { run = s; own = o; text = text; refused = false }
 
--- there is no such datagram
+-- the refusal of a line that names a datagram which does not exist or is forgotten
 abbrev pub unnamed : RunningView → OwnView → Outcome
 unnamed s o = record { run = s; own = o; text = refusal_text (Some Refused.NoDatagram); refused = true }
 
--- it is not possible now
+-- the refusal of a line that is not possible now
 abbrev pub impossible : RunningView → OwnView → Outcome
 impossible s o = record { run = s; own = o; text = refusal_text (Some Refused.NotPossible); refused = true }
 
--- the event is the delivery of a datagram that can't be named any more
+-- the event is the delivery of a forgotten datagram, which can no longer be named
 abbrev pub is_forgotten : OwnView → Event → Bool
 is_forgotten o (Happen.Deliver i) = nat_le i o.forgotten
 is_forgotten o (Happen.CoreTurn n) = false
@@ -98,7 +98,7 @@ is_forgotten o (Happen.Transmit n k) = false
 is_forgotten o (Happen.Pump n k) = false
 is_forgotten o (Happen.Arm n call) = false
 
--- an event: no text, or `refused N` if it changes nothing
+-- the outcome of an event: no output, or `refused N` if it changes nothing
 abbrev pub event_outcome : RunningView → OwnView → Event → Outcome
 event_outcome s o event =
     if is_forgotten o event then unnamed s o
@@ -113,7 +113,7 @@ event_outcome s o event =
 abbrev pub after_step : RunningView → OwnView → World
 after_step s o = world_after_all s.world (step s.nodes s.ends o.far s.world)
 
--- `need N D` where the core of N requires a route to D
+-- `need N D` if the core of N requires a route to D
 unfoldable pub need_line : World → ℕ → ℕ → List ℕ
 need_line w n d = if flag_at w n d then codes "need " ++ decimal n ++ codes " " ++ decimal d ++ 10 ∷ [] else []
 
@@ -124,26 +124,27 @@ needs_text w nodes dests = flat_map (λ n. flat_map (need_line w n) dests) nodes
 unfoldable pub bytes_line : ℕ → FrameParts → List ℕ
 bytes_line i f = codes "bytes " ++ decimal i ++ codes " " ++ encode_lower (frame_spelling f) ++ 10 ∷ []
 
--- these silent ends; a fault if there is no such end
+-- the outcome with these silent ends; None, for a fault, if there is no such end
 abbrev pub silenced : RunningView → OwnView → ℕ → ℕ → List (ℕ × ℕ) → Option Outcome
 silenced s o n k far = if has_end n k s.ends then Some (shown s (record o { far = far }) []) else None
 
--- the end of a node towards another cuts its session and is closed; refused if it is not bound
+-- the outcome of `notice N K`: the end of n towards k cuts its session and is closed; refused if the end is not bound
 abbrev pub noticed : RunningView → OwnView → ℕ → ℕ → Outcome
 noticed s o n k = if is_some (bound_life (s.world.ends n k)) then shown (record s { world = after_cut_at s.world n k })
     o [] else impossible s o
 
--- the datagrams up to a number are forgotten, and those that were stay so
+-- the outcome of `forget I`: the datagrams up to I are forgotten, like those forgotten before; refused if fewer were
+-- sent
 abbrev pub forgetting : RunningView → OwnView → ℕ → Outcome
 forgetting s o i =
     if nat_le i (length s.world.datagrams) then shown s (record o { forgotten = max o.forgotten i }) [] else unnamed s o
 
--- for a line of a simulation file, what a simulation prints for it; None for a fault
+-- the outcome of a line of a simulation file, with the output of a simulation; None for a fault
 abbrev pub script_outcome : RunningView → OwnView → SimulationLine → Option Outcome
 script_outcome s o (Happens event) = Some (event_outcome s o event)
 script_outcome s o line = option_map (quiet o) (running_reply s line)
 
--- None for a fault
+-- the outcome of a line; None for a fault
 unfoldable pub outcome_of : RunningView → OwnView → DriveLine → Option Outcome
 outcome_of s o (Script line) = script_outcome s o line
 outcome_of s o Step = Some (shown (record s { world = after_step s o }) o [])
@@ -154,7 +155,7 @@ outcome_of s o (Notice n k) = if has_end n k s.ends then Some (noticed s o n k) 
 outcome_of s o (Bytes i) = Some (option_map_or (λ f. shown s o (bytes_line i f)) (named o s.world i) (unnamed s o))
 outcome_of s o (Forget i) = Some (forgetting s o i)
 
--- the line may let a core take items, or restart a node; no other line changes a next hop
+-- the event may let a core take items, or restarts a node; no other event changes a next hop
 abbrev pub may_turn : Event → Bool
 may_turn (Happen.CoreTurn n) = true
 may_turn (Happen.Restart n torn) = true
@@ -190,11 +191,11 @@ may_change_hops (Forget i) = false
 abbrev pub closing : Bool → List ℕ
 closing is_refused = if is_refused then [] else codes "ok" ++ 10 ∷ []
 
--- a simulation with what is kept beside it, and a text
+-- the simulation and the drive's own state after a line, and the answer
 abbrev pub DriveReply : Type 0
 DriveReply = RunningView × OwnView × List ℕ
 
--- the first output, then what the line changed, and `ok`
+-- the answer to a line: the first output, then what the line changed, and `ok`
 abbrev pub told : RunningView → Outcome → DriveReply
 told s r = (
   r.run,
@@ -223,7 +224,7 @@ placed progress o text = (record { progress = progress; own = o }, text)
 abbrev pub running_at : DriveReply → Placed
 running_at r = (record { progress = Progress.Runs r.0; own = r.1 }, r.2)
 
--- `ok` alone
+-- the answer `ok` to a line before the simulation runs
 abbrev pub acknowledged : OwnView → Progress → Placed
 acknowledged o progress = (record { progress = progress; own = o }, closing false)
 
@@ -251,7 +252,7 @@ run_begun options times o (Progress.Links dests links marks) line =
     option_map running_at (first_answer options times o dests links marks line)
 run_begun options times o (Progress.Runs s) line = None
 
--- what a line leaves, and what is printed for it; None for a fault
+-- the stage after a line, and the answer; None for a fault
 unfoldable pub place_reply : WorldOptions → Times → OwnView → Progress → List ℕ → Option Placed
 place_reply options times o Progress.First line = option_map (acknowledged o) (first_progress line)
 place_reply options times o (Progress.Links dests links marks) line =
@@ -288,22 +289,23 @@ fault_line n cause = codes "fault " ++ decimal n ++ codes " " ++ cause_words cau
 
 -- ---- all lines
 
--- what is kept between two lines
+-- the state between two lines
 pub record DriveView : Type 0 where
-  pub lines : ℕ  -- how many came
+  pub lines : ℕ  -- the number of lines so far
   pub place : PlaceView
 
--- a line that is no fault leaves this
+-- the state after a line that is not a fault, and the answer
 abbrev pub taken : ℕ → Placed → DriveView × List ℕ
 taken n r = (record { lines = n; place = r.0 }, r.1)
 
--- a line that is a fault leaves everything as it was
+-- the state after a line, and the answer; a fault changes only the number of lines
 abbrev pub drive_reply : WorldOptions → Times → DriveView → List ℕ → DriveView × List ℕ
 drive_reply options times v line =
     option_map_or (taken (v.lines + 1)) (place_reply options times v.place.own v.place.progress line)
     (record v { lines = v.lines + 1 }, fault_line (v.lines + 1) (cause_of options.limits v.place.progress line))
 
--- a drive of a world with these options whose link ends have these times; no end of its input is a fault
+-- the rules of a drive whose world has these options and whose link ends have these times; no end of its input is a
+-- fault
 abbrev pub drive_rules : WorldOptions → Times → Rules DriveView
 drive_rules options times = record {
   start = record {
@@ -318,17 +320,17 @@ drive_rules options times = record {
 abbrev pub greeting : List ℕ
 greeting = codes "tora drive 1" ++ 10 ∷ []
 
--- ---- what drive_in promises
+-- ---- what `drive_in` promises
 
 -- the text of an input in which a line of more than 4,096 bytes counts as an empty one, which is always a fault
 abbrev pub shortened_text : Rules DriveView → List ℕ → Text
 shortened_text rules bytes = text_from rules rules.start 1 (map shortened (pieces_of bytes))
 
--- Known bytes grew by the answers to the lines of the input, and the input ends so.
+-- The known bytes grew by the answers to the lines of the input, and the input ends as the result says.
 abbrev pub Drives : WorldOptions → Times → List ℕ → Option (List ℕ) → Option (List ℕ) → Ended → Type 0
 Drives options times input old new ended = IsWholeText (shortened_text (drive_rules options times)) input old new ended
 
--- The reader gave some bytes, and the text written is a prefix of the answers to them.
+-- The reader returned some bytes, and the writer got a prefix of the answers to them.
 abbrev pub IsDriveBegun : WorldOptions → Times → Option (List ℕ) → Option (List ℕ) → Option (List ℕ) → Option (List ℕ)
     → Type 0
 IsDriveBegun options times old_reader new_reader old_writer new_writer =

@@ -1,4 +1,4 @@
--- What is kept between two lines of a drive, and the kind of file that it is.
+-- The state between two lines of a drive, and the kind of file that it is.
 use Rattle.std.specs.Prelude.{ℕ, List, Option, option_map}
 use Rattle.tora_world.specs.World.{World}
 use Rattle.tora_lines.specs.LineText.{text_from}
@@ -11,7 +11,7 @@ use Rattle.tora_drive.specs.declared.recorded.Recording.{Recording}
 use Rattle.tora_drive.specs.DriveText.{OwnView, DriveView, drive_rules}
 use Rattle.tora_drive.specs.Recording.{recorded_rules}
 
--- the datagrams up to a number can't be named any more
+-- the silent ends, and the number up to which datagrams are forgotten
 abbrev pub own_view : Own → OwnView
 own_view o = record { far = o.far.items; forgotten = o.forgotten }
 

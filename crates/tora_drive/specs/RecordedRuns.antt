@@ -1,4 +1,4 @@
--- Which worlds a drive has that is recorded.
+-- The worlds that a recorded drive can have.
 use Rattle.std.specs.Prelude.{◌≡◌, ℕ, ◌+◌, ◌<◌, if◌then◌else◌, List, [], length, map, Some}
 use Rattle.tora_arq.specs.declared.times.Times.{Times}
 use Rattle.tora_lines.specs.LineText.{state_behind}
@@ -41,7 +41,7 @@ pub record IsOfHappened (options : WorldOptions) (times : Times) (w : World) : T
   pub events : List Event
   pub world_is : w ≡ world_after_all first events
 
--- this holds for the world after any lines of a recorded drive, if it has one
+-- a statement holds for the world after any lines of a recorded drive, if there is one
 abbrev pub EveryRecordedDrive : (WorldOptions → Times → World → Type 0) → Type 0
 EveryRecordedDrive Holds =
     (options : WorldOptions) (times : Times) (lines : List (List ℕ)) (v : DriveView) (s : RunningView)

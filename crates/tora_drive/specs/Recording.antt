@@ -31,7 +31,7 @@ use Rattle.tora_drive.specs.Taking.{line_in}
 
 -- ---- the line of an event
 
--- `-` for none, or 32 hexadecimal digits
+-- the word T of `restart N T`: `-` for no bytes, or 32 hexadecimal digits
 abbrev pub torn_text : Option (List ℕ) → List ℕ
 torn_text None = codes "-"
 torn_text (Some bytes) = encode_lower bytes
@@ -39,7 +39,7 @@ torn_text (Some bytes) = encode_lower bytes
 abbrev pub pair_text : List ℕ → ℕ → ℕ → List ℕ
 pair_text word n k = word ++ decimal n ++ codes " " ++ decimal k
 
--- without its end
+-- the line of an event, without its LF
 unfoldable pub event_text : Event → List ℕ
 event_text (Happen.Need n d) = pair_text (codes "need ") n d
 event_text Happen.Tick = codes "tick"
@@ -73,7 +73,7 @@ pub record Told (before : World) (events : List Event) (after : World) (old new 
   pub after_is : after ≡ world_after_all before events
   pub told : new ≡ old ++ events_text events
 
--- ---- the record of a line that is taken, behind a record, if there is one
+-- ---- the record after an accepted line, if there is a record
 
 abbrev pub Record : Type 0
 Record = Option (List ℕ)
@@ -85,7 +85,7 @@ with_record (Some text) bytes = Some (text ++ bytes)
 abbrev pub with_line : Record → List ℕ → Record
 with_line r line = with_record r (line ++ 10 ∷ [])
 
--- of a step: its events
+-- the record with the events of the line, if the line is `step`
 abbrev pub step_recorded : Record → RunningView → OwnView → DriveLine → Record
 step_recorded r s o Step = with_record r (events_text (step s.nodes s.ends o.far s.world))
 step_recorded r s o (Script line) = r
@@ -96,8 +96,8 @@ step_recorded r s o (Notice n k) = r
 step_recorded r s o (Bytes i) = r
 step_recorded r s o (Forget i) = r
 
--- of another line: an event that is not refused has its line, an order has the line as it is, and all that changes no
--- world has none
+-- the record with a line other than `step`: an event that is not refused has its line, an order has the line as it is,
+-- and a line that only a drive has changes nothing
 abbrev pub line_recorded : Record → DriveLine → List ℕ → Bool → Record
 line_recorded r (Script (Happens event)) line refused = if refused then r else with_record r (event_line event)
 line_recorded r (Script (Rounds n)) line refused = with_line r line
@@ -117,7 +117,7 @@ line_recorded r (Notice n k) line refused = r
 line_recorded r (Bytes i) line refused = r
 line_recorded r (Forget i) line refused = r
 
--- of a line of a running simulation; a fault has none
+-- the record after a line of a running simulation; a fault has no line in it
 unfoldable pub answer_recorded : Record → RunningView → OwnView → List ℕ → Record
 answer_recorded r s o text =
     option_map_or (λ line. option_map_or (λ q. line_recorded (step_recorded r s o line) line text q.refused)
@@ -143,27 +143,27 @@ run_recorded r options times o (Progress.Links dests links marks) line =
     first_recorded r options times o dests links marks line
 run_recorded r options times o (Progress.Runs s) line = r
 
--- of any line
+-- the record after any line that is accepted
 unfoldable pub place_recorded : Record → WorldOptions → Times → OwnView → Progress → List ℕ → Record
 place_recorded r options times o Progress.First line = with_line r line
 place_recorded r options times o (Progress.Links dests links marks) line =
     link_recorded r options times o dests links marks line (link_of line) (mark_of line)
 place_recorded r options times o (Progress.Runs s) line = answer_recorded r s o line
 
--- a record that has nothing yet, if there is one
+-- the emptied record, if there is a record
 abbrev pub cleared : Record → Record
 cleared None = None
 cleared (Some text) = Some []
 
--- what a line has in a record; a fault has nothing
+-- the record of this line alone, which is empty for a fault
 abbrev pub drive_recorded : Record → WorldOptions → Times → DriveView → List ℕ → Record
 drive_recorded r options times v line =
     option_map_or (λ q. place_recorded (cleared r) options times v.place.own v.place.progress line)
     (place_reply options times v.place.own v.place.progress line) (cleared r)
 
--- ---- a drive that is recorded
+-- ---- a recorded drive
 
--- it cuts a life, for which a simulation file has no line
+-- the line is `notice N K`, which cuts a session; a simulation file has no such line
 abbrev pub is_notice : Option DriveLine → Bool
 is_notice None = false
 is_notice (Some (Notice n k)) = true
@@ -178,11 +178,11 @@ is_notice (Some (Forget i)) = false
 abbrev pub says_notice : List ℕ → Bool
 says_notice line = is_notice (drive_line_of line)
 
--- a fault that changes nothing
+-- the answer to a line that cannot be recorded: it is a fault, which changes only the number of lines
 abbrev pub unrecorded : DriveView → DriveView × List ℕ
 unrecorded v = (record v { lines = v.lines + 1 }, fault_line (v.lines + 1) Recorded)
 
--- each line is answered as in any drive, but for `notice`
+-- the answer to a line: as in any drive, except that `notice N K` is a fault
 abbrev pub recorded_reply : WorldOptions → Times → DriveView → List ℕ → DriveView × List ℕ
 recorded_reply options times v line = if says_notice line then unrecorded v else drive_reply options times v line
 
@@ -193,14 +193,14 @@ recorded_rules options times = record {
   at_end = λ v n. None;
 }
 
--- ---- what drive_recorded promises
+-- ---- what `drive_recorded` promises
 
--- Known bytes grew by the answers to the lines of the input, and the input ends so.
+-- The known bytes grew by the answers to the lines of the input, and the input ends as the result says.
 abbrev pub DrivesRecorded : WorldOptions → Times → List ℕ → Option (List ℕ) → Option (List ℕ) → Ended → Type 0
 DrivesRecorded options times input old new ended =
     IsWholeText (shortened_text (recorded_rules options times)) input old new ended
 
--- The reader gave some bytes, and the text written is a prefix of the answers to them.
+-- The reader returned some bytes, and the writer got a prefix of the answers to them.
 abbrev pub IsRecordedBegun : WorldOptions → Times → Option (List ℕ) → Option (List ℕ) → Option (List ℕ)
     → Option (List ℕ) → Type 0
 IsRecordedBegun options times old_reader new_reader old_writer new_writer =

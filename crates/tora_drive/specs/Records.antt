@@ -1,4 +1,4 @@
--- The lines for what a line changed in a world: the datagrams sent, and the next hops that changed.
+-- The lines that report what a line changed in a world: the datagrams sent, and the next hops that changed.
 use Rattle.std.specs.Prelude.{ℕ, zero, suc, ◌+◌, ◌-◌, ◌==◌, Bool, true, false, if◌then◌else◌, codes, List, [], ◌∷◌, ◌++◌, length, map, Option, Some, None}
 use Rattle.std.specs.List.{flat_map}
 use Rattle.std.specs.Option.{option_map_or}
@@ -17,11 +17,11 @@ unfoldable pub sent_line : ℕ → FrameParts → List ℕ
 sent_line i f = codes "sent " ++ decimal f.header.sender ++ codes " " ++ decimal f.header.receiver ++ codes " "
     ++ decimal i ++ codes " " ++ decimal (length (frame_spelling f)) ++ 10 ∷ []
 
--- the line of the datagram of this number
+-- the line of the datagram with this number
 abbrev pub sent_of : World → ℕ → List ℕ
 sent_of w i = option_map_or (sent_line i) (datagram w i) []
 
--- the lines of this many datagrams after number `first`, in order
+-- the lines of the `count` datagrams after number `first`, in order
 unfoldable pub sent_from : World → ℕ → ℕ → List ℕ
 sent_from w first zero = []
 sent_from w first (suc count) = sent_from w first count ++ sent_of w (first + suc count)
@@ -32,7 +32,7 @@ sent_text before after = sent_from after (length before.datagrams) (length after
 
 -- ---- next hops
 
--- the next hop of each node to each destination
+-- the next hop of a node to each destination
 abbrev pub routes_at : World → List ℕ → ℕ → List Route
 routes_at w dests n = map (λ d. record { node = n; destination = d; hop = hop_at w n d }) dests
 
@@ -52,7 +52,7 @@ hop_line w r =
     else codes "hop " ++ decimal r.node ++ codes " " ++ decimal r.destination ++ codes " "
     ++ hop_text (hop_at w r.node r.destination) ++ 10 ∷ []
 
--- the lines of the next hops that are others now, by ascending node, and then by the destinations as the first line has
--- them
+-- a line for each next hop that has changed, by ascending node, and then by the destinations in the order of the first
+-- line
 abbrev pub hops_text : List ℕ → List ℕ → World → World → List ℕ
 hops_text nodes dests before after = flat_map (hop_line after) (routes_of before nodes dests)

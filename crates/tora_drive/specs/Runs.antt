@@ -1,4 +1,4 @@
--- Which worlds a drive has.
+-- The worlds that a drive can have.
 use Rattle.std.specs.Prelude.{◌≡◌, ℕ, true, if◌then◌else◌, List, [], ◌∷◌, ◌++◌, map, Some}
 use Rattle.std.specs.List.{AllByRecursion}
 use Rattle.tora_arq.specs.declared.times.Times.{Times}
@@ -20,9 +20,9 @@ use Rattle.tora_drive.specs.declared.line.DriveLine.TheVariants.{Notice}
 use Rattle.tora_drive.specs.DriveLines.{drive_line_of}
 use Rattle.tora_drive.specs.DriveText.{DriveView, drive_rules}
 
--- ---- what lines do to a world
+-- ---- the effect of lines on a world
 
--- an event of the simulator, or the cut of the life that the end of n towards k is bound to
+-- an event of the simulator, or a cut of the session that the end of n towards k is bound to
 pub data DriveEvent : Type 0 where
   Happens : Event → DriveEvent
   Cuts : (n k : ℕ) → DriveEvent
@@ -39,7 +39,7 @@ after_all_driven w (event ∷ events) = after_all_driven (after_driven w event) 
 abbrev pub happening : List Event → List DriveEvent
 happening events = map (λ event. Happens event) events
 
--- ---- the same as a schedule of the world of all schedules
+-- ---- the same as a schedule of the free world
 
 abbrev pub schedule_of_one : World → DriveEvent → Schedule
 schedule_of_one w (Happens event) = (Free.Happens event, own_choice w event) ∷ []
@@ -51,15 +51,15 @@ schedule_of w (event ∷ events) = schedule_of_one w event ++ schedule_of (after
 
 -- ---- the law
 
--- the line says `notice N K`
+-- the line is `notice N K`
 abbrev pub IsNotice : List ℕ → Type 0
 IsNotice line = (n : ℕ) × (k : ℕ) × (drive_line_of line ≡ Some (Notice n k))
 
 abbrev pub SaysNoNotice : List (List ℕ) → Type 0
 SaysNoNotice lines = AllByRecursion (λ line. IsNotice line → ⊥) lines
 
--- A world is the one behind some events, from the first world with these options of some links and destinations, and of
--- what is said of single nodes; where no line cuts a life, they are events of the simulator alone.
+-- A world is the result of some events, from the first world with these options of some links, destinations and lines
+-- about nodes. If no line cuts a session, they are events of the simulator alone.
 pub record IsOfEvents (options : WorldOptions) (times : Times) (CutsNothing : Type 0) (w : World) : Type 0 where
   pub links : List (ℕ × ℕ)
   pub dests : List ℕ
@@ -71,7 +71,7 @@ pub record IsOfEvents (options : WorldOptions) (times : Times) (CutsNothing : Ty
   pub world_is : w ≡ after_all_driven first events
   pub plain : CutsNothing → (happened : List Event) × (events ≡ happening happened)
 
--- this holds for the world after any lines of a drive, if it has one
+-- a statement holds for the world after any lines of a drive, if there is one
 abbrev pub EveryDrive : (WorldOptions → Times → List (List ℕ) → World → Type 0) → Type 0
 EveryDrive Holds =
     (options : WorldOptions) (times : Times) (lines : List (List ℕ)) (v : DriveView) (s : RunningView)
@@ -82,13 +82,13 @@ EveryDrive Holds =
 abbrev pub DrivesAreRuns : Type 0
 DrivesAreRuns = EveryDrive (λ options times lines w. IsOfEvents options times (SaysNoNotice lines) w)
 
--- such events are a schedule
+-- events and cuts are a schedule of the free world
 abbrev pub AreSchedules : Type 0
 AreSchedules =
     (w : World) (events : List DriveEvent) → after_all_driven w events ≡ after_schedule (schedule_of w events) w
 
--- A world is the one behind a schedule, over a topology that is not refused within some limits; and at each link end
--- nothing is left out of a life.
+-- A world is the result of a schedule, over a topology that is not refused within some limits, and no session of a link
+-- end has a gap.
 pub record HasNoGaps (times : Times) (w : World) : Type 0 where
   pub topology : Topology
   pub sound : IsWithinLimits topology

@@ -1,4 +1,4 @@
--- The lines of a simulation file with the effect of a line of a drive.
+-- The lines of a simulation file that have the effect of a line of a drive.
 use Rattle.std.specs.Prelude.{◌≡◌, ℕ, ◌<◌, ◌^◌, Bool, if◌then◌else◌, List, [], ◌∷◌, ◌++◌, length, map, Option, Some, None}
 use Rattle.std.specs.List.{AllByRecursion}
 use Rattle.std.specs.Option.{option_map_or, option_and_then}
@@ -49,7 +49,7 @@ abbrev pub simulated : RunningView → List SimulationLine → Option RunningVie
 simulated s [] = Some s
 simulated s (line ∷ lines) = option_and_then (λ r. simulated r.0 lines) (running_reply s line)
 
--- it is no `notice N K`
+-- the line is not `notice N K`, which cuts a session
 abbrev pub CutsNothing : DriveLine → Type 0
 CutsNothing line = (n k : ℕ) → line ≡ Notice n k → ⊥
 
@@ -59,12 +59,12 @@ ScriptsStandForLines =
     (s : RunningView) (o : OwnView) (line : DriveLine) (q : Outcome) → CutsNothing line → outcome_of s o line ≡ Some q
     → simulated s (script_of s o line q.refused) ≡ Some q.run
 
--- none, or 16 bytes
+-- the bytes of a restart: none, or 16 bytes
 abbrev pub IsTorn : Option (List ℕ) → Type 0
 IsTorn None = Unit {0}
 IsTorn (Some bytes) = (length bytes ≡ 16) × IsBytes bytes
 
--- the numbers of an event are those of nodes, and one of a datagram is below 2^64
+-- the numbers in an event are in range: those of nodes are ids, and that of a datagram is below 2^64
 abbrev pub HasNumbers : Event → Type 0
 HasNumbers (Happen.Need n d) = IsId n × IsId d
 HasNumbers Happen.Tick = Unit {0}
@@ -77,21 +77,21 @@ HasNumbers (Happen.CoreTurn n) = IsId n
 HasNumbers (Happen.Arm n call) = IsId n
 HasNumbers (Happen.Restart n torn) = IsId n × IsTorn torn
 
--- the line of an event says that event
+-- the line of an event is read as that event
 abbrev pub EventsAreRead : Type 0
 EventsAreRead = (event : Event) → HasNumbers event → simulation_line_of (event_text event) ≡ Some (Happens event)
 
--- it is no event
+-- the line is not an event
 abbrev pub IsOrder : SimulationLine → Type 0
 IsOrder line = (event : Event) → line ≡ Happens event → ⊥
 
--- the line of an order, which a record has as it is, says that order
+-- the line of an order, which a record has as it is, is read as that order
 abbrev pub OrdersAreRead : Type 0
 OrdersAreRead =
     (w : World) (forgotten : ℕ) (text : List ℕ) (order : SimulationLine) → IsOrder order
     → line_in w forgotten text ≡ Some (Script order) → simulation_line_of text ≡ Some order
 
--- a link end of two nodes
+-- the two nodes of a link end are ids
 abbrev pub IsEnd : ℕ × ℕ → Type 0
 IsEnd e = IsId e.0 × IsId e.1
 
@@ -113,7 +113,7 @@ abbrev pub first_script : WorldOptions → Times → OwnView → List ℕ → Li
 first_script options times o dests links marks line =
     option_map_or (λ w. script_in (begun_in dests (plain times) w) o line) (started options links dests marks times) []
 
--- the lines in front of the world have none
+-- the recorded lines after the links, for a line before the simulation runs: none, unless this line makes the world
 abbrev pub link_script : WorldOptions → Times → OwnView → List ℕ → List (ℕ × ℕ) → List Mark → List ℕ → Option (ℕ × ℕ)
     → Option Mark → List SimulationLine
 link_script options times o dests links marks line (Some link) mark = []
@@ -126,7 +126,7 @@ place_script options times o (Progress.Links dests links marks) line =
     link_script options times o dests links marks line (link_of line) (mark_of line)
 place_script options times o (Progress.Runs s) line = script_in s o line
 
--- a fault has none
+-- the recorded lines after the links, for any line; none for a fault
 abbrev pub line_script : WorldOptions → Times → DriveView → List ℕ → List SimulationLine
 line_script options times v line =
     if says_notice line then [] else option_map_or (λ q. place_script options times v.place.own v.place.progress line)
@@ -138,8 +138,8 @@ scripts options times v [] = []
 scripts options times v (line ∷ lines) = line_script options times v line
     ++ scripts options times (recorded_reply options times v line).0 lines
 
--- A simulation is what lines leave of one that begins in the first world with these options of some links and
--- destinations, and of what is said of single nodes.
+-- A simulation is the result of these lines, from the first world with these options of some links, destinations and
+-- lines about nodes.
 pub record IsSimulated (options : WorldOptions) (times : Times) (script : List SimulationLine) (s : RunningView) :
     Type 0 where
   pub links : List (ℕ × ℕ)

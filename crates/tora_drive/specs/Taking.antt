@@ -1,4 +1,4 @@
--- Bytes that came to a node, as the datagram that they are.
+-- Received bytes, and the datagram that has them.
 use Rattle.std.specs.Prelude.{ℕ, zero, suc, ◌==◌, ◌&&◌, Bool, false, nat_le, if◌then◌else◌, codes, List, length, Option, Some}
 use Rattle.std.specs.Option.{option_map_or}
 use Rattle.std.specs.Result.{result_ok}
@@ -15,7 +15,7 @@ use Rattle.tora_drive.specs.declared.line.DriveLine.{DriveLine}
 use Rattle.tora_drive.specs.declared.line.DriveLine.TheVariants.{Script}
 use Rattle.tora_drive.specs.DriveLines.{drive_line_of}
 
--- the datagram went from one node to another, and has these bytes
+-- the datagram was sent from one node to another, and has these bytes
 abbrev pub is_sent_so : ℕ → ℕ → List ℕ → FrameParts → Bool
 is_sent_so sender receiver bytes f =
     (f.header.sender == sender) && (f.header.receiver == receiver) && is_word bytes (frame_spelling f)
@@ -23,7 +23,7 @@ is_sent_so sender receiver bytes f =
 abbrev pub is_sent_at : World → ℕ → ℕ → List ℕ → ℕ → Bool
 is_sent_at w sender receiver bytes i = option_map_or (is_sent_so sender receiver bytes) (datagram w i) false
 
--- the greatest number, at most this one and above those that are forgotten, of a datagram that was sent so; 0 for none
+-- the greatest number of such a datagram, at most this number and above those that are forgotten; 0 if there is none
 unfoldable pub last_sent : World → ℕ → ℕ → List ℕ → ℕ → ℕ → ℕ
 last_sent w sender receiver bytes forgotten zero = 0
 last_sent w sender receiver bytes forgotten (suc i) =
@@ -31,12 +31,13 @@ last_sent w sender receiver bytes forgotten (suc i) =
     else if is_sent_at w sender receiver bytes (suc i) then suc i
     else last_sent w sender receiver bytes forgotten i
 
--- the number of the last datagram from a node to another that has these bytes, and can be named; 0 for none
+-- the number of the last datagram from one node to another that has these bytes and is not forgotten; 0 if there is
+-- none
 abbrev pub number_of_bytes : World → ℕ → ℕ → ℕ → List ℕ → ℕ
 number_of_bytes w forgotten sender receiver bytes = last_sent w sender receiver bytes forgotten (length w.datagrams)
 
--- the rest of a line after `take `: the receiver, the sender, and the bytes in hexadecimal digits; it is the delivery
--- of that datagram
+-- the rest of a line `take A B HEX` after its word: the receiver, the sender and the bytes. The line is the delivery of
+-- the datagram with these bytes.
 unfoldable pub taking : World → ℕ → List ℕ → Option DriveLine
 taking w forgotten text = do
   a ← cut 32 text
@@ -46,6 +47,6 @@ taking w forgotten text = do
   bytes ← result_ok (decode_of b.1)
   Some (Script (Happens (Deliver (number_of_bytes w forgotten sender receiver bytes))))
 
--- what a line says in a world
+-- the line with this text, in a world
 unfoldable pub line_in : World → ℕ → List ℕ → Option DriveLine
 line_in w forgotten text = or_else (after (codes "take ") text) (taking w forgotten) (drive_line_of text)

@@ -12,15 +12,15 @@ use tora_world::Limits;
 /// Why a line is a fault.
 #[derive(Clone, Copy, Debug, PartialEq, Eq)]
 pub enum Cause {
-    /// It is the first line and not `dests LIST`.
+    /// The line is the first one and not `dests LIST`.
     Dests,
-    /// It comes after the first line and is not `link A B`.
+    /// The line comes after the first line and is not `link A B`.
     NoLink,
-    /// It comes after the links, and these are refused.
+    /// The line comes after the links, and the links are refused.
     Topology,
-    /// It names a node, a link or a destination that does not exist.
+    /// The line names a node, a link or a destination that does not exist.
     Name,
-    /// It has none of the forms of a line.
+    /// The line has none of the forms of a line.
     Word,
     /// The drive is recorded, and no line of a simulation file has the effect of this line.
     Recorded,

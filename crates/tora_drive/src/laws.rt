@@ -44,8 +44,8 @@ pub fn recorded_drives_are_drives()
     ensures events { EveryRecordedDrive (λ options times w. IsOfHappened options times w) }
 {}
 
-/// The lines that a record has for a line of a drive change the simulation as that line does. The grammar reads each of
-/// them as the event or the order for which it was written, if its numbers are in range, as those of a step are.
+/// The lines that a record has for a line of a drive change the simulation as that line does. Each of them is read as
+/// the event or the order for which it was written, if its numbers are in range, as those of a step are.
 pub fn recorded_lines_stand_for_lines()
     ensures stands { ScriptsStandForLines }
     // For all lines together: the lines of the record lead to the same simulation as the lines of the drive.

@@ -10,8 +10,8 @@ use std::alloc::{AllocError, Global};
 use tora_height::Id;
 use tora_world::Event;
 
-/// The silent ends, each as its node and its neighbour; the number up to which datagrams are forgotten; and the record
-/// of the last line.
+/// The silent ends, each as its node and its neighbour: a `step` sends none of their frames. Then the number up to
+/// which datagrams are forgotten, and the record of the last line.
 #[derive(Drop)]
 pub struct Own {
     pub far: Vec<(Id, Id)>,
@@ -20,7 +20,7 @@ pub struct Own {
     pub recorded: Option<Vec<u8>>,
 }
 
-/// Removes an end from the silent ones.
+/// Removes an end from the silent ends.
 fn take_away(far: &mut Vec<(Id, Id)>, end: (Id, Id))
     ensures { far.new.items ≡ without_far end far.old.items }
 {
@@ -28,7 +28,7 @@ fn take_away(far: &mut Vec<(Id, Id)>, end: (Id, Id))
 }
 
 impl Own {
-    /// No end is silent, nothing is forgotten, and nothing is recorded.
+    /// The state before the first line: no end is silent, nothing is forgotten, and nothing is recorded.
     pub fn new(alloc: Global) -> Own
         ensures view { own_view result ≡ first_own }
         ensures record { record_view result ≡ None }
@@ -40,7 +40,7 @@ impl Own {
         }
     }
 
-    /// The same state, with an empty record.
+    /// The state before the first line, with an empty record.
     pub fn recorded(alloc: Global) -> Own
         ensures view { own_view result ≡ first_own }
         ensures record { record_view result ≡ Some [] }
@@ -107,7 +107,7 @@ impl Own {
         Ok(())
     }
 
-    /// Makes an end silent.
+    /// Makes an end silent: a `step` no longer sends its frames.
     pub fn silence(&mut self, end: (Id, Id)) -> Result<(), AllocError>
         ensures view { OnOk result (own_view self.new ≡ record (own_view self.old) {
           far =
@@ -122,7 +122,7 @@ impl Own {
         Ok(())
     }
 
-    /// Ends the silence of an end.
+    /// Makes a silent end send again; an end that is not silent stays as it is.
     pub fn wake(&mut self, end: (Id, Id))
         ensures view { own_view self.new ≡ record (own_view self.old) { far = without_far end (own_view self.old).far } }
         ensures record { record_view self.new ≡ record_view self.old }

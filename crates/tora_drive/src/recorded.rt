@@ -69,11 +69,11 @@ pub fn drive_recorded<S: Driven, R: Input, W: Output, V: Output>(
     out: &mut TraceOut<V>,
 ) -> Result<Ended, ReplayError>
     requires { IsTimes times }
-    // The text written is the answers to all lines, and `ended` is how the input ends.
+    // The written text is the answers to all lines, and the input ends as the result says.
     ensures whole { IfOk result (λ ended. IfSome (R.remaining reader.old) (λ input.
         DrivesRecorded options times input (W.contents writer.old) (W.contents writer.new) ended)) }
     ensures at_end { result ≡ Ok Ended.Whole → IsAtEnd (R.remaining reader.new) }
-    // The text written is a prefix of the answers to the lines that were read.
+    // The written text is a prefix of the answers to the lines that were read.
     ensures begun { IfErr result (λ e. e ≢ ReplayError.Write →
         IsRecordedBegun options times (R.remaining reader.old) (R.remaining reader.new) (W.contents writer.old)
         (W.contents writer.new)) }

@@ -37,7 +37,7 @@ fn send_of<S: Simulator>(
     turn_end(sim, EndTurn::Transmit, place, end, MOST_TIMES)
 }
 
-/// Lets each end that is not silent send its due frames. If `known`, these are the ends of the simulator, and those
+/// Lets each end that is not silent send its due frames. If `known`, `ends` are the ends of the simulator, and those
 /// that have nothing to do are skipped.
 fn send_all<S: Simulator>(
     sim: &mut S,

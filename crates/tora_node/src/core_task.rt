@@ -15,7 +15,7 @@ use tora_lane::{CorePort, OutPut, OutPuts, Settling};
 use tora_neighbour::Wake;
 use tora_seat::CoreSeat;
 
-/// What is left of the core's thread: its seat, its port with the items taken, its ends of the queues to the
+/// What the core's thread returns at its end: its seat, its port with the items taken, its ends of the queues to the
 /// neighbours, and its writer.
 #[derive(Drop)]
 pub(crate) struct CoreRest<Wr> {

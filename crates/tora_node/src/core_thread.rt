@@ -22,7 +22,7 @@ use std::sync::Wait;
 use tora_lane::CorePort;
 use tora_seat::{Answer, CoreSeat, Item, OutLanes, Status, What, accepted_inputs_make_the_core};
 
-/// What is left of the core's thread.
+/// The state in which the core's thread ended.
 #[derive(Drop)]
 pub struct CoreEnd<O> {
     /// The seat.
@@ -218,12 +218,10 @@ fn is_quit(what: &What) -> bool
 
 /// Takes items and serves them one after another, until `Quit`, `Gone` or a fault, and prints their output: the table
 /// of the core for `Show`, a line of JSON for `Status(Json)`, all heights and next hops for `Status(Watch)` and each
-/// change of them from then on, and `refused N` for a `Need` that the core refuses with the number N. The writer is
-/// flushed after each output.
-/// printed is flushed at once.
-/// Memory is allocated only to print the table, a line of JSON, or heights and next hops, and, while these are watched,
-/// after each item that may have changed them.
-/// that may have changed these while they are watched.
+/// change of them from then on, and `refused N` for a `Need` that the core refuses with the number N.
+///
+/// The writer is flushed after each output. Memory is allocated only to print the table, a line of JSON, or heights and
+/// next hops, and, while these are watched, after each item that may have changed them.
 pub fn run_core<R: Wait, O: OutLanes, W: Write>(
     rt: &R,
     alloc: Global,

@@ -27,7 +27,7 @@ pub enum NodeError {
 }
 
 impl NodeError {
-    /// The number of the error, by which exit statuses go: 1 `Memory`, 2 `Lane`, 3 `Life`, 4 `Wire`, 5 `Output`.
+    /// The number of the error: 1 `Memory`, 2 `Lane`, 3 `Life`, 4 `Wire`, 5 `Output`.
     pub fn number(self) -> u8
         ensures { result ≡ node_error_number self }
     {

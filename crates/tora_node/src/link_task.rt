@@ -15,7 +15,7 @@ pub(crate) struct Outcome {
     pub(crate) tally: Tally,
 }
 
-/// What is left of a neighbour's thread: its result, and its ends of the queues.
+/// What a neighbour's thread returns at its end: its result, and its ends of the queues.
 #[derive(Drop)]
 pub(crate) struct LinkRest {
     pub(crate) outcome: Outcome,

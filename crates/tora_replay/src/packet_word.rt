@@ -42,8 +42,8 @@ fn long_reading(digits: &[u8]) -> Option<Result<Packet, PacketError>>
     reading(digits, &mut [0; 2048])
 }
 
-/// Decodes the packet in a word of hexadecimal digits, or returns why its bytes are not a packet; `-` stands for no
-/// bytes. `None` for any other word.
+/// Decodes the packet in a word of hexadecimal digits, or returns why its bytes are not a packet; `-` means no bytes.
+/// `None` for any other word.
 #[tactic(auto, unfolding(crate::specs::Lines::bytes_of))]
 pub fn packet(text: &[u8]) -> Option<Result<Packet, PacketError>>
     requires { length text.now ≤ 4096 }

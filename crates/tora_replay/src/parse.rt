@@ -49,7 +49,7 @@ pub fn header(alloc: Global, text: &[u8]) -> Result<Header, LineError>
     Ok(Header { node, links, dests })
 }
 
-/// `K HEX`.
+/// The rest of `from K HEX` after its first word: the neighbour K, and the packet that HEX encodes.
 #[tactic(auto, unfolding(crate::specs::Lines::from_of))]
 fn from(text: &[u8]) -> Option<Order>
     requires { length text.now ≤ 4096 }

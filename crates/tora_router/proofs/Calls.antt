@@ -1,4 +1,4 @@
--- What the calls of a router come to.
+-- The effects of the calls of a router.
 use Rattle.std.proofs.Common.{◌≡◌, ◌+◌, ◌≤◌, ℕ, zero, suc, Bool, true, false, List, [], ◌∷◌, length, Option, Some, None, Err, Ok, true≢false, refl, sym, ap, ap₂, ◌∙◌, subst, arith}
 use Rattle.std.specs.Prelude.{is_some, map, option_map, Result}
 use Rattle.tora_frame.specs.declared.FrameError.{FrameError}

@@ -17,7 +17,7 @@ set_same place [] x e = refl
 set_same zero (y ∷ xs) x e = ap (λ z. z ∷ xs) e
 set_same (suc place) (y ∷ xs) x e = ap (λ zs. y ∷ zs) (set_same place xs x e)
 
--- none of those before a place has a value
+-- no item before a place has a value
 abbrev pub NoneBefore : {L A : Type 0} → (L → Option A) → List L → ℕ → Type 0
 NoneBefore value [] place = Unit {0}
 NoneBefore value (x ∷ xs) zero = Unit {0}

@@ -28,7 +28,7 @@ module _ (r : RouterView) (item : Item) (seat : SeatView) (links : List Link) (o
       ap (λ (ls : List Link). record (router_of r) { seat = state_of seat; links = ls }) (takes_all r.seat.core.neighbours r.links offers links o)
       ∙ sym (ap (λ (v : Serving). record (router_of r) { seat = v.seat; links = after_offers r.seat.core.neighbours v.offers r.links }) is_serving)
 
--- where no event waits, nothing more is served
+-- if no event waits, nothing more is served
 pub none_left : (now : ℕ) (r : RouterState) → first_in event_of r.links ≡ None → after_first_event now r ≡ r
 unfolding after_first_event
 none_left now r e = ap (after_event now r) e

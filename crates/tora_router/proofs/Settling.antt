@@ -1,4 +1,4 @@
--- A router that settles.
+-- A router that serves events until none waits.
 use Rattle.std.proofs.Common.{◌≡◌, ◌+◌, ◌-◌, ◌≤◌, ◌<◌, ℕ, zero, suc, Some, None, refl, sym, ap, ◌∙◌, subst, arith}
 use Rattle.tora_arq.specs.declared.link_event.LinkEvent.{LinkEvent}
 use Rattle.tora_router.specs.Links.{first_in, event_of, waiting}
@@ -6,7 +6,7 @@ use Rattle.tora_router.specs.Router.{RouterState, after_first_event, after_event
 use Rattle.tora_router.proofs.Served.{events_over}
 use Rattle.tora_router.proofs.Waiting.{event_waits}
 
--- this many events were served
+-- some number of events was served so far
 pub record SettledSoFar (now : ℕ) (first here : RouterState) : Type 0 where
   pub count : ℕ
   pub served : here ≡ after_events count now first

@@ -1,4 +1,4 @@
--- Each event that is served takes one from what waits.
+-- Each served event lowers the number of waiting events by one.
 use Rattle.std.proofs.Common.{◌≡◌, ◌+◌, ◌≤◌, ℕ, zero, suc, Bool, true, false, true≢false, List, [], ◌∷◌, ◌++◌, length, drop, Option, Some, None, Err, Ok, if◌then◌else◌, refl, sym, ap, ◌∙◌, subst, arith, length-append}
 use Rattle.std.specs.Prelude.{is_some, not, nat_le, ◌^◌, slice_get, Result}
 use Rattle.tora_packet.specs.declared.Packet.{Packet}

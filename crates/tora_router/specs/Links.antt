@@ -93,7 +93,7 @@ frame_of_link now link = frame_due link.end.settings link.end.state now
 abbrev pub sent : ℕ → Link → Link
 sent now link = with_state link (after_transmit link.end.settings link.end.state now)
 
--- the bound life is cut, if there is one
+-- the bound session is cut, if there is one
 abbrev pub cut : Link → Link
 cut link = with_state link (after_cut_of_bound link.end.state (bound_life link.end.state))
 
@@ -137,7 +137,7 @@ change_of k (Some (Tells.Down reason)) = Some (Changes.LinkDown k reason)
 abbrev pub link_change : Link → Option Change
 link_change link = change_of link.end.settings.peer link.news
 
--- at this tick a frame of the link is due, its end is to be opened, or a tick ends its life
+-- at this tick a frame of the link is due, its end is to be opened, or a tick ends its session
 abbrev pub is_link_due : ℕ → ℕ → Link → Bool
 is_link_due number tick link = may_open number link || is_any_due link.end.settings link.end.state tick
 
@@ -171,7 +171,7 @@ may_end Closed = 0
 may_end (Unbound own) = 0
 may_end (Bound life) = 1
 
--- the events of an end that wait, and one more if its life may end
+-- the events of an end that wait, and one more if its session may end
 abbrev pub waits : EndState → ℕ
 waits e = length e.events + may_end e.phase
 

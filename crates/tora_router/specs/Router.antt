@@ -122,7 +122,8 @@ abbrev pub after_events : ℕ → ℕ → RouterState → RouterState
 after_events zero now r = r
 after_events (suc count) now r = after_first_event now (after_events count now r)
 
--- each served event reduces what waits; only the ends of lives are added meanwhile
+-- the router after events are served until none waits: each served event reduces what waits, and only the ends of
+-- sessions are added meanwhile
 abbrev pub settled : ℕ → RouterState → RouterState
 settled now r = after_events (waiting r.links) now r
 
@@ -137,7 +138,7 @@ ticked_at place now r = record r {
   next_life = next_number (opens_at r.next_life place r.links) r.next_life;
 }
 
--- the links before a place, one after another
+-- the router after the tick was passed to the links before a place, one after another
 abbrev pub ticked_before : ℕ → ℕ → RouterState → RouterState
 ticked_before zero now r = r
 ticked_before (suc place) now r = ticked_at place now (ticked_before place now r)
@@ -149,7 +150,7 @@ abbrev pub at_link : {A : Type 0} → A → (ℕ → A) → Option (ℕ × Unit 
 at_link none some None = none
 at_link none some (Some found) = some found.0
 
--- a datagram of a node that is not a neighbour changes nothing
+-- the outcome of a datagram; `NoNeighbour` if the node is not a neighbour
 abbrev pub intake_from : ℕ → ℕ → Result FrameParts FrameError → RouterState → Intake
 intake_from k now reading r =
     at_link NoNeighbour (λ place. intake_at now reading place r.links) (first_in (to_peer k) r.links)
@@ -158,7 +159,7 @@ abbrev pub after_datagram : ℕ → ℕ → Result FrameParts FrameError → Rou
 after_datagram k now reading r = at_link r (λ place. settled now
     (record r { links = at_place (heard now reading) place r.links })) (first_in (to_peer k) r.links)
 
--- a route is needed; the seat of the commands comes after those of the links
+-- the item of a need; the seat of the commands comes after those of the links
 abbrev pub need_item : RouterState → ℕ → ℕ → Item
 need_item r d now = item_at (length r.links) now (Tells.Need d)
 

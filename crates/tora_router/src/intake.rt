@@ -5,10 +5,10 @@ use tora_frame::FrameError;
 /// The outcome of a datagram at a router.
 #[derive(Clone, Copy, Debug, PartialEq, Eq)]
 pub enum Intake {
-    /// The node that it came from is not a neighbour. Nothing changes.
+    /// The node that sent the datagram is not a neighbour. Nothing changes.
     NoNeighbour,
-    /// Its bytes are not a frame, for this reason. The link end did not see it.
+    /// The bytes of the datagram are not a frame, for this reason. The link end did not see it.
     Bad(FrameError),
-    /// It is a frame, with this verdict of the link end.
+    /// The datagram is a frame, with this verdict of the link end.
     Seen(Verdict),
 }

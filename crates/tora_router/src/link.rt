@@ -157,7 +157,7 @@ impl Link {
         }
     }
 
-    /// Cuts the life that the end is bound to, if there is one.
+    /// Cuts the session that the end is bound to, if there is one.
     pub fn cut(&mut self)
         ensures { self.new ≡ cut self.old }
     {

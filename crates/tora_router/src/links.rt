@@ -187,7 +187,7 @@ impl Links {
         next
     }
 
-    /// Cuts the bound life of the link at a place, if there is one.
+    /// Cuts the bound session of the link at a place, if there is one.
     pub fn cut(&mut self, place: usize)
         requires { place < length self.old }
         ensures { self.new ≡ at_place cut place self.old }

@@ -175,8 +175,8 @@ impl Router {
         }
     }
 
-    /// Applies the tick `now`: opens each closed link end with the next life number, and ends the lives that have timed
-    /// out.
+    /// Applies the tick `now`: opens each closed link end with the next life number, and ends the sessions that have
+    /// timed out.
     pub fn on_tick(&mut self, now: u64)
         ensures router { router_of self.new ≡ after_tick now (router_of self.old) }
         ensures settled { first_in event_of self.new.links ≡ None }
@@ -222,8 +222,8 @@ impl Router {
         result_of(answer)
     }
 
-    /// Ends the life of the link to a neighbour, if it has one, for instance because the radio lost it. Returns whether
-    /// there is such a neighbour.
+    /// Ends the session of the link to a neighbour, if it has one, for instance because the radio lost the neighbour.
+    /// Returns whether there is such a neighbour.
     pub fn cut(&mut self, peer: Id, now: u64) -> bool
         ensures answer { result ≡ is_some (first_in (to_peer peer) self.old.links) }
         ensures router { router_of self.new ≡ after_cut peer now (router_of self.old) }

@@ -21,7 +21,7 @@ pub enum RouterError {
     Repeated,
     /// The node itself is among its neighbours.
     OwnId,
-    /// There is not enough memory.
+    /// Memory ran out.
     Memory,
 }
 

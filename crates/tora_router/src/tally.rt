@@ -16,7 +16,7 @@ pub struct Tally {
     pub stale: u64,
     pub foreign: u64,
     pub busy: u64,
-    /// Those that were not frames.
+    /// How many datagrams were not frames.
     pub bad: u64,
 }
 

@@ -1,4 +1,4 @@
--- What is put off, datagram by datagram.
+-- The delayed copies of datagrams, one datagram after another.
 use Rattle.std.proofs.Common.{◌≡◌, ℕ, zero, suc, ◌+◌, ◌-◌, ◌≤◌, Bool, true, false, if◌then◌else◌, List, [], ◌++◌, Option, Some, None, refl, sym, ap, ap₂, ◌∙◌, arith, append_assoc, append-nil}
 use Rattle.std.proofs.lemmas.Bool.{cond-true, cond-false}
 use Rattle.std.proofs.lemmas.Option.{none-some, same_Some}
@@ -19,7 +19,7 @@ put_off_next parted m i w above =
     let j : m.start + (i - m.start) + 1 ≡ i + 1 = omega arith in
     ap (λ (n : ℕ). put_off parted m n w) k ∙ ap (λ (n : ℕ). put_off parted m (i - m.start) w ++ put_off_of parted m n w (datagram w n)) j
 
--- one datagram more
+-- the delayed copies with those of one more datagram
 pub put_off_on : (old now next : List (ℕ × ℕ)) (parted : List (ℕ × ℕ)) (m : MomentView) (i : ℕ) (w : World) → m.start ≤ i → now ≡ old ++ put_off parted m (i - m.start) w → next ≡ now ++ put_off_of parted m (i + 1) w (datagram w (i + 1))
     → next ≡ old ++ put_off parted m (i + 1 - m.start) w
 put_off_on old now next parted m i w above so_far one =
@@ -27,7 +27,7 @@ put_off_on old now next parted m i w above so_far one =
     one ∙ ap (λ (xs : List (ℕ × ℕ)). xs ++ more) so_far ∙ append_assoc old (put_off parted m (i - m.start) w) more
     ∙ ap (λ (xs : List (ℕ × ℕ)). old ++ xs) (sym (put_off_next parted m i w above))
 
--- ---- what one datagram puts off
+-- ---- the delayed copies of one datagram
 
 pub notes_none : (parted : List (ℕ × ℕ)) (m : MomentView) (i : ℕ) (w : World) (o : Option FrameParts) (old : List (ℕ × ℕ)) → way_in o ≡ None → old ≡ old ++ put_off_of parted m i w o
 notes_none parted m i w None old there = sym (append-nil old)
@@ -51,7 +51,7 @@ notes_both parted m i w (Some f) way copies old new there is value noted =
     let here : later_copies i copies ≡ put_off_of parted m i w (Some f) = ap (λ (c : Copies). later_copies i c) value ∙ sym (ap (λ (p : ℕ × ℕ). later_copies i (copies_in m i p w)) same) ∙ sym some in
     noted ∙ ap (λ (xs : List (ℕ × ℕ)). old ++ xs) here
 
--- ---- over a clear channel nothing comes later
+-- ---- over a clear channel no copy is delayed
 
 none_of : (i : ℕ) (b : Bool) (c : Copies) → c ≡ one_now → (if b then [] else later_copies i c) ≡ []
 none_of i true c is = refl

@@ -1,4 +1,4 @@
--- What rounds are over the clear channel.
+-- Rounds over the clear channel.
 use Rattle.std.proofs.Common.{◌≡◌, ℕ, zero, suc, ◌+◌, Bool, true, false, if◌then◌else◌, List, [], ◌++◌, Option, Some, None, refl, ap, ap₂, ◌∙◌}
 use Rattle.tora_frame.specs.FrameParts.{FrameParts}
 use Rattle.tora_script.specs.declared.channel.channel.Copies.{Copies}
@@ -11,11 +11,11 @@ use Rattle.tora_world.specs.World.{World, datagram}
 use Rattle.tora_script.specs.Air.{MomentView, copies_in, at_once, later_copies, put_off_of, put_off}
 use Rattle.tora_script.specs.Rounds.{is_parted, repeats, arrival_of, delivery_of, delivery}
 
--- it comes at once, and once
+-- a datagram arrives once, without delay
 abbrev pub one_now : Copies
 one_now = record { first = Some 0; second = None }
 
--- no line changes it
+-- no line of a table changes the clear channel
 on_clear : (p : Place) → copies_on clear p ≡ copies_of Base.clear p
 unfolding channel_on
 on_clear p = refl

@@ -1,4 +1,4 @@
--- Where a datagram is delivered, all datagrams are as they were.
+-- The delivery of a datagram does not change which datagrams were sent.
 use Rattle.std.proofs.Common.{◌≡◌, ℕ, zero, suc, ◌+◌, List, [], ◌∷◌, is_some, Option, Some, None, slice_get, refl, sym, ap, ap₂, ◌∙◌}
 use Rattle.std.proofs.lemmas.Bool.{cond_both}
 use Rattle.tora_frame.specs.FrameParts.{FrameParts}
@@ -46,7 +46,7 @@ unfolding gone
 same_gone v w way first zero e = refl
 same_gone v w way first (suc count) e = ap₂ (λ (a b : ℕ). a + b) (same_gone v w way first count e) (ap (goes way) (same_datagram v w e (first + count + 1)))
 
--- what was counted before a datagram was delivered is what went behind it
+-- the counts that held before a delivery hold after it
 pub still_counted : (parted : List (ℕ × ℕ)) (m : MomentView) (i : ℕ) (w v : World) (ways : Ways) (first count : ℕ) → v ≡ world_after_all w (delivery parted m i w) → AreCounted w ways first count → AreCounted v ways first count
 still_counted parted m i w v ways first count after h way =
     let stay : v.datagrams ≡ w.datagrams = ap (λ (x : World). x.datagrams) after ∙ delivery_keeps parted m i w (datagram w i) in

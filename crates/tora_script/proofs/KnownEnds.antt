@@ -1,4 +1,4 @@
--- Link ends that have nothing to do are passed over; the ends stay those of the world while events happen.
+-- Link ends with nothing to do are skipped; no event changes the list of the world's link ends.
 use Rattle.std.proofs.Common.{◌≡◌, ℕ, zero, suc, ◌<◌, ◌≤◌, Bool, true, List, [], ◌∷◌, ◌++◌, drop, slice_get, is_some, Option, Some, None, refl, sym, ap, ◌∙◌, arith}
 use Rattle.std.proofs.lemmas.Bool.{cond_both}
 use Rattle.std.proofs.lemmas.List.{drop_all}
@@ -72,7 +72,7 @@ all_keep : (w : World) (events : List Event) → (world_after_all w events).topo
 all_keep w [] = refl
 all_keep w (event ∷ events) = all_keep (world_after w event) events ∙ event_keeps w event
 
--- the ends stay those of the world
+-- the link ends are still those of the world after events
 still_known : (known : Bool) (ends : List (ℕ × ℕ)) (w next : World) (events : List Event) → AreKnown known ends w → next ≡ world_after_all w events → AreKnown known ends next
 still_known known ends w next events h after is = h is ∙ sym (ap (λ (v : World). ends_in v.topology) after ∙ ap ends_in (all_keep w events))
 
@@ -83,9 +83,9 @@ pub round_keeps : (known : Bool) (nodes : List ℕ) (ends parted : List (ℕ × 
 unfolding after_round
 round_keeps known nodes ends parted channel now next h e = still_known known ends now.world next.world (round nodes ends parted (moment_of channel now) now.air.later now.world) h (ap (λ (s : Sky). s.world) e)
 
--- ---- ends that are passed over
+-- ---- skipped ends
 
--- plans without an event are passed over
+-- skipping items whose plan has no event does not change the events
 pub each_over : {A : Type 0} (plan : A → Plan) (xs : List A) (i j : ℕ) (w : World) → i ≤ j → ((at : ℕ) (x : A) → i ≤ at → at < j → slice_get xs at ≡ Some x → plan x w ≡ []) → each plan (drop i xs) w ≡ each plan (drop j xs) w
 each_over {A} plan [] i j w le none = ap (λ (ys : List A). each plan ys w) (drop_all i [] (omega arith) ∙ sym (drop_all j [] (omega arith)))
 each_over plan (x ∷ xs) zero zero w le none = refl
@@ -95,7 +95,7 @@ each_over plan (x ∷ xs) zero (suc j) w le none =
 each_over plan (x ∷ xs) (suc i) zero w le none = absurd (omega (arith, le))
 each_over plan (x ∷ xs) (suc i) (suc j) w le none = each_over plan xs i j w (omega (arith, le)) (λ at y from before there. none (suc at) y (omega (arith, from)) (omega (arith, before)) there)
 
--- a quiet end is refused each turn
+-- every turn of a quiet end is refused
 pub refused_turn : (kind : EndTurn) (w : World) (end : ℕ × ℕ) → IsQuietEnd w end.0 end.1
     → is_some (refusal_of w (end_event kind end)) ≡ true
 refused_turn turn.Open w end quiet = quiet.opens
@@ -103,11 +103,11 @@ refused_turn turn.Pull w end quiet = quiet.pulls
 refused_turn turn.Transmit w end quiet = quiet.sends
 refused_turn turn.Pump w end quiet = quiet.pumps
 
--- ends whose turn is refused have none
+-- skipping ends whose turn is refused does not change the events
 pub pass_over : (kind : EndTurn) (most : ℕ) (ends : List (ℕ × ℕ)) (i j : ℕ) (w : World) → i ≤ j → ((at : ℕ) (end : ℕ × ℕ) → i ≤ at → at < j → slice_get ends at ≡ Some end → is_some (refusal_of w (end_event kind end)) ≡ true)
     → each (λ e. repeats most (end_event kind e)) (drop i ends) w ≡ each (λ e. repeats most (end_event kind e)) (drop j ends) w
 pass_over kind most ends i j w le none = each_over (λ (e : ℕ × ℕ). repeats most (end_event kind e)) ends i j w le (λ at end from before there. no_event w most (end_event kind end) (none at end from before there))
 
--- nodes whose cores refuse a turn have none
+-- skipping nodes whose cores refuse a turn does not change the events
 pub cores_over : (nodes : List ℕ) (i j : ℕ) (w : World) → i ≤ j → ((at n : ℕ) → i ≤ at → at < j → slice_get nodes at ≡ Some n → is_some (refusal_of w (CoreTurn n)) ≡ true) → each_core (drop i nodes) w ≡ each_core (drop j nodes) w
 cores_over nodes i j w le none = each_over (λ (n : ℕ). while_possible (CoreTurn n)) nodes i j w le (λ at n from before there. no_event w 1024 (CoreTurn n) (none at n from before there))

@@ -1,4 +1,4 @@
--- A topology within limits that are known is one within the same limits.
+-- A topology that exists within known limits exists within equal limits.
 use Rattle.std.proofs.Common.{◌≡◌, ◌==◌, ◌&&◌, ℕ, Bool, true, false, List, Option, Some, None, ap, sym, subst, ◌∙◌, true≢false, eqb-true, MatchBool}
 use Rattle.std.specs.Prelude.{⊤}
 use Rattle.std.proofs.lemmas.Bool.{and_parts}

@@ -1,4 +1,4 @@
--- A link is put behind others, or is not, and no number of a link is 0.
+-- After a link is appended to others, or is not, no number of a link is 0.
 use Rattle.std.proofs.Common.{ℕ, ◌<◌, Bool, true, false, cond, List, [], ◌∷◌, ◌++◌}
 use Rattle.std.proofs.Math.Logic.{∥∥₁_map}
 use Rattle.std.proofs.lemmas.List.Elements.{All-nil, All-cons, All-append}

@@ -1,4 +1,4 @@
--- A line that says something of a node is read exactly where it is written.
+-- A line about a node is read exactly if it has the written form of one.
 use Rattle.std.proofs.Common.{◌≡◌, ℕ, Bool, true, false, cond, codes, List, ◌∷◌, ◌++◌, Option, None, Some, refl, ap, ◌∙◌, inl, inr}
 use Rattle.std.specs.Fmt.{decimal}
 use Rattle.tora_packet.specs.PacketParts.{IsId}
@@ -14,7 +14,7 @@ use Rattle.tora_script.specs.SimulationGrammar.{erasure_text, SpellsErasure, Spe
 use Rattle.tora_script.proofs.SimulationFound.{word_found, at_blank, id_spelled}
 use Rattle.tora_script.proofs.SimulationHere.{small, for_id_here}
 
--- ---- what is read is written
+-- ---- a line that is read has the written form
 
 erasure_found : (text : List ℕ) (erasure : Erasure) → erasure_of text ≡ Some erasure → text ≡ erasure_text erasure
 unfolding erasure_of
@@ -47,7 +47,7 @@ mark_found text m h =
       ]
     ]
 
--- ---- what is written is read
+-- ---- a line in the written form is read
 
 erasure_here : (erasure : Erasure) → erasure_of (erasure_text erasure) ≡ Some erasure
 unfolding erasure_of is_word after

@@ -1,4 +1,4 @@
--- The bits of parted pairs, as words come and pairs come and go.
+-- The bits of parted pairs, after words are appended and pairs are added or removed.
 use Rattle.std.proofs.Common.{◌≡◌, ◌≢◌, ℕ, zero, suc, ◌+◌, ◌*◌, ◌/◌, ◌%◌, ◌-◌, ◌^◌, ◌<◌, ◌==◌, ◌⊎◌, Bool, true, false, not, cond, List, [], ◌∷◌, ◌++◌, length, replicate, refl, sym, ap, ap₂, ◌∙◌, inl, inr, arith}
 use Rattle.std.specs.Prelude.{slice_index, slice_set, bit_and, bit_or, filter}
 use Rattle.std.specs.Int.{w64, bit_at}
@@ -12,7 +12,7 @@ use Rattle.tora_script.specs.PartedKeys.{key_of}
 use Rattle.tora_script.specs.PairBits.{word_of, place_of, has_bit, AreBits}
 use Rattle.tora_script.proofs.PartedLaws.{more_told, fewer_told}
 
--- ---- words behind the others, in which no bit is set
+-- ---- appended words, in which no bit is set
 
 zeros : (n i : ℕ) → slice_index (replicate n 0) i ≡ 0
 zeros zero i = refl
@@ -36,7 +36,7 @@ two_equal p q first second = and_from (p.0 == q.0) (p.1 == q.1) (eq-eqb p.0 q.0 
 two_apart : (p q : ℕ × ℕ) → ((p.0 ≡ q.0) → (p.1 ≡ q.1) → ⊥) → pair_eq p q ≡ false
 two_apart p q apart = false_from_ne_true (pair_eq p q) (λ e. let two = and_parts (p.0 == q.0) (p.1 == q.1) e in apart (eqb-true p.0 q.0 two.0) (eqb-true p.1 q.1 two.1))
 
--- the word at which the bit of the key stands has the bit as it is to be, and its other bits as they were
+-- the word with the bit of the key has the new bit there, and its other bits are unchanged
 module _ (words : List ℕ) (key : ℕ × ℕ) (at place new bit : ℕ) (at_is : at ≡ word_of key) (place_is : place ≡ place_of key) (within : at < length words) (small : key.1 < 1024)
     (same : bit_at new place ≡ bit) (others : (i : ℕ) → i < 64 → i ≢ place → bit_at new i ≡ bit_at (slice_index words at) i) (other : ℕ × ℕ) (small_too : other.1 < 1024) where
   in_word : word_of other ≡ at → (place_of other ≡ place) ⊎ (place_of other ≢ place) → (bit_at new (place_of other) == 1) ≡ cond (pair_eq key other) (bit == 1) (has_bit words other)
@@ -79,23 +79,23 @@ clear_one words key at place word at_is place_is word_is within small other smal
     (bit_at_clear_same w64 word place (place_below key place place_is))
     (λ i below apart. bit_at_clear_other w64 word place (place_below key place place_is) i below apart ∙ ap (λ (x : ℕ). bit_at x i) word_is) other small_too
 
--- ---- what the bits tell
+-- ---- the bits of parted pairs
 
--- no pairs
+-- without pairs, no bit is set
 pub no_bits : (words : List ℕ) (pairs : List (ℕ × ℕ)) → words ≡ [] → pairs ≡ [] → AreBits words pairs
 no_bits words pairs none empty a b first second =
     ap (λ (ws : List ℕ). has_bit ws (key_of (a, b))) none ∙ ap (λ (bit : ℕ). bit == 1) (bit_at-zero (place_of (key_of (a, b)))) ∙ sym (ap (λ (ps : List (ℕ × ℕ)). is_parted ps a b) empty)
 
--- the same bits of the same pairs
+-- the same bits represent the same pairs
 pub kept_bits : (old new : List ℕ) (pairs : List (ℕ × ℕ)) → ((other : ℕ × ℕ) → has_bit new other ≡ has_bit old other) → AreBits old pairs → AreBits new pairs
 kept_bits old new pairs same h a b first second = same (key_of (a, b)) ∙ h a b first second
 
--- a pair more
+-- the bits represent the pairs with one more
 pub more_bits : (old new : List ℕ) (before after : List (ℕ × ℕ)) (pair key : ℕ × ℕ) → key ≡ key_of pair → ((other : ℕ × ℕ) → other.1 < 1024 → has_bit new other ≡ cond (pair_eq key other) true (has_bit old other)) → after ≡ before ++ pair ∷ [] → AreBits old before → AreBits new after
 more_bits old new before after pair key is updates pairs h a b first second =
     more_told before after pair key (has_bit old (key_of (a, b))) (has_bit new (key_of (a, b))) a b is (updates (key_of (a, b)) (omega (arith, first, second))) pairs (h a b first second)
 
--- a pair less
+-- the bits represent the pairs with one fewer
 pub fewer_bits : (old new : List ℕ) (before after : List (ℕ × ℕ)) (pair key : ℕ × ℕ) → key ≡ key_of pair → ((other : ℕ × ℕ) → other.1 < 1024 → has_bit new other ≡ cond (pair_eq key other) false (has_bit old other)) → after ≡ filter (λ r. not (is_same_pair pair r)) before → AreBits old before → AreBits new after
 fewer_bits old new before after pair key is updates pairs h a b first second =
     fewer_told before after pair key (has_bit old (key_of (a, b))) (has_bit new (key_of (a, b))) a b is (updates (key_of (a, b)) (omega (arith, first, second))) pairs (h a b first second)

@@ -1,4 +1,4 @@
--- Pairs of numbers that are equal in their order are the same.
+-- Pairs of numbers that are equal by their order are the same.
 use Rattle.std.proofs.Common.{◌≡◌, ℕ, ◌==◌, ◌&&◌, true, false, refl, ap₂, subst}
 use Rattle.std.specs.Ordering.{nat_cmp, ordering_then, is_eq}
 use Rattle.std.specs.declared.cmp.Ordering.{Ordering}
@@ -22,7 +22,7 @@ itself p = ap₂ (λ (r s : Ordering). is_eq (ordering_then r s)) (tied_itself n
 pub tied_pair : (p q : ℕ × ℕ) → p ≡ q → is_eq (pair_cmp p q) ≡ true
 tied_pair p q e = subst (λ (r : ℕ × ℕ). is_eq (pair_cmp p r) ≡ true) e (itself p)
 
--- what the order tells apart, the parts do
+-- pairs that differ by their order differ in a number
 pub other_pair : (p q : ℕ × ℕ) → is_eq (pair_cmp p q) ≡ false → ((p.0 == q.0) && (p.1 == q.1)) ≡ false
 other_pair p q e =
     false_from_ne_true ((p.0 == q.0) && (p.1 == q.1)) (λ h.

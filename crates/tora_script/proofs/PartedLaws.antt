@@ -1,4 +1,4 @@
--- The keys of parted pairs, as pairs come and go.
+-- The keys of parted pairs, after pairs are added and removed.
 use Rattle.std.proofs.Common.{◌≡◌, ℕ, ◌<◌, ◌==◌, ◌&&◌, ◌||◌, ◌⊎◌, Bool, true, false, not, cond, min, max, List, [], ◌∷◌, ◌++◌, refl, sym, ap, ap₂, ◌∙◌, inl, inr, arith}
 use Rattle.std.specs.List.{list_any, filter}
 use Rattle.std.specs.HashSet.{HashSet, contains}
@@ -8,7 +8,7 @@ use Rattle.tora_script.specs.Pairs.{pair_eq}
 use Rattle.tora_script.specs.Parted.{is_same_pair, is_parted}
 use Rattle.tora_script.specs.PartedKeys.{key_of, AreKeys}
 
--- ---- two pairs have one key where they name the same two nodes
+-- ---- two pairs have the same key if they name the same two nodes
 
 straight : (a b c d : ℕ) → a ≡ c → min c d ≡ min a b → max c d ≡ max a b → b ≡ d
 straight a b c d e low high = omega (arith, e, low, high)
@@ -56,7 +56,7 @@ agree true false there back = absurd (false≢true (there refl))
 agree false true there back = absurd (false≢true (back refl))
 agree false false there back = refl
 
--- the keys are the same where they name the same two
+-- pairs whose numbers are equal are the same
 from_equal : (p q : ℕ × ℕ) → pair_eq p q ≡ true → p ≡ q
 from_equal p q e = let two = and_parts (p.0 == q.0) (p.1 == q.1) e in ap₂ (λ (a b : ℕ). (a, b)) (eqb-true p.0 q.0 two.0) (eqb-true p.1 q.1 two.1)
 
@@ -67,17 +67,17 @@ same_key : (p q : ℕ × ℕ) → pair_eq (key_of q) (key_of p) ≡ is_same_pair
 same_key p q =
     agree (pair_eq (key_of q) (key_of p)) (is_same_pair p q) (λ e. named_from_key p q (from_equal (key_of q) (key_of p) e)) (λ h. equal_from (key_of q) (key_of p) (key_from_named p q h))
 
--- ---- no pairs
+-- ---- without pairs
 
 pub no_keys : {S : Type 0} → (keys : HashSet (ℕ × ℕ) S) (pairs : List (ℕ × ℕ)) → keys.keys ≡ [] → pairs ≡ [] → AreKeys keys pairs
 no_keys keys pairs none empty a b = ap (λ (ks : List (ℕ × ℕ)). list_any (pair_eq (key_of (a, b))) ks) none ∙ sym (ap (λ (ps : List (ℕ × ℕ)). is_parted ps a b) empty)
 
--- the same keys of the same pairs
+-- the same keys represent the same pairs
 pub kept_keys : {S : Type 0} → (old new : HashSet (ℕ × ℕ) S) (before after : List (ℕ × ℕ)) → new.keys ≡ old.keys → after ≡ before → AreKeys old before → AreKeys new after
 kept_keys old new before after keys pairs h a b =
     ap (λ (ks : List (ℕ × ℕ)). list_any (pair_eq (key_of (a, b))) ks) keys ∙ h a b ∙ sym (ap (λ (ps : List (ℕ × ℕ)). is_parted ps a b) pairs)
 
--- ---- a pair more
+-- ---- one more pair
 
 put_in : (same was : Bool) → cond same true was ≡ (was || (same || false))
 put_in true true = refl
@@ -85,7 +85,7 @@ put_in true false = refl
 put_in false true = refl
 put_in false false = refl
 
--- what tells of two nodes whether they are parted, tells it of them with the pair
+-- a test of whether two nodes are parted is still right after a pair is added, if it is updated for the key of the pair
 pub more_told : (before after : List (ℕ × ℕ)) (pair key : ℕ × ℕ) (was is : Bool) (a b : ℕ) → key ≡ key_of pair → is ≡ cond (pair_eq key (key_of (a, b))) true was → after ≡ before ++ pair ∷ [] → was ≡ is_parted before a b → is ≡ is_parted after a b
 more_told before after pair key was is a b key_is update pairs h =
     update ∙ ap (λ (k : ℕ × ℕ). cond (pair_eq k (key_of (a, b))) true was) key_is
@@ -96,15 +96,15 @@ pub more_keys : {S : Type 0} → (old new : HashSet (ℕ × ℕ) S) (before afte
 more_keys old new before after pair key is updates pairs h a b =
     more_told before after pair key (contains pair_eq old (key_of (a, b))) (contains pair_eq new (key_of (a, b))) a b is (updates (key_of (a, b))) pairs (h a b)
 
--- ---- a pair less
+-- ---- one pair fewer
 
--- what names the two that p names, names those that q names, where p and q name the same
+-- if p and q name the same two nodes, a third pair names the nodes of p exactly if it names those of q
 alike : (p q r : ℕ × ℕ) → is_same_pair p q ≡ true → is_same_pair p r ≡ is_same_pair q r
 alike p q r h =
     let same : key_of q ≡ key_of p = key_from_named p q h in
     sym (same_key p r) ∙ ap (λ (k : ℕ × ℕ). pair_eq (key_of r) k) (sym same) ∙ same_key q r
 
--- ..., and where they don't, nothing names both
+-- if p and q do not name the same two nodes, no pair names the nodes of both
 unlike : (p q r : ℕ × ℕ) → is_same_pair p q ≡ false → is_same_pair q r ≡ true → is_same_pair p r ≡ false
 unlike p q r apart h =
     false_from_ne_true (is_same_pair p r) (λ e.
@@ -135,7 +135,8 @@ taken_out p q pairs = go (is_same_pair p q) refl
     go true e = sym (none_left p q pairs e)
     go false e = sym (all_left p q pairs e)
 
--- ..., tells it of them without the pair
+-- a test of whether two nodes are parted is still right after a pair is removed, if it is updated for the key of the
+-- pair
 pub fewer_told : (before after : List (ℕ × ℕ)) (pair key : ℕ × ℕ) (was is : Bool) (a b : ℕ) → key ≡ key_of pair → is ≡ cond (pair_eq key (key_of (a, b))) false was → after ≡ filter (λ r. not (is_same_pair pair r)) before → was ≡ is_parted before a b → is ≡ is_parted after a b
 fewer_told before after pair key was is a b key_is update pairs h =
     update ∙ ap (λ (k : ℕ × ℕ). cond (pair_eq k (key_of (a, b))) false was) key_is

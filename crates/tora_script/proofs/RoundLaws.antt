@@ -1,4 +1,4 @@
--- How a plan of events is carried out, step by step.
+-- Plans of events, carried out step by step.
 use Rattle.std.proofs.Common.{◌≡◌, ℕ, zero, suc, ◌+◌, ◌-◌, ◌<◌, ◌≤◌, Bool, true, false, not, ◌||◌, List, [], ◌∷◌, ◌++◌, length, drop, get_or, is_some, Option, None, Some, refl, sym, ap, ◌∙◌, subst, arith}
 use Rattle.std.proofs.lemmas.Bool.{cond-true, cond-false}
 use Rattle.std.proofs.lemmas.List.{drop_more, drop_all}
@@ -34,7 +34,7 @@ or_false : (a : Bool) → (a || false) ≡ a
 or_false true = refl
 or_false false = refl
 
--- of these events some have happened, or none, and these are left
+-- some of the events have happened, possibly none, and these are left
 pub record Onward (w : World) (events : List Event) (now : World) (some : Bool) (left : List Event) : Type 0 where
   pub goes : world_after_all now left ≡ world_after_all w events
   pub any : (some || not (is_empty left)) ≡ not (is_empty events)
@@ -45,7 +45,7 @@ begins w events = record { goes = refl; any = refl }
 pub ends : (w : World) (events : List Event) (now : World) (some : Bool) → Onward w events now some [] → Happened w events now some
 ends w events now some o = record { after_is = o.goes; some_is = sym (or_false some) ∙ o.any }
 
--- one plan is carried out, and the next is left
+-- one plan was carried out, and the next one is left
 pub part : (w : World) (events : List Event) (now next : World) (some any : Bool) (plan rest : Plan) → Onward w events now some (plan_then plan rest now) → Happened now (plan now) next any → Onward w events next (some || any) (rest next)
 part w events now next some any plan rest o h =
     let here : world_after_all now (plan now) ≡ next = sym h.after_is in
@@ -57,7 +57,7 @@ part w events now next some any plan rest o h =
           ∙ ap (λ (b : Bool). some || b) (sym (some_append (plan now) (rest next))) ∙ ap (λ (x : List Event). some || not (is_empty x)) (sym whole) ∙ o.any;
     }
 
--- ---- an event again and again
+-- ---- one event, repeated
 
 pub again : (w : World) (events : List Event) (now next : World) (some : Bool) (j : ℕ) (event : Event) → Onward w events now some (repeats (suc j) event now) → refusal_of now event ≡ None → next ≡ world_after now event → Onward w events next true (repeats j event next)
 unfolding repeats
@@ -79,14 +79,14 @@ refused w events now next some j event error o stop e =
     let o' : Onward w events now some [] = rw left at o in
     rw (e, same) (ends w events now some o')
 
--- it is refused, and so was not asked for
+-- the event is refused, so it was not tried
 pub impossible : (w : World) (events : List Event) (now : World) (some : Bool) (j : ℕ) (event : Event) → Onward w events now some (repeats (suc j) event now) → is_some (refusal_of now event) ≡ true → Happened w events now some
 unfolding repeats
 impossible w events now some j event o stop =
     let left : repeats (suc j) event now ≡ [] = rw stop refl in
     ends w events now some (rw left at o)
 
--- no plan of it has an event
+-- the plan to repeat an event that is refused has no event
 pub idle : (w : World) (most : ℕ) (event : Event) → is_some (refusal_of w event) ≡ true → Happened w (repeats most event w) w false
 unfolding repeats
 idle w zero event stop = record { after_is = refl; some_is = refl }
@@ -96,7 +96,7 @@ pub no_more : (w : World) (events : List Event) (now : World) (some : Bool) (eve
 unfolding repeats
 no_more w events now some event o = ends w events now some o
 
--- ---- plans in a row
+-- ---- one plan after another
 
 pub Happened-then : (w mid next : World) (some any : Bool) (plan rest : Plan) → Happened w (plan w) mid some → Happened mid (rest mid) next any → Happened w (plan_then plan rest w) next (some || any)
 Happened-then w mid next some any plan rest p q =
@@ -154,7 +154,7 @@ pub no_rounds : (s : Sky) (nodes : List ℕ) (ends parted : List (ℕ × ℕ)) (
 unfolding rounds
 no_rounds s nodes ends parted channel = refl
 
--- ---- a plan for each of a list
+-- ---- a plan for each item of a list
 
 pub each_part : {A : Type 0} (plan : A → Plan) (xs : List A) (i : ℕ) (d : A) (w : World) (events : List Event) (now next : World) (some any : Bool) → i < length xs → Onward w events now some (each plan (drop i xs) now) → Happened now (plan (get_or xs i d) now) next any
     → Onward w events next (some || any) (each plan (drop (i + 1) xs) next)
@@ -182,12 +182,12 @@ all_delivered parted m i end w events now some above o =
     let k : end - i ≡ zero = omega arith in
     ends w events now some (rw k at o)
 
--- there is no datagram to deliver
+-- the number is not that of a datagram, so nothing is delivered
 pub no_delivery : (parted : List (ℕ × ℕ)) (m : MomentView) (i : ℕ) (w : World) (o : Option FrameParts) → way_in o ≡ None → Happened w (delivery_of parted m i o w) w false
 no_delivery parted m i w None there = record { after_is = refl; some_is = refl }
 no_delivery parted m i w (Some f) there = absurd (none-some (f.header.sender, f.header.receiver) (sym there))
 
--- its nodes are parted
+-- the nodes of the datagram are parted, so it is not delivered
 pub parted_delivery : (parted : List (ℕ × ℕ)) (m : MomentView) (i : ℕ) (w : World) (o : Option FrameParts) (way : ℕ × ℕ) → way_in o ≡ Some way → is_parted parted way.0 way.1 ≡ true → Happened w (delivery_of parted m i o w) w false
 parted_delivery parted m i w None way there is = absurd (none-some way there)
 parted_delivery parted m i w (Some f) way there is =
@@ -196,7 +196,7 @@ parted_delivery parted m i w (Some f) way there is =
     cond-true (is_parted parted f.header.sender f.header.receiver) [] (repeats (at_once (copies_in m i (f.header.sender, f.header.receiver) w)) (Deliver i) w) (ap (λ (p : ℕ × ℕ). is_parted parted p.0 p.1) same ∙ is) in
     subst (λ (events : List Event). Happened w events w false) (sym none) (record { after_is = refl; some_is = refl })
 
--- it is delivered as often as the channel says
+-- the datagram is delivered as often as the channel says
 pub whole_delivery : (parted : List (ℕ × ℕ)) (m : MomentView) (i : ℕ) (w next : World) (some : Bool) (o : Option FrameParts) (way : ℕ × ℕ) (copies : Copies) → way_in o ≡ Some way → is_parted parted way.0 way.1 ≡ false → copies ≡ copies_in m i way w
     → Happened w (repeats (at_once copies) (Deliver i) w) next some → Happened w (delivery_of parted m i o w) next some
 whole_delivery parted m i w next some None way copies there is value h = absurd (none-some way there)

@@ -1,4 +1,4 @@
--- What is read of a line of a simulation file is written there.
+-- A line of a simulation file that is read has the written form of what it is read as.
 use Rattle.std.proofs.Common.{◌≡◌, ℕ, ◌+◌, ◌≤◌, ◌⊎◌, inl, inr, Bool, true, false, cond, leb, ◌==◌, codes, List, [], ◌∷◌, ◌++◌, length, Option, None, Some, Result, Ok, Err, is_some, refl, ap, ◌∙◌, arith, option_map}
 use Rattle.std.specs.Result.{result_ok}
 use Rattle.std.specs.Fmt.{decimal}
@@ -47,7 +47,7 @@ word_found word text h =
     front [] = refl
     front (x ∷ a) = ap (λ (t : List ℕ). x ∷ t) (front a)
 
--- two parts, at the first blank
+-- the two parts of a text, before and after the first blank
 pub record IsCut (text a b : List ℕ) : Type 0 where
   pub text_is : text ≡ a ++ 32 ∷ b
 
@@ -78,7 +78,7 @@ id_spelled make word text rest o t h =
     let q = id_found rest n.0 n.1 in
     (n.0, record { id = q.1; text_is = t ∙ ap (λ (x : List ℕ). word ++ x) q.0 }, some_is (make n.0) o n.2)
 
--- ---- lives
+-- ---- sessions
 
 life_number_from_found : (m n : ℕ) → life_number_from m ≡ Some n → (m ≡ n) × IsLifeNumber n
 life_number_from_found m n h = grind (arith, nat_tests)
@@ -384,7 +384,7 @@ order_line_found text o h =
       | inr g ↦ or_part_found text o g
     ]
 
--- the first of two, if it is there, and else the other
+-- the first of two options that has a value
 first_found : (a b : Option SimulationLine) (o : SimulationLine) → first_of_two a b ≡ Some o → (a ≡ Some o) ⊎ (b ≡ Some o)
 first_found (Some x) b o h = inl h
 first_found None b o h = inr h
@@ -404,7 +404,7 @@ simulation_line_found text o h =
       ]
     ]
 
--- ---- the lines in front
+-- ---- the lines before the simulation runs
 
 pub dests_found : (text dests : List ℕ) → dests_of text ≡ Some dests → SpellsDests text dests
 unfolding dests_of

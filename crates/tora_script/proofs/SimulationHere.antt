@@ -1,4 +1,4 @@
--- What is written in a line of a simulation file is read there.
+-- A line of a simulation file that has a written form is read as that form says.
 use Rattle.std.proofs.Common.{◌≡◌, ℕ, ◌<◌, ◌≤◌, ◌^◌, Bool, true, false, ◌&&◌, ltb, leb, ◌==◌, codes, List, ◌∷◌, ◌++◌, length, Option, None, Some, refl, ap, ◌∙◌, arith}
 use Rattle.std.specs.Fmt.{decimal}
 use Rattle.std.proofs.lemmas.Bool.{lt-ltb, le-leb}
@@ -76,7 +76,7 @@ not_word word text h = rw h (and_false (length text == length word))
     and_false true = refl
     and_false false = refl
 
--- ---- the words apart: a line with this word is read by its own reader alone
+-- ---- different first words: a line with this word is read only by the reader for it
 
 open_reads : (rest : List ℕ) (e : Event) → for_pair Open rest ≡ Some e → simulation_line_of (codes "open " ++ rest) ≡ Some (Happens e)
 unfolding simulation_line_of end_event_of after
@@ -170,7 +170,7 @@ rest_here : simulation_line_of (codes "rest") ≡ Some Rest
 unfolding simulation_line_of end_event_of node_event_of order_line_of walk_line_of is_word after
 rest_here = refl
 
--- ---- what each reader makes of its words
+-- ---- the result of each reader
 
 for_pair_here : {A : Type 0} (make : ℕ → ℕ → A) (n k : ℕ) → IsId n → IsId k → for_pair make (decimal n ++ 32 ∷ decimal k) ≡ Some (make n k)
 unfolding for_pair

@@ -1,4 +1,4 @@
--- A line's reply in a simulation, as the text that goes on.
+-- The reply to a line of a simulation, as a continuation of the text.
 use Rattle.std.proofs.Common.{◌≡◌, ℕ, ◌≤◌, List, length, Result, Ok, Err}
 use Rattle.tora_world.specs.World.{World}
 use Rattle.tora_lines.specs.declared.words.LineError.{LineError}

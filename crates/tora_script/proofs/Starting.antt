@@ -1,4 +1,4 @@
--- What the simulator's own clauses say, as the engine asks for it.
+-- The contracts of the simulator, in the form in which the engine requires them.
 use Rattle.std.proofs.Common.{◌≡◌, ◌∙◌, inl, inr, refl, ap, arith, ℕ, ◌<◌, MatchBool, Bool, true, false, List, [], ◌∷◌, ◌++◌, Option, Some, None, is_some, if◌then◌else◌}
 use Rattle.std.proofs.lemmas.List.Elements.{All-map}
 use Rattle.tora_arq.specs.declared.times.Times.{Times}
@@ -28,7 +28,7 @@ pub started_as : (options : WorldOptions) (links : List (ℕ × ℕ)) (dests : L
 unfolding started
 started_as options links dests marks times w sound made = rw (sound, made) refl
 
--- where there is no such node, nothing is chosen
+-- if there is no such node, the topology does not change
 unmade : (b : Bool) (t made : Topology) → MatchBool b (Refused.NoNode ≡ Refused.Memory) (Refused.NoNode ≡ Refused.NoNode) → t ≡ (if b then made else t)
 unmade true t made h = absurd cc
 unmade false t made h = refl
@@ -36,11 +36,11 @@ unmade false t made h = refl
 pub not_chosen : (t new : Topology) (n : ℕ) (erasure : Erasure) → new ≡ t → MatchBool (is_node t n) (Refused.NoNode ≡ Refused.Memory) (Refused.NoNode ≡ Refused.NoNode) → new ≡ with_choice t n erasure
 not_chosen t new n erasure same h = same ∙ unmade (is_node t n) t (record t { choices = t.choices ++ (n, erasure) ∷ [] }) h
 
--- what a refusal leaves
+-- a refused event does not change the world
 left_by : {A : Type 0} (r : Option SimError) (e : SimError) (w x : A) → r ≡ Some e → w ≡ (if is_some r then w else x)
 left_by r e w x is = rw is refl
 
--- an event that is refused for another cause than memory, which has the number 1, leaves the world as it was
+-- an event that is refused for another cause than memory, which has the number 1, does not change the world
 pub stays : (w after : World) (event : Event) (e : SimError) → 1 < sim_error_number e → IsRefused w event e after → after ≡ world_after w event
 unfolding world_by
 stays w after event e other refused = elim refused.cause [
@@ -48,7 +48,7 @@ stays w after event e other refused = elim refused.cause [
   | inr cause ↦ refused.world ∙ left_by (refusal_of w event) e w (effect_by (own_choice w event) w event) cause
 ]
 
--- and its cause is the refusal
+-- the cause of such an event is its refusal
 pub is_cause : (w after : World) (event : Event) (e : SimError) → 1 < sim_error_number e → IsRefused w event e after → refusal_of w event ≡ Some e
 is_cause w after event e other refused = elim refused.cause [
   | inl none ↦ let one : sim_error_number e ≡ 1 = ap sim_error_number none.0 in absurd (omega arith)

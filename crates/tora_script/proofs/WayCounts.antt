@@ -1,4 +1,4 @@
--- How many datagrams went each way, counted one after the other.
+-- How many datagrams were counted in each direction, one datagram after another.
 use Rattle.std.proofs.Common.{◌≡◌, ℕ, zero, suc, ◌+◌, ◌-◌, ◌<◌, ◌==◌, Bool, true, false, cond, if◌then◌else◌, Option, Some, None, refl, sym, ap, ◌∙◌, arith, unwrap_or}
 use Rattle.std.specs.Ordering.{is_eq}
 use Rattle.std.proofs.lemmas.Bool.{eq-eqb, and_from}
@@ -11,7 +11,7 @@ use Rattle.tora_script.specs.Pairs.{pair_cmp}
 use Rattle.tora_script.specs.Ways.{way_in, times, goes_as, IsOneMore, AreCounted}
 use Rattle.tora_script.proofs.PairOrder.{same_pair, other_pair}
 
--- ---- one way's count goes up
+-- ---- the count of one direction rises
 
 up : (a n o p g : ℕ) → a ≡ n → n ≡ o + 1 → o ≡ p → g ≡ 1 → a ≡ p + g
 up a n o p g now next before here = omega (arith, now, next, before, here)
@@ -19,7 +19,7 @@ up a n o p g now next before here = omega (arith, now, next, before, here)
 stay : (a p g : ℕ) → a ≡ p → g ≡ 0 → a ≡ p + g
 stay a p g same none = omega (arith, same, none)
 
--- the way that was written has one more, and any other what it had
+-- the count of this direction is one more, and every other count is unchanged
 pub one_more : (old new : ℕ × ℕ → Option ℕ) (way : ℕ × ℕ) (n : ℕ) → n ≡ unwrap_or (old way) 0 + 1 → ((q : ℕ × ℕ) → new q ≡ cond (is_eq (pair_cmp way q)) (Some n) (old q))
     → (q : ℕ × ℕ) → unwrap_or (new q) 0 ≡ unwrap_or (old q) 0 + goes_as way q
 one_more old new way n next updates q = go (is_eq (pair_cmp way q)) refl
@@ -35,9 +35,9 @@ one_more old new way n next updates q = go (is_eq (pair_cmp way q)) refl
         let same : unwrap_or (new q) 0 ≡ unwrap_or (old q) 0 = ap (λ (o : Option ℕ). unwrap_or o 0) (updates q ∙ ap (λ (b : Bool). cond b (Some n) (old q)) e) in
         stay (unwrap_or (new q) 0) (unwrap_or (old q) 0) (goes_as way q) same none
 
--- ---- one datagram more
+-- ---- one more datagram
 
--- the datagrams up to i are those up to the one before, and datagram i
+-- the datagrams up to i are those before i, and datagram i
 next_gone : (w : World) (way : ℕ × ℕ) (start i : ℕ) → start < i → gone w way start (i - start) ≡ gone w way start (i - 1 - start) + goes way (datagram w i)
 unfolding gone
 next_gone w way start i behind =
@@ -63,12 +63,12 @@ pub none_more : (w : World) (ways : Ways) (start i : ℕ) → start < i → AreC
 none_more w ways start i behind h none way =
     as_many (times ways way) (gone w way start (i - 1 - start)) (gone w way start (i - start)) (goes way (datagram w i)) (goes_nowhere (datagram w i) way none) (h way) (next_gone w way start i behind)
 
--- datagram i goes this way
+-- datagram i was sent in this direction
 pub some_more : (w : World) (old new : Ways) (start i : ℕ) (here : ℕ × ℕ) → start < i → AreCounted w old start (i - 1 - start) → way_in (datagram w i) ≡ Some here → IsOneMore old new here → AreCounted w new start (i - start)
 some_more w old new start i here behind h is more way =
     more way ∙ ap (λ (n : ℕ). n + goes_as here way) (h way) ∙ ap (λ (n : ℕ). gone w way start (i - 1 - start) + n) (sym (goes_there (datagram w i) here way is)) ∙ sym (next_gone w way start i behind)
 
--- before any was counted
+-- no datagram was counted yet
 pub none_yet : (w : World) (ways : Ways) (start count : ℕ) → count ≡ 0 → ((way : ℕ × ℕ) → times ways way ≡ 0) → AreCounted w ways start count
 unfolding gone
 none_yet w ways start zero is none way = none way

@@ -1,4 +1,4 @@
--- What a channel makes of the datagrams of rounds: which come at once, and which in later rounds.
+-- The effect of a channel on the datagrams of rounds: which copies arrive at once, and which in later rounds.
 use Rattle.std.specs.Prelude.{◌≡◌, ℕ, zero, suc, ◌+◌, ◌-◌, ◌%◌, ◌^◌, ◌==◌, ◌&&◌, nat_lt, if◌then◌else◌, List, [], ◌∷◌, ◌++◌, length, map, filter, Option, Some, None}
 use Rattle.tora_frame.specs.FrameParts.{FrameParts}
 use Rattle.tora_script.specs.declared.channel.channel.Copies.{Copies}
@@ -9,13 +9,13 @@ use Rattle.tora_script.specs.Parted.{is_parted}
 use Rattle.tora_script.specs.declared.air.Air.{Air}
 use Rattle.tora_script.specs.declared.air.Moment.{Moment}
 
--- a round: its channel with the lines that change it, how many rounds were before it, and how many datagrams
+-- a round: its channel with the lines that change it, and how many rounds and datagrams there were before it
 pub record MomentView : Type 0 where
   pub channel : Channels
   pub round : ℕ
   pub start : ℕ
 
--- that of the code
+-- the view of a `Moment`
 abbrev pub moment_view : Moment → MomentView
 moment_view m = record {
   channel = over m.network.table.now m.network.channel;
@@ -23,7 +23,8 @@ moment_view m = record {
   start = m.start;
 }
 
--- how many rounds there were, and the datagrams that come in later ones: in how many rounds, and which one
+-- the number of rounds so far, and the delayed copies: after how many more rounds each arrives, and the number of its
+-- datagram
 pub record AirView : Type 0 where
   pub round : ℕ
   pub later : List (ℕ × ℕ)
@@ -44,8 +45,8 @@ unfoldable pub gone : World → ℕ × ℕ → ℕ → ℕ → ℕ
 gone w way first zero = 0
 gone w way first (suc count) = gone w way first count + goes way (datagram w (first + count + 1))
 
--- what becomes of datagram i, which goes this way: its round is that of the moment, and those before it went since the
--- round began
+-- the copies of datagram i, which was sent in this direction: its round is that of the moment, and the earlier
+-- datagrams of the round in this direction are counted
 abbrev pub copies_in : MomentView → ℕ → ℕ × ℕ → World → Copies
 copies_in m i way w = copies_on m.channel (record {
   round = m.round;
@@ -58,18 +59,18 @@ copies_in m i way w = copies_on m.channel (record {
 abbrev pub IsClear : MomentView → Type 0
 IsClear m = (place : Place) → copies_on m.channel place ≡ record { first = Some 0; second = None }
 
--- ---- at once
+-- ---- copies that arrive at once
 
 abbrev pub is_now : Option ℕ → ℕ
 is_now None = 0
 is_now (Some zero) = 1
 is_now (Some (suc d)) = 0
 
--- how often it comes at once
+-- how many copies of a datagram arrive in the round in which it is sent
 abbrev pub at_once : Copies → ℕ
 at_once c = is_now c.first + is_now c.second
 
--- ---- later
+-- ---- copies that arrive in later rounds
 
 abbrev pub later_copy : ℕ → Option ℕ → List (ℕ × ℕ)
 later_copy i None = []
@@ -84,13 +85,13 @@ put_off_of parted m i w None = []
 put_off_of parted m i w (Some f) = if is_parted parted f.header.sender f.header.receiver then []
     else later_copies i (copies_in m i (f.header.sender, f.header.receiver) w)
 
--- the delayed copies of this many datagrams since the round began
+-- the delayed copies of the first `count` datagrams since the round began
 unfoldable pub put_off : List (ℕ × ℕ) → MomentView → ℕ → World → List (ℕ × ℕ)
 put_off parted m zero w = []
 put_off parted m (suc count) w = put_off parted m count w ++ put_off_of parted m (m.start + count + 1) w
     (datagram w (m.start + count + 1))
 
--- what comes still later than in the next round, seen from there
+-- the delayed copies after this round: those that arrived are removed, and the delay of the others is 1 less
 abbrev pub still_later : List (ℕ × ℕ) → List (ℕ × ℕ)
 still_later later = map (λ p. (p.0 - 1, p.1)) (filter (λ p. nat_lt 1 p.0) later)
 

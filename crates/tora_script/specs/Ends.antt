@@ -41,8 +41,8 @@ abbrev pub erasure_fields : Erasure → Option ℕ → Option (List ℕ) → Lis
 erasure_fields Plain until file = more_fields until file
 erasure_fields Remembered until file = remembered_fields until file
 
--- `0 trace 1 HELLO SILENCE RETRY TRIES LOSS LEAST MOST REPEAT SEED NOTICE`, and ` UNTIL FILE` where there is a last
--- round or a channel file, or ` UNTIL FILE remembered`
+-- `0 trace 1 HELLO SILENCE RETRY TRIES LOSS LEAST MOST REPEAT SEED NOTICE`, with ` UNTIL FILE` if there is a last round
+-- or a channel file, or with ` UNTIL FILE remembered` if nodes remember erased levels
 unfoldable pub first_record : Setup → Option (List ℕ) → List ℕ
 first_record s file =
     codes "0 trace 1" ++ field s.times.hello ++ field s.times.silent ++ field s.times.retry ++ field s.times.tries

@@ -6,12 +6,12 @@ use Rattle.tora_sim.specs.Topologies.{with_olds, with_old}
 use Rattle.tora_script.specs.declared.node_marks.Mark.{Mark}
 use Rattle.tora_script.specs.declared.node_marks.Mark.TheVariants.{Old, Erases}
 
--- the node
+-- the node that the line is about
 abbrev pub marked : Mark → ℕ
 marked (Old n) = n
 marked (Erases n erasure) = n
 
--- the node and what it makes of erased levels, if that is what is said
+-- the node and its choice of erasure, if the line is an `erasure` line
 abbrev pub choice_in : Mark → Option (ℕ × Erasure)
 choice_in (Old n) = None
 choice_in (Erases n erasure) = Some (n, erasure)

@@ -1,4 +1,4 @@
--- What a round of a simulation is: a list of events, and what it leaves in the air.
+-- A round of a simulation: its list of events, and the delayed datagrams after it.
 pub use Rattle.tora_script.specs.Parted.{is_same_pair, is_parted}
 unfoldable pub use Rattle.tora_sim.specs.Steps.{repeats}
 pub use Rattle.tora_sim.specs.Steps.{Happened}
@@ -14,39 +14,39 @@ use Rattle.tora_script.specs.declared.air.Air.{Air}
 use Rattle.tora_script.specs.declared.turns.EndTurn.{EndTurn}
 use Rattle.tora_script.specs.declared.turns.EndTurn.TheVariants as turn
 
--- ---- plans: which events happen next (`repeats` is one: an event again and again until it is refused, and so many
--- times at most)
+-- ---- plans: the events that happen next in a world; `repeats` is the plan to repeat one event until it is refused, at
+-- most a number of times
 
 abbrev pub Plan : Type 0
 Plan = World → List Event
 
--- an event, unless it is refused
+-- an event once, unless it is refused
 abbrev pub once : Event → Plan
 once event = repeats 1 event
 
--- an event until it is refused, and 1,024 times at most
+-- an event until it is refused, at most 1,024 times
 abbrev pub while_possible : Event → Plan
 while_possible event = repeats 1024 event
 
--- one plan, and another from there
+-- one plan, and then another one in the world after it
 abbrev pub plan_then : Plan → Plan → Plan
 plan_then plan next w = plan w ++ next (world_after_all w (plan w))
 
--- a plan for each of a list, in order
+-- a plan for each item of a list, in order
 abbrev pub each : {A : Type 0} → (A → Plan) → List A → Plan
 each plan [] w = []
 each plan (x ∷ xs) w = plan_then (plan x) (each plan xs) w
 
 -- ---- a round, over nodes in ascending order, and over link ends in ascending order of the node and then the neighbour
 
--- what an end does in its turn
+-- the event of this kind of turn at a link end
 abbrev pub end_event : EndTurn → ℕ × ℕ → Event
 end_event turn.Open e = Open e.0 e.1
 end_event turn.Pull e = Pull e.0 e.1
 end_event turn.Transmit e = Transmit e.0 e.1
 end_event turn.Pump e = Pump e.0 e.1
 
--- each end once, or as long as it can
+-- one event at each link end, unless it is refused
 abbrev pub each_end_once : EndTurn → List (ℕ × ℕ) → Plan
 each_end_once kind ends = each (λ e. once (end_event kind e)) ends
 
@@ -57,19 +57,19 @@ each_end kind ends = each (λ e. while_possible (end_event kind e)) ends
 abbrev pub each_core : List ℕ → Plan
 each_core nodes = each (λ n. while_possible (CoreTurn n)) nodes
 
--- a datagram that was sent before the round comes now, unless its nodes are parted
+-- the delivery of a datagram that was sent before the round, unless its nodes are parted
 abbrev pub arrival_of : List (ℕ × ℕ) → ℕ → Option FrameParts → Plan
 arrival_of parted i None w = []
 arrival_of parted i (Some f) w = if is_parted parted f.header.sender f.header.receiver then [] else once (Deliver i) w
 
--- in how many rounds a datagram comes, and which one: it comes in the next
+-- the delivery of a delayed copy, given by its delay and the number of its datagram, if it arrives in this round
 abbrev pub arrival : List (ℕ × ℕ) → ℕ × ℕ → Plan
 arrival parted p w = if nat_lt 1 p.0 then [] else arrival_of parted p.1 (datagram w p.1) w
 
 abbrev pub arrivals : List (ℕ × ℕ) → List (ℕ × ℕ) → Plan
 arrivals parted later = each (arrival parted) later
 
--- a datagram is delivered as often as the channel says, unless its nodes are parted
+-- the deliveries of a datagram, as often as the channel says, unless its nodes are parted
 abbrev pub delivery_of : List (ℕ × ℕ) → MomentView → ℕ → Option FrameParts → Plan
 delivery_of parted m i None w = []
 delivery_of parted m i (Some f) w = if is_parted parted f.header.sender f.header.receiver then []
@@ -78,7 +78,7 @@ delivery_of parted m i (Some f) w = if is_parted parted f.header.sender f.header
 abbrev pub delivery : List (ℕ × ℕ) → MomentView → ℕ → Plan
 delivery parted m i w = delivery_of parted m i (datagram w i) w
 
--- the deliveries of this many datagrams after number `first`, in order
+-- the deliveries of the `count` datagrams after number `first`, in order
 unfoldable pub deliveries : List (ℕ × ℕ) → MomentView → ℕ → ℕ → Plan
 deliveries parted m first zero w = []
 deliveries parted m first (suc count) w = plan_then (delivery parted m (first + 1))
@@ -108,24 +108,24 @@ round nodes ends parted m later = plan_then (once Tick) (plan_then (each_end_onc
 
 -- ---- rounds
 
--- a world and its air
+-- a world, with the number of rounds so far and the delayed copies of datagrams
 pub record Sky : Type 0 where
   pub world : World
   pub air : AirView
 
--- that of a simulator and what is kept of the air
+-- the world of a simulator, with the number of rounds so far and the delayed copies
 abbrev pub sky_of : {S : Type 0} → (S → World) → S → Air → Sky
 sky_of world sim air = record { world = world sim; air = air_view air }
 
--- a round begins: these are its number and the datagrams that were sent before it
+-- the moment at which a round begins: how many rounds and datagrams there were before it
 abbrev pub moment_of : Channels → Sky → MomentView
 moment_of channel s = record { channel = channel; round = s.air.round; start = length s.world.datagrams }
 
--- a round led to a world
+-- the state after a round that led to this world
 abbrev pub sky_behind : List (ℕ × ℕ) → MomentView → AirView → World → Sky
 sky_behind parted m air w = record { world = w; air = after_air parted m air w }
 
--- one round: the world after its events
+-- the state after one round
 unfoldable pub after_round : List ℕ → List (ℕ × ℕ) → List (ℕ × ℕ) → Channels → Sky → Sky
 after_round nodes ends parted channel s =
     sky_behind parted (moment_of channel s) s.air (world_after_all s.world
@@ -136,7 +136,7 @@ rounds zero nodes ends parted channel s = s
 rounds (suc r) nodes ends parted channel s = rounds r nodes ends parted channel
     (after_round nodes ends parted channel s)
 
--- ---- what the code of a round does
+-- ---- the code of a round
 
 -- if `known`, these are the link ends of the world, in their order
 abbrev pub AreKnown : Bool → List (ℕ × ℕ) → World → Type 0

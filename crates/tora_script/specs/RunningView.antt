@@ -1,4 +1,4 @@
--- What a running simulation is.
+-- The view of a running simulation.
 use Rattle.tora_world.specs.World.{World}
 use Rattle.tora_script.specs.declared.running_simulation.Running.{Running}
 use Rattle.tora_script.specs.Air.{air_view}

@@ -1,4 +1,4 @@
--- What a simulation is made with.
+-- The settings of a simulation.
 use Rattle.std.specs.Prelude.{false, None}
 use Rattle.tora_arq.specs.declared.times.Times.{Times}
 use Rattle.tora_script.specs.Channel.{clear}
@@ -8,12 +8,12 @@ use Rattle.tora_world.specs.Topology.{standard_limits}
 use Rattle.tora_script.specs.declared.setup.Setup.{Setup}
 use Rattle.tora_script.specs.declared.setup.WorldOptions.{WorldOptions}
 
--- a world within these limits, whose nodes remember no erased level
+-- the options of a world within these limits, with nodes that do not remember erased levels
 abbrev pub options_within : Limits → WorldOptions
 options_within limits = record { limits = limits; erasure = Plain }
 
--- these times of each link end, a channel over which every datagram comes at once, and once, and the standard limits;
--- nodes remember no erased level, parted links are not noticed, and no round is the last
+-- the settings without options: these times of each link end, a channel that delivers every datagram at once and once,
+-- the standard limits, nodes that do not remember erased levels, no notice of parted links, and no last round
 abbrev pub plain : Times → Setup
 plain times = record {
   times = times;

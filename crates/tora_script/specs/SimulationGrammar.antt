@@ -1,4 +1,4 @@
--- How each line of a simulation file is written.
+-- The written form of each line of a simulation file.
 use Rattle.std.specs.Prelude.{◌≡◌, ℕ, ◌<◌, ◌≤◌, ◌^◌, codes, List, ◌∷◌, ◌++◌, length, All, Option, None, Some, Ok}
 use Rattle.std.specs.Fmt.{decimal}
 use Rattle.hex.specs.Hex.{decode_of}
@@ -16,17 +16,17 @@ use Rattle.tora_script.specs.declared.script_line.SimulationLine.{SimulationLine
 use Rattle.tora_script.specs.declared.script_line.SimulationLine.TheVariants.{Happens, Rounds, Part, Mend, Heights, Sent, Taken, Exact, Walk, Rest}
 use Rattle.tora_lines.specs.WordGrammar.{SpellsId, list_text}
 
--- a word and two nodes' numbers
+-- a word and the numbers of two nodes
 pub record SpellsPair (word text : List ℕ) (n k : ℕ) : Type 0 where
   pub first : IsId n
   pub second : IsId k
   pub text_is : text ≡ word ++ (decimal n ++ 32 ∷ decimal k)
 
--- a number of a link's life, from 1 to 2^62
+-- a session number, from 1 to 2^62
 abbrev pub IsLifeNumber : ℕ → Type 0
 IsLifeNumber n = (0 < n) × (n ≤ 2 ^ 62)
 
--- a word, two nodes' numbers and the numbers of a life
+-- a word, the numbers of two nodes, and the two numbers of a session
 pub record SpellsLane (word text : List ℕ) (n k : ℕ) (life : Life) : Type 0 where
   pub first : IsId n
   pub second : IsId k
@@ -46,7 +46,7 @@ pub record SpellsArm (text : List ℕ) (n : ℕ) (call : Call) : Type 0 where
   pub id : IsId n
   pub text_is : text ≡ codes "arm " ++ (decimal n ++ 32 ∷ call_text call)
 
--- `-` for none, or 32 hexadecimal digits of either case
+-- the word T of `restart N T`: `-` for no bytes, or 32 hexadecimal digits of either case
 abbrev pub SpellsTorn : List ℕ → Option (List ℕ) → Type 0
 SpellsTorn word None = word ≡ codes "-"
 SpellsTorn word (Some bytes) = (length word ≡ 32) × (decode_of word ≡ Ok bytes)

@@ -1,4 +1,4 @@
--- The lines of a simulation file, and what each says.
+-- The lines of a simulation file, parsed.
 use Rattle.std.specs.Prelude.{ℕ, Bool, ◌==◌, ◌&&◌, ◌^◌, nat_lt, nat_le, if◌then◌else◌, codes, is_some, List, length, Option, Some, None, option_map}
 use Rattle.std.specs.Result.{result_ok}
 use Rattle.hex.specs.Hex.{decode_of}
@@ -22,7 +22,7 @@ use Rattle.tora_lines.specs.Fronts.{after, or_else, ◌>>=◌}
 unfoldable pub is_word : List ℕ → List ℕ → Bool
 is_word word text = (length text == length word) && is_some (after word text)
 
--- two ids
+-- the ids of two nodes
 unfoldable pub pair_of : List ℕ → Option (ℕ × ℕ)
 pair_of text = do
   a ← cut 32 text
@@ -30,14 +30,14 @@ pair_of text = do
   k ← id_of a.1
   Some (n, k)
 
--- the number of a link's life, from 1 to 2^62
+-- a session number, from 1 to 2^62
 abbrev pub life_number_from : ℕ → Option ℕ
 life_number_from n = if nat_lt 0 n && nat_le n (2 ^ 62) then Some n else None
 
 unfoldable pub life_number_of : List ℕ → Option ℕ
 life_number_of text = number_of text >>= life_number_from
 
--- the two numbers of a life
+-- the two numbers of a session
 unfoldable pub life_of : List ℕ → Option Life
 life_of text = do
   a ← cut 32 text
@@ -45,7 +45,7 @@ life_of text = do
   peer ← life_number_of a.1
   Some (record { own = own; peer = peer })
 
--- two nodes and a life
+-- two nodes and a session
 unfoldable pub lane_of : List ℕ → Option (ℕ × ℕ × Life)
 lane_of text = do
   a ← cut 32 text
@@ -55,7 +55,7 @@ lane_of text = do
   life ← life_of b.1
   Some (n, k, life)
 
--- the call that is to fail
+-- the word CALL of `arm N CALL`: the call that is to fail
 unfoldable pub call_of : List ℕ → Option Call
 call_of text =
     if is_word (codes "send-lost") text then Some Fails.SendLost
@@ -66,7 +66,7 @@ call_of text =
     else if is_word (codes "sync") text then Some Fails.Sync
     else None
 
--- `-` for none, or 16 bytes in hexadecimal digits
+-- the word T of `restart N T`: `-` for no bytes, or 16 bytes in hexadecimal digits
 unfoldable pub torn_of : List ℕ → Option (Option (List ℕ))
 torn_of text = if is_dash text then Some None else if length text == 32 then option_map (λ bytes.
     Some bytes) (result_ok (decode_of text)) else None
@@ -141,7 +141,7 @@ walk_line_of text =
     (or_else (after (codes "walk ") text) (for_pair Walk)
     (if is_word (codes "rest") text then Some Rest else None))
 
--- `rounds R`, `part A B`, `mend A B`, `heights D`, `sent A B X Y`, `taken B A Y X`, or one of walks
+-- `rounds R`, `part A B`, `mend A B`, `heights D`, `sent A B X Y`, `taken B A Y X`, or a line of walks
 unfoldable pub order_line_of : List ℕ → Option SimulationLine
 order_line_of text =
     or_else (after (codes "rounds ") text) rounds_of
@@ -151,7 +151,7 @@ order_line_of text =
     (or_else (after (codes "sent ") text) (for_lane Sent)
     (or_else (after (codes "taken ") text) (for_lane Taken) (walk_line_of text))))))
 
--- the first of two that is there
+-- the first of two options, or the other if the first has no value
 abbrev pub first_of_two : {A : Type 0} → Option A → Option A → Option A
 first_of_two (Some x) other = Some x
 first_of_two None other = other

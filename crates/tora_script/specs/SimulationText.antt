@@ -1,4 +1,4 @@
--- What a simulation of an input prints, and how it ends.
+-- The output of a simulation for an input, and how the input ends.
 use Rattle.std.specs.Prelude.{ℕ, ◌-◌, min, nat_le, false, ◌==◌, ◌&&◌, ◌||◌, Bool, not, if◌then◌else◌, codes, List, [], ◌∷◌, ◌++◌, length, filter, Option, Some, None, option_map, unwrap_or}
 use Rattle.std.specs.List.{flat_map, list_any}
 use Rattle.std.specs.Option.{option_and_then}
@@ -33,25 +33,25 @@ use Rattle.tora_lines.specs.declared.ended.Ended.{Ended}
 use Rattle.tora_script.specs.declared.script_line.SimulationLine.{SimulationLine}
 use Rattle.tora_script.specs.declared.script_line.SimulationLine.TheVariants.{Happens, Rounds, Part, Mend, Heights, Sent, Taken, Exact, Walk, Rest}
 
--- ---- what is kept between two lines
+-- ---- the state between two lines
 
--- a simulation behind its links
+-- a simulation after its links
 pub record RunningView : Type 0 where
   pub dests : List ℕ  -- the destinations
   pub nodes : List ℕ  -- the nodes, ascending
   pub ends : List (ℕ × ℕ)  -- the link ends, by ascending node and then neighbour
   pub parted : List (ℕ × ℕ)  -- the pairs of nodes between which rounds deliver nothing
-  pub channel : Channel  -- of the rounds
-  pub air : AirView  -- what rounds left in the air
-  pub has_notice : Bool  -- both ends notice at once that their link is parted
+  pub channel : Channel  -- the channel of the rounds
+  pub air : AirView  -- the number of rounds so far, and the delayed copies
+  pub has_notice : Bool  -- whether both ends of a parted link cut its session at once
   pub world : World
 
 pub data Progress : Type 0 where
   First : Progress  -- before the first line
-  Links : (dests : List ℕ) (links : List (ℕ × ℕ)) (marks : List Mark) → Progress  -- the destinations, the links so far, and behind these what is said so far of single nodes
+  Links : (dests : List ℕ) (links : List (ℕ × ℕ)) (marks : List Mark) → Progress  -- the destinations, and the lines so far about links and about single nodes
   Runs : RunningView → Progress
 
--- a simulation of these destinations that is made with this, and begins in a world
+-- a simulation with these destinations and settings that begins in a world
 abbrev pub begun_in : List ℕ → Setup → World → RunningView
 begun_in dests setup w = record {
   dests = dests;
@@ -64,7 +64,7 @@ begun_in dests setup w = record {
   world = w;
 }
 
--- ---- a line behind the links
+-- ---- a line after the links
 
 abbrev pub Reply : Type 0
 Reply = RunningView × List ℕ
@@ -73,7 +73,7 @@ abbrev pub refusal_text : Option SimError → List ℕ
 refusal_text None = []
 refusal_text (Some error) = numbered (codes "refused ") (sim_error_number error)
 
--- an event: no text, or `refused N` if it changes nothing
+-- the reply to an event: no text, or `refused N` if it changes nothing
 abbrev pub event_reply : RunningView → Event → Reply
 event_reply s event = (record s { world = world_after s.world event }, refusal_text (refusal_of s.world event))
 
@@ -98,11 +98,11 @@ with_parted a b parted = if is_parted parted a b then parted else parted ++ (a, 
 abbrev pub without_parted : ℕ → ℕ → List (ℕ × ℕ) → List (ℕ × ℕ)
 without_parted a b parted = filter (λ p. not (is_same_pair (a, b) p)) parted
 
--- both ends of a link cut the life that they are bound to
+-- both ends of a link cut the session that they are bound to
 abbrev pub cut_both : ℕ → ℕ → World → World
 cut_both a b w = after_cut_at (after_cut_at w a b) b a
 
--- two nodes are parted
+-- the simulation after two nodes are parted
 abbrev pub part_of : RunningView → ℕ → ℕ → RunningView
 part_of s a b = record s {
   parted = with_parted a b s.parted;
@@ -110,7 +110,7 @@ part_of s a b = record s {
       else s.world;
 }
 
--- the height, or NULL if there is none
+-- the height for a destination; NULL if the table does not have the destination
 abbrev pub known_height : Option (Option Quintuple) → Option Quintuple
 known_height None = None
 known_height (Some entry) = entry
@@ -120,11 +120,11 @@ unfoldable pub node_line : World → ℕ → ℕ → List ℕ
 node_line w d n = codes "node " ++ decimal n ++ codes " " ++ height_text (known_height (height_at w n d))
     ++ codes " hop " ++ hop_text (hop_at w n d) ++ 10 ∷ []
 
--- the line of each node
+-- the line `node N H hop K` of each node
 abbrev pub heights_text : World → ℕ → List ℕ → List ℕ
 heights_text w d nodes = flat_map (node_line w d) nodes
 
--- the heights for a destination, unless it is none of the simulation
+-- the reply to `heights D`; None if D is not a destination of the simulation
 abbrev pub heights_reply : RunningView → ℕ → Option Reply
 heights_reply s d = if has_number d s.dests then Some (s, heights_text s.world d s.nodes) else None
 
@@ -132,18 +132,18 @@ heights_reply s d = if has_number d s.dests then Some (s, heights_text s.world d
 abbrev pub count_text : ℕ → List ℕ
 count_text n = numbered (codes "count ") n
 
--- a reply, unless the line names no link
+-- a reply, or None if there is no link between the two nodes
 abbrev pub where_linked : RunningView → ℕ → ℕ → Reply → Option Reply
 where_linked s a b reply = if has_end a b s.ends then Some reply else None
 
--- `exact 1` where the entries for a destination are exact, else `exact 0`; unless it is none of the simulation
+-- `exact 1` if the entries for a destination are exact, otherwise `exact 0`
 abbrev pub exact_text : Bool → List ℕ
 exact_text is_exact = numbered (codes "exact ") (if is_exact then 1 else 0)
 
 abbrev pub exact_reply : RunningView → ℕ → Option Reply
 exact_reply s d = if has_number d s.dests then Some (s, exact_text (exact_in s.world d)) else None
 
--- a node of a walk after the first
+-- a comma and the number of a node
 abbrev pub next_text : ℕ → List ℕ
 next_text n = 44 ∷ decimal n
 
@@ -159,12 +159,12 @@ nodes_text (n ∷ nodes) = codes "walk " ++ decimal n ++ rest_text nodes ++ 10 �
 unfoldable pub walk_text : Option (List ℕ) → List ℕ
 walk_text walk = nodes_text (unwrap_or walk [])
 
--- the walk of a node to a destination, unless there is no such node, or it is no destination of the simulation
+-- the reply to `walk N D`; None if there is no node N, or if D is not a destination of the simulation
 abbrev pub walk_reply : RunningView → ℕ → ℕ → Option Reply
 walk_reply s n d =
     if has_number n s.nodes && has_number d s.dests then Some (s, walk_text (walk_of s.world n d)) else None
 
--- `rest yes` where the world is at rest, else `rest no`
+-- `rest yes` if the world is at rest, otherwise `rest no`
 abbrev pub at_rest_text : Bool → List ℕ
 at_rest_text is_at_rest = (if is_at_rest then codes "rest yes" else codes "rest no") ++ 10 ∷ []
 
@@ -183,19 +183,20 @@ running_reply s (Exact d) = exact_reply s d
 running_reply s (Walk n d) = walk_reply s n d
 running_reply s Rest = Some (at_rest_reply s)
 
--- ---- a line of a simulation that ends with a round, and over a channel that the lines of a table change
+-- ---- a line of a simulation with a last round, over a channel that a table changes by round
 
--- the last round was made: later lines do nothing
+-- the last round is done, so later lines do nothing
 abbrev pub is_done : Option ℕ → ℕ → Bool
 is_done None round = false
 is_done (Some until) round = nat_le until round
 
--- how many of some rounds are still made
+-- how many of some rounds `--until` still allows
 abbrev pub rounds_left : Option ℕ → ℕ → ℕ → ℕ
 rounds_left None round r = r
 rounds_left (Some until) round r = min r (until - round)
 
--- rounds are over the channel with the table's lines, and not more than are left; all else is as without a table
+-- the reply to a line: rounds run over the channel that the table changes, up to the last round; every other line has
+-- the reply that it has without a table
 unfoldable pub script_reply : Option ℕ → List ChannelLine → RunningView → SimulationLine → Option Reply
 script_reply until table s (Rounds r) = Some (
   after_rounds_on (record { base = s.channel; lines = table })
@@ -212,14 +213,14 @@ script_reply until table s (Exact d) = running_reply s (Exact d)
 script_reply until table s (Walk n d) = running_reply s (Walk n d)
 script_reply until table s Rest = running_reply s Rest
 
--- a line that is not done prints nothing, and may say anything
+-- the reply to a line; after the last round every line is accepted, whatever it says, and prints nothing
 abbrev pub script_line_reply : Option ℕ → List ChannelLine → RunningView → List ℕ → Option Reply
 script_line_reply until table s line = if is_done until s.air.round then Some (s, [])
     else option_and_then (script_reply until table s) (simulation_line_of line)
 
--- ---- a line of the links
+-- ---- a line before the simulation runs
 
--- one link more, unless something is said of a node already
+-- the stage with one more link; None after a line about a node
 abbrev pub with_link : List ℕ → List (ℕ × ℕ) → List Mark → ℕ × ℕ → Option Progress
 with_link dests links [] link = Some (Links dests (links ++ link ∷ []) [])
 with_link dests links (mark ∷ marks) link = None
@@ -228,7 +229,8 @@ with_link dests links (mark ∷ marks) link = None
 abbrev pub is_linked : ℕ → List (ℕ × ℕ) → Bool
 is_linked n links = list_any (λ p. (p.0 == n) || (p.1 == n)) links
 
--- the lines with one more about a node, if a link names the node and there is a topology of the links within the limits
+-- the stage with one more line about a node; None unless a link names the node and there is a topology of the links
+-- within the limits
 abbrev pub with_mark_line : Limits → List ℕ → List (ℕ × ℕ) → List Mark → Mark → Option Progress
 with_mark_line limits dests links marks mark = if is_linked (marked mark) links && has_topology limits links dests
     then Some (Links dests links (marks ++ mark ∷ [])) else None
@@ -238,11 +240,11 @@ with_mark_line limits dests links marks mark = if is_linked (marked mark) links 
 abbrev pub left_by : Reply → Progress × List ℕ
 left_by r = (Runs r.0, r.1)
 
--- nothing is printed
+-- a stage, with no output
 abbrev pub silent : Progress → Progress × List ℕ
 silent progress = (progress, [])
 
--- the first line after the links: the world is made, and carries out the line
+-- the reply to the first line after the links: the world is made, and the line is carried out
 abbrev pub first_run : Setup → List ChannelLine → List ℕ → List (ℕ × ℕ) → List Mark → List ℕ → Option Reply
 first_run setup table dests links marks line = option_and_then (λ w.
     script_line_reply setup.until table (begun_in dests setup w) line)
@@ -292,7 +294,7 @@ simulation_at_end setup First n = Some n
 simulation_at_end setup (Links dests links marks) n = end_of_links setup.options.limits n dests links
 simulation_at_end setup (Runs s) n = None
 
--- the rules of a simulation that is made with this, and over whose channel a table has lines
+-- the rules of a simulation with these settings, over a channel that the lines of a table change
 abbrev pub rules_with : Setup → List ChannelLine → Rules Progress
 rules_with setup table = record {
   start = First;
@@ -306,7 +308,7 @@ rules_over setup = rules_with setup []
 
 -- ---- all lines
 
--- what is printed for an input
+-- the output for an input
 abbrev pub text_over : Setup → List ℕ → List ℕ
 text_over setup bytes = (whole_text (rules_over setup) bytes).0
 
@@ -318,24 +320,24 @@ end_over setup bytes = (whole_text (rules_over setup) bytes).1
 abbrev pub first_fault_over : Setup → List ℕ → Option ℕ
 first_fault_over setup bytes = fault_of (end_over setup bytes)
 
--- of lines from line n on, line m is a fault, and all before it are taken
+-- of the lines from line n on, line m is the first fault
 abbrev pub IsFirstFaultOver : Setup → Progress → ℕ → List (List ℕ) → ℕ → Type 0
 IsFirstFaultOver setup progress n lines m = IsFirstFaultBy (rules_over setup) progress n lines m
 
--- ---- what simulate promises
+-- ---- what `simulate` promises
 
--- Known bytes grew by what is printed for the input, and the input ends so.
+-- The known bytes grew by the output for the input, and the input ends as the result says.
 abbrev pub SimulatesOver : Setup → List ℕ → Option (List ℕ) → Option (List ℕ) → Ended → Type 0
 SimulatesOver setup input old new ended = IsWholeText (whole_text (rules_over setup)) input old new ended
 
--- The reader gave some bytes, and the text written is a prefix of the text for them.
+-- The reader returned some bytes, and the writer got a prefix of the output for them.
 abbrev pub IsBegunOver : Setup → Option (List ℕ) → Option (List ℕ) → Option (List ℕ) → Option (List ℕ) → Type 0
 IsBegunOver setup old_reader new_reader old_writer new_writer =
     IsFrontOfText (whole_text (rules_over setup)) old_reader new_reader old_writer new_writer
 
--- ---- the same over a channel of which a table has lines
+-- ---- the same over a channel that the lines of a table change
 
--- what is printed for an input
+-- the output for an input
 abbrev pub text_with : Setup → List ChannelLine → List ℕ → List ℕ
 text_with setup table bytes = (whole_text (rules_with setup table) bytes).0
 
@@ -347,21 +349,21 @@ end_with setup table bytes = (whole_text (rules_with setup table) bytes).1
 abbrev pub first_fault_with : Setup → List ChannelLine → List ℕ → Option ℕ
 first_fault_with setup table bytes = fault_of (end_with setup table bytes)
 
--- of lines from line n on, line m is a fault, and all before it are taken
+-- of the lines from line n on, line m is the first fault
 abbrev pub IsFirstFaultWith : Setup → List ChannelLine → Progress → ℕ → List (List ℕ) → ℕ → Type 0
 IsFirstFaultWith setup table progress n lines m = IsFirstFaultBy (rules_with setup table) progress n lines m
 
--- Known bytes grew by what is printed for the input, and the input ends so.
+-- The known bytes grew by the output for the input, and the input ends as the result says.
 abbrev pub SimulatesWith : Setup → List ChannelLine → List ℕ → Option (List ℕ) → Option (List ℕ) → Ended → Type 0
 SimulatesWith setup table input old new ended = IsWholeText (whole_text (rules_with setup table)) input old new ended
 
--- The reader gave some bytes, and the text written is a prefix of the text for them.
+-- The reader returned some bytes, and the writer got a prefix of the output for them.
 abbrev pub IsBegunWith : Setup → List ChannelLine → Option (List ℕ) → Option (List ℕ) → Option (List ℕ)
     → Option (List ℕ) → Type 0
 IsBegunWith setup table old_reader new_reader old_writer new_writer =
     IsFrontOfText (whole_text (rules_with setup table)) old_reader new_reader old_writer new_writer
 
--- ---- the same of a simulation whose link ends have these times, and over whose channel every datagram comes at once,
+-- ---- the same for a simulation whose link ends have these times, over a channel that delivers every datagram at once
 -- and once
 
 abbrev pub simulation_rules : Times → Rules Progress

@@ -1,4 +1,4 @@
--- What is kept between two lines of a simulation file, and the kind of file that it is.
+-- The state between two lines of a simulation file, and the kind of file that it is.
 use Rattle.tora_world.specs.World.{World}
 use Rattle.tora_script.specs.declared.simulation.Simulation.{Simulation}
 use Rattle.tora_script.specs.declared.simulation.Stage.{Stage}

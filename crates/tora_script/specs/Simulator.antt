@@ -1,4 +1,4 @@
--- What a simulator does.
+-- The first world of a simulator.
 use Rattle.std.specs.Prelude.{◌≡◌, ℕ, ◌<◌, Bool, not, is_some, if◌then◌else◌, List, [], Option, Some, None, Result, Ok, Err}
 use Rattle.std.specs.List.{All}
 use Rattle.tora_arq.specs.declared.times.Times.{Times}
@@ -17,13 +17,13 @@ use Rattle.tora_script.specs.Marks.{with_marks}
 abbrev pub has_topology : Limits → List (ℕ × ℕ) → List ℕ → Bool
 has_topology limits links dests = not (is_some (topology_fault_within limits (topology_of links dests)))
 
--- the topology of these links and destinations, in which all nodes make this of erased levels, but for what is said of
--- single nodes
+-- the topology of these links and destinations, in which all nodes treat erased levels in this way, except as the lines
+-- about single nodes say
 abbrev pub mixed_topology : Erasure → List (ℕ × ℕ) → List ℕ → List Mark → Topology
 mixed_topology erasure links dests marks = with_marks (with_choices (topology_of links dests) erasure []) marks
 
--- the first world of links and destinations, and of what is said of single nodes, with these times of each link end,
--- unless there is no such topology within the limits
+-- the first world of these links, destinations and lines about single nodes, with these times of each link end; None if
+-- there is no such topology within the limits
 unfoldable pub started : WorldOptions → List (ℕ × ℕ) → List ℕ → List Mark → Times → Option World
 started options links dests marks times = if is_some (topology_fault_within options.limits (topology_of links dests))
     then None else Some (first_world (mixed_topology options.erasure links dests marks) times)
@@ -36,7 +36,7 @@ ArePairs links = All (λ p. (0 < p.0) × (0 < p.1)) links
 abbrev pub AreIds : List ℕ → Type 0
 AreIds numbers = All (λ n. 0 < n) numbers
 
--- The first world of the topology was made, or it is refused for this cause, or memory was refused.
+-- The first world of the topology was made, or it is refused for this cause, or memory ran out.
 abbrev pub Starts : {S : Type 0} → (S → World) → WorldOptions → List (ℕ × ℕ) → List ℕ → List Mark → Times
     → Result S CoreError → Type 0
 Starts world options links dests marks times (Ok sim) = started options links dests marks times ≡ Some (world sim)
@@ -48,6 +48,6 @@ Starts world options links dests marks times (Err Repeated) = topology_fault_wit
 Starts world options links dests marks times (Err OwnId) = topology_fault_within options.limits
     (topology_of links dests) ≡ Some OwnId
 
--- the nodes, ascending
+-- the nodes of a world, in ascending order
 abbrev pub nodes_of : World → List ℕ
 nodes_of w = nodes_in w.topology.links

@@ -26,7 +26,7 @@ waiting First = None
 waiting (Links lines) = None
 waiting (Runs s) = Some s.sim.trace.text
 
--- and those of a line that is no event, behind them
+-- the records that are not written yet after a line, with those of the line itself; None before the simulation runs
 abbrev pub waiting_behind : {S : Type 0} → (S → World) → List ℕ → Stage (Traced S) → Option (List ℕ)
 waiting_behind world line First = None
 waiting_behind world line (Links lines) = None

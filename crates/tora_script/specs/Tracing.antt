@@ -34,7 +34,7 @@ abbrev pub life_told : Option Item → Option Life
 life_told None = None
 life_told (Some item) = life_of_what item.what
 
--- a datagram more, if it is one
+-- the trace, in which one more datagram is counted, if there is one
 abbrev pub with_sent : List (ℕ × ℕ) → TraceState → Option FrameParts → TraceState
 with_sent parted trace None = trace
 with_sent parted trace (Some f) = record trace {
@@ -42,7 +42,7 @@ with_sent parted trace (Some f) = record trace {
       (is_parted parted f.header.sender f.header.receiver) f.body trace.counts;
 }
 
--- the last datagram, where there are others than so many
+-- the trace, in which the last datagram is counted, unless there are still `count` datagrams
 abbrev pub after_sent : List (ℕ × ℕ) → ℕ → World → TraceState → TraceState
 after_sent parted count after trace =
     if length after.datagrams == count then trace else with_sent parted trace (datagram after (length after.datagrams))
@@ -103,7 +103,7 @@ Records parted w event after old new (Some error) = new ≡ old
 
 -- ---- one line
 
--- the trace behind a line that was taken, beside the records of its events
+-- the trace after an accepted line, apart from the records of its events
 abbrev pub after_line : ℕ → Option SimulationLine → TraceState → TraceState
 after_line t None trace = trace
 after_line t (Some (Part a b)) trace = with_text trace (part_record t a b)
@@ -117,7 +117,7 @@ after_line t (Some (Exact d)) trace = trace
 after_line t (Some (Walk n d)) trace = trace
 after_line t (Some Rest) trace = trace
 
--- and the pairs of nodes whose link is parted
+-- the pairs of nodes whose link is parted after a line
 abbrev pub parted_after : Option SimulationLine → List (ℕ × ℕ) → List (ℕ × ℕ)
 parted_after None parted = parted
 parted_after (Some (Part a b)) parted = with_parted a b parted

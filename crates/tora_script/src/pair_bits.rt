@@ -47,10 +47,10 @@ pub fn has_bit(words: &Vec<u64>, key: (Id, Id)) -> bool
     }
 }
 
-/// Takes the memory for the bits, unless it is there or the greater node has none.
+/// Allocates the memory for the bits, unless it is allocated already or the higher node has no bits.
 ///
 /// # Errors
-/// Want of memory. The bits are as they were either way.
+/// Memory ran out. The bits do not change, with or without an error.
 pub fn make_bits(words: &mut Vec<u64>, key: (Id, Id)) -> Result<(), AllocError>
     ensures same { (other : ℕ × ℕ) → has_bit words.new.items other ≡ has_bit words.old.items other }
     ensures many { OnOk result (key.1 < 1024 → 16384 ≤ length words.new.items) }

@@ -33,7 +33,7 @@ pub fn is_word(word: &[u8], text: &[u8]) -> bool
     text.len() == word.len() && after(word, text).is_some()
 }
 
-/// Two ids.
+/// The ids of two nodes.
 #[tactic(auto, unfolding(crate::specs::SimulationLines::pair_of))]
 pub fn pair(text: &[u8]) -> Option<(Id, Id)>
     ensures value { result ≡ pair_of text.now }
@@ -107,7 +107,7 @@ fn call(text: &[u8]) -> Option<Call>
     }
 }
 
-/// `-`, or 16 bytes in hexadecimal digits.
+/// The word T of `restart N T`: `-` for no bytes, or 16 bytes in hexadecimal digits.
 #[tactic(auto, unfolding(crate::specs::SimulationLines::torn_of))]
 fn torn(text: &[u8]) -> Option<Option<[u8; 16]>>
     ensures { result ≡ torn_of text.now }

@@ -67,10 +67,10 @@ impl Parted {
         Parted { pairs, keys, bits }
     }
 
-    /// These pairs.
+    /// The parted pairs that a list names.
     ///
     /// # Errors
-    /// Want of memory.
+    /// Memory ran out.
     pub fn of(alloc: Global, pairs: &[(Id, Id)]) -> Result<Parted, AllocError>
         ensures { IfOk result (λ parted. parted ≡ pairs.now) }
     {
@@ -97,7 +97,7 @@ impl Parted {
     /// Parts two nodes.
     ///
     /// # Errors
-    /// Want of memory.
+    /// Memory ran out.
     pub fn part(&mut self, a: Id, b: Id) -> Result<(), AllocError>
         ensures { OnOk result (self.new ≡ with_parted a b self.old) }
     {

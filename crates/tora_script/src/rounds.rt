@@ -152,7 +152,7 @@ fn make_round<S: Simulator>(
 /// Makes rounds.
 ///
 /// # Errors
-/// Memory was refused: the world is that after some events.
+/// Memory ran out. Some of the events have happened.
 pub fn make_rounds<S: Simulator>(
     sim: &mut S,
     count: u64,

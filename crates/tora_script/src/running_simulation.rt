@@ -29,7 +29,8 @@ use tora_lines::words::LineError;
 use tora_trace::{HeightText, HopText};
 use tora_world::{Event, SimError};
 
-/// A simulation after its links: what the links fix, the parted pairs of nodes, and the world.
+/// A simulation after its links: its destinations, nodes and link ends, the parted pairs of nodes, the channel with the
+/// delayed datagrams, and the world.
 #[derive(Drop)]
 pub struct Running<S> {
     pub dests: Vec<Id>,

@@ -232,9 +232,9 @@ impl<S: Simulator> FileKind for Simulation<S> {
     }
 }
 
-/// Reads the lines of a simulation file to the end of the input or to the first line that is a fault, and writes what
-/// is printed for each, in a simulator of this kind whose link ends have these times, none of which is 0.
-/// `docs/formats.md`, "Simulation files", says what a file is.
+/// Reads the lines of a simulation file to the end of the input or to the first line that is a fault, and writes the
+/// output of each line. The simulator is of this kind, and its link ends have these times, none of which is 0.
+/// `docs/formats.md`, "Simulation files", defines the file.
 #[tactic(auto, unfolding(tora_lines::specs::Engine::text_of))]
 pub fn simulate_in<S: Simulator, R: Input, W: Output>(
     alloc: Global,
@@ -243,13 +243,13 @@ pub fn simulate_in<S: Simulator, R: Input, W: Output>(
     writer: &mut W,
 ) -> Result<Ended, ReplayError>
     requires { IsTimes times }
-    // The text written is that of the whole input, and `ended` is how the input ends.
+    // The written text is the output of the whole input, and the input ends as the result says.
     ensures whole { IfOk result (λ ended. IfSome (R.remaining reader.old) (λ input.
         Simulates times input (W.contents writer.old) (W.contents writer.new) ended)) }
     ensures at_end { result ≡ Ok Ended.Whole → IsAtEnd (R.remaining reader.new) }
     ensures fault { IfOk result (λ ended. IfSome (R.remaining reader.old) (λ input.
         fault_of ended ≡ first_simulation_fault times input)) }
-    // The text written is a prefix of the text for the input that was read.
+    // The written text is a prefix of the output of the lines that were read.
     ensures begun { IfErr result (λ e. e ≢ ReplayError.Write →
         IsSimulationBegun times (R.remaining reader.old) (R.remaining reader.new) (W.contents writer.old)
         (W.contents writer.new)) }

@@ -25,8 +25,9 @@ pub trait Simulator: Drop {
 
     /// The first world of links and destinations, or why there is no such topology within the limits.
     ///
-    /// The marks say which nodes are old, whose link ends speak version 1 of frames alone, and what single nodes make
-    /// of erased levels; one of a node that no link names changes nothing. Each link end has these times.
+    /// `marks` are the lines about single nodes: which nodes have link ends that speak only version 1 of frames, and
+    /// how single nodes treat erased levels. A mark of a node that no link names changes nothing. Each link end has
+    /// these times.
     fn start(
         alloc: Global,
         options: WorldOptions,
@@ -74,7 +75,7 @@ pub trait Simulator: Drop {
         place
     }
 
-    /// Whether these are the link ends, in the order of `ends`.
+    /// Whether `ends` is the list of the link ends of the world, in their order.
     fn has_ends(&self, ends: &[(Id, Id)]) -> bool
         ensures { result ≡ true → ends.now ≡ ends_in (world self.now).topology };
 

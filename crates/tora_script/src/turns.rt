@@ -13,7 +13,7 @@ use tora_world::Event;
 /// The most times that one event is repeated in a turn.
 pub const MOST_TIMES: u64 = 1024;
 
-/// What a link end does in a turn.
+/// A kind of turn of a link end.
 #[derive(Clone, Copy, Debug, PartialEq, Eq)]
 pub enum EndTurn {
     Open,
@@ -23,7 +23,7 @@ pub enum EndTurn {
 }
 
 impl EndTurn {
-    /// The event of such a turn of an end.
+    /// The event of this kind of turn at a link end.
     #[inline(always)]
     pub fn event(self, end: (Id, Id)) -> Event
         ensures { result ≡ end_event self end }
@@ -38,7 +38,7 @@ impl EndTurn {
     }
 }
 
-/// Either of the two, without a branch.
+/// `a` or `b`, computed without a branch.
 pub fn either(a: bool, b: bool) -> bool
     ensures { result ≡ (a || b) }
 {
@@ -96,8 +96,8 @@ fn turn_core<S: Simulator>(sim: &mut S, place: usize, n: Id) -> Result<bool, All
     sim.turn(place, n, MOST_TIMES)
 }
 
-/// Lets each core take its items, unless it is known that none has one. Skips the cores of which the simulator knows
-/// that they have none.
+/// Lets each core take its items, and returns whether any core did. Cores of which the simulator knows that they have
+/// no item are skipped.
 #[inline(always)]
 pub fn turn_cores<S: Simulator>(sim: &mut S, nodes: &[Id]) -> Result<bool, AllocError>
     ensures { IfOk result (λ some. Happened (S.world sim.old) (each_core nodes.now (S.world sim.old)) (S.world sim.new)
@@ -155,8 +155,8 @@ pub fn turn_end<S: Simulator>(
     }
 }
 
-/// The first index from `place` on at which a link end may have a turn, if these are known to be the ends of the
-/// simulator. Otherwise `place`.
+/// The first index from `place` on at which a link end may have a turn, if `known` says that `_ends` are the ends of
+/// the simulator. Otherwise `place`.
 #[inline(always)]
 pub fn next_place<S: Simulator>(sim: &S, known: bool, _ends: &[(Id, Id)], place: usize) -> usize
     requires { AreKnown known _ends.now (S.world sim.now) }
@@ -194,8 +194,8 @@ pub fn turn_known_ends<S: Simulator>(
     Ok(some)
 }
 
-/// Whether these are known to be the link ends of the simulator. If nothing is to be done, the answer is false and they
-/// are not compared.
+/// Whether `ends` are known to be the link ends of the simulator. If nothing is to be done, the answer is false and
+/// they are not compared.
 #[inline(always)]
 pub fn are_known<S: Simulator>(sim: &S, ends: &[(Id, Id)]) -> bool
     ensures { AreKnown result ends.now (S.world sim.now) }

@@ -34,7 +34,7 @@ first_within (suc count) [] place x lt there = absurd (none-some x there)
 first_within (suc count) (y ∷ links) zero x lt there = ap (λ z. Some (bare z)) (same_Some y x there)
 first_within (suc count) (y ∷ links) (suc place) x lt there = first_within count links place x (omega (arith, lt)) there
 
--- an end of the node
+-- the end at an index of the node has no memory left
 pub between_within : (first count : ℕ) (links : List LinkView) (place : ℕ) (x : LinkView) → place < count → slice_get links (first + place) ≡ Some x → slice_get (bare_between first count links) (first + place) ≡ Some (bare x)
 unfolding bare_between
 between_within zero count links place x lt there =
@@ -50,7 +50,7 @@ first_behind (suc count) [] at away = refl
 first_behind (suc count) (x ∷ links) zero away = absurd (away zero (omega arith) refl)
 first_behind (suc count) (x ∷ links) (suc at) away = first_behind count links at (λ place lt q. away (suc place) (omega (arith, lt)) (ap suc q))
 
--- an end of another node
+-- the ends of other nodes are unchanged
 pub between_outside : (first count : ℕ) (links : List LinkView) (at : ℕ) → ((place : ℕ) → place < count → at ≡ first + place → ⊥) → slice_get (bare_between first count links) at ≡ slice_get links at
 unfolding bare_between
 between_outside zero count links at away = first_behind count links at (λ place lt q. away place lt (q ∙ sym (zero_more place)))
@@ -65,7 +65,7 @@ first_set (suc count) [] place y lt = refl
 first_set (suc count) (x ∷ links) zero y lt = refl
 first_set (suc count) (x ∷ links) (suc place) y lt = ap (λ xs. bare x ∷ xs) (first_set count links place y (omega (arith, lt)))
 
--- an end of the node is set
+-- an end of the node may be set before or after its memory is left out
 pub between_set : (first count : ℕ) (links : List LinkView) (place : ℕ) (y : LinkView) → place < count → bare_between first count (set links (first + place) y) ≡ set (bare_between first count links) (first + place) (bare y)
 unfolding bare_between
 between_set zero count links place y lt =
@@ -80,14 +80,14 @@ between_set (suc first) count (x ∷ links) place y lt =
 pub others_between : (first count : ℕ) (before links : List LinkView) → AreOthersKept (bare_between first count before) (bare_between first count links) first count → AreOthersKept before links first count
 others_between first count before links h at away = sym (between_outside first count links at away) ∙ h at away ∙ between_outside first count before at away
 
--- no packet is recorded
+-- if no packet was stepped, none is recorded
 pub none_noted : (v : LanesView) (place : ℕ) (stepped : Option Stepped) (links : List LinkView) → stepped ≡ None → links ≡ v.links → IsNoted v place stepped links
 none_noted v place stepped links none same = subst (λ (o : Option Stepped). IsNoted v place o links) (sym none) same
 
 pub some_noted : (v : LanesView) (place : ℕ) (stepped : Option Stepped) (p : Stepped) (links : List LinkView) → stepped ≡ Some p → IsNoted v place (Some p) links → IsNoted v place stepped links
 some_noted v place stepped p links some noted = subst (λ (o : Option Stepped). IsNoted v place o links) (sym some) noted
 
--- a packet is recorded at an end of the node
+-- a packet that is recorded at an end of the node is also recorded without the memory
 pub noted_between : (links after : List LinkView) (first count place : ℕ) (p : Stepped) → place < count → IsNoted (lanes_of links first count) place (Some p) after
     → IsNoted (lanes_of (bare_between first count links) first count) place (Some p) (bare_between first count after)
 noted_between links after first count place p lt (link, there, is) = (
@@ -102,7 +102,7 @@ pub lanes_before : (v : LanesView) (x : NodeView) (first count : ℕ) (links old
 lanes_before v x first count links old e f n same =
     e ∙ ap (λ (m : ℕ). lanes_of (bare_between m count links) m count) f ∙ ap (λ (m : ℕ). lanes_of (bare_between x.first m links) x.first m) n ∙ ap (λ (xs : List LinkView). lanes_of (bare_between x.first x.count xs) x.first x.count) same
 
--- there was no turn
+-- if there was no turn, the ends are unchanged
 pub same_between : (lanes : LanesView) (x : NodeView) (old links : List LinkView) → lanes ≡ lanes_of (bare_between x.first x.count old) x.first x.count → bare_between lanes.first lanes.count links ≡ lanes.links → bare_between x.first x.count links ≡ bare_between x.first x.count old
 same_between lanes x old links before noted = subst (λ (u : LanesView). bare_between u.first u.count links ≡ u.links) before noted
 

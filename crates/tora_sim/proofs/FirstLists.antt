@@ -107,7 +107,7 @@ node-more t times n nodes links new node a f is first ns m = record {
       (has-own t n (map key_of links) node is (first ∙ sym (length-map links key_of))));
 }
 
--- the empty list of nodes
+-- no nodes, with no link ends
 pub none-made : (t : Topology) (times : Times) → AreMade t times [] [] []
 none-made t times = record {
   names = refl;

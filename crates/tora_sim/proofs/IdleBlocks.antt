@@ -28,7 +28,7 @@ all_later now until blocks ends h all at within = go (block_at at)
         let less = here.0 in
         let le = here.1 in (omega (arith, less, least), omega (arith, le, least))
 
--- the blocks whose deadlines have not come, and their ends
+-- if the deadlines of blocks have not come, those of their ends have not come either
 pub later_below : (now from to : ℕ) (blocks ends : List ℕ) → AreBlocks blocks ends → AreLater now from to blocks → AreLater now (16 * from) (16 * to) ends
 later_below now from to blocks ends h later at le lt within = go (block_at at)
   where
@@ -41,7 +41,7 @@ later_below now from to blocks ends h later at le lt within = go (block_at at)
 
 -- ---- skipped ends
 
--- one more end
+-- the deadline of one more end has not come
 pub one_more_later : (now from at here : ℕ) (ends : List ℕ) → here ≡ slice_index ends at → now < here → AreLater now from at ends → AreLater now from (at + 1) ends
 one_more_later now from at here ends is less before i le lt within = go (below_next i at lt)
   where
@@ -49,6 +49,6 @@ one_more_later now from at here ends is less before i le lt within = go (below_n
     go (inl l) = before i le l within
     go (inr q) = let same : slice_index ends i ≡ here = ap (slice_index ends) q ∙ sym is in omega (arith, same, less)
 
--- a search that begins within a block
+-- the deadlines from an index within a block on have not come
 pub later_from : (now place from to : ℕ) (ends : List ℕ) → AreLater now from to ends → AreLater now (max place from) to ends
 later_from now place from to ends h i le lt within = h i (omega (arith, le)) lt within

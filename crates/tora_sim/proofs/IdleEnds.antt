@@ -92,7 +92,7 @@ ticked_idle clock now deadlines links after le e h = record {
 
 -- ---- ends that change
 
--- an end at which something is to be done now: its deadline has come
+-- deadlines hold if an end changes at which something was to be done, since its deadline had come
 pub possible_idle : (clock : ℕ) (deadlines : List ℕ) (links : List LinkView) (at : ℕ) (x new : LinkView) → at < length links → x ≡ slice_index_or links at x → ((until : ℕ) → clock < until → IsIdleUntil until x → ⊥) → AreDeadlines clock deadlines links
     → AreDeadlines clock deadlines (set links at new)
 possible_idle clock deadlines links at x new within read never h = record { as_many = h.as_many ∙ sym (length-set links at new); idle = λ j y lt there. go j y lt (set_read links at new j y there) }
@@ -101,7 +101,7 @@ possible_idle clock deadlines links at x new within read never h = record { as_m
     go j y lt (inl p) = absurd (never (slice_index deadlines j) lt (h.idle j x lt (ap (slice_get links) p.0 ∙ slice_get_read links (length links) at x refl within read)))
     go j y lt (inr old) = h.idle j y lt old
 
--- an end without a deadline
+-- deadlines hold if an end without a deadline changes
 pub unknown_idle : (clock : ℕ) (deadlines : List ℕ) (links : List LinkView) (at : ℕ) (new : LinkView) → slice_index deadlines at ≡ 0 → AreDeadlines clock deadlines links → AreDeadlines clock deadlines (set links at new)
 unknown_idle clock deadlines links at new nothing h = record { as_many = h.as_many ∙ sym (length-set links at new); idle = λ j y lt there. go j y lt (set_read links at new j y there) }
   where
@@ -109,7 +109,7 @@ unknown_idle clock deadlines links at new nothing h = record { as_many = h.as_ma
     go j y lt (inl p) = let zero_there : slice_index deadlines j ≡ 0 = ap (slice_index deadlines) p.0 ∙ nothing in absurd (omega (arith, lt, zero_there))
     go j y lt (inr old) = h.idle j y lt old
 
--- an end that changed, with its new deadline
+-- deadlines hold if an end changes and its new deadline is stored
 pub found_idle : (clock : ℕ) (deadlines after : List ℕ) (links : List LinkView) (at until : ℕ) (new : LinkView) → at < length links → after ≡ set deadlines at until → IsDeadline until new → AreDeadlines clock deadlines links → AreDeadlines clock after (set links at new)
 found_idle clock deadlines after links at until new within e s h = record {
   as_many = ap length e ∙ length-set deadlines at until ∙ h.as_many ∙ sym (length-set links at new);
@@ -136,7 +136,7 @@ found_idle clock deadlines after links at until new within e s h = record {
         let same : slice_index (set deadlines at until) j ≡ slice_index deadlines j = get_or-set_other deadlines at j until 0 off in
         subst (λ (n : ℕ). IsIdleUntil n y) (sym (ap (λ (ys : List ℕ). slice_index ys j) e ∙ same)) (old_end j y (subst (λ (n : ℕ). clock < n) same lt) off (set_read links at new j y there))
 
--- all ends stay as still as they were
+-- deadlines hold if all ends stay as still as they were
 pub mapped_idle : (clock : ℕ) (deadlines : List ℕ) (links after : List LinkView) (f : LinkView → LinkView) → after ≡ map f links → ((until : ℕ) (x : LinkView) → IsIdleUntil until x → IsIdleUntil until (f x)) → AreDeadlines clock deadlines links → AreDeadlines clock deadlines after
 mapped_idle clock deadlines links after f e keeps h = record {
   as_many = h.as_many ∙ sym (ap length e ∙ length-map links f);
@@ -145,7 +145,7 @@ mapped_idle clock deadlines links after f e keeps h = record {
       subst (λ (z : LinkView). IsIdleUntil (slice_index deadlines at) z) old.2 (keeps (slice_index deadlines at) old.0 (h.idle at old.0 lt old.1));
 }
 
--- ends that differ only in their memory
+-- deadlines hold for ends that differ only in their memory
 pub alike_idle : (clock : ℕ) (deadlines : List ℕ) (links after : List LinkView) → AreAlike links after → AreDeadlines clock deadlines links → AreDeadlines clock deadlines after
 alike_idle clock deadlines links after e h = record {
   as_many = h.as_many ∙ sym (length-map links bare) ∙ sym (ap length e) ∙ length-map after bare;
@@ -194,7 +194,7 @@ one_more_forgotten before deadlines after first place within e f = record {
         let old : slice_index (set deadlines (first + place) 0) at ≡ slice_index deadlines at = get_or-set_other deadlines (first + place) at 0 0 off in
         subst (λ (n : ℕ). (n ≡ 0) ⊎ (n ≡ slice_index before at)) (sym old) (f.others at)
 
--- the `count` ends from an index on changed, and have no deadlines
+-- deadlines hold if the `count` ends from an index on change, which have no deadlines
 pub changed_idle : (clock : ℕ) (deadlines : List ℕ) (before links : List LinkView) (change : LinkView → LinkView) (first count : ℕ) → ((place : ℕ) → place < count → slice_index deadlines (first + place) ≡ 0) → AreChanged change before links first count → AreDeadlines clock deadlines before
     → AreDeadlines clock deadlines links
 changed_idle clock deadlines before links change first count nothing c h = record {

@@ -26,7 +26,7 @@ use Rattle.tora_sim.specs.Steps.{IsRefused, Does}
 use Rattle.tora_sim.proofs.Stores.{IsSameNode, node_there, node_changes, node_stays, node_stays_by, store_set_node}
 use Rattle.tora_sim.proofs.Opens.{effect_is, refused_for}
 
--- worlds with the same functions over nodes
+-- worlds with the same functions over nodes are the same
 pub nodes_same : (w : World) {seats seats' : ℕ → SeatState} {inputs inputs' : ℕ → List (Input × ℕ)} {items items' : ℕ → List Item} {counts counts' : ℕ → ℕ → ℕ} {arms arms' : ℕ → Arms}
     → seats ≡ seats' → inputs ≡ inputs' → items ≡ items' → counts ≡ counts' → arms ≡ arms'
     → ◌≡◌ {A = World} (record w { seats = seats; inputs = inputs; items = items; counts = counts; arms = arms }) (record w { seats = seats'; inputs = inputs'; items = items'; counts = counts'; arms = arms' })
@@ -65,7 +65,7 @@ module _ (t : Topology) (times : Times) (clock : ℕ) (nodes : List NodeView) (l
   pub room_is : (b : Bool) → nat_lt (length x.items) 1024 ≡ b → has_room w n ≡ b
   room_is b e = ap (λ o. nat_lt (length (items_in o)) 1024) is_there ∙ e
 
-  -- an item of one seat of the node
+  -- an item is put at one seat of the node
   module _ (seat : ℕ) (what : What) (lt : seat < length x.counts) where
     abbrev new : NodeView
     new = after_item x seat clock what

@@ -45,7 +45,7 @@ place_read k (j ∷ ks) lt = go (cases_Bool (nat_eq j k)) (place_read k ks)
         let less : suc (place_of k ks) < suc (length ks) = subst (λ (b : Bool). (if b then 0 else suc (place_of k ks)) < suc (length ks)) f lt in
         ap (λ (b : Bool). slice_get (j ∷ ks) (if b then 0 else suc (place_of k ks))) f ∙ again (omega (arith, less))
 
--- a change at one index, as a change of all items
+-- a change of the item at one index is a change of all items, if it leaves the others alone
 pub set_map : (f g : LinkView → LinkView) (links : List LinkView) (i : ℕ) (old new : LinkView) → slice_get links i ≡ Some old → g old ≡ new
     → ((j : ℕ) (x : LinkView) → (j ≡ i → ⊥) → slice_get links j ≡ Some x → g x ≡ f x) → set (map f links) i new ≡ map g links
 set_map f g [] i old new e q other = refl
@@ -123,7 +123,7 @@ module _ (t : Topology) (times : Times) (clock : ℕ) (nodes : List NodeView) (l
   abbrev lanes : List Offer → LanesView
   lanes offers = lanes_of (given offers []) x.first x.count
 
-  -- the end of the neighbour with an index
+  -- the end at an index of the node is that towards the neighbour with this index
   pub end_at : (place k : ℕ) (link : LinkView) → slice_get ks place ≡ Some k → slice_get links (x.first + place) ≡ Some link → (link.node ≡ n) × (link.peer ≡ k)
   end_at place k link e q =
       let told = ends.at place k link (ap (λ m. slice_get (neighbours_of t m) place) named ∙ e) q in

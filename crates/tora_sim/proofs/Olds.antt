@@ -5,7 +5,7 @@ use Rattle.std.proofs.lemmas.List.Folds.{list_any-append}
 use Rattle.tora_core.specs.Numbers.{has_number}
 use Rattle.tora_sim.specs.Topologies.{others}
 
--- a number of a list is in the longer list
+-- a number of a list is in the list with one more number
 idle : (m n : ℕ) (olds : List ℕ) → has_number m olds ≡ true → has_number m (olds ++ n ∷ []) ≡ true
 idle m n olds h = list_any-append (λ x. x == m) olds (n ∷ []) ∙ ap (λ b. b || has_number m (n ∷ [])) h
 
@@ -16,7 +16,7 @@ among n olds h = list_any-append (λ x. x == n) olds (n ∷ []) ∙ ap (λ b. b 
     same : (n : ℕ) → has_number n (n ∷ []) ≡ true
     same n = ap (λ b. b || false) (eq-eqb n n refl)
 
--- the cases for the first node, which may be added or not
+-- lengths of two lists, to each of which the first node may be added or not
 front : (a b : Bool) (x y : List ℕ) (m : ℕ) → (a ≡ true → b ≡ true) → length y ≤ length x → length (cond b y (m ∷ y)) ≤ length (cond a x (m ∷ x))
 front true true x y m h le = le
 front true false x y m h le = absurd (true≢false (sym (h refl)))
@@ -39,7 +39,7 @@ front_here true b x y m h k le = absurd (true≢false h)
 front_here false true x y m h k le = omega arith
 front_here false false x y m h k le = absurd (true≢false (sym k))
 
--- a node that becomes one of them leaves the others
+-- a node that is added to the old ones is removed from the others
 pub fewer : (n : ℕ) (olds nodes : List ℕ) → has_number n nodes ≡ true → has_number n olds ≡ false → suc (length (others (olds ++ n ∷ []) nodes)) ≤ length (others olds nodes)
 fewer n olds [] there new = absurd (true≢false (sym there))
 fewer n olds (m ∷ nodes) there new =
@@ -53,12 +53,12 @@ fewer n olds (m ∷ nodes) there new =
     (fewer n olds nodes (ap (λ b. b || has_number n nodes) (sym further) ∙ there) new))
     (cases_Bool (m == n))
 
--- where there are none, all nodes are others
+-- if there are no old nodes, all nodes are others
 pub all_others : (nodes : List ℕ) → others [] nodes ≡ nodes
 all_others [] = refl
 all_others (n ∷ nodes) = ap (λ (xs : List ℕ). n ∷ xs) (all_others nodes)
 
--- there is room for one more node
+-- there is room for one more old node
 pub room : (n : ℕ) (olds nodes : List ℕ) → has_number n nodes ≡ true → has_number n olds ≡ false → length olds + length (others olds nodes) ≤ 1024 → length olds < 1024
 room n olds nodes there new h = omega (arith, h, fewer n olds nodes there new)
 

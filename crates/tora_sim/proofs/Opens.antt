@@ -43,11 +43,11 @@ slice_get_at [] i lt = absurd (omega arith)
 slice_get_at (x ∷ xs) zero lt = (x, refl, refl)
 slice_get_at (x ∷ xs) (suc i) lt = slice_get_at xs i (omega arith)
 
--- two reads of one index
+-- two reads of one index give the same item
 pub same_read : {A : Type 0} → (xs : List A) (i : ℕ) (x y : A) → i < length xs → x ≡ slice_index_or xs i x → y ≡ slice_index_or xs i y → x ≡ y
 same_read xs i x y lt a b = a ∙ get_or_default xs i x y lt ∙ sym b
 
--- worlds with the same functions over links
+-- worlds with the same functions over links are the same
 pub links_same : (w : World) {ends ends' : ℕ → ℕ → EndState} {files files' : ℕ → ℕ → LifeDisk} {lanes lanes' puts puts' : ℕ → ℕ → List Cargo} {steps steps' : ℕ → ℕ → List Parcel}
     → ends ≡ ends' → files ≡ files' → lanes ≡ lanes' → puts ≡ puts' → steps ≡ steps'
     → ◌≡◌ {A = World} (record w { ends = ends; files = files; cargoes = lanes; put = puts; steps = steps }) (record w { ends = ends'; files = files'; cargoes = lanes'; put = puts'; steps = steps' })

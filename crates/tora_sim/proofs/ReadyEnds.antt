@@ -46,7 +46,7 @@ ready_room marks links at mark within read on h link there = room_of link (h.rea
 
 -- ---- ends that change
 
--- an end that stays as ready as it was
+-- marks hold if an end changes and stays as ready as it was
 pub kept_ready : (marks : List Bool) (links : List LinkView) (at : ℕ) (x new : LinkView) → at < length links → x ≡ slice_index_or links at x → (IsReady x → IsReady new) → AreReadyEach marks links → AreReadyEach marks (set links at new)
 kept_ready marks links at x new within read keeps h = record { as_many = h.as_many ∙ sym (length-set links at new); ready = λ j y on there. go j y on (set_read links at new j y there) }
   where
@@ -57,7 +57,7 @@ kept_ready marks links at x new within read keeps h = record { as_many = h.as_ma
 pub kept_as : (marks : List Bool) (links : List LinkView) (at : ℕ) (x new after : LinkView) → at < length links → x ≡ slice_index_or links at x → new ≡ after → (IsReady x → IsReady after) → AreReadyEach marks links → AreReadyEach marks (set links at new)
 kept_as marks links at x new after within read e keeps h = kept_ready marks links at x new within read (λ r. subst (λ (z : LinkView). IsReady z) (sym e) (keeps r)) h
 
--- an end without a mark
+-- marks hold if an end without a mark changes
 pub unknown_ready : (marks : List Bool) (links : List LinkView) (at : ℕ) (new : LinkView) (mark : Bool) → at < length marks → mark ≡ slice_index_or marks at mark → mark ≡ false → AreReadyEach marks links → AreReadyEach marks (set links at new)
 unknown_ready marks links at new mark within read off h = record { as_many = h.as_many ∙ sym (length-set links at new); ready = λ j y on there. go j y on (set_read links at new j y there) }
   where
@@ -65,7 +65,7 @@ unknown_ready marks links at new mark within read off h = record { as_many = h.a
     go j y on (inl p) = absurd (true≢false (same_Some true false (sym on ∙ ap (slice_get marks) p.0 ∙ mark_there marks at mark within read ∙ ap Some off)))
     go j y on (inr old) = h.ready j y on old
 
--- an end whose mark is renewed
+-- marks hold if an end changes and its mark is renewed
 pub known_ready : (marks after : List Bool) (links : List LinkView) (at : ℕ) (new : LinkView) (known : Bool) → at < length links → after ≡ set marks at known → (known ≡ true → IsReady new) → AreReadyEach marks links → AreReadyEach after (set links at new)
 known_ready marks after links at new known within e is h = record {
   as_many = ap length e ∙ length-set marks at known ∙ h.as_many ∙ sym (length-set links at new);
@@ -81,7 +81,7 @@ known_ready marks after links at new known within e is h = record {
         subst (λ (z : LinkView). IsReady z) same (is yes)
     go j y on there (inr off) = h.ready j y (sym (set_other marks at j known off) ∙ on) (sym (set_other links at j new off) ∙ there)
 
--- all ends stay as ready as they were
+-- marks hold if all ends stay as ready as they were
 pub mapped_ready : (marks : List Bool) (links after : List LinkView) (f : LinkView → LinkView) → after ≡ map f links → ((x : LinkView) → IsReady x → IsReady (f x)) → AreReadyEach marks links → AreReadyEach marks after
 mapped_ready marks links after f e keeps h = record {
   as_many = h.as_many ∙ sym (ap length e ∙ length-map links f);
@@ -90,7 +90,7 @@ mapped_ready marks links after f e keeps h = record {
       subst (λ (z : LinkView). IsReady z) old.2 (keeps old.0 (h.ready at old.0 on old.1));
 }
 
--- the `count` ends from an index on stay as ready as they were
+-- marks hold if the `count` ends from an index on stay as ready as they were
 pub changed_ready : (marks : List Bool) (before links : List LinkView) (change : LinkView → LinkView) (first count : ℕ) → ((x : LinkView) → IsReady x → IsReady (change x)) → AreChanged change before links first count → AreReadyEach marks before → AreReadyEach marks links
 changed_ready marks before links change first count keeps c h = record {
   as_many = h.as_many ∙ sym c.as_many;

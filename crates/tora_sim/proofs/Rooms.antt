@@ -37,7 +37,7 @@ no_room links first = record { same = refl; room = λ place link lt e. absurd (o
 pub same_length : (before links : List LinkView) → AreAlike before links → length links ≡ length before
 same_length before links h = sym (length-map links bare) ∙ ap length h ∙ length-map before bare
 
--- there is room at one more end
+-- there is room at the first ends and at one more
 pub more_room : (before links after : List LinkView) (first place : ℕ) → RoomMade before links first place → AreAlike links after → HasRoomAt after (first + place) → AreOthersSame links after (first + place) → RoomMade before after first (place + 1)
 more_room before links after first place h e room others = record { same = e ∙ h.same; room = λ j link lt at. go j link at (below_next j place lt) }
   where
@@ -47,12 +47,12 @@ more_room before links after first place h e room others = record { same = e ∙
 
 -- ---- an offer
 
--- a lane with memory, or without a list
+-- a lane that fits has no list, or its list has memory for all that the lane can hold
 pub fits_room : (pulled room : ℕ) (pool : List ℕ) (place : ℕ) → Fits pulled room pool place → (room ≡ 0) ⊎ (pulled + MOST_CARGOES ≤ room)
 fits_room pulled room pool place (inl near) = inl near.0
 fits_room pulled room pool place (inr wide) = inr wide
 
--- another list of the pool has its capacity still
+-- a lane that fits still fits if another list of the pool is taken
 fits_still : (pulled room : ℕ) (pool after : List ℕ) (place other : ℕ) → (other ≡ place → ⊥) → AreOthersAsWhole pool after place → Fits pulled room pool other → Fits pulled room after other
 fits_still pulled room pool after place other away others (inl near) = inl (near.0, subst (λ (n : ℕ). MOST_CARGOES + INLINE_CARGOES ≤ n) (sym (others other away)) near.1)
 fits_still pulled room pool after place other away others (inr wide) = inr wide

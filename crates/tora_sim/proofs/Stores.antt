@@ -117,7 +117,7 @@ ordered_map {A} Before f k xs h a b d lt within =
     got (y ∷ ys) zero less = refl
     got (y ∷ ys) (suc j) less = got ys j (omega arith)
 
--- reading an item after one item was replaced
+-- an item that is read after one item was replaced is the new one, or was there before
 pub set_read : {A : Type 0} → (xs : List A) (i : ℕ) (new : A) (j : ℕ) (x : A) → slice_get (set xs i new) j ≡ Some x → ((j ≡ i) × (new ≡ x)) ⊎ (slice_get xs j ≡ Some x)
 set_read [] i new j x e = inr e
 set_read (y ∷ ys) zero new zero x e = inl (refl, cc)
@@ -143,7 +143,7 @@ map_read f [] j link e = absurd (let z : None ≡ Some link = e in cc)
 map_read f (x ∷ links) zero link e = (x, refl, cc)
 map_read f (x ∷ links) (suc j) link e = map_read f links j link e
 
--- all ends change in place
+-- the ends of a node stay adjacent if each end is changed in place
 pub ends_map : (t : Topology) (links : List LinkView) (f : LinkView → LinkView) → ((x : LinkView) → IsSameLink x (f x)) → (y : NodeView) → AreEndsOf t links y → AreEndsOf t (map f links) y
 ends_map t links f same y h = record {
   within = subst (λ m. y.first + y.count ≤ m) (sym (length-map links f)) h.within;
@@ -153,7 +153,7 @@ ends_map t links f same y h = record {
       (ap (λ (z : LinkView). z.node) (sym o.2) ∙ (same o.0).node ∙ told.0, ap (λ (z : LinkView). z.peer) (sym o.2) ∙ (same o.0).peer ∙ told.1);
 }
 
--- reading each link end by its node and peer
+-- functions over link ends are the same if each of their values is
 pub each_at : {A : Type 0} (read : ℕ → ℕ → Option LinkView → A) (xs ys : ℕ → ℕ → Option LinkView)
     → ((a b : ℕ) → ◌≡◌ {A = ℕ → ℕ → A} (λ m j. read a b (xs m j)) (λ m j. read a b (ys m j)))
     → ◌≡◌ {A = ℕ → ℕ → A} (λ a b. read a b (xs a b)) (λ a b. read a b (ys a b))

@@ -15,12 +15,12 @@ read_of [] i x e = absurd (none-some x e)
 read_of (y ∷ xs) zero x e = sym (same_Some y x e)
 read_of (y ∷ xs) (suc i) x e = read_of xs i x e
 
--- an end that the tick does not change
+-- an end that the tick does not change counts as ticked without a call
 pub idle_same : (now place until : ℕ) (links : List LinkView) (link : LinkView) → slice_get links place ≡ Some link → now < until → IsIdleUntil until link → links ≡ set links place (ticked now link)
 idle_same now place until links link there lt h =
     sym (set_same links place link (ticked now link) (slice_get_within links place link there) (read_of links place link there) (idle_tick until now link lt h))
 
--- an end that is ticked
+-- an end counts as ticked if it is replaced by its state after the tick
 pub ticked_at : (now place : ℕ) (links : List LinkView) (x new link : LinkView) → place < length links → x ≡ slice_index_or links place x → new ≡ ticked now x → slice_get links place ≡ Some link → set links place new ≡ set links place (ticked now link)
 ticked_at now place links x new link within read e there =
     let same : x ≡ link = same_Some x link (sym (slice_get_read links (length links) place x refl within read) ∙ there) in
@@ -31,7 +31,7 @@ module _ (now first place count : ℕ) (before links : List LinkView) (h : AreCh
   pub known_idle : (deadlines : List ℕ) → AreDeadlinesFrom first now deadlines before → (link : LinkView) → now < slice_index deadlines (first + place) → slice_get links (first + place) ≡ Some link → IsIdleUntil (slice_index deadlines (first + place)) link
   known_idle deadlines s link less there = s (first + place) link (omega arith) less (was (ticked now) before links first place count h lt within link (read_of links (first + place) link there))
 
-  -- one more end
+  -- one more end is ticked
   pub one_ticked : (after : List LinkView) → ((link : LinkView) → slice_get links (first + place) ≡ Some link → after ≡ set links (first + place) (ticked now link)) → AreChanged (ticked now) before after first (place + 1)
   one_ticked after e =
       let as_many = h.as_many in

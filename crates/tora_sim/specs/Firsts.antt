@@ -43,7 +43,7 @@ pub record IsFirstNode (t : Topology) (node : NodeView) : Type 0 where
   pub sending : node.sending ≡ Goes
   pub receive : node.receive ≡ false
 
--- the ends of a node are adjacent among these, from `node.first` on, in the order of its neighbours
+-- the keys of a node's link ends are adjacent, from `node.first` on, in the order of its neighbours
 pub record HasEnds (t : Topology) (keys : List (ℕ × ℕ)) (node : NodeView) : Type 0 where
   pub within : node.first + length (neighbours_of t node.node) ≤ length keys
   pub at : (place k : ℕ) → slice_get (neighbours_of t node.node) place ≡ Some k
@@ -54,7 +54,7 @@ pub record AreAdded (t : Topology) (times : Times) (n : ℕ) (links new : List L
   pub keys : map key_of new ≡ map key_of links ++ ends_at t n
   pub each : EachOf (IsFirstLink t times) links → EachOf (IsFirstLink t times) new
 
--- these nodes with their link ends
+-- the stored nodes are these, and the stored link ends are theirs
 pub record AreMade (t : Topology) (times : Times) (ns : List ℕ) (nodes : List NodeView) (links : List LinkView) : Type 0
   where
     pub names : map (λ node. node.node) nodes ≡ ns
@@ -63,7 +63,7 @@ pub record AreMade (t : Topology) (times : Times) (ns : List ℕ) (nodes : List 
     pub each_link : EachOf (IsFirstLink t times) links
     pub ends : EachOf (HasEnds t (map key_of links)) nodes
 
--- one more node with its link ends
+-- the stored nodes are one more, with its link ends
 abbrev pub IsMade : Topology → Times → ℕ → List NodeView → List LinkView → List NodeView → List LinkView → Type 0
 IsMade t times n nodes links more_nodes more_links =
     (ns : List ℕ) → AreMade t times ns nodes links → AreMade t times (ns ++ n ∷ []) more_nodes more_links

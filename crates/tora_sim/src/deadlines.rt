@@ -313,7 +313,7 @@ pub fn deadline(deadlines: &Deadlines, now: u64) -> u64
     first_after(&deadlines.tops, now)
 }
 
-/// The earliest of these ticks if all are in the future, otherwise 0.
+/// The earliest of some ticks if all of them are in the future, otherwise 0.
 fn first_after(ticks: &Vec<u32>, now: u64) -> u64
     ensures { 0 < result → (at : ℕ) → at < length ticks.now.items
         → (now < slice_index ticks.now.items at) × (result ≤ slice_index ticks.now.items at) }

@@ -14,7 +14,7 @@ use crate::sim::Sim;
 use tora_height::Id;
 
 impl Sim {
-    /// Whether these are the link ends, in the order of `ends`.
+    /// Whether `ends` is the list of the link ends of the world, in their order.
     pub fn has_ends(&self, ends: &[(Id, Id)]) -> bool
         ensures sound { result ≡ true → ends.now ≡ ends_in self.now.topology }
         ensures complete { ends.now ≡ ends_in self.now.topology → result ≡ true }
@@ -35,8 +35,8 @@ impl Sim {
     }
 }
 
-/// Whether these are the same ends, in the same order. Every end is compared, several at once, which is faster than a
-/// search for the first difference.
+/// Whether two lists have the same ends, in the same order. Every end is compared, several at once, which is faster
+/// than a search for the first difference.
 fn are_ends(keys: &[(Id, Id)], ends: &[(Id, Id)]) -> bool
     ensures sound { result ≡ true → ends.now ≡ keys.now }
     ensures complete { ends.now ≡ keys.now → result ≡ true }

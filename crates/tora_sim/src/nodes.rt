@@ -35,7 +35,7 @@ pub enum Sending {
 pub struct NodeSlot {
     pub(crate) node: Id,
     pub(crate) sending: Sending,
-    /// Whether the next datagram for this node is not handed over.
+    /// Whether the receive of the next datagram for this node is armed to fail.
     pub(crate) receive: bool,
     /// The queue into its core.
     pub(crate) items: Queue<Item>,
@@ -109,7 +109,7 @@ impl NodeSlot {
         self.sending = sending;
     }
 
-    /// Whether the next datagram for this node is not handed over.
+    /// Whether the receive of the next datagram for this node is armed to fail.
     #[inline(always)]
     pub fn receive(&self) -> bool
         ensures { result ≡ self.now.receive }

@@ -43,7 +43,7 @@ impl Unready {
         self.from <= place && place < self.behind
     }
 
-    /// The least range with one more index.
+    /// The smallest range that contains this range and one more index.
     #[inline(always)]
     pub fn with_place(self, place: usize) -> Unready
         requires { place < 18446744073709551615 }
@@ -56,7 +56,7 @@ impl Unready {
         }
     }
 
-    /// The least range with both ranges.
+    /// The smallest range that contains both ranges.
     #[inline(always)]
     pub fn joined(self, other: Unready) -> Unready
         ensures these { (place : ℕ) → IsOutside result place → IsOutside self place }
@@ -82,7 +82,7 @@ pub fn unready_range(ready: &Vec<bool>, first: usize, count: usize) -> Unready
     unready
 }
 
-/// The range with one more index, unless the end there is marked. `at` is the index of that end among all ends.
+/// The range extended by one more index, unless the end there is marked. `at` is the index of that end among all ends.
 #[inline(always)]
 fn with_unready(ready: &Vec<bool>, at: usize, unready: Unready, place: usize) -> Unready
     requires within { at < length ready.now.items }

@@ -1,4 +1,4 @@
--- How a run ended, told by what the engine says of the reader that it was handed.
+-- How a run ended, from the contract of the engine for the reader that was passed to it.
 use Rattle.std.proofs.Common.{◌≡◌, ◌≢◌, ℕ, Bool, List, Option, Result, Ok, subst}
 use Rattle.std.specs.Prelude.{IfOk, IfErr, IfSome}
 use Rattle.std.specs.Io.KnownBytes.{IsAtEnd}

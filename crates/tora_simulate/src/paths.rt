@@ -23,7 +23,7 @@ pub trait Paths: Files {
     /// The result of reading a file to its end.
     ghost did_read: { Self.File → Result (List ℕ) Error → Type 0 };
 
-    /// What one read of a file made of it: what it gave, and the file after it.
+    /// The result of one read of a file: the bytes or the error that it returned, and the file after it.
     ghost did_get: { Self.File → Given → Self.File → Type 0 };
 
     /// Opens the file at a path, to read it.

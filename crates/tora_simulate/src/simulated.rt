@@ -13,32 +13,31 @@ use tora_lines::{Ended, Input, Output, ReplayError};
 use tora_script::simulate_in;
 use tora_sim::Sim;
 
-/// Reads the lines of a simulation file to the end of the input or to the first line that is a fault, and writes what
-/// is printed for each.
+/// Reads the lines of a simulation file to the end of the input or to the first line that is a fault, and writes the
+/// output of each line.
 ///
-/// The first line is `dests LIST`, then come lines `link A B`, one or more, then any lines `old N`, and then the lines
-/// of `docs/formats.md`, "Simulation files". A line has at most 4,096 bytes without its LF. What is printed for a line
-/// is written whole, by one call of the writer's `write_all`. The world keeps all that was ever sent, so that its
-/// memory grows with the run. Its link ends have the times of the program, `Times::STANDARD`.
+/// The first line is `dests LIST`. Lines `link A B` follow, at least one, then any lines `old N` and `erasure N WORD`,
+/// and then the lines of `docs/formats.md`, "Simulation files". A line has at most 4,096 bytes without its LF. The
+/// output of a line is written by one call of the writer's `write_all`.
 ///
-/// A fault is no error: `fault N` is written, and the answer is `Ended::Fault(N)`.
+/// The world keeps all that was ever sent, so its memory grows with the run. Its link ends have the times of the
+/// program, `Times::STANDARD`. A fault is not an error: `fault N` is written, and the result is `Ended::Fault(N)`.
 ///
 /// # Errors
-/// `Memory` where memory was refused; `Read` where a read failed, or 2^32 reads came to no end (a read that was
-/// interrupted is made again, and counts); `Write` where a write failed. No line is taken in part: at `Memory` and
-/// `Read` whole lines' answers were written.
+/// `Memory` if memory ran out; `Read` if a read failed, or after 2^32 reads, interrupted ones included; `Write` if a
+/// write failed. At `Memory` and `Read` the outputs of whole lines were written.
 pub fn simulate<R: Input, W: Output>(
     alloc: Global,
     reader: &mut R,
     writer: &mut W,
 ) -> Result<Ended, ReplayError>
-    // The text written is that of the whole input, and `ended` is how the input ends.
+    // The written text is the output of the whole input, and the input ends as the result says.
     ensures whole { IfOk result (λ ended. IfSome (R.remaining reader.old) (λ input.
         Simulates STANDARD input (W.contents writer.old) (W.contents writer.new) ended)) }
     ensures at_end { result ≡ Ok Ended.Whole → IsAtEnd (R.remaining reader.new) }
     ensures fault { IfOk result (λ ended. IfSome (R.remaining reader.old) (λ input.
         fault_of ended ≡ first_simulation_fault STANDARD input)) }
-    // The text written is a prefix of the text for the input that was read.
+    // The written text is a prefix of the output of the lines that were read.
     ensures begun { IfErr result (λ e. e ≢ ReplayError.Write →
         IsSimulationBegun STANDARD (R.remaining reader.old) (R.remaining reader.new) (W.contents writer.old)
         (W.contents writer.new)) }
@@ -60,13 +59,13 @@ pub fn simulate_with<R: Input, W: Output>(
     writer: &mut W,
 ) -> Result<Ended, ReplayError>
     requires { IsTimes times }
-    // The text written is that of the whole input, and `ended` is how the input ends.
+    // The written text is the output of the whole input, and the input ends as the result says.
     ensures whole { IfOk result (λ ended. IfSome (R.remaining reader.old) (λ input.
         Simulates times input (W.contents writer.old) (W.contents writer.new) ended)) }
     ensures at_end { result ≡ Ok Ended.Whole → IsAtEnd (R.remaining reader.new) }
     ensures fault { IfOk result (λ ended. IfSome (R.remaining reader.old) (λ input.
         fault_of ended ≡ first_simulation_fault times input)) }
-    // The text written is a prefix of the text for the input that was read.
+    // The written text is a prefix of the output of the lines that were read.
     ensures begun { IfErr result (λ e. e ≢ ReplayError.Write →
         IsSimulationBegun times (R.remaining reader.old) (R.remaining reader.new) (W.contents writer.old)
         (W.contents writer.new)) }

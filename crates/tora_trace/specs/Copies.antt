@@ -65,7 +65,7 @@ route_change t c told = if is_changed c told then core_record t c told.destinati
 abbrev pub route_changes : ℕ → CoreView → List Route → List ℕ
 route_changes t c routes = flat_map (route_change t c) routes
 
--- the last recorded route after that
+-- the last recorded route, once its changes are recorded
 unfoldable pub route_told : CoreView → Route → Route
 route_told c told = route_of c told.destination
 

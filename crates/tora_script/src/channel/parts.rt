@@ -47,7 +47,7 @@ fn is_fraction(text: &[u8]) -> bool
     is_all_digits(text)
 }
 
-/// Nothing or all, in millionths.
+/// The share 0 or 1, in millionths; `None` for any other number.
 fn whole_share(number: u64) -> Option<u32>
     ensures { result ≡ whole_share number }
 {
@@ -58,7 +58,7 @@ fn whole_share(number: u64) -> Option<u32>
     }
 }
 
-/// A share of 1, in millionths: `0`, `1`, or up to six digits after `0.`.
+/// A share from 0 to 1, in millionths: `0`, `1`, or `0.` and one to six digits.
 #[tactic(auto, unfolding(crate::specs::Parts::share_of))]
 fn share(text: &[u8]) -> Option<u32>
     ensures { result ≡ share_of text.now }
@@ -79,7 +79,7 @@ fn share(text: &[u8]) -> Option<u32>
     )
 }
 
-/// A number of rounds, or the least and the most of them: `D` or `A-B`, A at most B and B at most 10,000.
+/// The least and the greatest delay in rounds: `A-B`, or `D` for `D-D`; A is at most B, and B at most 10,000.
 #[tactic(auto, unfolding(crate::specs::Parts::delay_of))]
 fn delay(text: &[u8]) -> Option<(u32, u32)>
     ensures { result ≡ delay_of text.now }
@@ -101,7 +101,7 @@ fn once<T: Copy>(before: Option<T>, now: Option<T>) -> Option<T>
 }
 
 impl Parts {
-    /// None of the parts.
+    /// No parts at all.
     const NONE: Parts = Parts {
         loss: None,
         repeat: None,

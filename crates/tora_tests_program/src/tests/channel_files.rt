@@ -1,4 +1,4 @@
-//! `tora sim --channel-file` and `--until` over files: what is read, what is refused, and what the trace says of both.
+//! `tora sim --channel-file` and `--until` over files: what is read, what is refused, and what the trace has of both.
 use super::expected::expect_written;
 use super::failing_streams::{ArrayWriter, Fails};
 use super::sees::sees_at;
@@ -32,22 +32,22 @@ const LAST_ROUND: &str =
     "0 trace 1 10 50 5 8 0 0 0 0 0 0 1 -\n0 part 1 2\n0 need 1 2\n0 qry 1 2 0\n\
     0 end 4114bfe19002c726291e51542d4c6c2a68c4ff93e949bc510031bcfb0d3e22fe\n";
 
-/// That of none, with the last round 0.
+/// The trace of no line, with the last round 0.
 const NO_ROUND: &str = "0 trace 1 10 50 5 8 0 0 0 0 0 0 0 -\n\
     0 end 4114bfe19002c726291e51542d4c6c2a68c4ff93e949bc510031bcfb0d3e22fe\n";
 
-/// That of all, over the channel file.
+/// The trace of all lines, over the channel file.
 const OVER_FILE: &str =
     "0 trace 1 10 50 5 8 0 0 0 0 0 0 - 0984e32aaf385429c24dd0c6b6237c10e10166ca96fb09baea4ea861489f3134\n\
     0 part 1 2\n0 need 1 2\n0 qry 1 2 0\n\
     0 end 4114bfe19002c726291e51542d4c6c2a68c4ff93e949bc510031bcfb0d3e22fe\n";
 
-/// That of none, over the channel file and with a seed.
+/// The trace of no line, over the channel file and with a seed.
 const BOTH: &str =
     "0 trace 1 10 50 5 8 0 0 0 0 7 0 0 0984e32aaf385429c24dd0c6b6237c10e10166ca96fb09baea4ea861489f3134\n\
     0 end 4114bfe19002c726291e51542d4c6c2a68c4ff93e949bc510031bcfb0d3e22fe\n";
 
-/// What is asked of a simulation: the path of the channel file, the seed, the last round, and the path of the trace.
+/// The words for a simulation: the path of the channel file, the seed, the last round, and the path of the trace.
 type Asked = (
     Option<&'static str>,
     Option<&'static str>,
@@ -55,7 +55,7 @@ type Asked = (
     Option<&'static str>,
 );
 
-/// What is asked, the status, what is printed, and the trace that there is then.
+/// The words for a simulation, its status, its output, and its trace.
 const ASKED: &[(Asked, u8, &str, Option<&str>)] = &[
     (
         (None, None, Some("1"), Some(TRACE)),
@@ -106,7 +106,7 @@ fn simulated_once<T: Files + AllocGlobal + Eprint + Clock>(
     simulate_file(rt, words, FILE, trace, (false, has_bar), writer)
 }
 
-/// Simulates the file, and expects its status and what is printed. Where memory was refused it simulates again.
+/// Simulates the file, and checks the status and the output. If memory runs out, it simulates once more.
 fn expect_simulated<T: Files + AllocGlobal + Eprint + Clock + Abort>(
     rt: &T,
     asked: Asked,
@@ -139,7 +139,7 @@ fn holds<R: Files<File = File>>(rt: &R, path: &str, text: Option<&str>) -> bool 
     }
 }
 
-/// Makes the folder again, with its files and without a trace.
+/// Makes the folder anew, with its files and without a trace.
 fn make_folder<R: Files<File = File> + AllocGlobal>(rt: &R) -> Result<(), Fail> {
     let _ = fs::remove_dir_all(rt, FOLDER);
     fs::create_dir(rt, FOLDER)?;
@@ -149,7 +149,7 @@ fn make_folder<R: Files<File = File> + AllocGlobal>(rt: &R) -> Result<(), Fail> 
     Ok(())
 }
 
-/// Each of these is simulated so, with a bar or without.
+/// Simulates each row, with a bar or without, and checks the trace and the channel file afterwards.
 fn expect_all<T: Files<File = File> + AllocGlobal + Eprint + Clock + Abort>(
     rt: &T,
     has_bar: bool,
@@ -163,8 +163,8 @@ fn expect_all<T: Files<File = File> + AllocGlobal + Eprint + Clock + Abort>(
     Ok(())
 }
 
-/// The channel file is read before the simulation file, and neither is written. The trace names the channel file and
-/// the last round. A bar changes nothing of this.
+/// The channel file is read before the simulation file, and neither is written. The trace has the digest of the channel
+/// file and the last round. All this is the same with a bar.
 #[test]
 fn channel_files_are_read(rt: HostRuntime) -> Result<(), Fail> {
     expect_all(&rt, false)?;

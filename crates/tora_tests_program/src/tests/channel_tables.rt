@@ -9,7 +9,7 @@ use tora_commands::{MEMORY, sim_command};
 use tora_script::Setup;
 use tora_sim::Sim;
 
-/// Lines in no order, of three links; the last one has no LF.
+/// Lines of three links, in no order; the last one has no LF.
 const LINES: &str =
     "5 2 1 loss=0.2\n0 1 2 loss=0.1\n3 3 1 delay=4-6,repeat=1\n5 1 2 loss=0.3\n9 2 3 loss=1";
 
@@ -22,8 +22,8 @@ const BASE: Channel = Channel {
     most: 2,
 };
 
-/// A round and two nodes, and what a million of datagrams lose, after how many rounds they come at least, and how many
-/// come twice.
+/// A round and two nodes; then, of their channel, how many of a million datagrams are lost, the least delay in rounds,
+/// and how many of a million arrive twice.
 const LOOKS: &[((u64, u32, u32), (u32, u32, u32))] = &[
     ((0, 1, 2), (100_000, 0, 0)),
     ((4, 2, 1), (100_000, 0, 0)),
@@ -36,7 +36,7 @@ const LOOKS: &[((u64, u32, u32), (u32, u32, u32))] = &[
     ((9, 1, 4), (7, 1, 9)),
 ];
 
-/// Files, and the first line that is none, and why.
+/// Channel files, the number of the first line that is invalid, and the cause.
 const FAULTS: &[(&str, u64, LineCause)] = &[
     ("0 1 2 loss=0.1\n\n", 2, LineCause::Words),
     ("0 1 2", 1, LineCause::Words),
@@ -50,7 +50,7 @@ const FAULTS: &[(&str, u64, LineCause)] = &[
     ("0 1 2 loss=0 ", 1, LineCause::Parts),
 ];
 
-/// The table of a file, read again where memory was refused.
+/// The table of a channel file. If memory runs out, it is read once more.
 fn table_of(alloc: Global, text: &str) -> Result<ChannelTable, TableError> {
     match channel_table(alloc, text.as_bytes()) {
         Err(TableError::Memory) => channel_table(alloc, text.as_bytes()),
@@ -58,7 +58,7 @@ fn table_of(alloc: Global, text: &str) -> Result<ChannelTable, TableError> {
     }
 }
 
-/// What a table says of a link in a round.
+/// The loss, the least delay and the repetitions of a link in a round, by a table.
 fn looked_up(table: &ChannelTable, (round, sender, receiver): (u64, u32, u32)) -> (u32, u32, u32) {
     let place = Place {
         round,
@@ -70,7 +70,8 @@ fn looked_up(table: &ChannelTable, (round, sender, receiver): (u64, u32, u32)) -
     (found.loss, found.least, found.repeat)
 }
 
-/// A line holds from its round on, the later one of two in one round, and links without a line keep the channel.
+/// A line holds from its round on, the later of two lines for one round holds, and links without a line have the given
+/// channel.
 #[test]
 fn lines_hold_from_their_rounds(rt: HostRuntime) {
     let table = table_of(rt.alloc(), LINES).unwrap_or(ChannelTable::none());
@@ -79,7 +80,7 @@ fn lines_hold_from_their_rounds(rt: HostRuntime) {
     }
 }
 
-/// Whether the first fault of a file is this one.
+/// Whether the first fault of a channel file is on this line, for this cause.
 fn has_fault(alloc: Global, text: &str, number: u64, cause: LineCause) -> bool {
     matches!(table_of(alloc, text), Err(TableError::Line(n, c)) if n == number && c == cause)
 }
@@ -93,14 +94,14 @@ fn faults_are_told(rt: HostRuntime) {
     }
 }
 
-/// A simulation file of five rounds, and what it prints where datagrams come.
+/// A simulation file of five rounds. The two constants after it are its output if datagrams arrive, and if not.
 const FIVE: &str = "dests 2\nlink 1 2\nneed 1 2\nrounds 5\nheights 2\n";
 
 const FOUND: &str = "node 1 (0,0,0,1,1) hop 2\nnode 2 (0,0,0,0,2) hop -\n";
 
 const LOST: &str = "node 1 - hop -\nnode 2 (0,0,0,0,2) hop -\n";
 
-/// A channel file, the last round, a simulation file, what it prints, and its status.
+/// A channel file, the last round, a simulation file, its output, and its status.
 const RUNS: &[(&str, Option<u64>, &str, &str, u8)] = &[
     ("", None, FIVE, FOUND, 0),
     ("0 2 1 loss=1\n", None, FIVE, LOST, 0),
@@ -142,7 +143,7 @@ fn simulated<T: AllocGlobal + Eprint>(
     )
 }
 
-/// Whether a run prints this and ends so, at once or once memory was refused.
+/// Whether a run has this output and this status. If memory runs out, it runs once more.
 fn runs_so<T: AllocGlobal + Eprint + Abort>(
     rt: &T,
     (file, until, lines, text, status): (&str, Option<u64>, &'static str, &str, u8),

@@ -1,4 +1,4 @@
-//! The commands around the engines: statuses, what is handed on, real files, and the statuses of command lines.
+//! The commands that run the engines: statuses, flushed output, real files, and the statuses of command lines.
 use super::expected::{expect_few_refusals, expect_written};
 use super::failing_streams::{ArrayWriter, Fails, LinesReader};
 use super::replay_rows::{LOSS_TEXT, ROUTE_AND_LOSS};
@@ -20,7 +20,7 @@ use tora_script::Setup;
 use tora_sim::Sim;
 use tora_script::TraceOut;
 
-/// A command over lines of its kind; a traced one writes a trace.
+/// A command that runs a file of lines; `Traced` also writes a trace.
 #[derive(Clone, Copy)]
 enum Run {
     Replay,
@@ -30,7 +30,7 @@ enum Run {
 }
 
 impl Run {
-    /// The status of a run over lines, which writes to these writers.
+    /// Runs lines, writes to these writers, and returns the status.
     fn status<T: AllocGlobal + Eprint>(
         self,
         rt: &T,
@@ -67,7 +67,7 @@ impl Run {
     }
 }
 
-/// A command, its lines, their output, where the output and the trace fail, and the status.
+/// A command, its lines, their output, where the writers of the output and of the trace fail, and the status.
 type Row = (Run, &'static str, &'static str, (Fails, Fails), u8);
 
 /// Whether an exit status is this number.
@@ -75,7 +75,7 @@ fn is_status(status: ExitCode, wanted: u8) -> bool {
     status == ExitCode::from(wanted)
 }
 
-/// What a run of a row left: its status, its output, and whether its trace is lost.
+/// The results of the run of a row: its status, its output, and whether its trace is lost.
 fn left<T: AllocGlobal + Eprint>(
     rt: &T,
     (run, lines, _, (output, trace), _): Row,
@@ -101,7 +101,7 @@ fn expect_status<T: AllocGlobal + Eprint + Abort>(rt: &T, row: Row, is_verbose: 
     sees_at(rt, is_lost == (trace != Fails::Never), &place);
 }
 
-/// Each of these runs prints its text and ends with its status, and with `-v` the same.
+/// Checks the output and the status of each run, without `-v` and with it.
 fn expect_statuses<T: AllocGlobal + Eprint + Abort>(rt: &T, rows: &[Row]) {
     for row in rows {
         expect_status(rt, *row, false);
@@ -109,12 +109,12 @@ fn expect_statuses<T: AllocGlobal + Eprint + Abort>(rt: &T, rows: &[Row]) {
     }
 }
 
-/// The exit status of an end without a fault.
+/// The exit status of a run that ends without a fault.
 const SUCCESS: u8 = 0;
 
 const FINE: (Fails, Fails) = (Fails::Never, Fails::Never);
 
-/// Lines without a fault, and none.
+/// Lines without a fault, and lines with one.
 const WHOLE: &[Row] = &[
     (Run::Replay, ROUTE_AND_LOSS, LOSS_TEXT, FINE, SUCCESS),
     (
@@ -143,7 +143,7 @@ const WHOLE: &[Row] = &[
     (Run::Traced, "", "fault 1\n", FINE, INPUT),
 ];
 
-/// 0 at the end of the lines, 1 at a fault, and all is written; with `-v` the same.
+/// The status is 0 at the end of the lines and 1 at a fault, and all output is written, without `-v` and with it.
 #[test]
 fn statuses_of_runs(rt: HostRuntime) {
     expect_statuses(&rt, WHOLE);
@@ -176,7 +176,7 @@ const FAILED_OUTPUTS: &[Row] = &[
     ),
 ];
 
-/// The status is 1 if a write fails, and if only the last flush fails; then all was written.
+/// The status is 1 if a write fails, or if only the last flush fails, after which all output is written.
 #[test]
 fn statuses_of_failed_outputs(rt: HostRuntime) {
     expect_statuses(&rt, FAILED_OUTPUTS);
@@ -206,7 +206,7 @@ const LOST_TRACES: &[Row] = &[
     ),
 ];
 
-/// 1 where the trace can't be written or not be handed on; what is printed is whole.
+/// The status is 1 if the trace cannot be written or flushed; the output is complete.
 #[test]
 fn statuses_of_lost_traces(rt: HostRuntime) {
     expect_statuses(&rt, LOST_TRACES);
@@ -225,7 +225,7 @@ const LINES: &str = "dests 2\nlink 1 2\nneed 1 2\nturn 1\nneed 3 2\n";
 const RECORDS: &str =
     "0 trace 1 10 50 5 8 0 0 0 0 0 0\n0 need 1 2\n0 qry 1 2 0\n0 end 652b4c0ca01d6f1b2dfde35446f8e556bd5a6cf9edd9c63af90c38f5fea5dde8\n";
 
-/// What is asked of a simulation of a file: times, a channel, its path, and the path of its trace.
+/// The words for a simulation: times and a channel, the path of its file, and the path of its trace.
 type Asked = (
     (Option<&'static str>, Option<&'static str>),
     &'static str,
@@ -251,7 +251,7 @@ fn simulated_once<T: Files + AllocGlobal + Eprint + Clock>(
     simulate_file(rt, words, path, trace, (false, false), writer)
 }
 
-/// Simulates a file, and expects its status and what is printed. Where memory was refused it simulates again.
+/// Simulates a file, and checks the status and the output. If memory runs out, it simulates once more.
 fn expect_simulated<T: Files + AllocGlobal + Eprint + Clock + Abort>(
     rt: &T,
     asked: Asked,
@@ -280,7 +280,7 @@ fn holds<R: Files<File = File>>(rt: &R, path: &str, text: &str) -> bool {
     }
 }
 
-/// Makes the folder again, with only the file.
+/// Makes the folder anew, with only the simulation file.
 fn make_folder<R: Files<File = File> + AllocGlobal>(rt: &R) -> Result<(), Fail> {
     let _ = fs::remove_dir_all(rt, FOLDER);
     fs::create_dir(rt, FOLDER)?;
@@ -288,7 +288,7 @@ fn make_folder<R: Files<File = File> + AllocGlobal>(rt: &R) -> Result<(), Fail> 
     Ok(())
 }
 
-/// What is asked of simulations one after another, their status, what they print, and whether there is a trace then.
+/// The words for simulations, one after another, the status, the output, and whether there is a trace afterwards.
 const ASKED: &[(Asked, u8, &str, bool)] = &[
     (((None, None), FILE, None), SUCCESS, "refused 2\n", false),
     (
@@ -311,7 +311,7 @@ const ASKED: &[(Asked, u8, &str, bool)] = &[
     ),
 ];
 
-/// The file named is read, the trace is written to the other, and neither takes the place of the other.
+/// The named file is read, the trace is written to the other named file, and neither replaces the other.
 #[test]
 fn files_are_those_named(rt: HostRuntime) -> Result<(), Fail> {
     make_folder(&rt)?;
@@ -329,7 +329,7 @@ fn status_of_fault<R: Print + Eprint>(rt: &R, error: &clap::Error) -> ExitCode {
     usage(rt, error)
 }
 
-/// The status of words that are no command line, or that ask for help.
+/// The status of words that are not a command line or ask for help; `None` if they are a command line.
 fn status_of_words<R: AllocGlobal + Print + Eprint>(rt: &R, words: &[&str]) -> Option<ExitCode> {
     match parsed(rt.alloc(), words)? {
         Ok(_) => None,
@@ -337,7 +337,7 @@ fn status_of_words<R: AllocGlobal + Print + Eprint>(rt: &R, words: &[&str]) -> O
     }
 }
 
-/// Words that are no command line or ask for help, and their status.
+/// Words that are not a command line or ask for help, and their status.
 const STATUSES: &[(&[&str], u8)] = &[
     (&["tora", "route"], USAGE),
     (&["tora", "replay", "file"], USAGE),
@@ -356,7 +356,7 @@ const STATUSES: &[(&[&str], u8)] = &[
     (&["tora", "--version"], SUCCESS),
 ];
 
-/// 2 for words that are no command line, 0 for help and the version.
+/// The status is 2 for words that are not a command line, and 0 for help and the version.
 #[test]
 fn statuses_of_words(rt: HostRuntime) {
     let mut refused = 0u64;

@@ -6,11 +6,11 @@ use tora_lines::Ended;
 /// A link, and its first step, in which each end sends a HELLO of each version.
 const STEPPED: &str = "dests 2\nlink 1 2\nneed 1 2\nstep\n";
 
-/// What that prints.
+/// The output of `STEPPED`.
 const STEPPED_TEXT: &str =
     "ok\nok\nok\nsent 1 2 1 28\nsent 1 2 2 28\nsent 2 1 3 28\nsent 2 1 4 28\nok\n";
 
-/// Lines at each place of a drive, with the answers to those in front of them.
+/// Lines at each stage of a drive, and the answers.
 const ANSWERS: &[Row] = &[
     (NOTHING, NOTHING, "", Ended::Whole),
     // The input may end anywhere without a fault, and a last line without LF is a line.
@@ -21,7 +21,7 @@ const ANSWERS: &[Row] = &[
         "ok\nok\nok\n",
         Ended::Whole,
     ),
-    // A fault changes nothing, and the lines go on.
+    // A fault changes nothing, and the drive continues.
     (
         &["dest 2\n\ndests 2\nlink 1\nlink 1 2\nold 3\nold 2\nlink 2 3\nheights 3\nheights 2\n"],
         NOTHING,
@@ -60,7 +60,7 @@ const OWN_LINES: &[Row] = &[
          fault 5 it is no line that may stand here\n",
         Ended::Whole,
     ),
-    // Datagrams that are not there, and those that are forgotten.
+    // Datagrams that do not exist, and datagrams that are forgotten.
     (
         &[STEPPED],
         &[
@@ -83,7 +83,8 @@ const OWN_LINES: &[Row] = &[
          ok\nok\nok\nsent 1 2 7 80\nhop 1 2 2\nok\nrefused 3\nrefused 3\nok\n",
         Ended::Whole,
     ),
-    // The HELLO of version 1 of node 2, in its bytes: as what node 1 got from 2, and from others.
+    // The bytes of node 2's HELLO of version 1: node 1 takes them from node 2. For other nodes or bytes `take` is
+    // refused.
     (
         &[STEPPED],
         &[
@@ -101,7 +102,7 @@ const OWN_LINES: &[Row] = &[
          refused 3\n",
         Ended::Whole,
     ),
-    // A silent end sends nothing in a step, and what was due goes out in the next.
+    // A silent end sends nothing in a step. In the first step after its silence, it sends what was due.
     (
         &["dests 2\nlink 1 2\nfar 1 2\nfar 1 2\nfar 2 3\nnear 3 1\nstep\nnear 1 2\nstep\n"],
         NOTHING,
@@ -125,7 +126,7 @@ const OWN_LINES: &[Row] = &[
          sent 1 2 8 28\nsent 1 2 9 28\nsent 2 1 10 28\nsent 2 1 11 28\nhop 1 2 -\nok\n",
         Ended::Whole,
     ),
-    // What an event is refused for, and what none of these is.
+    // Events that are refused, each for its cause, and lines that have no valid form.
     (
         &[
             "dests 2\nlink 1 2\nturn 1\nturn 3\npump 1 2\nstep 1\nneeds \nnear 1\nfar 1 2 3\nbytes x\nforget -1\nTake 1 2 00\n",
@@ -168,7 +169,7 @@ const LONG: &[Files] = &[
                fault 5 it is no line that may stand here\nneed 1 2\nok\n",
         ended: Ended::Whole,
     },
-    // A last one that has no end is a line, too.
+    // A last line without LF is a line, too.
     Files {
         front: STEPPED,
         middles: &["x"],
@@ -178,7 +179,7 @@ const LONG: &[Files] = &[
                fault 5 it is no line that may stand here\n",
         ended: Ended::Whole,
     },
-    // 4,096 bytes are taken as they are, and one more is too many.
+    // A line of 4,096 bytes is taken whole, and one of 4,097 is too long.
     Files {
         front: "dests 2\nlink 1 2\nneed 1 2\nstep\ntake 1 32 ",
         middles: &["00"],
@@ -199,7 +200,7 @@ const LONG: &[Files] = &[
     },
 ];
 
-/// A line of 65 nodes, which is refused within the standard limits.
+/// A row of 65 nodes, which is refused within the standard limits.
 const LONG_LINE: &[Files] = &[Files {
     front: "dests 4\n",
     middles: &[LINKS_OF_A_LINE],
@@ -213,7 +214,7 @@ const LONG_LINE: &[Files] = &[Files {
     ended: Ended::Whole,
 }];
 
-/// 65 nodes in a row, which only the greatest limits allow.
+/// A row of 65 nodes, which only the greatest limits allow.
 const LARGE_WORLD: &[Files] = &[Files {
     front: "dests 4\n",
     middles: &[LINKS_OF_A_LINE],
@@ -236,13 +237,13 @@ fn own_lines_are_answered(rt: HostRuntime) {
     expect_rows(&rt, Way::Drive, OWN_LINES);
 }
 
-/// 4,096 bytes, 4,097, and a MiB.
+/// Lines of 4,096 bytes, of 4,097, and of a MiB.
 #[test]
 fn long_lines_are_faults_of_a_drive(rt: HostRuntime) {
     expect_files(&rt, Way::Drive, LONG);
 }
 
-/// More than 64 nodes are taken in a large world alone.
+/// More than 64 nodes are accepted only in a large world.
 #[test]
 fn large_worlds_are_driven(rt: HostRuntime) {
     expect_files(&rt, Way::Drive, LONG_LINE);

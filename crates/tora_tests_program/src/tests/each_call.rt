@@ -10,14 +10,14 @@ use tora_script::{Air, Mark, Network, Parted, Simulator, WorldOptions, make_roun
 use tora_sim::{Sim, Topology};
 use tora_world::{Call, Event, Limits, SimError};
 
-/// A simulator that keeps the events that happen in it.
+/// A simulator that stores the events that happen in it.
 #[derive(Drop)]
 struct Recorder {
     sim: Sim,
     events: Vec<Event>,
 }
 
-/// Keeps an event so often. Each event of a link end that sends a frame makes a datagram, where no send is armed.
+/// Stores an event `often` times. Each event that sends a frame makes a datagram, unless a send is armed to fail.
 fn keep_often(events: &mut Vec<Event>, event: Event, often: u64) -> Result<(), AllocError> {
     for _ in 0..often {
         events.push(event)?;
@@ -87,7 +87,7 @@ impl Simulator for Recorder {
 
     fn deliver(&mut self, i: u64, most: u64) -> Result<bool, AllocError> {
         let some = <Sim as Simulator>::deliver(&mut self.sim, i, most)?;
-        // a datagram that comes once comes as often as it is asked for
+        // if a datagram is delivered once, it can be delivered any number of times
         if some {
             keep_often(&mut self.events, Event::Deliver(i), most)?;
         }
@@ -143,7 +143,7 @@ impl Simulator for Recorder {
     }
 }
 
-/// A line of four nodes.
+/// A row of four nodes.
 const LINKS: [(Id, Id); 3] = [(1, 2), (2, 3), (3, 4)];
 
 const NODES: [Id; 4] = [1, 2, 3, 4];
@@ -168,7 +168,7 @@ fn rounds_over<S: Simulator>(
     make_rounds(sim, count, &network, air)
 }
 
-/// Rounds over a channel on which every datagram comes at once.
+/// Makes rounds over a channel that delivers every datagram at once.
 fn clear_rounds<S: Simulator>(sim: &mut S, alloc: Global, count: u64) -> Result<(), AllocError> {
     let mut air = Air::new(alloc);
     rounds_over(sim, count, Channel::CLEAR, &mut air)
@@ -206,7 +206,7 @@ fn has_routes(sim: &Sim) -> bool {
         && has_route(sim, 4, 0, None)
 }
 
-/// Lets the events happen with a call armed before one of them, passes over those that are refused, and then makes 60
+/// Makes the events happen, with a call armed to fail before one of them. Refused events are skipped. Then makes 60
 /// rounds.
 fn run_armed(rt: &impl Abort, alloc: Global, events: &[Event], place: usize, arm: &Event) -> Sim {
     let topology = Topology::new(alloc, &LINKS, &[4]).expect(rt, "a topology");
@@ -222,7 +222,7 @@ fn run_armed(rt: &impl Abort, alloc: Global, events: &[Event], place: usize, arm
     sim
 }
 
-/// Whatever call of whatever node fails, and at whatever place among the events, the route comes back.
+/// If any call of any node fails, at any place among the events, the route is found again.
 #[test]
 fn each_call(rt: HostRuntime) {
     let events = recorded(&rt, rt.alloc());

@@ -1,4 +1,4 @@
-//! `--erasure` and the lines `erasure N WORD`: which words are taken, and what a trace says of the option.
+//! `--erasure` and the lines `erasure N WORD`: the accepted words, and what the trace has of the option.
 use super::expected::expect_written;
 use super::failing_streams::{ArrayWriter, Fails};
 use super::runs::{Row, Way, expect_rows};
@@ -30,10 +30,10 @@ const LAST_ROUND: &str =
     "0 trace 1 10 50 5 8 0 0 0 0 0 0 1 - remembered\n0 part 1 2\n0 need 1 2\n0 qry 1 2 0\n\
     0 end 4114bfe19002c726291e51542d4c6c2a68c4ff93e949bc510031bcfb0d3e22fe\n";
 
-/// What is asked of a simulation: the erasure, and the last round.
+/// The words for a simulation: the erasure, and the last round.
 type Asked = (Option<&'static str>, Option<&'static str>);
 
-/// What is asked, the status, what is printed, and the trace that there is then.
+/// The words for a simulation, its status, its output, and its trace.
 const ASKED: &[(Asked, u8, &str, Option<&str>)] = &[
     ((None, None), 0, "refused 2\n", Some(PLAIN)),
     ((Some("plain"), None), 0, "refused 2\n", Some(PLAIN)),
@@ -73,7 +73,7 @@ fn simulated_once<T: Files + AllocGlobal + Eprint + Clock>(
     simulate_file(rt, words, FILE, Some(TRACE), (false, false), writer)
 }
 
-/// Simulates the file, and expects its status and what is printed. Where memory was refused it simulates again.
+/// Simulates the file, and checks the status and the output. If memory runs out, it simulates once more.
 fn expect_simulated<T: Files + AllocGlobal + Eprint + Clock + Abort>(
     rt: &T,
     asked: Asked,
@@ -120,7 +120,7 @@ fn words_behind_the_option(rt: HostRuntime) -> Result<(), Fail> {
     Ok(())
 }
 
-/// Lines among those of old nodes, in any order, of which one node may have several.
+/// Lines `erasure N WORD` among lines `old N`, in any order; a node may have several.
 const CHOSEN: &[Row] = &[(
     &["dests 3\nlink 1 2\nlink 2 3\n"],
     &[
@@ -132,7 +132,7 @@ const CHOSEN: &[Row] = &[(
     Ended::Whole,
 )];
 
-/// Faults: another word, a node that does not exist, and a link after a choice.
+/// Lines that are faults: with another word, with a node that does not exist, or before a link.
 const FAULTS: &[Row] = &[(
     &["dests 3\nlink 1 2\n"],
     &[
@@ -163,9 +163,9 @@ fn lines_of_single_nodes(rt: HostRuntime) {
     expect_rows(&rt, Way::Simulation, LATE);
 }
 
-/// A clear of a level that the node does not have takes its sender's entry where the node remembers, and so the last
-/// downstream link; an update of that level is not taken then. Where it does not, the clear takes nothing, and the
-/// update starts a new level.
+/// A level is cleared that is not the level of node 2. If node 2 remembers erased levels, the clear removes the
+/// sender's entry, and so the last downstream link, and a later update at that level is ignored. Otherwise the clear
+/// removes nothing, and the update leads to a new level.
 const CLEARED: &str = "node 2 links 1,3 dests 4\n1 up 1\n1 up 3\n\
     2 from 3 0102000000000004000000000000000000000000000000000000000100000003\n\
     3 from 1 0101000000000004\n4 from 3 0103000000000004000000000000000700000003\n4 show\n\

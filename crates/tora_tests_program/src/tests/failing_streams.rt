@@ -5,13 +5,13 @@ use std::io::{Error, ErrorKind as IoErrorKind, Read, Write};
 /// A file of lines: its front, a middle, how often the middle is repeated, and its end.
 pub type Lines<'a> = (&'a str, &'a str, usize, &'a str);
 
-/// A reader of a file of lines that gives a few bytes at a time, and fails at one of its calls, counted from 1.
+/// A reader of a file of lines that returns a few bytes at a time, and fails at one of its calls, counted from 1.
 #[derive(Drop)]
 pub struct LinesReader<'a> {
-    /// What is left of the part that is read.
+    /// The unread rest of the present part.
     bytes: &'a [u8],
     middle: &'a [u8],
-    /// How often the middle is still to come.
+    /// How many more times the middle is read.
     times: usize,
     end: &'a [u8],
     pub size: usize,
@@ -20,7 +20,7 @@ pub struct LinesReader<'a> {
 }
 
 impl<'a> LinesReader<'a> {
-    /// A reader that gives as much as is asked for, and never fails.
+    /// A reader that returns as many bytes as are requested, and never fails.
     pub fn new((front, middle, times, end): Lines<'a>) -> LinesReader<'a> {
         LinesReader {
             bytes: front.as_bytes(),
@@ -67,15 +67,15 @@ impl Read for LinesReader<'_> {
 #[derive(Clone, Copy, Debug, PartialEq)]
 pub enum Fails {
     Never,
-    /// This write and all later ones, counted from 1.
+    /// A write with this number, counted from 1, and all later ones.
     Write(u64),
-    /// The flush.
+    /// A flush.
     Flush,
 }
 
 const ROOM: usize = 0x2000;
 
-/// A writer without memory of its own.
+/// A writer that allocates no memory.
 #[derive(Drop)]
 pub struct ArrayWriter {
     bytes: [u8; ROOM],
@@ -97,7 +97,7 @@ impl ArrayWriter {
         }
     }
 
-    /// What was written.
+    /// The bytes that were written.
     pub fn text(&self) -> &[u8] {
         self.bytes.get(..self.len).unwrap_or(&[])
     }

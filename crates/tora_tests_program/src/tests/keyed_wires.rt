@@ -1,4 +1,4 @@
-//! The wires of links with keys: what their log says, what their owner has back, and that their keys are overwritten.
+//! The wires of links with keys: their log lines, the count that they return, and their keys, which are overwritten.
 ghost use Rattle.std.specs.Prelude.{◌≡◌, false, [], ◌≤◌, length};
 
 use super::log_lines::Desk;
@@ -13,7 +13,7 @@ use tora_neighbour::{Clock, Wire, WireError};
 
 const MESSAGE: &[u8] = b"a datagram";
 
-/// A clock that is set.
+/// A clock whose tick is set by the test.
 #[derive(Drop)]
 struct SetClock<'a> {
     tick: &'a Cell<u64>,
@@ -63,7 +63,7 @@ impl Wire for GivingWire<'_> {
     }
 }
 
-/// The tick at which a datagram comes, and whether it is forged.
+/// The tick at which a datagram arrives, and whether it is forged.
 type Turn = (u64, bool);
 
 /// The count is logged at tick 10, then at most once a minute (600 ticks), if it has changed, and also after the clock
@@ -88,7 +88,7 @@ const LINES: &str = "[WARN  tora_keyed::noticed_wire] link 2 unauthenticated dat
 [WARN  tora_keyed::noticed_wire] link 2 unauthenticated datagrams 5\n\
 [INFO  tora_keyed::noticed_wire] link 2 unauthenticated datagrams 6\n";
 
-/// A datagram comes at each turn; one that is forged is not given.
+/// A datagram arrives at each turn; a forged one is not delivered.
 fn turn_each<L: Log>(
     rt: &impl Abort,
     wire: &mut LinkWire<'_, GivingWire<'_>, SetClock<'_>, L>,
@@ -104,7 +104,7 @@ fn turn_each<L: Log>(
     }
 }
 
-/// Each line comes at its time, the owner has the count, and under a cleared key nothing comes through.
+/// Each log line is written at its tick, the count is right, and no datagram is delivered under a cleared key.
 fn minutes_pass(rt: &impl Abort, desk: &Desk) {
     let (tick, is_forged) = (Cell::new(0), Cell::new(false));
     let log = Logged::new(desk, LevelFilter::Info, LogLines::new(desk, false));
@@ -122,7 +122,7 @@ fn minutes_pass(rt: &impl Abort, desk: &Desk) {
     same_at(rt, &given, &Ok(None), &"a cleared key");
 }
 
-/// A link without a key gives all that comes, counts nothing, and has no line at its end.
+/// A link without a key delivers every datagram, counts nothing, and logs nothing at its end.
 fn plain_link_ends(rt: &impl Abort, desk: &Desk) {
     let (tick, is_forged) = (Cell::new(0), Cell::new(true));
     let log = Logged::new(desk, LevelFilter::Info, LogLines::new(desk, false));

@@ -10,7 +10,7 @@ use std::time::{Clock, Duration};
 use std::{io, str};
 use tora_commands::LogLines;
 
-/// A standard error that stores its text, and a clock that stands still or cannot be read.
+/// A standard error that stores its text, and a clock that does not advance, or cannot be read.
 #[derive(Drop)]
 pub struct Desk {
     told: RefCell<ArrayWriter>,
@@ -18,7 +18,7 @@ pub struct Desk {
 }
 
 impl Desk {
-    /// A desk with an empty text, and a clock at this many milliseconds since 1970.
+    /// An empty text, and a clock that reads this many milliseconds since 1970; `None` for a clock that cannot be read.
     pub fn new(now: Option<u64>) -> Desk {
         Desk {
             told: RefCell::new(ArrayWriter::new(Fails::Never)),
@@ -66,8 +66,8 @@ fn log_three<L: Log>(log: &L) {
     debug!(log; target: "a", "three");
 }
 
-/// What the clock reads, in milliseconds since 1970, whether the time is asked for, up to which level is logged, and
-/// what is written.
+/// The reading of the clock in milliseconds since 1970, whether lines have the time, the last level that is logged, and
+/// the text.
 type Row = (Option<u64>, bool, LevelFilter, &'static str);
 
 const ROWS: &[Row] = &[
@@ -93,7 +93,7 @@ const ROWS: &[Row] = &[
     (Some(0), true, LevelFilter::Off, ""),
 ];
 
-/// A row's records are written so.
+/// Checks the text of a row's records.
 fn expect_lines<T: Abort>(rt: &T, row: &Row) {
     let (now, has_time, level, wanted) = *row;
     let desk = Desk::new(now);

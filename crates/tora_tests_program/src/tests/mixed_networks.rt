@@ -1,4 +1,4 @@
-//! Simulations of nodes whose link ends speak version 1 of frames alone, and of link ends with other times.
+//! Simulations of nodes whose link ends speak only version 1 of frames, and of link ends with other times.
 use super::route_rows::{FOUND, FOUND_AND_LOST, FOUR};
 use super::runs::{Files, Row, SHORT_SILENCE, Way, expect_files, expect_rows};
 use super::sees::same_at;
@@ -8,7 +8,7 @@ use tora_arq::Times;
 use tora_commands::asked_times;
 use tora_lines::Ended;
 
-/// A line of four nodes, of which those of each set are old: the same route is found and lost.
+/// A row of four nodes, of which those in each set are old: the same route is found and lost.
 const OLD_NODES: &[Files] = &[Files {
     front: FOUR,
     middles: &[
@@ -35,7 +35,7 @@ const OLD_NODES: &[Files] = &[Files {
     ended: Ended::Whole,
 }];
 
-/// Whatever nodes are old, the same route is found and lost.
+/// Whichever nodes are old, the same route is found and lost.
 #[test]
 fn route_is_found_whatever_nodes_are_old(rt: HostRuntime) {
     expect_files(&rt, Way::Simulation, OLD_NODES);
@@ -58,7 +58,7 @@ fn old_nodes_in_any_order(rt: HostRuntime) {
     expect_rows(&rt, Way::Simulation, ORDERS);
 }
 
-/// Two nodes, and what is refused of their hellos.
+/// Two nodes, and which of their HELLOs are refused.
 const HELLOS: &[Row] = &[
     (
         &["dests 2\nlink 1 2\n", "dests 2\nlink 1 2\nold 2\n"],
@@ -76,13 +76,14 @@ const HELLOS: &[Row] = &[
 
 const SAID: &str = "open 1 2\ntransmit 1 2\ntransmit 1 2\ndeliver 2\ntransmit 1 2\n";
 
-/// A new node says HELLO in both versions as long as it has heard none of version 2, and an old one in version 1 alone.
+/// A new node sends each HELLO in both versions until it has heard a frame of version 2; an old one sends version 1
+/// alone.
 #[test]
 fn old_node_says_hello_once(rt: HostRuntime) {
     expect_rows(&rt, Way::Simulation, HELLOS);
 }
 
-/// Lines after four nodes, and whole inputs in two parts.
+/// Lines after `FOUR`, and whole inputs in two parts.
 const NO_OLD: &[Row] = &[
     (
         &[FOUR],
@@ -140,7 +141,7 @@ const NO_OLD: &[Row] = &[
     ),
 ];
 
-/// An old node without a link, out of its place or badly written is a fault of its line.
+/// A line `old N` is a fault if no link names the node, if it is not directly after the links, or if it is malformed.
 #[test]
 fn old_nodes_that_are_faults(rt: HostRuntime) {
     expect_rows(&rt, Way::Simulation, NO_OLD);
@@ -148,7 +149,7 @@ fn old_nodes_that_are_faults(rt: HostRuntime) {
 
 const LAST_OLD: &[Row] = &[(&[FOUR], &["old 2\n", "old 2"], "", Ended::Whole)];
 
-/// The input may end after an old node.
+/// The input may end after a line `old N`.
 #[test]
 fn input_ends_behind_an_old_node(rt: HostRuntime) {
     expect_rows(&rt, Way::Simulation, LAST_OLD);
@@ -169,7 +170,7 @@ const NOT_LOST: &[Row] = &[(
     Ended::Whole,
 )];
 
-/// A link is silent after as many ticks as are asked for.
+/// A link is silent after the number of ticks in the times.
 #[test]
 fn route_is_lost_after_the_silence_asked_for(rt: HostRuntime) {
     expect_rows(&rt, Way::StandardTimes, NOT_LOST);
@@ -223,14 +224,14 @@ fn times_are_asked_for(rt: HostRuntime) {
     expect_times(&rt, TIMES);
 }
 
-/// The words after `--times` of those command lines, and the times in them.
+/// The words after `--times` in `TIMES_ON_COMMAND_LINES`, and the times in them.
 const WORDS_OF_TIMES: &[(Option<&str>, Option<Times>)] = &[
     (None, Some(Times::STANDARD)),
     (Some("10,20,5,8"), Some(SHORT_SILENCE)),
     (Some("10,20,5"), None),
 ];
 
-/// Command lines, and what they ask for.
+/// Command lines, and the simulations that they request.
 const TIMES_ON_COMMAND_LINES: &[(&[&str], Asked)] = &[
     (&["tora", "sim", "a.sim"], Asked::Sim("a.sim", None, None)),
     (

@@ -12,7 +12,7 @@ const NODES: [Id; 3] = [1, 2, 3];
 
 const ENDS: [(Id, Id); 4] = [(1, 2), (2, 1), (2, 3), (3, 2)];
 
-/// A pair is parted and mended whichever of its nodes is named first, and no other is.
+/// A pair is parted and mended whichever of its nodes is named first, and no other pair is.
 #[test]
 fn pairs_of_nodes(rt: HostRuntime) {
     let made = Parted::of(rt.alloc(), &[(2, 1), (7, 7)]);

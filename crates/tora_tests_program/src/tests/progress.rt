@@ -68,7 +68,7 @@ fn expect_told<T: Abort, P: Debug>(rt: &T, terminal: Terminal, wanted: &str, pla
     );
 }
 
-/// Rounds that are done, those that there will be, the milliseconds, and what is said of it.
+/// Rounds done, rounds in all, milliseconds, and the text for them.
 const TEXTS: &[((u64, Option<u64>, u64), &str)] = &[
     (
         (0, Some(100), 0),
@@ -121,7 +121,7 @@ fn texts_of_a_bar(rt: HostRuntime) {
     }
 }
 
-/// Texts, and the rounds that they ask for.
+/// Texts of lines, and how many rounds they request.
 const COUNTS: &[(&str, u64)] = &[
     ("", 0),
     ("rounds 5", 5),
@@ -136,7 +136,7 @@ const COUNTS: &[(&str, u64)] = &[
     ),
 ];
 
-/// Lines `rounds R` alone count, and a last one without its end does.
+/// Only lines `rounds R` count, also a last one without LF.
 #[test]
 fn rounds_of_lines(rt: HostRuntime) {
     for (text, wanted) in COUNTS {
@@ -147,7 +147,7 @@ fn rounds_of_lines(rt: HostRuntime) {
     }
 }
 
-/// Reads all that a reader gives.
+/// Reads all bytes of a reader.
 fn read_all<R: Input>(reader: &mut R) {
     let mut bytes = [0u8; 64];
     for _ in 0..64u64 {
@@ -160,7 +160,7 @@ fn read_all<R: Input>(reader: &mut R) {
 
 const FILE: &str = "dests 2\nlink 1 2\nrounds 10\nheights 2\nrounds 30\nheights 2\n";
 
-/// Milliseconds from a reading of the clock to the next, the rounds of the file, the last round, and what is drawn.
+/// The milliseconds between two readings of the clock, the rounds of the file, the last round, and what is drawn.
 const DRAWN: &[(u64, Option<u64>, Option<u64>, &str)] = &[
     (
         1,
@@ -188,7 +188,7 @@ const DRAWN: &[(u64, Option<u64>, Option<u64>, &str)] = &[
     (1, None, None, "\r\x1b[K40 rounds, 6666 a second\n"),
 ];
 
-/// It is drawn when a tenth of a second is over, by the lines that were read before, and at the end.
+/// The bar is drawn each tenth of a second, for the lines that were read before, and at the end.
 #[test]
 fn bars_are_drawn(rt: HostRuntime) {
     for (step, total, until, wanted) in DRAWN {
@@ -199,7 +199,7 @@ fn bars_are_drawn(rt: HostRuntime) {
     }
 }
 
-/// A message wipes the bar away.
+/// A message erases the bar first.
 #[test]
 fn messages_take_the_place_of_a_bar(rt: HostRuntime) {
     let terminal = Terminal::new(0);

@@ -29,8 +29,8 @@ const STEPPED: Row = (
     "node 1 - hop -\nnode 2 (0,0,0,0,2) hop -\n",
 );
 
-/// A line of each kind: lines that are refused or faults have no line in a record, nor have those that change no world;
-/// a datagram that is taken is delivered.
+/// A line of each kind. A line that is refused or a fault, or that does not change the world, has no line in the
+/// record; a `take` has the line of the delivery.
 const EACH_KIND: Row = (
     "dests 2\nlink 1 2\nold 2\nneed 1 2\nfar 1 2\nstep\nneeds\nbytes 1\nturn 1\nforget 0\ndeliver 2\n\
      take 1 2 01010000000000020000000100000000000000010000000000000000\n\
@@ -66,14 +66,14 @@ const FOUND: Row = (
 
 const ROWS: &[Row] = &[STEPPED, EACH_KIND, FOUND];
 
-/// What a recorded drive left: how it ended, its answers, and its record.
+/// The results of a recorded drive: how it ended, its answers, and its record.
 type Left = (
     Result<Ended, ReplayError>,
     ArrayWriter,
     TraceOut<ArrayWriter>,
 );
 
-/// Drives once, with a record that fails so, and hands the record on.
+/// Drives once, with a writer of the record that fails in this way, and flushes the record.
 fn recorded_once<T: AllocGlobal>(rt: &T, lines: &str, fails: Fails) -> Left {
     let mut reader = LinesReader::new((lines, "", 0, ""));
     let mut writer = ArrayWriter::new(Fails::Never);
@@ -90,8 +90,8 @@ fn recorded_once<T: AllocGlobal>(rt: &T, lines: &str, fails: Fails) -> Left {
     (found, writer, out)
 }
 
-/// Drives, with a record that fails so. Where memory was refused it drives again, since one refusal is no reason for a
-/// second.
+/// Drives, with a writer of the record that fails in this way. If memory runs out, it drives once more, since only one
+/// request for memory fails.
 fn recorded<T: AllocGlobal>(rt: &T, lines: &str, fails: Fails) -> Left {
     let left = recorded_once(rt, lines, fails);
     if is_memory(left.0) {
@@ -100,7 +100,8 @@ fn recorded<T: AllocGlobal>(rt: &T, lines: &str, fails: Fails) -> Left {
     left
 }
 
-/// The lines of a row are answered so, with a record that fails so. Answers the record.
+/// Checks the answers to the lines of a row, with a writer of the record that fails in this way, and returns the
+/// record.
 fn expect_answers<T: AllocGlobal + Abort>(
     rt: &T,
     (lines, answers, _, _): Row,
@@ -115,13 +116,13 @@ fn expect_answers<T: AllocGlobal + Abort>(
     out.writer
 }
 
-/// The lines of a row have its record.
+/// Checks the record of a row.
 fn expect_record<T: AllocGlobal + Abort>(rt: &T, row: Row) {
     let record = expect_answers(rt, row, Fails::Never);
     expect_written(rt, (row.0, "", 0, ""), record.text(), row.2);
 }
 
-/// A simulation of the record prints what the row says.
+/// Checks the output of a simulation of the record.
 fn expect_simulated<T: AllocGlobal + Eprint + Abort>(rt: &T, (_, _, record, text): Row) {
     let lines = (record, "", 0, "");
     expect_run(
@@ -142,7 +143,7 @@ fn taken_lines_are_recorded(rt: HostRuntime) {
     }
 }
 
-/// A simulation of the record prints what the drive answered to the same lines: its heights, above all.
+/// A simulation of the record prints what the drive answered to the same lines, above all the heights.
 #[test]
 fn records_are_simulated(rt: HostRuntime) {
     for row in ROWS {
@@ -150,7 +151,7 @@ fn records_are_simulated(rt: HostRuntime) {
     }
 }
 
-/// A record that can't be written changes no answer.
+/// If the record cannot be written, the answers are the same.
 #[test]
 fn lost_records_change_no_answer(rt: HostRuntime) {
     for row in ROWS {
@@ -166,7 +167,7 @@ const RECORD: &str = "tora_record_test/driven.sim";
 
 const MISSING: &str = "tora_record_test/none/driven.sim";
 
-/// Drives once and records to a path: the status, and the answers.
+/// Drives once and records to a path; returns the status and the answers.
 fn command_once<T: Files + AllocGlobal + Eprint>(
     rt: &T,
     times: Option<&str>,
@@ -206,7 +207,7 @@ fn holds_record<R: Files<File = File>>(rt: &R, path: &str) -> bool {
     }
 }
 
-/// The answers to the first row, after the greeting.
+/// The answers of the first row, after the greeting.
 const GREETED: &str =
     "tora drive 1\nok\nok\nok\nsent 1 2 1 28\nsent 1 2 2 28\nsent 2 1 3 28\nsent 2 1 4 28\nok\n\
      node 1 - hop -\nnode 2 (0,0,0,0,2) hop -\nok\n";
@@ -227,7 +228,7 @@ fn records_are_written_to_files(rt: HostRuntime) -> Result<(), Fail> {
     Ok(())
 }
 
-/// The status of a drive whose record fails so.
+/// The status of a drive whose writer of the record fails in this way.
 fn failed_status<T: AllocGlobal + Eprint>(rt: &T, fails: Fails) -> ExitCode {
     let mut writer = ArrayWriter::new(Fails::Never);
     let mut out = TraceOut::new(ArrayWriter::new(fails));
@@ -242,7 +243,7 @@ fn failed_status<T: AllocGlobal + Eprint>(rt: &T, fails: Fails) -> ExitCode {
     )
 }
 
-/// 1 where the record can't be written or not be handed on.
+/// The status is 1 if the record cannot be written or flushed.
 #[test]
 fn statuses_of_lost_records(rt: HostRuntime) {
     for fails in [Fails::Write(1), Fails::Write(4), Fails::Flush] {

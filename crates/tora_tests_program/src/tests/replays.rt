@@ -67,8 +67,8 @@ fn longest_line(rt: HostRuntime) {
     expect_files(&rt, Way::Replay, LONGEST_LINES);
 }
 
-/// The line of this number is a fault for this cause, as `-v` says it. Where another is found it is asked for again,
-/// since memory may have been refused.
+/// Checks that the line with this number is a fault for this cause. If another cause is found, it checks once more,
+/// since memory may have run out.
 fn expect_cause(rt: &impl Abort, alloc: Global, number: u64, line: Option<&str>, cause: Cause) {
     let bytes = match line {
         Some(line) => Some(line.as_bytes()),
@@ -81,14 +81,14 @@ fn expect_cause(rt: &impl Abort, alloc: Global, number: u64, line: Option<&str>,
     same_at(rt, &found, &cause, &line);
 }
 
-/// Each of these lines of this number is a fault for its cause.
+/// Checks that each line, with this number, is a fault for its cause.
 fn expect_causes(rt: &impl Abort, alloc: Global, number: u64, rows: &[(Option<&str>, Cause)]) {
     for (line, cause) in rows {
         expect_cause(rt, alloc, number, *line, *cause);
     }
 }
 
-/// Why a line after the first is a fault, in the words of `-v`.
+/// Why a line after the first is a fault, as `-v` reports it.
 #[test]
 fn causes_of_faults(rt: HostRuntime) {
     expect_causes(&rt, rt.alloc(), 2, CAUSES);
@@ -98,7 +98,7 @@ fn causes_of_faults(rt: HostRuntime) {
 
 const TOO_LONG: [u8; 4097] = [b' '; 4097];
 
-/// Why a first line is a fault, as `-v` says it.
+/// Why a first line is a fault, as `-v` reports it.
 #[test]
 fn causes_of_first_faults(rt: HostRuntime) {
     expect_causes(&rt, rt.alloc(), 1, FIRST_CAUSES);

@@ -2,18 +2,18 @@
 use super::runs::{Files, NOTHING, Row};
 use tora_lines::Ended;
 
-/// A line of four nodes.
+/// A row of four nodes.
 pub const FOUR: &str = "dests 4\nlink 1 2\nlink 2 3\nlink 3 4\n";
 
-/// The heights and next hops of its nodes with a route to 4.
+/// The heights and next hops of the nodes in `FOUR`, with a route to 4.
 pub const FOUND: &str = "node 1 (0,0,0,3,1) hop 2\nnode 2 (0,0,0,2,2) hop 3\n\
     node 3 (0,0,0,1,3) hop 4\nnode 4 (0,0,0,0,4) hop -\n";
 
-/// Its route to 4 is found, and lost.
+/// The route to 4 is found and lost in `FOUR`.
 pub const FOUR_FOUND_AND_LOST: &str = "dests 4\nlink 1 2\nlink 2 3\nlink 3 4\nneed 1 4\nrounds 3\n\
     heights 4\npart 3 4\nrounds 60\nheights 4\n";
 
-/// What that prints.
+/// The output of `FOUR_FOUND_AND_LOST`.
 pub const FOUND_AND_LOST: &str = "node 1 (0,0,0,3,1) hop 2\nnode 2 (0,0,0,2,2) hop 3\n\
     node 3 (0,0,0,1,3) hop 4\nnode 4 (0,0,0,0,4) hop -\n\
     node 1 - hop -\nnode 2 - hop -\nnode 3 - hop -\nnode 4 (0,0,0,0,4) hop -\n";
@@ -45,7 +45,7 @@ const ARMS: &[&str] = &[
     "arm 4 receive\n",
 ];
 
-/// Each of those calls at five places between the rounds.
+/// Each call of `ARMS`, at five places between the rounds.
 pub const ARMED: &[Files] = &[
     Files {
         front: "dests 4\nlink 1 2\nlink 2 3\nlink 3 4\n",
@@ -154,7 +154,7 @@ pub const STAR_FOUND: &str = "node 1 (0,0,0,1,1) hop 2\nnode 2 (0,0,0,0,2) hop -
     node 28 - hop 1\nnode 29 - hop 1\nnode 30 - hop 1\nnode 31 - hop 1\nnode 32 - hop 1\n\
     node 33 (0,0,0,2,33) hop 1\n";
 
-/// A leaf of the largest star asks for a route to another leaf; and one leaf more.
+/// A leaf of the largest star asks for a route to another leaf; the second row has one leaf more.
 pub const STARS: &[Files] = &[
     Files {
         front: "dests 2\n",

@@ -1,4 +1,4 @@
-//! Runs of files of lines by the calls of the crates: what is printed, and how they end.
+//! Runs of files of lines by the calls of the crates: their output, and how they end.
 use super::expected::{expect_ended, expect_written, is_memory};
 use super::failing_streams::{ArrayWriter, Fails, Lines, LinesReader};
 use std::alloc::Global;
@@ -20,14 +20,14 @@ pub enum Way {
     Replay,
     /// A replay of a node that remembers erased levels.
     RememberedReplay,
-    /// A replay that hands on what it wrote.
+    /// A replay that flushes its output at the end.
     FlushedReplay,
     Simulation,
-    /// A simulation that hands on what it wrote.
+    /// A simulation that flushes its output at the end.
     FlushedSimulation,
     /// A simulation that reports causes on standard error.
     ToldSimulation,
-    /// A simulation whose link ends are asked to have the standard times.
+    /// A simulation whose times are given, and are the standard ones.
     StandardTimes,
     /// A simulation whose link ends are silent after 20 ticks.
     ShortSilence,
@@ -47,7 +47,7 @@ pub const SHORT_SILENCE: Times = Times {
     tries: 8,
 };
 
-/// Drives a world within the limits by what a reader gives.
+/// Drives a world within the limits by the lines of a reader.
 fn driven(
     alloc: Global,
     limits: Limits,
@@ -59,8 +59,8 @@ fn driven(
 }
 
 impl Way {
-    /// Runs what a reader gives. Calls whose contracts tell much stand in functions without one, here and in the tests:
-    /// the proofs of what calls those then leave it out.
+    /// Runs the lines of a reader. Calls with long contracts are in functions without a contract, here and in the
+    /// tests, so that the proofs of their callers leave those contracts out.
     pub fn run<T: AllocGlobal + Eprint>(
         self,
         rt: &T,
@@ -107,7 +107,7 @@ impl Way {
         }
     }
 
-    /// Runs lines once, with a writer that fails so.
+    /// Runs lines once, with a writer that fails in this way.
     pub fn once<T: AllocGlobal + Eprint>(
         self,
         rt: &T,
@@ -121,8 +121,8 @@ impl Way {
     }
 }
 
-/// With a writer that fails so the lines print the text, and end so. Where memory was refused they are run again, since
-/// one refusal is no reason for a second.
+/// Checks the output of lines and how they end, with a writer that fails in this way. If memory runs out, they are run
+/// once more, since only one request for memory fails.
 pub fn expect_run<T: AllocGlobal + Eprint + Abort>(
     rt: &T,
     way: Way,
@@ -139,8 +139,8 @@ pub fn expect_run<T: AllocGlobal + Eprint + Abort>(
     expect_written(rt, lines, writer.text(), text);
 }
 
-/// Files with the same output and the same end: each of the fronts with each of the ends after it, their output, and
-/// how they end.
+/// Files with the same output that end in the same way: each front followed by each end; the output, and how the files
+/// end.
 pub type Row = (
     &'static [&'static str],
     &'static [&'static str],
@@ -151,7 +151,7 @@ pub type Row = (
 /// An end without lines.
 pub const NOTHING: &[&str] = &[""];
 
-/// Each of these files prints its text, and ends so.
+/// Checks the output of each file, and how it ends.
 pub fn expect_rows<T: AllocGlobal + Eprint + Abort>(rt: &T, way: Way, rows: &[Row]) {
     for (fronts, ends, text, ended) in rows {
         for front in *fronts {
@@ -163,7 +163,8 @@ pub fn expect_rows<T: AllocGlobal + Eprint + Abort>(rt: &T, way: Way, rows: &[Ro
     }
 }
 
-/// Files of three parts with the same output and the same end: each of the middles is repeated between front and end.
+/// Files of three parts with the same output that end in the same way: each middle is repeated between the front and
+/// the end.
 pub struct Files {
     pub front: &'static str,
     pub middles: &'static [&'static str],
@@ -173,7 +174,7 @@ pub struct Files {
     pub ended: Ended,
 }
 
-/// Each of these files prints its text, and ends so.
+/// Checks the output of each file, and how it ends.
 pub fn expect_files<T: AllocGlobal + Eprint + Abort>(rt: &T, way: Way, rows: &[Files]) {
     for files in rows {
         for middle in files.middles {
@@ -183,7 +184,7 @@ pub fn expect_files<T: AllocGlobal + Eprint + Abort>(rt: &T, way: Way, rows: &[F
     }
 }
 
-/// Checks that these lines after the front are accepted and print these texts.
+/// Checks that these lines after the front are accepted, and their outputs.
 pub fn expect_lines<T: AllocGlobal + Eprint + Abort>(
     rt: &T,
     way: Way,

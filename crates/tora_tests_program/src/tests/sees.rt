@@ -5,17 +5,17 @@ use std::fmt::Debug;
 use std::process::Abort;
 use std::test::*;
 
-/// It is so.
+/// Checks that a condition holds.
 pub fn sees(rt: &impl Abort, is_so: bool, what: &str) {
     assert!(rt; is_so, "{what}");
 }
 
-/// It is so at this place.
+/// Checks that a condition holds for one row of a table or one turn of a loop.
 pub fn sees_at<P: Debug>(rt: &impl Abort, is_so: bool, place: &P) {
     assert!(rt; is_so, "at {place:?}");
 }
 
-/// What is found at this place is what is wanted.
+/// Checks a value for one row of a table or one turn of a loop.
 pub fn same_at<T: PartialEq + Debug, P: Debug>(rt: &impl Abort, found: &T, wanted: &T, place: &P) {
     assert_eq!(rt; found, wanted, "at {place:?}");
 }

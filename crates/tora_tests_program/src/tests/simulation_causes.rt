@@ -9,13 +9,13 @@ use tora_lines::{FileKind, LONGEST_LINE};
 use tora_script::{Setup, Simulation, SimulationCause, simulation_cause};
 use tora_sim::Sim;
 
-/// Takes a line; whether it is none that is a fault, and there is memory.
+/// Takes a line. Returns false if it is a fault, or if memory runs out.
 fn is_taken(alloc: Global, state: &mut Simulation<Sim>, line: &str) -> bool {
     let mut text = String::new(alloc);
     line.len() <= LONGEST_LINE && state.take(alloc, line.as_bytes(), &mut text).is_ok()
 }
 
-/// The state after these lines, or nothing if one is a fault or memory is refused.
+/// The state after these lines; `None` if one is a fault or memory runs out.
 fn state_behind(alloc: Global, lines: &[&str]) -> Option<Simulation<Sim>> {
     let mut state: Simulation<Sim> = Simulation::new(Setup::plain(Times::STANDARD));
     for line in lines {
@@ -32,14 +32,14 @@ fn cause_behind(alloc: Global, lines: &[&str], line: &str) -> Option<SimulationC
     Some(simulation_cause(&state.stage, line.as_bytes()))
 }
 
-/// Lines, and further ones with the cause for which each is a fault after them.
+/// Lines; and further lines, each of which is a fault after them, with the cause.
 type Causes = (
     &'static [&'static str],
     &'static [(&'static str, SimulationCause)],
 );
 
-/// After its lines each of the further ones is a fault for its cause. Where another is found it is asked for
-/// again, since memory may have been refused.
+/// Checks the cause of each further line after its lines. If another cause is found, it checks once more, since memory
+/// may have run out.
 fn expect_causes(rt: &impl Abort, alloc: Global, groups: &[Causes]) {
     for (lines, rows) in groups {
         for (line, cause) in *rows {
@@ -147,13 +147,13 @@ const EARLY_CAUSES: &[Causes] = &[
     (&["dests 4", "link 1 2", "link 2 3"], SECOND_LINK_CAUSES),
 ];
 
-/// Why a first line or a link is a fault, as `-v` says it.
+/// Why a first line or a link is a fault, as `-v` reports it.
 #[test]
 fn causes_of_faults_before_a_simulation_runs(rt: HostRuntime) {
     expect_causes(&rt, rt.alloc(), EARLY_CAUSES);
 }
 
-/// Old nodes and choices of nodes after two links.
+/// Lines `old N` and `erasure N WORD` after two links.
 const OLD_CAUSES: &[(&str, SimulationCause)] = &[
     ("old 4", SimulationCause::NoSuchNode),
     ("old 0", SimulationCause::Old),
@@ -170,7 +170,7 @@ const OLD_CAUSES: &[(&str, SimulationCause)] = &[
     ("erasures 1 plain", SimulationCause::Word),
 ];
 
-/// Lines after an old node or a choice of a node.
+/// Lines after a line `old N` or `erasure N WORD`.
 const LATE_CAUSES: &[(&str, SimulationCause)] = &[
     ("old 3", SimulationCause::NoSuchNode),
     ("erasure 3 plain", SimulationCause::NoSuchNode),
@@ -179,7 +179,7 @@ const LATE_CAUSES: &[(&str, SimulationCause)] = &[
     ("dests 4", SimulationCause::LateDests),
 ];
 
-/// Old nodes after links, after an old node, and out of their place.
+/// Lines `old N` after links, after another such line, and at a wrong place.
 const CAUSES_OF_OLD_NODES: &[Causes] = &[
     (&["dests 4", "link 1 2", "link 2 3"], OLD_CAUSES),
     (&["dests 4", "link 1 2", "old 2"], LATE_CAUSES),
@@ -201,7 +201,7 @@ const CAUSES_OF_OLD_NODES: &[Causes] = &[
     ),
 ];
 
-/// Why an old node is a fault, as `-v` says it.
+/// Why a line `old N` is a fault, as `-v` reports it.
 #[test]
 fn causes_of_faults_of_old_nodes(rt: HostRuntime) {
     expect_causes(&rt, rt.alloc(), CAUSES_OF_OLD_NODES);

@@ -1,9 +1,9 @@
-//! Lines of simulation files that are taken or faults, and what is printed for them.
+//! Lines of simulation files that are accepted or faults, and their output.
 use super::route_rows::{FOUR, STAR, STAR_OF_255};
 use super::runs::{Files, NOTHING, Row};
 use tora_lines::Ended;
 
-/// Lines of walks that name no node or no destination, or too few.
+/// Lines `exact` and `walk` that name no node or no destination, or have too few words.
 const NO_WALKS: &[&str] = &[
     "exact 3\n",
     "walk 5 4\n",
@@ -22,7 +22,7 @@ pub const WALKS: &[Row] = &[
     ),
 ];
 
-/// First lines that are taken.
+/// First lines that are accepted.
 const DESTINATIONS: &[&str] = &[
     "dests -\n",
     "dests 4\n",
@@ -84,7 +84,7 @@ const TWO_LINKS: &[&str] = &[
     65\nlink 1 2\nlink 2 3",
 ];
 
-/// What may follow those links.
+/// The rest of an input after `TWO_LINKS`.
 const BEHIND_LINKS: &[&str] = &["\ntick\n", "\n\n", "\nlink 5 0\n", "\nheights 4\ntick\n"];
 
 /// A refused topology is a fault of the line after the links, whatever that is, or of the last link.
@@ -100,7 +100,7 @@ pub const TOPOLOGIES: &[Row] = &[
     ),
 ];
 
-/// A line of 64 nodes, and one more.
+/// A row of 64 nodes, and one more node.
 pub const LINES_OF_NODES: &[Files] = &[
     Files {
         front: "dests 4\n",
@@ -120,7 +120,7 @@ pub const LINES_OF_NODES: &[Files] = &[
     },
 ];
 
-/// A line of 65 nodes, and stars with 33, 255 and 256 leaves, in a large world.
+/// A row of 65 nodes, and stars with 33, 255 and 256 leaves, in a large world.
 pub const LARGE_WORLDS: &[Files] = &[
     Files {
         front: "dests 4\n",
@@ -156,7 +156,7 @@ pub const LARGE_WORLDS: &[Files] = &[
     },
 ];
 
-/// The links of a line of 64 nodes.
+/// The links of a row of 64 nodes.
 pub const LINKS_OF_A_LINE: &str = "link 1 2\nlink 2 3\nlink 3 4\nlink 4 5\nlink 5 6\nlink 6 7\n\
     link 7 8\nlink 8 9\nlink 9 10\nlink 10 11\nlink 11 12\nlink 12 13\n\
     link 13 14\nlink 14 15\nlink 15 16\nlink 16 17\nlink 17 18\nlink 18 19\n\

@@ -15,7 +15,7 @@ fn restart_mends_a_life_file(rt: HostRuntime) {
     expect_rows(&rt, Way::Simulation, MENDED_FILE);
 }
 
-/// Whatever call of whatever node fails between two rounds, the route is found.
+/// If any call of any node fails between two rounds, the route is found.
 #[test]
 fn route_is_found_whatever_call_fails(rt: HostRuntime) {
     expect_files(&rt, Way::Simulation, ARMED);
@@ -33,7 +33,7 @@ fn walks_of_others_are_faults(rt: HostRuntime) {
     expect_rows(&rt, Way::Simulation, WALKS);
 }
 
-/// What a core sent and another took, counted by the life that each end writes.
+/// The number of packets that one core sent and another took in a session, as each end writes the session.
 #[test]
 fn packets_are_counted_by_life(rt: HostRuntime) {
     expect_rows(&rt, Way::Simulation, COUNTED);
@@ -51,7 +51,7 @@ fn topologies_refused(rt: HostRuntime) {
     expect_rows(&rt, Way::Simulation, TOPOLOGIES);
 }
 
-/// A leaf of the largest star asks for a route to another leaf; the others hear the answer.
+/// A leaf of the largest star asks for a route to another leaf; the other leaves hear the answer.
 #[test]
 fn star_of_thirty_three(rt: HostRuntime) {
     expect_files(&rt, Way::Simulation, STARS);
@@ -63,7 +63,7 @@ fn nodes_are_counted(rt: HostRuntime) {
     expect_files(&rt, Way::Simulation, LINES_OF_NODES);
 }
 
-/// More than 64 nodes and more than 32 neighbours are taken in a large world, and more than 255 neighbours are not.
+/// More than 64 nodes and more than 32 neighbours are accepted in a large world, and more than 255 neighbours are not.
 #[test]
 fn large_worlds_are_taken(rt: HostRuntime) {
     expect_files(&rt, Way::LargeSimulation, LARGE_WORLDS);
@@ -107,7 +107,7 @@ fn orders_that_are_faults(rt: HostRuntime) {
     expect_rows(&rt, Way::Simulation, ORDERS);
 }
 
-/// What was printed before a fault stays.
+/// The output before a fault is complete.
 #[test]
 fn fault_comes_behind_what_was_printed(rt: HostRuntime) {
     expect_rows(&rt, Way::Simulation, PRINTED_BEFORE_A_FAULT);

@@ -12,10 +12,10 @@ use tora_lines::{Ended, ReplayError};
 use tora_replay::replay;
 use tora_simulate::Recent;
 
-/// A way to run lines, the lines, what they print, and a number.
+/// How lines are run, the lines, their output, and a number.
 type Run = (Way, &'static str, &'static str, usize);
 
-/// The lines of a run are taken and print its text, unless memory was refused: the answer says whether it was not.
+/// Checks that the lines of a run are accepted, and their output, unless memory runs out. Returns false if it does.
 fn expect_whole<T: AllocGlobal + Eprint + Abort>(
     rt: &T,
     (way, lines, text, _): Run,
@@ -54,25 +54,25 @@ fn expect_failure<T: AllocGlobal + Eprint + Abort>(
     sees_at(rt, is_told && begins, &("read", failing_read, fails));
 }
 
-/// Runs, and below how many bytes each size of pieces is tried.
+/// Runs, and the number below which each size of pieces is tried, in bytes.
 const PIECES: &[Run] = &[
     (Way::Replay, ROUTE_AND_LOSS, LOSS_TEXT, 80),
     (Way::Simulation, FOUR_FOUND_AND_LOST, FOUND_AND_LOST, 40),
 ];
 
-/// Runs, and below which read each one fails.
+/// Runs, and the number below which each read fails in turn.
 const READS: &[Run] = &[
     (Way::Replay, ROUTE_AND_LOSS, LOSS_TEXT, 64),
     (Way::Simulation, FOUR_FOUND_AND_LOST, FOUND_AND_LOST, 20),
 ];
 
-/// Runs, and below which read each one is interrupted.
+/// Runs, and the number below which each read is interrupted in turn.
 const INTERRUPTED: &[Run] = &[
     (Way::Replay, ROUTE_AND_LOSS, LOSS_TEXT, 80),
     (Way::Simulation, FOUR_FOUND_AND_LOST, FOUND_AND_LOST, 20),
 ];
 
-/// Runs, and below which write each one fails.
+/// Runs, and the number below which each write fails in turn.
 const WRITES: &[Run] = &[
     (Way::Replay, ROUTE_AND_LOSS, LOSS_TEXT, 6),
     (Way::Simulation, FOUR_FOUND_AND_LOST, FOUND_AND_LOST, 3),
@@ -124,7 +124,8 @@ fn failed_writes(rt: HostRuntime) {
     }
 }
 
-/// Whether a fault of the third line ends the replay of its pieces, and the line is found in what was read last.
+/// Whether the third line, read in pieces of this size, is a fault that ends the replay, and is among the remembered
+/// lines.
 fn is_third_line_kept(alloc: Global, size: usize) -> bool {
     let mut pieces = LinesReader::new((
         "node 3 links 2 dests 4\n1 up 2\n1 shows\n1 show\n",
@@ -139,7 +140,7 @@ fn is_third_line_kept(alloc: Global, size: usize) -> bool {
     is_end(found, Ok(Ended::Fault(3))) && reader.line(3) == Some(b"1 shows".as_slice())
 }
 
-/// The line of a fault is found in what was read last, whatever the pieces.
+/// The line of a fault is remembered, whatever the size of the pieces.
 #[test]
 fn recent_lines_are_kept(rt: HostRuntime) {
     let mut refused = 0u64;
@@ -154,7 +155,7 @@ fn recent_lines_are_kept(rt: HostRuntime) {
 /// Lines for a call that flushes at the end, their output, and how they end if the flush succeeds.
 type Handed = (Way, &'static str, &'static str, Ended);
 
-/// Each of these prints its text, and ends so where what was written can be handed on, and else with a failed write.
+/// Checks the output of each row, and how the call ends: as the row says, or with `Write` if the flush fails.
 fn expect_handed<T: AllocGlobal + Eprint + Abort>(rt: &T, rows: &[Handed]) {
     for (way, lines, text, ended) in rows {
         let lines: Lines<'_> = (*lines, "", 0, "");
@@ -182,13 +183,13 @@ const HANDED_SIMULATIONS: &[Handed] = &[(
     Ended::Whole,
 )];
 
-/// A flush that fails at the end is a failed write, also after a fault; all was written.
+/// If the last flush fails, the result is `Write`, also after a fault; all output was written.
 #[test]
 fn failed_flushes(rt: HostRuntime) {
     expect_handed(&rt, HANDED_REPLAYS);
 }
 
-/// A flush that fails at the end is a failed write; all was written.
+/// If the last flush fails, the result is `Write`; all output was written.
 #[test]
 fn failed_flushes_of_a_simulation(rt: HostRuntime) {
     expect_handed(&rt, HANDED_SIMULATIONS);

@@ -1,9 +1,9 @@
-//! Rows of the table of events that no law needs, each by a simulation file. What they print is worked out by hand from
-//! the document of the simulated world.
+//! Rows of the table of events that no law needs, each by a simulation file. Their output was worked out by hand from
+//! the document on the simulated world.
 use super::runs::{Files, Way, expect_files};
 use tora_lines::Ended;
 
-/// Two nodes bind the lives {1, 1}: the two datagrams of it are the first ones.
+/// The link of two nodes is bound in the session {1, 1}, by the first two datagrams.
 const BOUND: &str = "open 1 2\nopen 2 1\ntransmit 1 2\ndeliver 1\ntransmit 2 1\ndeliver 2\n";
 
 const TORN: &[Files] = &[Files {
@@ -16,8 +16,8 @@ const TORN: &[Files] = &[Files {
     ended: Ended::Whole,
 }];
 
-/// A slot that was written and not synced holds the torn bytes after a crash, and counts where they are a slot: the
-/// next number is that behind its bound 900.
+/// A slot that was written and not synced has the torn bytes after a crash. It counts if they are a slot: the next
+/// number is 901, one above its bound.
 #[test]
 fn torn_slot_counts(rt: HostRuntime) {
     expect_files(&rt, Way::Simulation, TORN);
@@ -42,8 +42,8 @@ const ARMED: &[Files] = &[
     },
 ];
 
-/// A call that is armed stays so over a restart, and fails as the life file is opened: the end stays closed until the
-/// next one.
+/// An armed call stays armed over a restart, and fails when the life file is opened: the end stays closed until the
+/// next restart.
 #[test]
 fn arms_outlive_a_restart(rt: HostRuntime) {
     expect_files(&rt, Way::Simulation, ARMED);
@@ -59,8 +59,8 @@ const FULL_LANE: &[Files] = &[Files {
     ended: Ended::Whole,
 }];
 
-/// The queue into a core has room for 1,024 items. After 1,023 needs a pump fits, and then neither a pump nor a need;
-/// after a turn one of them does.
+/// The queue into a core has room for 1,024 items. After 1,023 needs there is room for one item, which a pump puts;
+/// then a pump and a need are refused, and after a turn there is room for one item again.
 #[test]
 fn lane_into_a_core_fills(rt: HostRuntime) {
     expect_files(&rt, Way::Simulation, FULL_LANE);
@@ -83,16 +83,16 @@ const LOST_SEND: &[Files] = &[Files {
     ended: Ended::Whole,
 }];
 
-/// A lost send counts as a try of its packet. Seven more tries follow, one every five ticks, and the life ends at tick
-/// 40, not before. At ticks 10, 20 and 30 a HELLO is due, too.
+/// A lost send counts as a try of its packet. Seven more tries follow, one every five ticks, and the session ends at
+/// tick 40, not before. At ticks 10, 20 and 30 a HELLO is due, too.
 #[test]
 fn lost_send_is_a_try(rt: HostRuntime) {
     expect_files(&rt, Way::Simulation, LOST_SEND);
 }
 
-/// Node 2 begins anew, so that the life of its link is {1, 17}. Then node 1 asks for 51 destinations, so that each life
-/// of node 3 that comes up puts 51 queries into the lane to node 2, which nobody pulls: behind four such lives 255 wait
-/// there. Of the fifth life's queries one goes in, and the life of node 2 is cut.
+/// Node 2 restarts, so its link has the session {1, 17}. Node 1 needs 51 destinations, which puts 51 queries into the
+/// lane to node 2; nothing is pulled from it. Each of four sessions with node 3 that come up does the same, so 255
+/// queries wait. Of the 51 queries of a fifth one, one is put, and the session with node 2 is cut.
 const FILLED: &str = "dests 10,11,12,13,14,15,16,17,18,19,20,21,22,23,24,25,26,\
     27,28,29,30,31,32,33,34,35,36,37,38,39,40,41,42,43,\
     44,45,46,47,48,49,50,51,52,53,54,55,56,57,58,59,60\n\
@@ -118,7 +118,7 @@ const FILLED: &str = "dests 10,11,12,13,14,15,16,17,18,19,20,21,22,23,24,25,26,\
     restart 3 -\nopen 3 1\ntransmit 3 1\ndeliver 14\nopen 1 3\npump 1 3\nturn 1\n\
     transmit 1 3\ndeliver 15\ntransmit 3 1\ndeliver 16\npump 1 3\nturn 1\nsent 1 2 1 17\nsent 1 3 5 65\n";
 
-/// What that prints.
+/// The output of `FILLED`.
 const FILLED_COUNTS: &str =
     "count 51\ncount 102\ncount 153\ncount 204\ncount 255\ncount 256\ncount 51\n";
 
@@ -131,7 +131,7 @@ const LAST_PLACE: &[Files] = &[Files {
     ended: Ended::Whole,
 }];
 
-/// What a turn offered before counts in the lane to a neighbour, too: of 51 queries one takes the last place.
+/// The offers of one turn count in the lane, too: of 51 queries one takes the last place, and no other is put.
 #[test]
 fn last_place_of_a_lane_is_taken_once(rt: HostRuntime) {
     expect_files(&rt, Way::Simulation, LAST_PLACE);
@@ -147,7 +147,8 @@ const CUT: &[Files] = &[Files {
     ended: Ended::Whole,
 }];
 
-/// The cut behind them is put by the next turn, and ends the life {1, 17}: the end tells so, and nothing is due there.
+/// The cut of the session {1, 17} is put by the next turn, after the queries. It ends the session: the end has an
+/// event, and no frame is due.
 #[test]
 fn cut_ends_a_life_of_unequal_numbers(rt: HostRuntime) {
     expect_files(&rt, Way::Simulation, CUT);
@@ -163,8 +164,8 @@ const LATE_ITEM: &[Files] = &[Files {
     ended: Ended::Whole,
 }];
 
-/// An item has the tick of its pump: the life ended at tick 60 at the latest, was pumped at 62 and is served at 64, and
-/// the new level is of 62. Node 3, which node 1 leads, is the next hop under it.
+/// An item has the tick of its pump: the session ended at tick 60 at the latest, its end was pumped at tick 62 and
+/// served at tick 64, and the new level has tick 62. Node 3, which is lower now, is the next hop.
 #[test]
 fn item_has_the_tick_of_its_pump(rt: HostRuntime) {
     expect_files(&rt, Way::Simulation, LATE_ITEM);
@@ -183,8 +184,8 @@ const TICKS: &[Files] = &[Files {
     ended: Ended::Whole,
 }];
 
-/// A tick reaches every end, and is the clock after it: ten ticks after its last HELLO each of two ends has a HELLO of
-/// each version.
+/// A tick reaches every end, and each end has the new clock: ten ticks after its last HELLO, each of two ends sends a
+/// HELLO of each version.
 #[test]
 fn every_end_ticks(rt: HostRuntime) {
     expect_files(&rt, Way::Simulation, TICKS);

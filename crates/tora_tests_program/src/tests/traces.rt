@@ -11,19 +11,19 @@ use tora_script::Setup;
 use tora_sim::Sim;
 use tora_script::{TraceOut, simulate_traced};
 
-/// How a simulation is traced: where its output and its trace fail, and whether with `-v`.
+/// How a simulation is traced: where the writers of its output and its trace fail, and whether with `-v`.
 type How = (Fails, Fails, bool);
 
 const FINE: How = (Fails::Never, Fails::Never, false);
 
-/// What a traced simulation left: how it ended, its output, and its trace.
+/// The results of a traced simulation: how it ended, its output, and its trace.
 type Left = (
     Result<Ended, ReplayError>,
     ArrayWriter,
     TraceOut<ArrayWriter>,
 );
 
-/// Simulates once, and hands the trace on.
+/// Simulates once, and flushes the trace.
 fn traced_once<'a, T: AllocGlobal + Eprint>(
     rt: &T,
     (front, end): (&'a str, &'a str),
@@ -46,8 +46,8 @@ fn traced_once<'a, T: AllocGlobal + Eprint>(
     (found, writer, out)
 }
 
-/// Simulates the front of an input and its end, and hands the trace on. Where memory was refused it is simulated again,
-/// since one refusal is no reason for a second.
+/// Simulates the front of an input and its end, and flushes the trace. If memory runs out, it simulates once more,
+/// since only one request for memory fails.
 fn traced<'a, T: AllocGlobal + Eprint>(rt: &T, lines: (&'a str, &'a str), how: How) -> Left {
     let left = traced_once(rt, lines, how);
     if is_memory(left.0) {
@@ -56,13 +56,12 @@ fn traced<'a, T: AllocGlobal + Eprint>(rt: &T, lines: (&'a str, &'a str), how: H
     left
 }
 
-/// The records of a trace, or what was written.
+/// The text that a writer got: an output, or the records of a trace.
 fn text_of(writer: &ArrayWriter) -> &str {
     str::from_utf8(writer.text()).unwrap_or("")
 }
 
-/// The front of a simulation and its end, what they print, their trace, and how they end where the output does not
-/// fail.
+/// The front of a simulation and its end, their output, their trace, and how they end if the output does not fail.
 type Row = (
     &'static str,
     &'static str,
@@ -71,7 +70,7 @@ type Row = (
     Ended,
 );
 
-/// Traced so, the lines of a row print its text, and end so; the trace is lost where it fails. Answers what was traced.
+/// Traces the lines of a row, and checks their output, how they end, and whether the trace is lost. Returns the trace.
 fn expect_trace_so<T: AllocGlobal + Eprint + Abort>(
     rt: &T,
     (front, end, text, _, ended): Row,
@@ -91,14 +90,14 @@ fn expect_trace_so<T: AllocGlobal + Eprint + Abort>(
     out.writer
 }
 
-/// Traced so, the lines of a row print its text, have its trace and end so.
+/// Traces the lines of a row, and checks their output, their trace, and how they end.
 fn expect_trace<T: AllocGlobal + Eprint + Abort>(rt: &T, row: Row, how: How) {
     let (front, end, _, trace, _) = row;
     let records = expect_trace_so(rt, row, how);
     expect_written(rt, (front, "", 0, end), records.text(), trace);
 }
 
-/// Each of these simulations prints its text, has its trace and ends so, with `-v` and without.
+/// Checks the output, the trace and the end of each simulation, without `-v` and with it.
 fn expect_traces<T: AllocGlobal + Eprint + Abort>(rt: &T, rows: &[Row]) {
     for row in rows {
         expect_trace(rt, *row, FINE);
@@ -106,7 +105,7 @@ fn expect_traces<T: AllocGlobal + Eprint + Abort>(rt: &T, rows: &[Row]) {
     }
 }
 
-/// The words of a line; those behind the last are empty.
+/// The words of a line; after the last word, empty ones.
 fn words(line: &str) -> [&str; 6] {
     let mut words = line.split(' ');
     [
@@ -119,7 +118,7 @@ fn words(line: &str) -> [&str; 6] {
     ]
 }
 
-/// Height and next hop that a trace tells last of a node, as it writes them.
+/// The last height and next hop that a trace has for a node, as written there.
 fn told<'a>(trace: &'a str, n: &str, d: &str) -> Option<(&'a str, &'a str)> {
     let mut last = None;
     for line in trace.lines() {
@@ -131,7 +130,8 @@ fn told<'a>(trace: &'a str, n: &str, d: &str) -> Option<(&'a str, &'a str)> {
     last
 }
 
-/// Whether a trace tells what is printed of a node: `node N H hop K`. What it tells nothing of is as it was at first.
+/// Whether a trace agrees with a printed line `node N H hop K`. Without a record of the route, it is that of a new
+/// node.
 fn tells(trace: &str, line: &str, d: &str) -> bool {
     let [_, n, height, _, hop, _] = words(line);
     match told(trace, n, d) {
@@ -141,11 +141,10 @@ fn tells(trace: &str, line: &str, d: &str) -> bool {
     }
 }
 
-/// The front of a simulation, a destination, the line that prints the heights for it, and of how many nodes.
+/// The front of a simulation, a destination, the line that prints the heights for it, and how many nodes it prints.
 type Run = (&'static str, &'static str, &'static str, usize);
 
-/// The trace of these lines tells each height and next hop for a destination that is printed behind them, of so many
-/// nodes.
+/// Checks that the trace agrees with each height and next hop that the line prints, and that it prints so many nodes.
 fn expect_told<T: AllocGlobal + Eprint + Abort>(rt: &T, (front, d, end, count): Run) {
     let (found, writer, out) = traced(rt, (front, end), FINE);
     expect_ended(rt, (front, "", 0, end), found, Ok(Ended::Whole));
@@ -161,7 +160,7 @@ fn expect_told<T: AllocGlobal + Eprint + Abort>(rt: &T, (front, d, end, count): 
     same_at(rt, &printed, &count, &front);
 }
 
-/// Two nodes: a need that is asked for in vain.
+/// Two nodes: a need that is not answered, since the link is not up.
 const TWO_NODES: &[Row] = &[(
     "dests 2\nlink 1 2\nneed 1 2\nturn 1\nheights 2\n",
     "need 1 2\nneed 3 2\n",
@@ -173,11 +172,11 @@ const TWO_NODES: &[Row] = &[(
 /// A need that is answered by the neighbour, which is the destination.
 const ANSWERED: (&str, &str) = ("dests 2\nlink 1 2\nneed 1 2\n", "rounds 1\nheights 2\n");
 
-/// What its trace begins with.
+/// The first records of the trace of `ANSWERED`.
 const BOUND: &str = "0 need 1 2\n0 qry 1 2 0\n1 up 1 2 1 1\n1 upd 1 2 1 (0,0,0,1,1)\n\
     1 route 1 2 (0,0,0,1,1) 2\n1 up 2 1 1 1\n1 frames ";
 
-/// Two nodes: a need that is asked for in vain, then answered by the neighbour, which is the destination.
+/// Two nodes: a need that is not answered, and then one that the neighbour answers, which is the destination.
 #[test]
 fn trace_of_two_nodes(rt: HostRuntime) {
     expect_traces(&rt, TWO_NODES);
@@ -196,7 +195,8 @@ const PARTED: &[Row] = &[(
     Ended::Fault(8),
 )];
 
-/// What is parted is sent and not delivered, and each line `part` and `mend` has its record, with the clock.
+/// Over a parted link datagrams are sent and not delivered, and each line `part` and `mend` has its record, with the
+/// clock.
 #[test]
 fn trace_of_a_parted_link(rt: HostRuntime) {
     expect_traces(&rt, PARTED);
@@ -210,14 +210,14 @@ const SINGLE_EVENTS: &[Row] = &[(
     Ended::Whole,
 )];
 
-/// Datagrams of single events, and of none; the record of them comes as the clock goes on, and what is lost on sending
-/// is none.
+/// Datagrams of single events: their record comes when the clock advances, and a datagram that is lost on sending does
+/// not count.
 #[test]
 fn trace_of_single_events(rt: HostRuntime) {
     expect_traces(&rt, SINGLE_EVENTS);
 }
 
-/// Simulations whose traces are folded.
+/// Simulations whose traces are compared with the printed heights.
 const RUNS: &[Run] = &[
     (
         "dests 4\nlink 1 2\nlink 2 3\nlink 3 4\nneed 1 4\n",
@@ -289,7 +289,7 @@ const RUNS: &[Run] = &[
     ),
 ];
 
-/// Traces folded to every height that is printed: a route is found, lost and found again.
+/// The trace gives every height that is printed: a route is found, lost and found again.
 #[test]
 fn trace_tells_each_height(rt: HostRuntime) {
     for run in RUNS {
@@ -300,7 +300,7 @@ fn trace_tells_each_height(rt: HostRuntime) {
 /// A route that is found and lost.
 const LOST: Row = (FOUR_FOUND_AND_LOST, "", FOUND_AND_LOST, "", Ended::Whole);
 
-/// A trace that is written, and traces that fail.
+/// A writer of the trace that does not fail, and others that do.
 const TRACES: &[Fails] = &[
     Fails::Never,
     Fails::Flush,
@@ -309,7 +309,7 @@ const TRACES: &[Fails] = &[
     Fails::Write(3),
 ];
 
-/// A trace that can't be written, or not handed on, changes nothing of what is printed.
+/// If the trace cannot be written or flushed, the output is the same.
 #[test]
 fn trace_that_fails_stops_nothing(rt: HostRuntime) {
     for trace in TRACES {
@@ -337,7 +337,7 @@ const UNWRITTEN: Row = (
     Ended::Whole,
 );
 
-/// A simulation that stops leaves the records of what happened.
+/// A simulation that stops early has the records of what happened.
 #[test]
 fn trace_of_a_simulation_that_stops(rt: HostRuntime) {
     expect_traces(&rt, STOPPED);

@@ -1,4 +1,4 @@
-//! The words of a command line, taken by the program's command.
+//! The words of a command line, parsed by the command of the program.
 use super::expected::expect_few_refusals;
 use super::sees::sees_at;
 use clap::{ArgMatches, Error as WordError};
@@ -6,8 +6,7 @@ use std::alloc::Global;
 use std::process::Abort;
 use tora_commands::command;
 
-/// What the words of a command line ask for, or what is wrong with them; nothing where memory was refused for the
-/// command.
+/// The request in the words of a command line, or the fault; `None` if memory runs out for the command.
 pub fn parsed<'a>(
     alloc: Global,
     words: &'a [&'a str],
@@ -16,12 +15,12 @@ pub fn parsed<'a>(
     Some(command.try_get_matches_from(words))
 }
 
-/// What words are to ask for.
+/// The request that words must have.
 #[derive(Clone, Copy)]
 pub enum Asked {
-    /// They are no command line.
+    /// None: the words are not a command line.
     Nothing,
-    /// With `-v` among them, or without.
+    /// A command with `-v` among its words, or without.
     Verbose(bool),
     /// A simulation of a file, with times and a trace, without `-v`.
     Sim(&'static str, Option<&'static str>, Option<&'static str>),
@@ -29,7 +28,7 @@ pub enum Asked {
     VerboseSim(&'static str),
 }
 
-/// Whether there is a simulation of this file, with these times and this trace, and `-v` or not.
+/// Whether the words request a simulation of this file, with these times and this trace, and with `-v` or not.
 fn is_sim(
     matches: &ArgMatches<'_>,
     is_verbose: bool,
@@ -46,7 +45,7 @@ fn is_sim(
     }
 }
 
-/// Whether the words ask for this; nothing where they are no command line, or memory was refused.
+/// Whether the words have this request; `None` if they are not a command line, or memory runs out.
 fn asks_for(alloc: Global, words: &[&str], wanted: Asked) -> Option<bool> {
     let matches = parsed(alloc, words)?.ok()?;
     Some(match wanted {
@@ -57,7 +56,7 @@ fn asks_for(alloc: Global, words: &[&str], wanted: Asked) -> Option<bool> {
     })
 }
 
-/// Each of these words ask for what stands beside them.
+/// Checks the request of the words of each row.
 pub fn expect_words(rt: &impl Abort, alloc: Global, rows: &[(&[&str], Asked)]) {
     let mut refused = 0u64;
     for (words, wanted) in rows {

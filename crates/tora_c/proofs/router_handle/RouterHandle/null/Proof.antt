@@ -1,4 +1,4 @@
--- `null`: the word null, and nothing is held.
+-- `null`: the word is null, and the handle holds nothing.
 use Rattle.std.proofs.Common.{◌≡◌, [], ◌∷◌, refl, lit<}
 use mir.Val.{Val, vnull}
 use base.Logic.{SProp, emp}

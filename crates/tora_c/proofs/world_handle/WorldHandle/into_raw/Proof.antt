@@ -1,4 +1,4 @@
--- `into_raw`: the word is compared with null; past it, it is the pointer of the parts.
+-- `into_raw`: the word is compared with null; if it differs, it is the pointer to the parts.
 use Rattle.std.proofs.Common.{◌≡◌, List, [], ◌∷◌, ◌++◌, refl, sym, subst, lit<}
 use mir.Val.{Val, vnull, vptr, vcons, vnil}
 use base.Logic.{SProp, ent, emp, id⊢}
@@ -51,7 +51,7 @@ into_raw_spec 𝓤 𝓛 𝓜 𝓡 wired =
     split ! $ drop ! $ fsplit ! $ move ! (1 ∷ []) $ fsplit ! $
     handle_tells heap ! a z.0.4.1.0 (λ h is_heap good. move ! (2 ∷ []) $
     open_handle the_row ! a self.at self.held z.0.4.0
-    -- null: what is left is the allocator, nothing, and what is required
+    -- the word is null: the allocator, no block, and what is required are left
     (λ none is_word. let w : Val = word vnull in
     suffices ! (Run (w ∷ h ∷ [])) (subst (λ (us : List Val). ent 𝓤 (Run (w ∷ h ∷ [])) (Run us)) (sym (λ i. is_word i ++ (is_heap i ++ []))) (id⊢ 𝓤 (Run (w ∷ h ∷ [])))) $
     enter ! 𝓣.C 𝓣.Λ code.function (w ∷ h ∷ []) Post $ alloc_all ! (λ l. pass_all ! refl ((tt, (record { fits = lit< tt }, tt)), (good, tt)) $
@@ -64,7 +64,7 @@ into_raw_spec 𝓤 𝓛 𝓜 𝓡 wired =
     returns_within ! Post refl (look_at ! 0 refl) $ free_all ! refl $ keep ! (0 ∷ 1 ∷ 3 ∷ 2 ∷ []) $
     by ! (leaves 𝓛 own.ended stays clauses z (live 0 vnil) None (tt, (tt, tt)) (tt, (tt, tt))))
     (λ wrong. absurd wrong)))
-    -- a block: it is left too
+    -- the word is a pointer: its block is left, too
     (λ b o x some may is_word. let w : Val = word (vptr b o) in
     let made : Val = words (vptr b o) h in
     let fits = typed the_row Heap laws ghosts b o h good in

@@ -1,4 +1,4 @@
--- `of`: the pointer of the parts is the handle's word, and their value is held.
+-- `of`: the word of the handle is the pointer to the parts, and the handle holds their value.
 use Rattle.std.proofs.Common.{◌≡◌, List, [], ◌∷◌, ◌++◌, refl, sym, subst}
 use mir.Val.{Val, vptr}
 use base.Logic.{SProp, ent, emp, id⊢}
