@@ -52,7 +52,7 @@ REASONS = [
 
 # Literals in place of which a constant can be named: the number, the constant, a pattern of crate/folder/file.
 OPEN = [
-    (2**62, "GREATEST_NUMBER of tora_frame", r"^(arq|frame|running|script)/"),
+    (2**62, "GREATEST_NUMBER of tora_frame", r"^(running|script)/"),
     (2**62, "GREATEST_TAU of tora_height", r"^(core|height|packet)/"),
     (2**62, "LAST_NUMBER of tora_life", r"^(life|sim)/"),
     (2**62, "GREATEST_LIFE of tora_router", r"^router/"),
@@ -67,7 +67,6 @@ OPEN = [
     (100, "MOST_FAILURES of tora_neighbour", r"^neighbour/src/turn"),
     (10, "BEAT_TICKS of tora_neighbour", r"^neighbour/specs/Turns"),
     (560, "LONGEST_FRAME of tora_frame", r"^(keyed|neighbour)/"),
-    (16, "MOST_PACKETS of tora_frame", r"^(arq|frame)/"),
     (16, "RESERVED of tora_life", r"^life/(src/(life_file|numbers)|specs/(InMemory|Numbers))"),
     (16, "a constant of tora_life for the bytes of a slot", r"^life/"),
     (32, "a constant of tora_life for the bytes of both slots", r"^life/"),

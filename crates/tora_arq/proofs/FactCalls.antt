@@ -1,9 +1,10 @@
 -- What holds for each call of a link end.
-use Rattle.std.proofs.Common.{◌≡◌, ◌≢◌, ℕ, zero, suc, ◌+◌, ◌-◌, ◌^◌, ◌<◌, ◌≤◌, false, true≢false, not, ◌⊎◌, inl, inr, ⊎_elim, List, [], ◌∷◌, ◌++◌, map, length, drop, Option, Some, None, IfNone, Result, Ok, Err, slice_get, nat_le, if◌then◌else◌, refl, sym, ap, ◌∙◌, subst, arith, append_assoc, append-nil, length-append, length-drop}
+use Rattle.std.proofs.Common.{◌≡◌, ◌≢◌, ℕ, zero, suc, ◌+◌, ◌-◌, ◌<◌, ◌≤◌, false, true≢false, not, ◌⊎◌, inl, inr, ⊎_elim, List, [], ◌∷◌, ◌++◌, map, length, drop, Option, Some, None, IfNone, Result, Ok, Err, slice_get, nat_le, if◌then◌else◌, refl, sym, ap, ◌∙◌, subst, arith, append_assoc, append-nil, length-append, length-drop}
 use Rattle.std.proofs.lemmas.Bool.{cond_both, and_right, or_from, not-false, not-true, cases_lt, lt-leb}
 use Rattle.std.proofs.lemmas.List.{length-map, map-append, nil_from_length, drop-drop, drop-append-le}
 use Rattle.std.proofs.Math.Seq.{drop-append_seam}
 use Rattle.tora_packet.specs.declared.Packet.{Packet}
+use Rattle.tora_frame.specs.declared.parts.TheConstants.{GREATEST_NUMBER}
 use Rattle.tora_frame.specs.declared.parts.Body.{Body}
 use Rattle.tora_frame.specs.declared.parts.Body.TheVariants.{Hello, Data, Ack}
 use Rattle.tora_frame.specs.FrameParts.{FrameParts}
@@ -360,7 +361,7 @@ submit-appends e life packet = go e.phase refl
     go (Unbound own) j = λ q. absurd (cc)
     go (Bound current) j =
         cond_both (not (is_same_life life current)) _ _ (Appends e life packet) (λ _ q. absurd (cc)) (λ same.
-        cond_both (nat_le (2 ^ 62) (e.acknowledged + length e.queue)) _ _ (Appends e life packet) (λ _ q. absurd (cc)) (λ _.
+        cond_both (nat_le GREATEST_NUMBER (e.acknowledged + length e.queue)) _ _ (Appends e life packet) (λ _ q. absurd (cc)) (λ _.
         cond_both (nat_le QUEUE_PLACES (length e.queue)) _ _ (Appends e life packet) (λ _ q. absurd (cc)) (λ _ q. (j ∙ ap Bound (sym (is_same_life-true life current (not-false _ same))), refl))))
 
 pub submit-own : (e : EndState) (life : Life) (packet : Packet) → (after_submit e life packet).phase ≡ Bound life → submit_answer e life packet ≡ Ok tt
@@ -373,7 +374,7 @@ submit-own e life packet = go e.phase refl
     go (Bound current) j =
         cond_both (not (is_same_life life current)) _ _ (λ (r : Result (Unit {0}) SubmitError × EndState). r.1.phase ≡ Bound life → r.0 ≡ Ok tt)
         (λ n k. absurd (true≢false (sym (is_same_life-refl life) ∙ ap (is_same_life life) (one_life e.phase life current k j) ∙ not-true _ n)))
-        (λ _. cond_both (nat_le (2 ^ 62) (e.acknowledged + length e.queue)) _ _ (λ (r : Result (Unit {0}) SubmitError × EndState). r.1.phase ≡ Bound life → r.0 ≡ Ok tt)
+        (λ _. cond_both (nat_le GREATEST_NUMBER (e.acknowledged + length e.queue)) _ _ (λ (r : Result (Unit {0}) SubmitError × EndState). r.1.phase ≡ Bound life → r.0 ≡ Ok tt)
         (λ _ k. absurd (closed_or_bound Closed life refl k))
         (λ _. cond_both (nat_le QUEUE_PLACES (length e.queue)) _ _ (λ (r : Result (Unit {0}) SubmitError × EndState). r.1.phase ≡ Bound life → r.0 ≡ Ok tt)
         (λ _ k. absurd (closed_or_bound Closed life refl k))

@@ -1,10 +1,11 @@
 -- The effect of a call on an end: it stays, opens, binds, continues its session, takes a packet, or ends its session.
-use Rattle.std.proofs.Common.{◌≡◌, ℕ, zero, suc, ◌+◌, ◌-◌, ◌^◌, ◌<◌, ◌≤◌, Bool, true, false, not, ◌⊎◌, inl, inr, List, [], ◌∷◌, ◌++◌, map, length, drop, min, max, Option, Some, None, Result, nat_lt, nat_le, ◌==◌, refl, sym, ap, ◌∙◌, subst, arith, append_assoc, append-nil, length-append, eqb-true, eq-eqb, ltb-false, leb-true, leb-false}
+use Rattle.std.proofs.Common.{◌≡◌, ℕ, zero, suc, ◌+◌, ◌-◌, ◌<◌, ◌≤◌, Bool, true, false, not, ◌⊎◌, inl, inr, List, [], ◌∷◌, ◌++◌, map, length, drop, min, max, Option, Some, None, Result, nat_lt, nat_le, ◌==◌, refl, sym, ap, ◌∙◌, subst, arith, append_assoc, append-nil, length-append, eqb-true, eq-eqb, ltb-false, leb-true, leb-false}
 use Rattle.std.proofs.lemmas.Bool.{cond_both, and_parts, and_from, or_parts, not-false}
 use Rattle.std.proofs.lemmas.List.{map-append}
 use Rattle.std.proofs.lemmas.Option.{same_Some}
 use Rattle.tora_arq.proofs.HeldLemmas.{length-hold_at}
 use Rattle.tora_packet.specs.declared.Packet.{Packet}
+use Rattle.tora_frame.specs.declared.parts.TheConstants.{GREATEST_NUMBER}
 use Rattle.tora_frame.specs.declared.parts.Version.{Version}
 use Rattle.tora_frame.specs.declared.parts.Version.TheVariants.{One}
 use Rattle.tora_frame.specs.declared.parts.Body.{Body}
@@ -505,7 +506,7 @@ submit_step Is s e life packet = go e.phase refl
     go (Bound current) j =
         cond_both (not (is_same_life life current)) _ _ (SubmitStep Is s e life packet)
         (λ _ p. stays (no_change s (Submit life packet) e refl p))
-        (λ same. cond_both (nat_le (2 ^ 62) (e.acknowledged + length e.queue)) _ _ (SubmitStep Is s e life packet)
+        (λ same. cond_both (nat_le GREATEST_NUMBER (e.acknowledged + length e.queue)) _ _ (SubmitStep Is s e life packet)
         (λ _ p. ends current Because.Spent (life_ends current Because.Spent (Submit life packet) e j refl p))
         (λ _. cond_both (nat_le QUEUE_PLACES (length e.queue)) _ _ (SubmitStep Is s e life packet)
         (λ _ p. ends current Because.Full (life_ends current Because.Full (Submit life packet) e j refl p))

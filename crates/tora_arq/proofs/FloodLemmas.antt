@@ -1,7 +1,8 @@
 -- Packets that are submitted at one tick are due in one frame, and none is due after it.
-use Rattle.std.proofs.Common.{◌≡◌, ℕ, zero, suc, ◌+◌, ◌-◌, ◌^◌, ◌<◌, ◌≤◌, min, max, false, List, [], ◌∷◌, ◌++◌, map, length, Option, Some, None, Result, Ok, refl, sym, ap, ◌∙◌, arith, append_assoc, append-nil, length-append}
+use Rattle.std.proofs.Common.{◌≡◌, ℕ, zero, suc, ◌+◌, ◌-◌, ◌<◌, ◌≤◌, min, max, false, List, [], ◌∷◌, ◌++◌, map, length, Option, Some, None, Result, Ok, refl, sym, ap, ◌∙◌, arith, append_assoc, append-nil, length-append}
 use Rattle.std.proofs.lemmas.Bool.{and_right, lt-leb}
 use Rattle.tora_packet.specs.declared.Packet.{Packet}
+use Rattle.tora_frame.specs.declared.parts.TheConstants.{GREATEST_NUMBER, MOST_PACKETS}
 use Rattle.tora_frame.specs.FrameParts.{FrameParts}
 use Rattle.tora_arq.specs.declared.TheConstants.{QUEUE_PLACES}
 use Rattle.tora_arq.specs.declared.life.Life.{Life}
@@ -24,17 +25,17 @@ tried_once now packet = retried (untried packet) now
 abbrev with_queue : EndState → List QueuedPacket → EndState
 with_queue e queue = record e { queue = queue }
 
-submitted_on : (e : EndState) (life : Life) (packet : Packet) → e.phase ≡ Bound life → length e.queue < QUEUE_PLACES → e.acknowledged + length e.queue < 2 ^ 62 →
+submitted_on : (e : EndState) (life : Life) (packet : Packet) → e.phase ≡ Bound life → length e.queue < QUEUE_PLACES → e.acknowledged + length e.queue < GREATEST_NUMBER →
     on_submit e life packet ≡ (Ok tt, with_queue e (e.queue ++ untried packet ∷ []))
 unfolding on_submit
 submitted_on e life packet bound room number =
-    rw (bound, is_same_life-refl life, lt-leb (2 ^ 62) (e.acknowledged + length e.queue) number, lt-leb QUEUE_PLACES (length e.queue) room) refl
+    rw (bound, is_same_life-refl life, lt-leb GREATEST_NUMBER (e.acknowledged + length e.queue) number, lt-leb QUEUE_PLACES (length e.queue) room) refl
 
-submitted_one : (e : EndState) (life : Life) (packet : Packet) → e.phase ≡ Bound life → length e.queue < QUEUE_PLACES → e.acknowledged + length e.queue < 2 ^ 62 →
+submitted_one : (e : EndState) (life : Life) (packet : Packet) → e.phase ≡ Bound life → length e.queue < QUEUE_PLACES → e.acknowledged + length e.queue < GREATEST_NUMBER →
     after_submit e life packet ≡ with_queue e (e.queue ++ untried packet ∷ [])
 submitted_one e life packet bound room number = ap (λ (x : Result (Unit {0}) SubmitError × EndState). x.1) (submitted_on e life packet bound room number)
 
-submitted : (e : EndState) (life : Life) (packets : List Packet) → e.phase ≡ Bound life → length e.queue + length packets ≤ QUEUE_PLACES → e.acknowledged + length e.queue + length packets ≤ 2 ^ 62 →
+submitted : (e : EndState) (life : Life) (packets : List Packet) → e.phase ≡ Bound life → length e.queue + length packets ≤ QUEUE_PLACES → e.acknowledged + length e.queue + length packets ≤ GREATEST_NUMBER →
     after_submits e life packets ≡ with_queue e (e.queue ++ map untried packets)
 submitted e life [] bound room number = ap (with_queue e) (sym (append-nil e.queue))
 submitted e life (packet ∷ packets) bound room number =
@@ -78,35 +79,35 @@ after_flood e now packets = record e {
 no_old_hello : (s : Settings) (e : EndState) (life : Life) (now : ℕ) → IsIdle s e life now → is_old_hello_due e ≡ false
 no_old_hello s e life now idle = and_right e.owes_old_hello _ (rw idle.mark refl)
 
-sends : (s : Settings) (e : EndState) (life : Life) (packets : List Packet) (now : ℕ) → IsIdle s e life now → 0 < length packets → length packets ≤ 16 → length packets ≤ s.window →
+sends : (s : Settings) (e : EndState) (life : Life) (packets : List Packet) (now : ℕ) → IsIdle s e life now → 0 < length packets → length packets ≤ MOST_PACKETS → length packets ≤ s.window →
     on_transmit s (with_queue e (map untried packets)) now ≡ (Some (flood_frame s e life packets), after_flood e now packets)
 unfolding on_transmit on_transmit_in
 sends s e life packets now idle some most window =
-    rw (idle.bound, no_old_hello s e life now idle, idle.no_hello, idle.mark, first_all s.times now 16 (suc e.acknowledged) s.window packets some most window) refl
+    rw (idle.bound, no_old_hello s e life now idle, idle.no_hello, idle.mark, first_all s.times now MOST_PACKETS (suc e.acknowledged) s.window packets some most window) refl
 
 settled_on : (s : Settings) (e : EndState) (life : Life) (packets : List Packet) (now : ℕ) → IsIdle s e life now → 0 < s.times.retry →
     on_transmit s (after_flood e now packets) now ≡ (None, after_flood e now packets)
 unfolding on_transmit on_transmit_in
 settled_on s e life packets now idle retry =
-    rw (idle.bound, no_old_hello s e life now idle, idle.no_hello, idle.mark, none_again s.times now 16 (suc e.acknowledged) s.window packets retry) refl
+    rw (idle.bound, no_old_hello s e life now idle, idle.no_hello, idle.mark, none_again s.times now MOST_PACKETS (suc e.acknowledged) s.window packets retry) refl
 
 settles : (s : Settings) (e : EndState) (life : Life) (packets : List Packet) (now : ℕ) → IsIdle s e life now → 0 < s.times.retry → frame_due s (after_flood e now packets) now ≡ None
 settles s e life packets now idle retry = ap (λ (x : Option FrameParts × EndState). x.0) (settled_on s e life packets now idle retry)
 
 -- the end before it transmits
-before : (s : Settings) (e : EndState) (life : Life) (packets : List Packet) (now : ℕ) → IsIdle s e life now → length packets ≤ 16 → e.acknowledged + length packets ≤ 2 ^ 62 →
+before : (s : Settings) (e : EndState) (life : Life) (packets : List Packet) (now : ℕ) → IsIdle s e life now → length packets ≤ MOST_PACKETS → e.acknowledged + length packets ≤ GREATEST_NUMBER →
     after_submits e life packets ≡ with_queue e (map untried packets)
 before s e life packets now idle most number =
     let empty : length e.queue ≡ 0 = ap length idle.none_waits in
     submitted e life packets idle.bound (omega (arith, empty)) (omega (arith, empty)) ∙ ap (λ (queue : List QueuedPacket). with_queue e (queue ++ map untried packets)) idle.none_waits
 
-pub flood_one : (s : Settings) (e : EndState) (life : Life) (packets : List Packet) (now : ℕ) → IsIdle s e life now → 0 < length packets → length packets ≤ 16 → length packets ≤ s.window → e.acknowledged + length packets ≤ 2 ^ 62 →
+pub flood_one : (s : Settings) (e : EndState) (life : Life) (packets : List Packet) (now : ℕ) → IsIdle s e life now → 0 < length packets → length packets ≤ MOST_PACKETS → length packets ≤ s.window → e.acknowledged + length packets ≤ GREATEST_NUMBER →
     frame_due s (after_submits e life packets) now ≡ Some (flood_frame s e life packets)
 flood_one s e life packets now idle some most window number =
     ap (λ (x : EndState). frame_due s x now) (before s e life packets now idle most number)
     ∙ ap (λ (x : Option FrameParts × EndState). x.0) (sends s e life packets now idle some most window)
 
-pub flood_only : (s : Settings) (e : EndState) (life : Life) (packets : List Packet) (now : ℕ) → IsTimes s.times → IsIdle s e life now → 0 < length packets → length packets ≤ 16 → length packets ≤ s.window → e.acknowledged + length packets ≤ 2 ^ 62 →
+pub flood_only : (s : Settings) (e : EndState) (life : Life) (packets : List Packet) (now : ℕ) → IsTimes s.times → IsIdle s e life now → 0 < length packets → length packets ≤ MOST_PACKETS → length packets ≤ s.window → e.acknowledged + length packets ≤ GREATEST_NUMBER →
     frame_due s (after_transmit s (after_submits e life packets) now) now ≡ None
 flood_only s e life packets now times idle some most window number =
     ap (λ (x : EndState). frame_due s (after_transmit s x now) now) (before s e life packets now idle most number)

@@ -1,8 +1,9 @@
 -- A bound end has a place for its `Down` event after every call.
-use Rattle.std.proofs.Common.{◌≡◌, ℕ, suc, ◌+◌, ◌-◌, ◌^◌, ◌<◌, ◌≤◌, ◌==◌, ◌⊎◌, inl, inr, ap, IfNone, true, false, not, nat_lt, nat_le, List, [], ◌∷◌, length, Option, Some, None, Result, sym, subst, arith, length-append}
+use Rattle.std.proofs.Common.{◌≡◌, ℕ, suc, ◌+◌, ◌-◌, ◌<◌, ◌≤◌, ◌==◌, ◌⊎◌, inl, inr, ap, IfNone, true, false, not, nat_lt, nat_le, List, [], ◌∷◌, length, Option, Some, None, Result, sym, subst, arith, length-append}
 use Rattle.std.specs.Prelude.{IfSome}
 use Rattle.std.proofs.lemmas.Bool.{cond_both}
 use Rattle.tora_packet.specs.declared.Packet.{Packet}
+use Rattle.tora_frame.specs.declared.parts.TheConstants.{GREATEST_NUMBER}
 use Rattle.tora_frame.specs.declared.parts.Version.{Version}
 use Rattle.tora_frame.specs.declared.parts.Body.{Body}
 use Rattle.tora_frame.specs.declared.parts.Body.TheVariants.{Hello, Data, Ack}
@@ -53,7 +54,7 @@ module _ (places : ℕ) where
       go (Unbound own) = h
       go (Bound current) =
           cond_both (not (is_same_life life current)) _ _ (λ (r : Result (Unit {0}) SubmitError × EndState). HasEventPlace places r.1) (λ _. h) (λ _.
-          cond_both (nat_le (2 ^ 62) (e.acknowledged + length e.queue)) _ _ (λ (r : Result (Unit {0}) SubmitError × EndState). HasEventPlace places r.1) (λ _. tt) (λ _.
+          cond_both (nat_le GREATEST_NUMBER (e.acknowledged + length e.queue)) _ _ (λ (r : Result (Unit {0}) SubmitError × EndState). HasEventPlace places r.1) (λ _. tt) (λ _.
           cond_both (nat_le QUEUE_PLACES (length e.queue)) _ _ (λ (r : Result (Unit {0}) SubmitError × EndState). HasEventPlace places r.1) (λ _. tt) (λ _. h)))
 
   pub cut_place : (e : EndState) (life : Life) → HasEventPlace places e → HasEventPlace places (after_cut e life)

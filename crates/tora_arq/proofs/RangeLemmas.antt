@@ -1,7 +1,8 @@
 -- The invariant of a link end after every call.
-use Rattle.std.proofs.Common.{◌≡◌, ℕ, zero, suc, ◌+◌, ◌-◌, ◌^◌, ◌<◌, ◌≤◌, min, max, Bool, true, false, ◌==◌, not, nat_lt, nat_le, List, [], ◌∷◌, ◌++◌, length, drop, Option, Some, None, Result, refl, sym, ap, subst, arith, length-append, length-drop, leb-true}
+use Rattle.std.proofs.Common.{◌≡◌, ℕ, zero, suc, ◌+◌, ◌-◌, ◌<◌, ◌≤◌, min, max, Bool, true, false, ◌==◌, not, nat_lt, nat_le, List, [], ◌∷◌, ◌++◌, length, drop, Option, Some, None, Result, refl, sym, ap, subst, arith, length-append, length-drop, leb-true}
 use Rattle.std.proofs.lemmas.Bool.{cond_both, ltb-false, leb-false}
 use Rattle.tora_packet.specs.declared.Packet.{Packet}
+use Rattle.tora_frame.specs.declared.parts.TheConstants.{GREATEST_NUMBER}
 use Rattle.tora_frame.specs.declared.parts.Version.{Version}
 use Rattle.tora_frame.specs.declared.parts.Header.{Header}
 use Rattle.tora_frame.specs.declared.parts.Body.{Body}
@@ -58,7 +59,7 @@ untried_pushed (suc window) (q ∷ queue) packet h = untried_pushed window queue
 no_queue : (window : ℕ) → IsQueue window 0 []
 no_queue window = record { submitted = omega arith; untried = untried_none window }
 
-acknowledged_queue : (window acknowledged count : ℕ) (queue : List QueuedPacket) → count ≤ 2 ^ 62 → IsQueue window acknowledged queue →
+acknowledged_queue : (window acknowledged count : ℕ) (queue : List QueuedPacket) → count ≤ GREATEST_NUMBER → IsQueue window acknowledged queue →
     IsQueue window (max acknowledged count) (drop (count - acknowledged) queue)
 acknowledged_queue window acknowledged count queue c h = record {
   submitted = omega (arith, h.submitted, length-drop (count - acknowledged) queue);
@@ -181,7 +182,7 @@ module _ (s : Settings) where
     room = grown e.events (Up life) EVENT_PLACES (omega arith);
   }
 
-  acknowledgement_kept : (e : EndState) (count now : ℕ) → count ≤ 2 ^ 62 → IsEndState s e → IsEndState s (after_acknowledgement e count now)
+  acknowledgement_kept : (e : EndState) (count now : ℕ) → count ≤ GREATEST_NUMBER → IsEndState s e → IsEndState s (after_acknowledgement e count now)
   acknowledgement_kept e count now c h = record {
     link = h.link;
     times = h.times;
@@ -197,7 +198,7 @@ module _ (s : Settings) where
 
   -- ---- packets held and delivered
 
-  delivery_kept : (e : EndState) (life : Life) (packet : Packet) (held : List (Option Packet)) → suc (length e.events) < EVENT_PLACES → suc e.accepted + length held ≤ 2 ^ 62 → length held ≤ s.window →
+  delivery_kept : (e : EndState) (life : Life) (packet : Packet) (held : List (Option Packet)) → suc (length e.events) < EVENT_PLACES → suc e.accepted + length held ≤ GREATEST_NUMBER → length held ≤ s.window →
       IsEndState s e → IsEndState s (after_delivery e life packet held)
   delivery_kept e life packet held r n w h = record {
     link = h.link;
@@ -221,7 +222,7 @@ module _ (s : Settings) where
       release_kept held (after_delivery e life packet held) life refl (omega (arith, r, length-append e.events (Deliver life packet ∷ [])))
       (delivery_kept e life packet held (omega (arith, r)) (omega (arith, n, h.delivered)) (omega (arith, n, h.held_within)) h)
 
-  hold_kept : (e : EndState) (number : ℕ) (packet : Packet) → e.accepted < number → number ≤ e.accepted + s.window → number ≤ 2 ^ 62 → IsEndState s e → IsEndState s (after_hold e number packet)
+  hold_kept : (e : EndState) (number : ℕ) (packet : Packet) → e.accepted < number → number ≤ e.accepted + s.window → number ≤ GREATEST_NUMBER → IsEndState s e → IsEndState s (after_hold e number packet)
   hold_kept e number packet above within most h = record {
     link = h.link;
     times = h.times;
@@ -237,7 +238,7 @@ module _ (s : Settings) where
 
   -- ---- a frame
 
-  heard_kept : (e : EndState) (own life : ℕ) → e.phase ≡ Unbound own → life ≤ 2 ^ 62 → IsEndState s e → IsEndState s (record e { heard = life })
+  heard_kept : (e : EndState) (own life : ℕ) → e.phase ≡ Unbound own → life ≤ GREATEST_NUMBER → IsEndState s e → IsEndState s (record e { heard = life })
   heard_kept e own life j n h = record {
     link = h.link;
     times = h.times;
@@ -251,14 +252,14 @@ module _ (s : Settings) where
     room = h.room;
   }
 
-  life_told_kept : (e : EndState) (own : ℕ) (version : Version) (life : ℕ) (body : Body) → e.phase ≡ Unbound own → life ≤ 2 ^ 62 → IsEndState s e → IsEndState s (on_life_told e version life body).1
+  life_told_kept : (e : EndState) (own : ℕ) (version : Version) (life : ℕ) (body : Body) → e.phase ≡ Unbound own → life ≤ GREATEST_NUMBER → IsEndState s e → IsEndState s (on_life_told e version life body).1
   life_told_kept e own version life Hello j n h =
       cond_both (nat_lt life e.heard) _ _ (λ (r : Verdict × EndState). IsEndState s r.1) (λ _. h) (λ _.
       cond_both (life == e.heard) _ _ (λ (r : Verdict × EndState). IsEndState s r.1) (λ _. h) (λ _. heard_kept e own life j n h))
   life_told_kept e own version life (Data number count packets) j n h = h
   life_told_kept e own version life (Ack count) j n h = h
 
-  packet_kept : (e : EndState) (life : Life) (furthest number : ℕ) (packet : Packet) → HasRoom EVENT_PLACES s.window furthest e → number ≤ 2 ^ 62 → IsEndState s e →
+  packet_kept : (e : EndState) (life : Life) (furthest number : ℕ) (packet : Packet) → HasRoom EVENT_PLACES s.window furthest e → number ≤ GREATEST_NUMBER → IsEndState s e →
       IsEndState s (after_packet life furthest e number packet)
   unfolding after_packet
   packet_kept e life furthest number packet r n h =
@@ -272,7 +273,7 @@ module _ (s : Settings) where
       release_kept (after_hold e number packet).held (after_hold e number packet) life refl (omega (arith, room.room, room.held)) k)
       (λ _. h))
 
-  packets_kept : (ps : List Packet) (e : EndState) (life : Life) (furthest number : ℕ) → HasRoom EVENT_PLACES s.window furthest e → number + length ps ≤ 2 ^ 62 + 1 → IsEndState s e →
+  packets_kept : (ps : List Packet) (e : EndState) (life : Life) (furthest number : ℕ) → HasRoom EVENT_PLACES s.window furthest e → number + length ps ≤ GREATEST_NUMBER + 1 → IsEndState s e →
       IsEndState s (after_packets life furthest e number ps)
   unfolding after_packets
   packets_kept [] e life furthest number r n h = h
@@ -280,7 +281,7 @@ module _ (s : Settings) where
       packets_kept ps (after_packet life furthest e number p) life furthest (suc number) (packet_room EVENT_PLACES s.window furthest life e number p r) (omega (arith, n))
       (packet_kept e life furthest number p r (omega (arith, n)) h)
 
-  data_kept : (e : EndState) (life : Life) (number : ℕ) (ps : List Packet) → length e.events + WINDOW < EVENT_PLACES → number + length ps ≤ 2 ^ 62 + 1 → IsEndState s e → IsEndState s (on_data s.window e life number ps).1
+  data_kept : (e : EndState) (life : Life) (number : ℕ) (ps : List Packet) → length e.events + WINDOW < EVENT_PLACES → number + length ps ≤ GREATEST_NUMBER + 1 → IsEndState s e → IsEndState s (on_data s.window e life number ps).1
   unfolding on_data
   data_kept e life number ps r n h =
       packets_kept ps e life (e.accepted + s.window) number (record { room = omega (arith, r, h.window); near = omega arith; held = omega (arith, h.held_within) }) n h
@@ -338,7 +339,7 @@ module _ (s : Settings) where
   unfolding on_submit
   submit_kept e life packet h = go e.phase h.in_phase
     where
-      pushed : e.acknowledged + length e.queue < 2 ^ 62 → IsEndState s (record e { queue = e.queue ++ untried packet ∷ [] })
+      pushed : e.acknowledged + length e.queue < GREATEST_NUMBER → IsEndState s (record e { queue = e.queue ++ untried packet ∷ [] })
       pushed below = record {
         link = h.link;
         times = h.times;
@@ -360,11 +361,11 @@ module _ (s : Settings) where
       go (Unbound own) p = h
       go (Bound current) p =
           cond_both (not (is_same_life life current)) _ _ (λ (r : Result (Unit {0}) SubmitError × EndState). IsEndState s r.1) (λ _. h) (λ _.
-          cond_both (nat_le (2 ^ 62) (e.acknowledged + length e.queue)) _ _ (λ (r : Result (Unit {0}) SubmitError × EndState). IsEndState s r.1)
+          cond_both (nat_le GREATEST_NUMBER (e.acknowledged + length e.queue)) _ _ (λ (r : Result (Unit {0}) SubmitError × EndState). IsEndState s r.1)
           (λ _. end_kept e current Because.Spent p.room h) (λ below.
           cond_both (nat_le QUEUE_PLACES (length e.queue)) _ _ (λ (r : Result (Unit {0}) SubmitError × EndState). IsEndState s r.1)
           (λ _. end_kept e current Because.Full p.room h)
-          (λ _. pushed (leb-false (2 ^ 62) (e.acknowledged + length e.queue) below))))
+          (λ _. pushed (leb-false GREATEST_NUMBER (e.acknowledged + length e.queue) below))))
 
   pub cut_kept : (e : EndState) (life : Life) → IsEndState s e → IsEndState s (after_cut e life)
   unfolding after_cut

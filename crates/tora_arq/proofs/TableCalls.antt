@@ -1,9 +1,10 @@
 -- The rows for the calls of a link end agree with the definitions of the calls.
-use Rattle.std.proofs.Common.{◌≡◌, ◌≢◌, ◌⊎◌, inl, inr, ℕ, zero, suc, ◌+◌, ◌-◌, ◌^◌, ◌<◌, ◌≤◌, min, max, Bool, true, false, List, [], ◌∷◌, ◌++◌, map, length, drop, slice_get, Option, Some, None, Result, refl, sym, ap, ◌∙◌, subst, arith}
+use Rattle.std.proofs.Common.{◌≡◌, ◌≢◌, ◌⊎◌, inl, inr, ℕ, zero, suc, ◌+◌, ◌-◌, ◌<◌, ◌≤◌, min, max, Bool, true, false, List, [], ◌∷◌, ◌++◌, map, length, drop, slice_get, Option, Some, None, Result, refl, sym, ap, ◌∙◌, subst, arith}
 use Rattle.std.specs.List.{AllByRecursion}
 use Rattle.std.proofs.lemmas.Bool.{cases_Bool, le-leb, lt-leb, cases_lt}
 use Rattle.std.proofs.lemmas.List.{length-map}
 use Rattle.tora_packet.specs.declared.Packet.{Packet}
+use Rattle.tora_frame.specs.declared.parts.TheConstants.{GREATEST_NUMBER}
 use Rattle.tora_frame.specs.declared.parts.Version.{Version}
 use Rattle.tora_frame.specs.declared.parts.Body.TheVariants.{Data}
 use Rattle.tora_frame.specs.FrameParts.{FrameParts, batch}
@@ -68,16 +69,16 @@ is-ticked s e now after q = let row = ticks-some s e now in from_state (Ticks s 
 submits-only : (e : EndState) (life : Life) (packet : Packet) {answer : Result (Unit {0}) SubmitError} {after : EndState} → Submits e life packet answer after → on_submit e life packet ≡ (answer, after)
 unfolding on_submit
 submits-only e life packet (of_another_life n) = let p = submit-other e life packet n in pair p.0 p.1
-submits-only e life packet (numbers_are_spent b l) = ap (on_submit_in e life packet) b ∙ rw (is_same_life-refl life, le-leb (2 ^ 62) (submitted e) l) refl
+submits-only e life packet (numbers_are_spent b l) = ap (on_submit_in e life packet) b ∙ rw (is_same_life-refl life, le-leb GREATEST_NUMBER (submitted e) l) refl
 submits-only e life packet (queue_is_full b l m) =
-    ap (on_submit_in e life packet) b ∙ rw (is_same_life-refl life, lt-leb (2 ^ 62) (submitted e) l, le-leb QUEUE_PLACES (length e.queue) m) refl
+    ap (on_submit_in e life packet) b ∙ rw (is_same_life-refl life, lt-leb GREATEST_NUMBER (submitted e) l, le-leb QUEUE_PLACES (length e.queue) m) refl
 submits-only e life packet (packet_waits b l m) =
-    ap (on_submit_in e life packet) b ∙ rw (is_same_life-refl life, lt-leb (2 ^ 62) (submitted e) l, lt-leb QUEUE_PLACES (length e.queue) m) refl
+    ap (on_submit_in e life packet) b ∙ rw (is_same_life-refl life, lt-leb GREATEST_NUMBER (submitted e) l, lt-leb QUEUE_PLACES (length e.queue) m) refl
 
 submits-some : (e : EndState) (life : Life) (packet : Packet) → (answer : Result (Unit {0}) SubmitError) × (after : EndState) × Submits e life packet answer after
-submits-some e life packet = at (bound_or_not e.phase life) (cases_lt (submitted e) (2 ^ 62)) (cases_lt (length e.queue) QUEUE_PLACES)
+submits-some e life packet = at (bound_or_not e.phase life) (cases_lt (submitted e) GREATEST_NUMBER) (cases_lt (length e.queue) QUEUE_PLACES)
   where
-    at : (e.phase ≡ Bound life) ⊎ (e.phase ≢ Bound life) → (submitted e < 2 ^ 62) ⊎ (2 ^ 62 ≤ submitted e) → (length e.queue < QUEUE_PLACES) ⊎ (QUEUE_PLACES ≤ length e.queue) →
+    at : (e.phase ≡ Bound life) ⊎ (e.phase ≢ Bound life) → (submitted e < GREATEST_NUMBER) ⊎ (GREATEST_NUMBER ≤ submitted e) → (length e.queue < QUEUE_PLACES) ⊎ (QUEUE_PLACES ≤ length e.queue) →
         (answer : Result (Unit {0}) SubmitError) × (after : EndState) × Submits e life packet answer after
     at (inr n) o p = (_, _, of_another_life n)
     at (inl b) (inr l) p = (_, _, numbers_are_spent b l)

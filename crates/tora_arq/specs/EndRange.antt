@@ -1,6 +1,7 @@
 -- The invariants of every link end.
-use Rattle.std.specs.Prelude.{◌≡◌, ℕ, ◌+◌, ◌^◌, ◌<◌, ◌≤◌, List, [], ◌∷◌, length, drop, Option}
+use Rattle.std.specs.Prelude.{◌≡◌, ℕ, ◌+◌, ◌<◌, ◌≤◌, List, [], ◌∷◌, length, drop, Option}
 use Rattle.tora_packet.specs.declared.Packet.{Packet}
+use Rattle.tora_frame.specs.declared.parts.TheConstants.{GREATEST_NUMBER}
 use Rattle.tora_frame.specs.declared.parts.Body.{Body}
 use Rattle.tora_frame.specs.declared.parts.Body.TheVariants.{Hello, Data, Ack}
 use Rattle.tora_frame.specs.FrameParts.{IsLifeNumber}
@@ -24,7 +25,8 @@ link_end_of settings state = record { settings = settings; state = state }
 -- a DATA frame has at least one packet, and its packets have numbers up to 2^62
 abbrev pub IsNumbered : Body → Type 0
 IsNumbered Hello = Unit {0}
-IsNumbered (Data number count packets) = (0 < length packets.items) × (number + length packets.items ≤ 2 ^ 62 + 1)
+IsNumbered (Data number count packets) =
+    (0 < length packets.items) × (number + length packets.items ≤ GREATEST_NUMBER + 1)
 IsNumbered (Ack count) = Unit {0}
 
 -- this many places for events suffice for the packets up to the number `furthest`, and no packet beyond that number is
@@ -58,7 +60,7 @@ IsPhase last heard events (Bound life) = IsBoundLife last heard events life
 
 -- at most 2^62 packets are submitted in a session, and the packets beyond the window were never transmitted
 pub record IsQueue (window acknowledged : ℕ) (queue : List QueuedPacket) : Type 0 where
-  pub submitted : acknowledged + length queue ≤ 2 ^ 62
+  pub submitted : acknowledged + length queue ≤ GREATEST_NUMBER
   pub untried : AreUntried (drop window queue)
 
 pub record IsRange (s : Settings) (phase : Phase) (heard last acknowledged accepted : ℕ) (queue : List QueuedPacket)
@@ -67,10 +69,10 @@ pub record IsRange (s : Settings) (phase : Phase) (heard last acknowledged accep
   pub times : IsTimes s.times
   pub window : s.window ≡ WINDOW
   pub in_phase : IsPhase last heard events phase
-  pub noted : heard ≤ 2 ^ 62
-  pub opened : last ≤ 2 ^ 62
+  pub noted : heard ≤ GREATEST_NUMBER
+  pub opened : last ≤ GREATEST_NUMBER
   pub waiting : IsQueue s.window acknowledged queue
-  pub delivered : accepted + length held ≤ 2 ^ 62
+  pub delivered : accepted + length held ≤ GREATEST_NUMBER
   pub held_within : length held ≤ s.window
   pub room : length events ≤ EVENT_PLACES
 

@@ -1,8 +1,9 @@
 -- The end of a neighbour link: the effect of each call.
-use Rattle.std.specs.Prelude.{ℕ, suc, ◌+◌, ◌-◌, ◌^◌, max, Bool, true, false, not, nat_lt, nat_le, ◌==◌, ◌||◌, ◌&&◌, if◌then◌else◌, List, [], ◌∷◌, ◌++◌, length, drop, slice_get, Option, Some, None, Result, Ok, Err}
+use Rattle.std.specs.Prelude.{ℕ, suc, ◌+◌, ◌-◌, max, Bool, true, false, not, nat_lt, nat_le, ◌==◌, ◌||◌, ◌&&◌, if◌then◌else◌, List, [], ◌∷◌, ◌++◌, length, drop, slice_get, Option, Some, None, Result, Ok, Err}
 use Rattle.std.specs.List.{list_any}
 use Rattle.tora_packet.specs.declared.Packet.{Packet}
 use Rattle.tora_packet.specs.declared.Packet.TheVariants.{Qry, Upd, Clr}
+use Rattle.tora_frame.specs.declared.parts.TheConstants.{GREATEST_NUMBER, MOST_PACKETS}
 use Rattle.tora_frame.specs.declared.parts.Version.{Version}
 use Rattle.tora_frame.specs.declared.parts.Version.TheVariants.{One, Two}
 use Rattle.tora_frame.specs.declared.parts.Body.{Body}
@@ -148,7 +149,7 @@ data_version e = if e.speaks_two then Two else One
 -- how many packets a DATA frame of a version carries at most
 abbrev pub most_packets : Version → ℕ
 most_packets One = 1
-most_packets Two = 16
+most_packets Two = MOST_PACKETS
 
 -- ---- a frame arrives: the first of seven cases that applies
 
@@ -306,7 +307,7 @@ on_submit_in e life packet Closed = (Err (Refusal.WrongLife packet), e)
 on_submit_in e life packet (Unbound own) = (Err (Refusal.WrongLife packet), e)
 on_submit_in e life packet (Bound current) =
     if not (is_same_life life current) then (Err (Refusal.WrongLife packet), e)
-    else if nat_le (2 ^ 62) (e.acknowledged + length e.queue) then (
+    else if nat_le GREATEST_NUMBER (e.acknowledged + length e.queue) then (
       Err Refusal.Spent,
       after_end e current
           Because.Spent,

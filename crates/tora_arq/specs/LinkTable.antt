@@ -1,9 +1,10 @@
 -- The end of a neighbour link as a table: state, input, condition, and result. Each case of a `data` is a row.
-use Rattle.std.specs.Prelude.{◌≡◌, ◌≢◌, ◌⊎◌, ℕ, suc, ◌+◌, ◌-◌, ◌^◌, ◌<◌, ◌≤◌, max, true, false, ◌||◌, List, [], ◌∷◌, ◌++◌, map, take, length, slice_get, Option, Some, None, Result, Ok, Err, Contains, drop}
+use Rattle.std.specs.Prelude.{◌≡◌, ◌≢◌, ◌⊎◌, ℕ, suc, ◌+◌, ◌-◌, ◌<◌, ◌≤◌, max, true, false, ◌||◌, List, [], ◌∷◌, ◌++◌, map, take, length, slice_get, Option, Some, None, Result, Ok, Err, Contains, drop}
 use Rattle.std.specs.List.{AllByRecursion}
 use Rattle.tora_packet.specs.PacketParts.{UpdateParts}
 use Rattle.tora_packet.specs.declared.Packet.{Packet}
 use Rattle.tora_packet.specs.declared.Packet.TheVariants.{Upd}
+use Rattle.tora_frame.specs.declared.parts.TheConstants.{GREATEST_NUMBER, MOST_PACKETS}
 use Rattle.tora_frame.specs.declared.parts.Version.{Version}
 use Rattle.tora_frame.specs.declared.parts.Version.TheVariants.{One, Two}
 use Rattle.tora_frame.specs.declared.parts.Header.{Header}
@@ -244,11 +245,11 @@ submitted e = e.acknowledged + length e.queue
 pub data Submits (e : EndState) (life : Life) (packet : Packet) : Result (Unit {0}) SubmitError → EndState
     → Type 0 where
   of_another_life : e.phase ≢ Bound life → Submits e life packet (Err (Refusal.WrongLife packet)) e
-  numbers_are_spent : e.phase ≡ Bound life → 2 ^ 62 ≤ submitted e
+  numbers_are_spent : e.phase ≡ Bound life → GREATEST_NUMBER ≤ submitted e
       → Submits e life packet (Err Refusal.Spent) (ended e life Because.Spent)
-  queue_is_full : e.phase ≡ Bound life → submitted e < 2 ^ 62 → QUEUE_PLACES ≤ length e.queue
+  queue_is_full : e.phase ≡ Bound life → submitted e < GREATEST_NUMBER → QUEUE_PLACES ≤ length e.queue
       → Submits e life packet (Err Refusal.Full) (ended e life Because.Full)
-  packet_waits : e.phase ≡ Bound life → submitted e < 2 ^ 62 → length e.queue < QUEUE_PLACES
+  packet_waits : e.phase ≡ Bound life → submitted e < GREATEST_NUMBER → length e.queue < QUEUE_PLACES
       → Submits e life packet (Ok tt) (record e { queue = e.queue ++ untried packet ∷ [] })
 
 -- a session is cut
@@ -298,7 +299,7 @@ NoneIsDue times now window queue = AllByRecursion (IsNotDue times now) (take win
 -- the version of DATA frames and ACKs, by the mark, and how many packets such a DATA frame may carry
 pub data Speaks (e : EndState) : Version → ℕ → Type 0 where
   one_packet : e.speaks_two ≡ false → Speaks e One 1
-  sixteen_packets : e.speaks_two ≡ true → Speaks e Two 16
+  sixteen_packets : e.speaks_two ≡ true → Speaks e Two MOST_PACKETS
 
 -- the two session numbers in the frames of an open end: its own, and the one noted or bound
 pub data Names (e : EndState) : Phase → ℕ → ℕ → Type 0 where

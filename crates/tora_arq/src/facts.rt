@@ -2,10 +2,11 @@
 //!
 //! Each fact is about one call in any state, or about a whole run of calls of a new end. The facts hold for a window of
 //! any size.
-ghost use Rattle.std.specs.Prelude.{◌≡◌, ◌≢◌, ◌↔◌, ℕ, ◌+◌, ◌^◌, ◌<◌, ◌≤◌, ◌⊎◌, true, false, List, [], ◌∷◌, ◌++◌, map};
+ghost use Rattle.std.specs.Prelude.{◌≡◌, ◌≢◌, ◌↔◌, ℕ, ◌+◌, ◌<◌, ◌≤◌, ◌⊎◌, true, false, List, [], ◌∷◌, ◌++◌, map};
 ghost use Rattle.std.specs.Prelude.{length, Contains, Option, Result, Some};
 ghost use Rattle.std.specs.List.{AllByRecursion};
 ghost use Rattle.tora_packet.specs.declared.Packet.{Packet};
+ghost use Rattle.tora_frame.specs.declared.parts.TheConstants.{GREATEST_NUMBER, MOST_PACKETS};
 ghost use Rattle.tora_frame.specs.declared.parts.Body.TheVariants.{Hello};
 ghost use Rattle.tora_frame.specs.declared.parts.Version.TheVariants.{One, Two};
 ghost use Rattle.tora_frame.specs.FrameParts.{FrameParts};
@@ -205,13 +206,13 @@ pub fn old_hello_comes_right_after()
 /// are one datagram for each neighbour.
 pub fn flood_is_one_frame()
     ensures one { (s : Settings) (e : EndState) (life : Life) (packets : List Packet) (now : ℕ) → IsIdle s e life now
-        → 0 < length packets → length packets ≤ 16 → length packets ≤ s.window
-        → e.acknowledged + length packets ≤ 2 ^ 62
+        → 0 < length packets → length packets ≤ MOST_PACKETS → length packets ≤ s.window
+        → e.acknowledged + length packets ≤ GREATEST_NUMBER
         → frame_due s (after_submits e life packets) now ≡ Some (flood_frame s e life packets) }
     ensures only { (s : Settings) (e : EndState) (life : Life) (packets : List Packet) (now : ℕ) → IsTimes s.times
         → IsIdle s e life now
-        → 0 < length packets → length packets ≤ 16 → length packets ≤ s.window
-        → e.acknowledged + length packets ≤ 2 ^ 62
+        → 0 < length packets → length packets ≤ MOST_PACKETS → length packets ≤ s.window
+        → e.acknowledged + length packets ≤ GREATEST_NUMBER
         → frame_due s (after_transmit s (after_submits e life packets) now) now ≡ None }
 {}
 

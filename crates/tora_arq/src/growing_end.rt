@@ -1,5 +1,5 @@
 //! A link end that takes memory only when packets and events have to be stored.
-ghost use Rattle.std.specs.Prelude.{◌≡◌, ◌≢◌, ◌<◌, ◌≤◌, ◌^◌, ℕ, false, IfErr, IfNone, IfOk, IfSome, IsTrue, OnErr};
+ghost use Rattle.std.specs.Prelude.{◌≡◌, ◌≢◌, ◌<◌, ◌≤◌, ℕ, false, IfErr, IfNone, IfOk, IfSome, IsTrue, OnErr};
 ghost use Rattle.std.specs.Prelude.{is_some, length};
 ghost use Rattle.tora_arq.specs.Settings.{IsTimes, settings_of};
 ghost use Rattle.tora_arq.specs.LinkEnd.{first_end, is_closed, bound_life, after_open, verdict_of, after_frame};
@@ -8,6 +8,7 @@ ghost use Rattle.tora_arq.specs.LinkEnd.{after_poll_event, is_hello, frame_due, 
 ghost use Rattle.tora_arq.specs.EndRange.{IsEndState, link_end_of};
 ghost use Rattle.tora_arq.specs.Still.{IsStillUntil};
 ghost use Rattle.tora_arq.specs.Steady.{IsSteady, resumed, steady_of};
+ghost use Rattle.tora_frame.specs.declared.parts.TheConstants.{GREATEST_NUMBER};
 ghost use Rattle.tora_frame.specs.FrameParts.{IsHeader, frame_of};
 ghost use Rattle.tora_frame.specs.declared.parts.Body.{Body};
 
@@ -181,7 +182,7 @@ impl GrowingEnd {
     pub fn open(&mut self, life: u64, now: u64)
         requires closed { IsTrue (is_closed self.old.state) }
         requires above { self.old.state.last_life < life }
-        requires within { life ≤ 2 ^ 62 }
+        requires within { life ≤ GREATEST_NUMBER }
         ensures { self.new ≡ record self.old { state = after_open self.old.state life now } }
     {
         self.state.open(life, now);

@@ -1,5 +1,5 @@
 //! A link end, as its node sees it.
-ghost use Rattle.std.specs.Prelude.{◌≡◌, ◌≢◌, ◌<◌, ◌≤◌, ◌^◌, ℕ, IfOk, IfNone, IfSome, IsTrue, OnSome, Some, false};
+ghost use Rattle.std.specs.Prelude.{◌≡◌, ◌≢◌, ◌<◌, ◌≤◌, ℕ, IfOk, IfNone, IfSome, IsTrue, OnSome, Some, false};
 ghost use Rattle.std.specs.Prelude.{is_some, length};
 ghost use Rattle.tora_arq.specs.Settings.{IsTimes, settings_of};
 ghost use Rattle.tora_arq.specs.LinkEnd.{first_end, is_closed, bound_life, after_open, verdict_of, after_frame};
@@ -9,6 +9,7 @@ ghost use Rattle.tora_arq.specs.EndRange.{IsEndState, link_end_of};
 ghost use Rattle.tora_arq.specs.NextDue.{IsNextDue};
 ghost use Rattle.tora_arq.specs.Still.{IsStillUntil};
 ghost use Rattle.tora_arq.specs.Steady.{IsSteady, resumed, steady_of};
+ghost use Rattle.tora_frame.specs.declared.parts.TheConstants.{GREATEST_NUMBER};
 ghost use Rattle.tora_frame.specs.FrameParts.{IsHeader, frame_of};
 ghost use Rattle.tora_frame.specs.declared.parts.Body.{Body};
 ghost use Rattle.tora_frame.specs.declared.parts.Version.TheVariants.{One, Two};
@@ -165,7 +166,7 @@ impl LinkEnd {
     /// The own number of the last session, 1 to 2^62; 0 before the first.
     pub fn last_life(&self) -> u64
         ensures last { result ≡ self.now.state.last_life }
-        ensures within { result ≤ 2 ^ 62 }
+        ensures within { result ≤ GREATEST_NUMBER }
     {
         self.state.last_life
     }
@@ -183,7 +184,7 @@ impl LinkEnd {
     pub fn open(&mut self, life: u64, now: u64)
         requires closed { IsTrue (is_closed self.old.state) }
         requires above { self.old.state.last_life < life }
-        requires within { life ≤ 2 ^ 62 }
+        requires within { life ≤ GREATEST_NUMBER }
         ensures { self.new ≡ record self.old { state = after_open self.old.state life now } }
     {
         self.state.open(life, now);

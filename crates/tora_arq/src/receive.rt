@@ -1,5 +1,6 @@
 //! How a link end receives a frame.
 ghost use Rattle.std.specs.Prelude.{◌≡◌, ◌<◌, ◌≤◌, ◌+◌, ◌^◌, ◌⊎◌, length};
+ghost use Rattle.tora_frame.specs.declared.parts.TheConstants.{GREATEST_NUMBER};
 ghost use Rattle.tora_frame.specs.FrameParts.{IsFrame, batch, frame_of};
 ghost use Rattle.tora_frame.specs.declared.parts.Body.{Body};
 ghost use Rattle.tora_frame.specs.BorrowedFrames.{body_of};
@@ -104,8 +105,8 @@ impl State {
     fn on_packets(&mut self, life: Life, number: u64, packets: &[Packet])
         requires room { HasRoomFor self.old.events.capacity self.old.held.capacity (self.old.accepted + WINDOW) number
             (length packets.now) (state_in self.old) }
-        requires accepted { self.old.accepted ≤ 2 ^ 62 }
-        requires number { number + length packets.now ≤ 2 ^ 62 + 1 }
+        requires accepted { self.old.accepted ≤ GREATEST_NUMBER }
+        requires number { number + length packets.now ≤ GREATEST_NUMBER + 1 }
         ensures state { state_in self.new ≡ after_packets life (self.old.accepted + WINDOW) (state_in self.old) number
             packets.now }
         ensures rooms { rooms_in self.new ≡ rooms_in self.old }
@@ -123,9 +124,9 @@ impl State {
     fn on_data(&mut self, life: Life, number: u64, packets: &[Packet]) -> Verdict
         requires room { HasRoomFor self.old.events.capacity self.old.held.capacity (self.old.accepted + WINDOW) number
             (length packets.now) (state_in self.old) }
-        requires accepted { self.old.accepted ≤ 2 ^ 62 }
+        requires accepted { self.old.accepted ≤ GREATEST_NUMBER }
         requires some { 0 < length packets.now }
-        requires number { number + length packets.now ≤ 2 ^ 62 + 1 }
+        requires number { number + length packets.now ≤ GREATEST_NUMBER + 1 }
         ensures verdict { result ≡ (on_data WINDOW (state_in self.old) life number packets.now).0 }
         ensures state { state_in self.new ≡ (on_data WINDOW (state_in self.old) life number packets.now).1 }
         ensures rooms { rooms_in self.new ≡ rooms_in self.old }
@@ -147,7 +148,7 @@ impl State {
     fn on_matched(&mut self, life: Life, binds: bool, now: u64, body: BorrowedBody<'_>) -> Verdict
         requires numbered { IsNumbered (body_of body) }
         requires room { HasBodyRoom self.old.events.capacity self.old.held.capacity (body_of body) (state_in self.old) }
-        requires accepted { self.old.accepted ≤ 2 ^ 62 }
+        requires accepted { self.old.accepted ≤ GREATEST_NUMBER }
         ensures verdict { result ≡ (on_matched WINDOW (state_in self.old) life binds now (body_of body.entry)).0 }
         ensures state { state_in self.new ≡ (on_matched WINDOW (state_in self.old) life binds now
             (body_of body.entry)).1 }
@@ -206,7 +207,7 @@ impl State {
     fn on_bound_frame(&mut self, life: Life, frame: &BorrowedFrame<'_>, now: u64) -> Verdict
         requires place { length self.old.events.items < self.old.events.capacity }
         requires room { HasBodyRoom self.old.events.capacity self.old.held.capacity frame.now.body (state_in self.old) }
-        requires accepted { self.old.accepted ≤ 2 ^ 62 }
+        requires accepted { self.old.accepted ≤ GREATEST_NUMBER }
         ensures verdict { result ≡ (on_frame_in WINDOW (state_in self.old) frame.now now (Phase.Bound life)).0 }
         ensures state { state_in self.new ≡ (on_frame_in WINDOW (state_in self.old) frame.now now (Phase.Bound life)).1 }
         ensures rooms { rooms_in self.new ≡ rooms_in self.old }
@@ -304,7 +305,7 @@ impl State {
     /// Receives a frame.
     #[tactic(auto, unfolding(crate::specs::LinkEnd::on_frame, crate::specs::LinkEnd::on_frame_in))]
     pub fn on_frame(&mut self, settings: &Settings, frame: &BorrowedFrame<'_>, now: u64) -> Verdict
-        requires accepted { self.old.accepted ≤ 2 ^ 62 }
+        requires accepted { self.old.accepted ≤ GREATEST_NUMBER }
         requires held { length self.old.held.items ≤ WINDOW }
         requires room { HasLists self.old.events.capacity self.old.held.capacity
             ⊎ HasFrameRoom self.old.events.capacity frame.now (state_in self.old) }

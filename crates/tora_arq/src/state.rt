@@ -233,7 +233,7 @@ impl State {
     /// Submits a packet for the peer.
     #[tactic(auto, unfolding(crate::specs::LinkEnd::on_submit))]
     pub fn submit(&mut self, life: Life, packet: Packet) -> Result<(), SubmitError>
-        requires submitted { self.old.acknowledged + length self.old.queue.items ≤ 2 ^ 62 }
+        requires submitted { self.old.acknowledged + length self.old.queue.items ≤ GREATEST_NUMBER }
         requires room { HasEventPlace self.old.events.capacity (state_in self.old) }
         requires place { length self.old.queue.items < QUEUE_PLACES
             → length self.old.queue.items < self.old.queue.capacity }

@@ -1,6 +1,7 @@
 //! How a link end sends frames.
 ghost use Rattle.std.specs.Prelude.{◌≡◌, ℕ, ◌<◌, ◌≤◌, ◌+◌, ◌^◌, ◌||◌, false, Option, Some, IfNone, IfSome, is_some};
 ghost use Rattle.std.specs.Prelude.{length};
+ghost use Rattle.tora_frame.specs.declared.parts.TheConstants.{GREATEST_NUMBER};
 ghost use Rattle.tora_frame.specs.FrameParts.{FrameParts, frame_of, IsHeader, IsLifeNumber};
 ghost use Rattle.tora_frame.specs.declared.parts.Body.{Body};
 ghost use Rattle.tora_arq.specs.Settings.{IsLink};
@@ -22,7 +23,7 @@ impl Settings {
     fn header(&self, version: Version, life: u64, heard: u64) -> Header
         requires link { IsLink self.now.me self.now.peer }
         requires life { IsLifeNumber life }
-        requires heard { heard ≤ 2 ^ 62 }
+        requires heard { heard ≤ GREATEST_NUMBER }
         ensures value { result ≡ record {
           version = version;
           sender = self.now.me;
@@ -75,7 +76,7 @@ impl State {
     fn take_hello(&mut self, settings: &Settings, life: u64, heard: u64, now: u64) -> Header
         requires link { IsLink settings.now.me settings.now.peer }
         requires life { IsLifeNumber life }
-        requires heard { heard ≤ 2 ^ 62 }
+        requires heard { heard ≤ GREATEST_NUMBER }
         ensures frame { frame_of result Body.Hello ≡ frame_sent (settings_in settings.now) settings.now.version life
             heard Body.Hello }
         ensures valid { IsHeader result }
@@ -92,7 +93,7 @@ impl State {
     fn take_old_hello(&mut self, settings: &Settings, life: u64, heard: u64) -> Header
         requires link { IsLink settings.now.me settings.now.peer }
         requires life { IsLifeNumber life }
-        requires heard { heard ≤ 2 ^ 62 }
+        requires heard { heard ≤ GREATEST_NUMBER }
         ensures frame { frame_of result Body.Hello ≡ frame_sent (settings_in settings.now) Version.One life heard
             Body.Hello }
         ensures valid { IsHeader result }
@@ -114,8 +115,8 @@ impl State {
         requires link { IsLink settings.now.me settings.now.peer }
         requires own { IsLifeNumber life.own }
         requires peer { IsLifeNumber life.peer }
-        requires accepted { self.old.accepted ≤ 2 ^ 62 }
-        requires submitted { self.old.acknowledged + length self.old.queue.items ≤ 2 ^ 62 }
+        requires accepted { self.old.accepted ≤ GREATEST_NUMBER }
+        requires submitted { self.old.acknowledged + length self.old.queue.items ≤ GREATEST_NUMBER }
         ensures frame { result ≡ (on_transmit_due (settings_in settings.now) (state_in self.old) life
             (due_of (settings_in settings.now) (state_in self.old) now)).0 }
         ensures state { state_in self.new ≡ (on_transmit_due (settings_in settings.now) (state_in self.old) life
@@ -227,7 +228,7 @@ impl State {
     fn poll_hello(&mut self, settings: &Settings, life: u64, heard: u64, now: u64) -> Option<Header>
         requires link { IsLink settings.now.me settings.now.peer }
         requires life { IsLifeNumber life }
-        requires heard { heard ≤ 2 ^ 62 }
+        requires heard { heard ≤ GREATEST_NUMBER }
         ensures frame { IfSome result (λ header. (other : Option FrameParts × EndState)
             → (on_hello (settings_in settings.now) (state_in self.old) life heard now other).0
             ≡ Some (frame_of header Body.Hello)) }

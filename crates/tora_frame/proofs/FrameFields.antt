@@ -1,5 +1,5 @@
 -- The checks of frames, and the fields of bytes that pass them.
-use Rattle.std.proofs.Common.{◌≡◌, ◌⊎◌, ℕ, ◌+◌, ◌^◌, ◌<◌, ◌≤◌, Bool, true, false, cond, not, ltb, eqb, List, [], ◌∷◌, ◌++◌, length, get_or, take, drop, Option, Some, None, refl, sym, ◌∙◌, arith, inl, inr}
+use Rattle.std.proofs.Common.{◌≡◌, ◌⊎◌, ℕ, ◌+◌, ◌<◌, ◌≤◌, Bool, true, false, cond, not, ltb, eqb, List, [], ◌∷◌, ◌++◌, length, get_or, take, drop, Option, Some, None, refl, sym, ◌∙◌, arith, inl, inr}
 use Rattle.std.specs.Prelude.{slice_range}
 use Rattle.std.specs.Int.{w16, to_be_bytes}
 use Rattle.std.proofs.lemmas.Bool.{cases_lt, not-false, ltb-false, le-ltb}
@@ -8,6 +8,7 @@ use Rattle.std.proofs.lemmas.List.{length-take, length-take-le, length-drop, get
 use Rattle.std.proofs.lemmas.Nat.{be_bytes_2}
 use Rattle.tora_packet.specs.PacketGrammar.{u64_at}
 use Rattle.tora_packet.proofs.Fields.{IsBytes}
+use Rattle.tora_frame.specs.declared.parts.TheConstants.{GREATEST_NUMBER}
 use Rattle.tora_frame.specs.declared.FrameError.{FrameError}
 use Rattle.tora_frame.specs.declared.FrameError.TheVariants as Fault
 use Rattle.tora_frame.specs.declared.parts.Version.{Version}
@@ -112,22 +113,22 @@ pub no_fault_in_hello : (bytes : List ℕ) → kind_at bytes ≡ 1 → body_faul
 unfolding body_fault
 no_fault_in_hello bytes e = rw e refl
 
-pub no_fault_in_ack : (bytes : List ℕ) → kind_at bytes ≡ 3 → u64_at 28 bytes ≤ 2 ^ 62 → body_fault bytes ≡ None
+pub no_fault_in_ack : (bytes : List ℕ) → kind_at bytes ≡ 3 → u64_at 28 bytes ≤ GREATEST_NUMBER → body_fault bytes ≡ None
 unfolding body_fault
 no_fault_in_ack bytes e h =
-    let a : ltb (2 ^ 62) (u64_at 28 bytes) ≡ false = le-ltb _ _ h in
+    let a : ltb GREATEST_NUMBER (u64_at 28 bytes) ≡ false = le-ltb _ _ h in
     rw (e, a) refl
 
 -- if the numbers are in their ranges, the fault is that of the packets
-data_fault_inside : (bytes : List ℕ) → kind_at bytes ≡ 2 → 0 < u64_at 28 bytes → u64_at 28 bytes ≤ 2 ^ 62 → u64_at 36 bytes ≤ 2 ^ 62 → body_fault bytes ≡ fault_inside bytes
+data_fault_inside : (bytes : List ℕ) → kind_at bytes ≡ 2 → 0 < u64_at 28 bytes → u64_at 28 bytes ≤ GREATEST_NUMBER → u64_at 36 bytes ≤ GREATEST_NUMBER → body_fault bytes ≡ fault_inside bytes
 unfolding body_fault
 data_fault_inside bytes e one number count =
     let z : eqb (u64_at 28 bytes) 0 ≡ false = grind (arith, nat_tests) in
-    let a : ltb (2 ^ 62) (u64_at 28 bytes) ≡ false = le-ltb _ _ number in
-    let b : ltb (2 ^ 62) (u64_at 36 bytes) ≡ false = le-ltb _ _ count in
+    let a : ltb GREATEST_NUMBER (u64_at 28 bytes) ≡ false = le-ltb _ _ number in
+    let b : ltb GREATEST_NUMBER (u64_at 36 bytes) ≡ false = le-ltb _ _ count in
     rw (e, z, a, b) refl
 
-pub no_fault_in_data : (bytes : List ℕ) → kind_at bytes ≡ 2 → 0 < u64_at 28 bytes → u64_at 28 bytes ≤ 2 ^ 62 → u64_at 36 bytes ≤ 2 ^ 62 → fault_inside bytes ≡ None → body_fault bytes ≡ None
+pub no_fault_in_data : (bytes : List ℕ) → kind_at bytes ≡ 2 → 0 < u64_at 28 bytes → u64_at 28 bytes ≤ GREATEST_NUMBER → u64_at 36 bytes ≤ GREATEST_NUMBER → fault_inside bytes ≡ None → body_fault bytes ≡ None
 no_fault_in_data bytes e one number count inside = data_fault_inside bytes e one number count ∙ inside
 
 -- ---- two bytes

@@ -16,7 +16,7 @@ use Rattle.tora_packet.proofs.Fields.{IsBytes, step, number_back, wide_back, fou
 use Rattle.tora_frame.specs.declared.FrameError.{FrameError}
 use Rattle.tora_frame.specs.declared.FrameError.TheVariants as Fault
 use Rattle.tora_frame.specs.declared.layout.TheConstants.{PACKET_HEAD, BATCH_HEAD, PACKET_OFFSET, LONGEST_BATCH}
-use Rattle.tora_frame.specs.declared.parts.TheConstants.{MOST_PACKETS}
+use Rattle.tora_frame.specs.declared.parts.TheConstants.{MOST_PACKETS, GREATEST_NUMBER}
 use Rattle.tora_frame.specs.declared.parts.Version.{Version}
 use Rattle.tora_frame.specs.declared.parts.Version.TheVariants.{One, Two}
 use Rattle.tora_frame.specs.declared.parts.Header.{Header}
@@ -224,16 +224,16 @@ again_one h m c p v ok =
     let a = packet_again p ok in
     rw (v, append-nil (packet_spelling p), a.0, a.1) (refl, refl)
 
-good_size : (m k : ℕ) → 0 < k → k ≤ 16 → m + k ≤ 2 ^ 62 + 1 → ((k == 0) || ltb 16 k || not true || ltb (2 ^ 62) (m + k - 1)) ≡ false
+good_size : (m k : ℕ) → 0 < k → k ≤ MOST_PACKETS → m + k ≤ GREATEST_NUMBER + 1 → ((k == 0) || ltb MOST_PACKETS k || not true || ltb GREATEST_NUMBER (m + k - 1)) ≡ false
 good_size m k a b c = grind (arith, nat_tests)
 
-again_size : (h : Header) (m c : ℕ) (ps : List Packet) → h.version ≡ Two → m < 2 ^ 64 → 0 < length ps → length ps ≤ 16 → m + length ps ≤ 2 ^ 62 + 1 → is_bad_batch_size (data_spelled h m c ps) ≡ false
+again_size : (h : Header) (m c : ℕ) (ps : List Packet) → h.version ≡ Two → m < 2 ^ 64 → 0 < length ps → length ps ≤ MOST_PACKETS → m + length ps ≤ GREATEST_NUMBER + 1 → is_bad_batch_size (data_spelled h m c ps) ≡ false
 again_size h m c ps v fits one most last =
     let rest = to_be_bytes w64 c ++ batch_size_spelling h.version (length ps) ++ packets_spelling ps in
     let number : u64_at 28 (data_spelled h m c ps) ≡ m = first_number 2 (data_head_length h.version + packets_length ps) h m rest fits in
     rw (number, v) (good_size m (length ps) one most last)
 
-again_batch : (h : Header) (m c : ℕ) (ps : List Packet) → h.version ≡ Two → m < 2 ^ 64 → 0 < length ps → length ps ≤ 16 → m + length ps ≤ 2 ^ 62 + 1 → AllByRecursion IsPacket ps → Inside (data_spelled h m c ps) ps
+again_batch : (h : Header) (m c : ℕ) (ps : List Packet) → h.version ≡ Two → m < 2 ^ 64 → 0 < length ps → length ps ≤ MOST_PACKETS → m + length ps ≤ GREATEST_NUMBER + 1 → AllByRecursion IsPacket ps → Inside (data_spelled h m c ps) ps
 unfolding batch_fault packets_inside
 again_batch h m c ps v fits one most last ok =
     let a = packets_again ps ok in
@@ -286,7 +286,7 @@ pub data_length_most : (v : Version) (ps : List Packet) → IsBatchSize v (lengt
 data_length_most One ps many = omega (arith, packets_length_most ps, many)
 data_length_most Two ps many = omega (arith, packets_length_most ps, many.1)
 
-number_most : (v : Version) (m : ℕ) (ps : List Packet) → IsBatchSize v (length ps) → m + length ps ≤ 2 ^ 62 + 1 → m ≤ 2 ^ 62
+number_most : (v : Version) (m : ℕ) (ps : List Packet) → IsBatchSize v (length ps) → m + length ps ≤ GREATEST_NUMBER + 1 → m ≤ GREATEST_NUMBER
 number_most One m ps many last = omega (arith, many, last)
 number_most Two m ps many last = omega (arith, many.0, last)
 

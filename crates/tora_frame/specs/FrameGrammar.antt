@@ -1,12 +1,13 @@
 -- The bytes of frames: the only encoding of each, and why other bytes are not a frame. The two versions differ only in
 -- the payload of a DATA frame: its lengths, encoding, faults and decoding.
-use Rattle.std.specs.Prelude.{◌≡◌, ℕ, zero, suc, ◌+◌, ◌-◌, ◌^◌, Bool, nat_lt, nat_le, ◌==◌, ◌||◌, ◌&&◌, if◌then◌else◌, not, List, [], ◌∷◌, ◌++◌, length, drop, slice_index, slice_range, Option, Some, None, Result, Ok, Err}
+use Rattle.std.specs.Prelude.{◌≡◌, ℕ, zero, suc, ◌+◌, ◌-◌, Bool, nat_lt, nat_le, ◌==◌, ◌||◌, ◌&&◌, if◌then◌else◌, not, List, [], ◌∷◌, ◌++◌, length, drop, slice_index, slice_range, Option, Some, None, Result, Ok, Err}
 use Rattle.std.specs.List.{sum_by, flat_map}
 use Rattle.std.specs.Int.{w16, w32, w64, to_be_bytes, from_be_bytes}
 use Rattle.tora_packet.specs.declared.PacketError.{PacketError}
 use Rattle.tora_packet.specs.declared.PacketError.TheVariants.{Long}
 use Rattle.tora_packet.specs.declared.Packet.{Packet}
 use Rattle.tora_packet.specs.PacketGrammar.{packet_spelling, packet_length, is_packet_length, packet_fault, packet_at, first_packet, behind_first, is_zero_at, u32_at, u64_at}
+use Rattle.tora_frame.specs.declared.parts.TheConstants.{GREATEST_NUMBER, MOST_PACKETS}
 use Rattle.tora_frame.specs.declared.FrameError.{FrameError}
 use Rattle.tora_frame.specs.declared.FrameError.TheVariants as Fault
 use Rattle.tora_frame.specs.declared.layout.TheConstants.{PACKET_HEAD, BATCH_HEAD, SHORTEST_BATCH, LONGEST_BATCH}
@@ -141,7 +142,8 @@ is_bad_pair h = (h.sender == 0) || (h.receiver == 0) || (h.sender == h.receiver)
 -- a session number is out of its range, or a frame that is not a HELLO has heard no session number
 abbrev pub is_bad_life : ℕ → Header → Bool
 is_bad_life kind h =
-    (h.life == 0) || nat_lt (2 ^ 62) h.life || nat_lt (2 ^ 62) h.heard || (not (kind == 1) && (h.heard == 0))
+    (h.life == 0) || nat_lt GREATEST_NUMBER h.life || nat_lt GREATEST_NUMBER h.heard
+    || (not (kind == 1) && (h.heard == 0))
 
 -- checks 7 and 8: the nodes and the session numbers
 unfoldable pub header_fault : ℕ → Header → Option FrameError
@@ -190,8 +192,8 @@ is_batch_size_zero bytes = is_zero_at 45 bytes && is_zero_at 46 bytes && is_zero
 -- the number of packets is 0 or too great, a reserved byte is not zero, or the last packet's number is too great
 abbrev pub is_bad_batch_size : List ℕ → Bool
 is_bad_batch_size bytes =
-    (batch_size_at bytes == 0) || nat_lt 16 (batch_size_at bytes) || not (is_batch_size_zero bytes)
-    || nat_lt (2 ^ 62) (u64_at 28 bytes + batch_size_at bytes - 1)
+    (batch_size_at bytes == 0) || nat_lt MOST_PACKETS (batch_size_at bytes) || not (is_batch_size_zero bytes)
+    || nat_lt GREATEST_NUMBER (u64_at 28 bytes + batch_size_at bytes - 1)
 
 -- checks 10 and 11, in version 2: the number of packets, and each packet
 unfoldable pub batch_fault : List ℕ → Option FrameError
@@ -209,7 +211,7 @@ packets_inside bytes =
     else packets_at (batch_size_at bytes) (drop 48 bytes)
 
 abbrev pub is_bad_number : ℕ → ℕ → Bool
-is_bad_number number count = (number == 0) || nat_lt (2 ^ 62) number || nat_lt (2 ^ 62) count
+is_bad_number number count = (number == 0) || nat_lt GREATEST_NUMBER number || nat_lt GREATEST_NUMBER count
 
 abbrev pub data_fault : List ℕ → Option FrameError
 data_fault bytes = if is_bad_number (u64_at 28 bytes) (u64_at 36 bytes) then Some Fault.Number else fault_inside bytes
@@ -219,7 +221,7 @@ unfoldable pub body_fault : List ℕ → Option FrameError
 body_fault bytes =
     if kind_at bytes == 1 then None
     else if kind_at bytes == 2 then data_fault bytes
-    else if nat_lt (2 ^ 62) (u64_at 28 bytes) then Some Fault.Number
+    else if nat_lt GREATEST_NUMBER (u64_at 28 bytes) then Some Fault.Number
     else None
 
 abbrev pub frame_fault : List ℕ → Option FrameError

@@ -1,5 +1,6 @@
 //! Frames that borrow their packets from a list of the caller.
-ghost use Rattle.std.specs.Prelude.{◌≡◌, ◌+◌, ◌<◌, ◌≤◌, ◌^◌, length};
+ghost use Rattle.std.specs.Prelude.{◌≡◌, ◌+◌, ◌<◌, ◌≤◌, length};
+ghost use Rattle.tora_frame.specs.declared.parts.TheConstants.{GREATEST_NUMBER};
 ghost use Rattle.tora_frame.specs.FrameParts.{IsHeader, IsBatchSize, IsFrame, batch, frame_of};
 ghost use Rattle.tora_frame.specs.BorrowedFrames.{body_of};
 ghost use Rattle.tora_frame.specs.declared.parts.Body.{Body as OwnedBody};
@@ -63,8 +64,8 @@ impl<'a> BorrowedFrame<'a> {
         requires header { IsHeader header }
         requires heard { 0 < header.heard }
         requires first { 0 < number }
-        requires last { number + length packets.now ≤ 2 ^ 62 + 1 }
-        requires count { count ≤ 2 ^ 62 }
+        requires last { number + length packets.now ≤ GREATEST_NUMBER + 1 }
+        requires count { count ≤ GREATEST_NUMBER }
         requires many { IsBatchSize header.version (length packets.now) }
         ensures { result ≡ frame_of header (OwnedBody.Data number count (batch packets.now)) }
     {
@@ -76,7 +77,7 @@ impl<'a> BorrowedFrame<'a> {
     pub fn ack(header: Header, count: u64) -> BorrowedFrame<'a>
         requires header { IsHeader header }
         requires heard { 0 < header.heard }
-        requires count { count ≤ 2 ^ 62 }
+        requires count { count ≤ GREATEST_NUMBER }
         ensures { result ≡ frame_of header (OwnedBody.Ack count) }
     {
         BorrowedFrame::of(header, BorrowedBody::Ack(count))

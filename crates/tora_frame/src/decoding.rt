@@ -1,5 +1,5 @@
 //! Bytes to frames.
-ghost use Rattle.std.specs.Prelude.{◌≡◌, ◌≢◌, ℕ, List, [], ◌++◌, ◌+◌, ◌≤◌, ◌<◌, ◌^◌, drop, length, MatchOption};
+ghost use Rattle.std.specs.Prelude.{◌≡◌, ◌≢◌, ℕ, List, [], ◌++◌, ◌+◌, ◌≤◌, ◌<◌, drop, length, MatchOption};
 ghost use Rattle.std.specs.Prelude.{MatchBool, IfOk, OnOk, IsOk, Ok, Err, Some, None};
 ghost use Rattle.std.specs.List.{AllByRecursion};
 ghost use Rattle.tora_packet.specs.AnyPacket.{IsPacket};
@@ -146,7 +146,7 @@ fn read_numbers(bytes: &[u8]) -> Result<(u64, u64), FrameError>
     requires { 44 ≤ length bytes.now }
     ensures exact { MatchBool (is_bad_number (u64_at 28 bytes.now) (u64_at 36 bytes.now))
         (result ≡ Err FrameError.Number) (result ≡ Ok (u64_at 28 bytes.now, u64_at 36 bytes.now)) }
-    ensures valid { IfOk result (λ n. (0 < n.0) × (n.0 ≤ 2 ^ 62) × (n.1 ≤ 2 ^ 62)) }
+    ensures valid { IfOk result (λ n. (0 < n.0) × (n.0 ≤ GREATEST_NUMBER) × (n.1 ≤ GREATEST_NUMBER)) }
 {
     let (number, count) = (u64_at(bytes, 28), u64_at(bytes, 36));
     if number == 0 || number > GREATEST_NUMBER || count > GREATEST_NUMBER {

@@ -1,5 +1,5 @@
 //! Bytes to the packets of a DATA frame.
-ghost use Rattle.std.specs.Prelude.{◌≡◌, ◌+◌, ◌<◌, ◌≤◌, ◌^◌, [], ◌∷◌, drop, length, MatchOption, MatchBool, IfOk, OnOk};
+ghost use Rattle.std.specs.Prelude.{◌≡◌, ◌+◌, ◌<◌, ◌≤◌, [], ◌∷◌, drop, length, MatchOption, MatchBool, IfOk, OnOk};
 ghost use Rattle.std.specs.Prelude.{IsOk, Ok, Err};
 ghost use Rattle.std.specs.List.{AllByRecursion};
 ghost use Rattle.arrayvec.specs.ArrayVec.{array_vec_len};
@@ -62,10 +62,10 @@ fn read_list(bytes: &[u8], many: usize, packets: &mut Packets) -> Result<(), Fra
 fn read_batch_size(bytes: &[u8], number: u64) -> Result<usize, FrameError>
     requires len { 48 ≤ length bytes.now }
     requires number { number ≡ u64_at 28 bytes.now }
-    requires fits { number ≤ 2 ^ 62 }
+    requires fits { number ≤ GREATEST_NUMBER }
     ensures exact { MatchBool (is_bad_batch_size bytes.now) (result ≡ Err FrameError.Count) (result
         ≡ Ok (batch_size_at bytes.now)) }
-    ensures valid { IfOk result (λ many. (0 < many) × (many ≤ 16) × (number + many ≤ 2 ^ 62 + 1)) }
+    ensures valid { IfOk result (λ many. (0 < many) × (many ≤ MOST_PACKETS) × (number + many ≤ GREATEST_NUMBER + 1)) }
 {
     let many = bytes[44];
     if many == 0 || usize::from(many) > MOST_PACKETS {
@@ -85,13 +85,13 @@ fn read_batch_size(bytes: &[u8], number: u64) -> Result<usize, FrameError>
 fn read_batch(bytes: &[u8], number: u64, packets: &mut Packets) -> Result<(), FrameError>
     requires len { 48 ≤ length bytes.now }
     requires number { number ≡ u64_at 28 bytes.now }
-    requires fits { number ≤ 2 ^ 62 }
+    requires fits { number ≤ GREATEST_NUMBER }
     requires empty { packets.old.items ≡ [] }
     ensures exact { MatchOption (batch_fault bytes.now) (IsOk result) (λ e. result ≡ Err e) }
     ensures packets { OnOk result (packets.new.items ≡ packets_at (batch_size_at bytes.now) (drop 48 bytes.now)) }
     ensures valid { OnOk result (AllByRecursion IsPacket packets.new.items) }
-    ensures many { OnOk result ((0 < array_vec_len packets.new) × (array_vec_len packets.new ≤ 16)
-        × (number + array_vec_len packets.new ≤ 2 ^ 62 + 1)) }
+    ensures many { OnOk result ((0 < array_vec_len packets.new) × (array_vec_len packets.new ≤ MOST_PACKETS)
+        × (number + array_vec_len packets.new ≤ GREATEST_NUMBER + 1)) }
 {
     let many = read_batch_size(bytes, number)?;
     read_list(behind(bytes, BATCH_OFFSET), many, packets)
@@ -121,13 +121,13 @@ pub fn read_packets(
     requires len { 48 ≤ length bytes.now }
     requires version { version ≡ version_of (version_at bytes.now) }
     requires number { number ≡ u64_at 28 bytes.now }
-    requires fits { number ≤ 2 ^ 62 }
+    requires fits { number ≤ GREATEST_NUMBER }
     requires empty { packets.old.items ≡ [] }
     ensures exact { MatchOption (fault_inside bytes.now) (IsOk result) (λ e. result ≡ Err e) }
     ensures packets { OnOk result (packets.new.items ≡ packets_inside bytes.now) }
     ensures valid { OnOk result (AllByRecursion IsPacket packets.new.items) }
     ensures many { OnOk result (IsBatchSize version (array_vec_len packets.new)) }
-    ensures last { OnOk result (number + array_vec_len packets.new ≤ 2 ^ 62 + 1) }
+    ensures last { OnOk result (number + array_vec_len packets.new ≤ GREATEST_NUMBER + 1) }
 {
     match version {
         Version::One => read_one(bytes, packets),

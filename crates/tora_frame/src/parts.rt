@@ -1,5 +1,5 @@
 //! Frames and their parts.
-ghost use Rattle.std.specs.Prelude.{◌≡◌, ◌+◌, ◌<◌, ◌≤◌, ◌^◌, [], ◌∷◌};
+ghost use Rattle.std.specs.Prelude.{◌≡◌, ◌+◌, ◌<◌, ◌≤◌, [], ◌∷◌};
 ghost use Rattle.std.specs.List.{AllByRecursion};
 ghost use Rattle.arrayvec.specs.ArrayVec.{array_vec_len};
 ghost use Rattle.tora_packet.specs.AnyPacket.{IsPacket};
@@ -122,8 +122,8 @@ impl Frame {
         requires header { IsHeader header }
         requires heard { 0 < header.heard }
         requires first { 0 < number }
-        requires last { number + array_vec_len packets ≤ 2 ^ 62 + 1 }
-        requires count { count ≤ 2 ^ 62 }
+        requires last { number + array_vec_len packets ≤ GREATEST_NUMBER + 1 }
+        requires count { count ≤ GREATEST_NUMBER }
         requires many { IsBatchSize header.version (array_vec_len packets) }
         ensures { result ≡ frame_of header (Body.Data number count packets) }
     {
@@ -136,8 +136,8 @@ impl Frame {
     pub fn one(header: Header, number: u64, count: u64, packet: Packet) -> Frame
         requires header { IsHeader header }
         requires heard { 0 < header.heard }
-        requires number { (0 < number) × (number ≤ 2 ^ 62) }
-        requires count { count ≤ 2 ^ 62 }
+        requires number { (0 < number) × (number ≤ GREATEST_NUMBER) }
+        requires count { count ≤ GREATEST_NUMBER }
         ensures { result ≡ frame_of header (Body.Data number count (batch (packet ∷ []))) }
     {
         let mut packets = ArrayVec::new();
@@ -149,7 +149,7 @@ impl Frame {
     pub fn ack(header: Header, count: u64) -> Frame
         requires header { IsHeader header }
         requires heard { 0 < header.heard }
-        requires count { count ≤ 2 ^ 62 }
+        requires count { count ≤ GREATEST_NUMBER }
         ensures { result ≡ frame_of header (Body.Ack count) }
     {
         Frame::of(header, Body::Ack(count))

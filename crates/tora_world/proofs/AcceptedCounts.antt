@@ -2,8 +2,9 @@
 -- count is a lower bound as long as the session is bound.
 use Rattle.std.proofs.Common.{◌≡◌, ◌≢◌, ℕ, suc, ◌+◌, ◌≤◌, Bool, true, false, true≢false, not, ◌&&◌, ◌⊎◌, inl, inr, List, [], ◌∷◌, Option, Some, None, nat_eq, if◌then◌else◌, refl, sym, ap, ◌∙◌, subst, arith}
 use Rattle.std.proofs.lemmas.Bool.{cond_both, cases_Bool}
-use Rattle.std.specs.Prelude.{is_some, nat_lt, nat_le, ◌==◌, ◌^◌, length, Result}
+use Rattle.std.specs.Prelude.{is_some, nat_lt, nat_le, ◌==◌, length, Result}
 use Rattle.tora_packet.specs.declared.Packet.{Packet}
+use Rattle.tora_frame.specs.declared.parts.TheConstants.{GREATEST_NUMBER}
 use Rattle.tora_frame.specs.declared.parts.Body.{Body}
 use Rattle.tora_frame.specs.declared.parts.Body.TheVariants.{Hello, Data, Ack}
 use Rattle.tora_frame.specs.FrameParts.{FrameParts}
@@ -110,7 +111,7 @@ module _ (l : Life) where
   grows_submit e life packet j j' =
       subst (λ ph. NotLess e (on_submit_in e life packet ph).1) (sym j)
       (cond_both (not (is_same_life life l)) _ _ (λ (x : Result (Unit {0}) SubmitError × EndState). NotLess e x.1) (λ _. omega arith)
-      (λ _. cond_both (nat_le (2 ^ 62) (e.acknowledged + length e.queue)) _ _ (λ (x : Result (Unit {0}) SubmitError × EndState). NotLess e x.1) (λ _. omega arith)
+      (λ _. cond_both (nat_le GREATEST_NUMBER (e.acknowledged + length e.queue)) _ _ (λ (x : Result (Unit {0}) SubmitError × EndState). NotLess e x.1) (λ _. omega arith)
       (λ _. cond_both (nat_le QUEUE_PLACES (length e.queue)) _ _ (λ (x : Result (Unit {0}) SubmitError × EndState). NotLess e x.1) (λ _. omega arith) (λ _. omega arith))))
 
   grows_cut : (e : EndState) (life : Life) → Grows e (after_cut e life)
