@@ -5,11 +5,11 @@ ghost use Rattle.tora_c.specs.Held.{coded_held, owned};
 ghost use Rattle.tora_c.specs.contracts.core_node.CoreNode.{the_row};
 
 use crate::core_node::CoreNode;
+use crate::handle::RawBox;
 use std::alloc::Global;
 use std::marker::Model;
 use std::mem::replace;
 use std::ptr::null_mut;
-use crate::handle::RawBox;
 
 /// The pointer to a core, or null, as `tora_core` of the header.
 #[repr(C)]

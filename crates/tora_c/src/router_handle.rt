@@ -4,11 +4,11 @@ ghost use Rattle.tora_router.specs.Router.{RouterView};
 ghost use Rattle.tora_router.specs.contracts.router.Router.{the_row};
 ghost use Rattle.tora_c.specs.Held.{coded_held, owned};
 
+use crate::handle::RawBox;
 use std::alloc::Global;
 use std::marker::Model;
 use std::mem::replace;
 use std::ptr::null_mut;
-use crate::handle::RawBox;
 use tora_router::Router;
 
 /// The pointer to a router, or null, as `tora_router` of the header.

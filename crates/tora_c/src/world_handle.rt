@@ -4,12 +4,12 @@ ghost use Rattle.tora_c.specs.declared.world_node.WorldNode.{WorldNode};
 ghost use Rattle.tora_c.specs.Held.{coded_held, owned};
 ghost use Rattle.tora_c.specs.contracts.world_node.WorldNode.{the_row};
 
+use crate::handle::RawBox;
 use crate::world_node::WorldNode;
 use std::alloc::Global;
 use std::marker::Model;
 use std::mem::replace;
 use std::ptr::null_mut;
-use crate::handle::RawBox;
 
 /// The pointer to a driven world, or null, as `tora_world` of the header.
 #[repr(C)]

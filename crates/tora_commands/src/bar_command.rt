@@ -10,9 +10,8 @@ use crate::progress::rounds_of;
 use crate::sim_command::{refuse, run_over};
 use std::process::ExitCode;
 use std::time::Clock;
-use tora_script::ChannelTable;
 use tora_lines::Output;
-use tora_script::{Setup, Simulator};
+use tora_script::{ChannelTable, Setup, Simulator};
 use tora_simulate::{Opened, Paths};
 
 /// Simulates the lines of the file at a path as `sim_command::run` does, and draws the progress on standard error.

@@ -23,10 +23,9 @@ use std::process::ExitCode;
 use tora_arq::Times;
 use tora_drive::{Driven, drive_recorded};
 use tora_lines::{Ended, Input, Output, ReplayError, flushed};
-use tora_script::WorldOptions;
+use tora_script::{TraceOut, WorldOptions};
 use tora_sim::Sim;
 use tora_simulate::{Paths, Recent};
-use tora_script::TraceOut;
 
 /// Runs `tora drive` and writes its record, then flushes the writer. The error is `Write` if only the flush fails.
 fn drive_and_flush<S: Driven, R: Input, W: Output, V: Output>(

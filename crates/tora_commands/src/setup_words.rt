@@ -8,10 +8,9 @@ ghost use Rattle.tora_commands.specs.SetupWords.{asked_seed, channel_asked, aske
 ghost use Rattle.tora_commands.specs.SetupWords.{options_by, asked_options, asked_until, asked_by};
 
 use crate::times_word::asked_times;
-use tora_script::{Channel, channel_parts};
 use tora_core::Erasure;
 use tora_lines::words;
-use tora_script::{Setup, WorldOptions, erasure_word};
+use tora_script::{Channel, Setup, WorldOptions, channel_parts, erasure_word};
 use tora_world::Limits;
 
 /// The words after the options of `tora sim`; `None` for an option that is not given.

@@ -23,11 +23,9 @@ use std::io;
 use std::io::{BufWriter, ErrorKind};
 use std::process::ExitCode;
 use std::time::Clock;
-use tora_script::ChannelTable;
 use tora_lines::{Ended, Input, Output, ReplayError, flushed};
-use tora_script::Setup;
+use tora_script::{ChannelTable, Setup, TraceOut, Watched, simulate_traced};
 use tora_simulate::{Opened, Paths, Recent, tell_at};
-use tora_script::{TraceOut, Watched, simulate_traced};
 
 /// Reports which path cannot be that of the trace or the record, and why, and returns the status of the cause.
 pub fn refuse_trace<T: Eprint>(rt: &T, path: &str, error: &io::Error) -> ExitCode

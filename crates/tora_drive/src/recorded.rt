@@ -15,8 +15,7 @@ use std::alloc::{AllocError, Global};
 use tora_arq::Times;
 use tora_lines::words::LineError;
 use tora_lines::{Ended, FileKind, Input, Output, ReplayError, read_shortened_lines};
-use tora_script::{Stage, WorldOptions};
-use tora_script::TraceOut;
+use tora_script::{Stage, TraceOut, WorldOptions};
 
 /// A drive whose record is written line by line.
 #[derive(Drop)]

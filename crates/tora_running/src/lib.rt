@@ -1,5 +1,5 @@
-//! The laws of running nodes: the actions of their threads are a run of the free world, so the laws of worlds hold for
-//! them.
+//! The laws of running nodes and of embedded routers: the actions of a node's threads, and the calls of a router's
+//! host, are a run of the free world, so the laws of worlds hold for them.
 #![tactic(auto)]
 
 mod laws;

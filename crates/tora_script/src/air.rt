@@ -9,11 +9,11 @@ ghost use Rattle.tora_script.specs.Air.{later_copies, put_off_of, put_off, still
 ghost use Rattle.tora_script.specs.Parted.{is_parted};
 ghost use Rattle.tora_script.specs.Ways.{way_in, AreCounted};
 
+use crate::channel::{Copies, Place};
 use crate::network::Network;
 use crate::simulator::Simulator;
 use crate::ways::Ways;
 use std::alloc::{AllocError, Global};
-use crate::channel::{Copies, Place};
 use tora_height::Id;
 
 /// The number of rounds so far, and the datagrams that arrive in later rounds.

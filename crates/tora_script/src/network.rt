@@ -1,6 +1,6 @@
 //! The network that rounds run in.
-use crate::parted::Parted;
 use crate::channel::{Channel, ChannelTable};
+use crate::parted::Parted;
 use tora_height::Id;
 
 /// The network that rounds run in.

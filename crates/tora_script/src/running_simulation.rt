@@ -14,6 +14,7 @@ ghost use Rattle.tora_script.specs.SimulationText.{walk_text, walk_reply, at_res
 ghost use Rattle.tora_script.specs.SimulationText.{event_reply, after_rounds, part_of, where_linked, known_height};
 
 use crate::air::Air;
+use crate::channel::{Channel, ChannelTable};
 use crate::node_marks::Mark;
 use crate::parted::Parted;
 use crate::script_line::SimulationLine;
@@ -21,7 +22,6 @@ use crate::setup::{Setup, WorldOptions};
 use crate::simulator::Simulator;
 use std::alloc::{AllocError, Global};
 use tora_arq::{Life, Times};
-use crate::channel::{Channel, ChannelTable};
 use tora_core::CoreError;
 use tora_height::{Entry, Id};
 use tora_lines::numbered;

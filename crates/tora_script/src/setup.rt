@@ -2,8 +2,8 @@
 ghost use Rattle.std.specs.Prelude.{◌≡◌};
 ghost use Rattle.tora_script.specs.Setup.{options_within, plain};
 
-use tora_arq::Times;
 use crate::channel::Channel;
+use tora_arq::Times;
 use tora_core::Erasure;
 use tora_world::Limits;
 

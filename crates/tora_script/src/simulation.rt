@@ -3,10 +3,10 @@ ghost use Rattle.std.specs.Prelude.{◌≡◌, []};
 ghost use Rattle.tora_script.specs.Table.{lines_of};
 ghost use Rattle.tora_arq.specs.Settings.{IsTimes};
 
+use crate::channel::ChannelTable;
 use crate::link_lines::LinkLines;
 use crate::running_simulation::Running;
 use crate::setup::Setup;
-use crate::channel::ChannelTable;
 
 /// The state between two lines of a simulation file.
 #[derive(Drop)]

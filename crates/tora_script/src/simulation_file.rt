@@ -17,6 +17,7 @@ ghost use Rattle.tora_script.specs.SimulationText.{first_fault_with, IsFirstFaul
 ghost use Rattle.tora_script.specs.SimulationText.{Simulates, IsSimulationBegun};
 ghost use Rattle.tora_lines.specs.Reads.{IsReadSo, IsUnwritten};
 
+use crate::channel::ChannelTable;
 use crate::link_lines::LinkLines;
 use crate::node_marks::Mark;
 use crate::parse;
@@ -26,7 +27,6 @@ use crate::simulation::{Simulation, Stage};
 use crate::simulator::Simulator;
 use std::alloc::{AllocError, Global};
 use tora_arq::Times;
-use crate::channel::ChannelTable;
 use tora_height::Id;
 use tora_lines::words::LineError;
 use tora_lines::{Ended, FileKind, Input, Output, ReplayError, read_lines};

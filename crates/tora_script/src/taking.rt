@@ -5,6 +5,7 @@ ghost use Rattle.tora_script.specs.Table.{lines_of, over};
 ghost use Rattle.tora_script.specs.RunningView.{running_view};
 ghost use Rattle.tora_script.specs.SimulationText.{script_reply, script_line_reply, rounds_left, after_rounds_on};
 
+use crate::channel::ChannelTable;
 use crate::done::is_done;
 use crate::network::Network;
 use crate::parse::simulation_line;
@@ -13,7 +14,6 @@ use crate::running_simulation::Running;
 use crate::script_line::SimulationLine;
 use crate::simulator::Simulator;
 use std::alloc::AllocError;
-use crate::channel::ChannelTable;
 use tora_lines::words::LineError;
 
 impl<S: Simulator> Running<S> {

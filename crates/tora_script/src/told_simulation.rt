@@ -10,6 +10,7 @@ ghost use Rattle.tora_script.specs.SimulationText.{first_fault_with, SimulatesWi
 ghost use Rattle.tora_lines.specs.Reads.{IsReadSo, IsUnwritten};
 
 use crate::causes::{SimulationCause, end_cause, simulation_cause_within};
+use crate::channel::ChannelTable;
 use crate::parse::simulation_line;
 use crate::running_simulation::has_number;
 use crate::script_line::SimulationLine;
@@ -18,7 +19,6 @@ use crate::simulation::{Simulation, Stage};
 use crate::simulator::Simulator;
 use std::alloc::{AllocError, Global};
 use tora_arq::Times;
-use crate::channel::ChannelTable;
 use tora_height::Id;
 use tora_lines::words::LineError;
 use tora_lines::{Ended, FileKind, Input, Output, ReplayError, read_last_lines, read_lines};

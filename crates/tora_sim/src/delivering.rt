@@ -12,8 +12,8 @@ use crate::end_keys::place_near;
 use crate::nodes::node_near;
 use crate::places::home_at;
 use crate::sim::Sim;
-use std::alloc::AllocError;
 use crate::store::Datagrams;
+use std::alloc::AllocError;
 use tora_frame::{BorrowedFrame, Header};
 
 impl Sim {

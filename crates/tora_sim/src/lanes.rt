@@ -10,9 +10,9 @@ ghost use Rattle.tora_sim.specs.Turns.{IsNoted};
 use crate::SimError;
 use crate::link_slot::LinkSlot;
 use crate::ready::{is_ready, set_ready};
+use crate::store::Pool;
 use crate::unready::Unready;
 use std::marker::Model;
-use crate::store::Pool;
 use tora_seat::{Cargo, OutLanes, Stepped};
 
 /// The lanes of one node, among all link ends: the node's ends are adjacent, in the order of its neighbours. The lanes

@@ -13,9 +13,9 @@ ghost use Rattle.tora_sim.specs.Restarts.{restarted};
 
 use crate::SimError;
 use crate::link_slot::{LinkSlot, keep, wake};
+use crate::store::Pool;
 use std::alloc::{AllocError, Global};
 use tora_arq::{GrowingEnd, Life, LinkEvent};
-use crate::store::Pool;
 use tora_height::Id;
 use tora_life::DiskCall;
 use tora_packet::Packet;

@@ -9,9 +9,9 @@ ghost use Rattle.tora_sim.specs.Quiet.{IsDeadline};
 ghost use Rattle.tora_sim.specs.SteadyLinks.{IsKept, is_none, shown};
 
 use crate::links::LinkParts;
+use crate::store::Datagrams;
 use std::marker::Model;
 use tora_arq::Steady;
-use crate::store::Datagrams;
 use tora_frame::{BorrowedBody, BorrowedFrame, Header, Packets, Version};
 
 /// One end of a link. While the end is idle, the few fields that a HELLO reads are stored here, and all others in a

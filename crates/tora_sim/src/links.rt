@@ -18,11 +18,11 @@ ghost use Rattle.tora_sim.specs.Lanes.{after_offer_at, has_place, bare, HasRoom,
 use crate::SimError;
 use crate::files::FileSlot;
 use crate::link_slot::LinkSlot;
+use crate::store::{KeptCargoes, Lane, Pool};
 use std::alloc::Global;
 use std::marker::Model;
 use std::mem;
 use tora_arq::{ArqError, GrowingEnd, Life, LinkEvent, Steady, Times, lives_are_bound_once};
-use crate::store::{KeptCargoes, Lane, Pool};
 use tora_frame::{BorrowedFrame, Header, Packets, Version};
 use tora_height::Id;
 use tora_life::{DiskCall, MemDisk, Owner};

@@ -13,12 +13,11 @@ use crate::end_keys::place;
 use crate::links::LinkParts;
 use crate::nodes::{NodeSlot, place as node_place};
 use crate::sim::Sim;
+use crate::store::{Datagrams, count_kept, list_kept};
 use crate::topology::Topology;
 use std::alloc::{AllocError, Global};
 use tora_arq::Life;
-use crate::store::{count_kept, list_kept};
 use tora_core::numbers_come_and_go;
-use crate::store::Datagrams;
 use tora_height::{Entry, Id};
 use tora_packet::Packet;
 

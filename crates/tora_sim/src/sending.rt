@@ -18,9 +18,9 @@ use crate::end_keys::{place, place_near};
 use crate::nodes::{NodeSlot, Sending, node_near};
 use crate::places::{far_end_at, home_at};
 use crate::sim::Sim;
+use crate::store::Datagrams;
 use std::alloc::AllocError;
 use tora_arq::{calls_keep_an_end, data_frames_are_what_was_submitted};
-use crate::store::Datagrams;
 use tora_frame::{BorrowedFrame, Header, Packets};
 use tora_height::Id;
 

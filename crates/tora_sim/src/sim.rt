@@ -6,13 +6,12 @@ use crate::deadlines::Deadlines;
 use crate::link_slot::LinkSlot;
 use crate::nodes::NodeSlot;
 use crate::places::Places;
+use crate::store::{Datagrams, Pool};
 use crate::ticking::tick;
 use crate::topology::Topology;
 use crate::{Event, SimError};
 use std::marker::Model;
 use tora_arq::Times;
-use crate::store::Pool;
-use crate::store::Datagrams;
 use tora_height::Id;
 
 /// A simulated world.

@@ -14,9 +14,9 @@ use crate::lanes::NodeLanes;
 use crate::link_slot::LinkSlot;
 use crate::nodes::NodeSlot;
 use crate::ready::set_ready;
+use crate::store::Pool;
 use crate::unready::Unready;
 use std::mem;
-use crate::store::Pool;
 use tora_core::Sends;
 use tora_seat::offers_are_their_own_answers;
 

@@ -10,9 +10,8 @@ ghost use Rattle.tora_simulate.specs.Flushing.{IsFlushed, FailedWriting};
 
 use std::alloc::Global;
 use std::io;
-use tora_script::ChannelTable;
 use tora_lines::{Ended, Input, Output, ReplayError, flushed};
-use tora_script::{Setup, Simulator, simulate_telling, simulate_telling_last};
+use tora_script::{ChannelTable, Setup, Simulator, simulate_telling, simulate_telling_last};
 
 /// Simulates with this setup, over the channel that the table gives, then flushes the writer. It reports the cause of a
 /// fault on standard error, and refused events if `is_verbose`. The error is `Write` if only the flush fails.

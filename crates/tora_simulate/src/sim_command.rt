@@ -15,9 +15,8 @@ use crate::telling::{tell as tell_error, tell_at};
 use std::io;
 use std::io::ErrorKind;
 use std::process::ExitCode;
-use tora_script::ChannelTable;
 use tora_lines::{Ended, Input, LONGEST_LINE, Output, ReplayError};
-use tora_script::{Setup, SimulationCause, Simulator, tell_cause};
+use tora_script::{ChannelTable, Setup, SimulationCause, Simulator, tell_cause};
 
 /// Reports why a file is not available, and returns the status of the cause. It reports the cause without `-v`, too.
 pub fn refuse<R: Eprint>(rt: &R, path: &str, error: &io::Error) -> ExitCode

@@ -4,11 +4,11 @@ ghost use Rattle.std.specs.Io.KnownBytes.{Appends};
 ghost use Rattle.tora_script.specs.Ends.{field, flag, more_fields, until_field, file_field, remembered_fields};
 ghost use Rattle.tora_script.specs.Ends.{erasure_fields, first_record, last_record};
 
+use crate::Setup;
 use crate::traced::trace_out::TraceOut;
 use std::alloc::{AllocError, Global};
 use tora_core::Erasure;
 use tora_lines::Output;
-use crate::Setup;
 
 /// Appends a blank and a number to a text.
 fn field(out: &mut String, n: u64) -> Result<(), AllocError>

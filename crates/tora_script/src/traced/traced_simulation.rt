@@ -14,14 +14,14 @@ ghost use Rattle.tora_script.specs.TraceOuts.{waiting, waiting_behind, emptied, 
 ghost use Rattle.tora_script.specs.SimulationText.{first_fault_with, SimulatesWith, IsBegunWith};
 ghost use Rattle.tora_lines.specs.Reads.{IsReadSo, IsUnwritten};
 
+use crate::channel::ChannelTable;
 use crate::traced::trace_out::TraceOut;
 use crate::traced::traced_simulator::Traced;
 use crate::traced::watched::Watched;
+use crate::{Running, Setup, Simulation, SimulationLine, Stage, Told, simulation_line};
 use std::alloc::{AllocError, Global};
-use crate::channel::ChannelTable;
 use tora_lines::words::LineError;
 use tora_lines::{Ended, FileKind, Input, Output, ReplayError, read_lines};
-use crate::{Running, Setup, Simulation, SimulationLine, Stage, Told, simulation_line};
 
 /// A simulation file whose trace is written line by line. It reports why a line is a fault and, if `is_verbose`, why an
 /// event is refused.

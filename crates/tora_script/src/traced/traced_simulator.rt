@@ -10,12 +10,12 @@ ghost use Rattle.tora_script.specs.Tracing.{life_of_what, life_told, before_of, 
 ghost use Rattle.tora_script.specs.Tracing.{after_sent};
 
 use crate::traced::watched::Watched;
+use crate::{Mark, Parted, Simulator, WorldOptions, choices};
 use std::alloc::{AllocError, Global};
 use tora_arq::{Life, Times};
 use tora_core::{CoreError, Erasure, Input};
 use tora_frame::Frame;
 use tora_height::{Entry, Id};
-use crate::{Mark, Parted, Simulator, WorldOptions, choices};
 use tora_seat::{Item, What};
 use tora_trace::Trace;
 use tora_world::{Event, SimError};

@@ -2,10 +2,10 @@
 ghost use Rattle.std.specs.Prelude.{◌≡◌, slice_get};
 ghost use Rattle.tora_world.specs.World.{datagram};
 
+use crate::Simulator;
 use tora_core::Input;
 use tora_frame::Frame;
 use tora_height::Id;
-use crate::Simulator;
 use tora_seat::Item;
 use tora_sim::Sim;
 

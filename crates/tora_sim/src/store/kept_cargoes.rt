@@ -9,10 +9,10 @@ ghost use Rattle.tora_sim.specs.KeptCargoes.{HasOrigin, IsKeptCargo, IsLastOrigi
 ghost use Rattle.tora_sim.specs.KeptCargoes.{cargo_in, origin_at, tau_of};
 
 use crate::store::kept_list::KeptList;
+use crate::store::reserve_one;
 use std::alloc::{AllocError, Global};
 use std::marker::Model;
 use tora_arq::Life;
-use crate::store::reserve_one;
 use tora_height::{Height, Id};
 use tora_packet::{Packet, Query, Update};
 use tora_seat::Cargo;

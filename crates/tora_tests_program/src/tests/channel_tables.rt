@@ -4,9 +4,8 @@ use super::sees::{same_at, sees_at};
 use std::alloc::Global;
 use std::process::{Abort, ExitCode};
 use tora_arq::Times;
-use tora_script::{Channel, ChannelTable, LineCause, Place, TableError, channel_table};
 use tora_commands::{MEMORY, sim_command};
-use tora_script::Setup;
+use tora_script::{Channel, ChannelTable, LineCause, Place, Setup, TableError, channel_table};
 use tora_sim::Sim;
 
 /// Lines of three links, in no order; the last one has no LF.

@@ -11,14 +11,12 @@ use std::process::{Abort, ExitCode};
 use std::test::Fail;
 use std::time::Clock;
 use tora_arq::Times;
-use tora_script::ChannelTable;
 use tora_commands::{
     ChannelFile, INPUT, MEMORY, SetupWords, USAGE, drive_command, replay_command, sim_command,
     simulate_file, traced_command, usage,
 };
-use tora_script::Setup;
+use tora_script::{ChannelTable, Setup, TraceOut};
 use tora_sim::Sim;
-use tora_script::TraceOut;
 
 /// A command that runs a file of lines; `Traced` also writes a trace.
 #[derive(Clone, Copy)]

@@ -3,10 +3,11 @@ use super::sees::{sees, sees_at};
 use std::alloc::{AllocError, Global};
 use std::process::Abort;
 use tora_arq::{Life, Times};
-use tora_script::{Channel, ChannelTable};
 use tora_core::CoreError;
 use tora_height::{Entry, Height, Id};
-use tora_script::{Air, Mark, Network, Parted, Simulator, WorldOptions, make_rounds};
+use tora_script::{
+    Air, Channel, ChannelTable, Mark, Network, Parted, Simulator, WorldOptions, make_rounds,
+};
 use tora_sim::{Sim, Topology};
 use tora_world::{Call, Event, Limits, SimError};
 

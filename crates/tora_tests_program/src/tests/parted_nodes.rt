@@ -2,9 +2,8 @@
 use super::sees::sees;
 use std::alloc::Global;
 use std::process::Abort;
-use tora_script::{Channel, ChannelTable};
 use tora_height::Id;
-use tora_script::{Air, Network, Parted, make_rounds};
+use tora_script::{Air, Channel, ChannelTable, Network, Parted, make_rounds};
 use tora_sim::{Sim, Topology};
 use tora_world::Event;
 

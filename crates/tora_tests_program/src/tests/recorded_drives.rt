@@ -11,9 +11,8 @@ use tora_arq::Times;
 use tora_commands::{INPUT, MEMORY, USAGE, record_command};
 use tora_drive::drive_recorded;
 use tora_lines::{Ended, ReplayError};
-use tora_script::WorldOptions;
+use tora_script::{TraceOut, WorldOptions};
 use tora_sim::{Limits, Sim};
-use tora_script::TraceOut;
 
 /// The lines of a drive, its answers, its record, and what a simulation of the record prints.
 type Row = (&'static str, &'static str, &'static str, &'static str);

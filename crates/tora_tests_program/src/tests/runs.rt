@@ -4,13 +4,12 @@ use super::failing_streams::{ArrayWriter, Fails, Lines, LinesReader};
 use std::alloc::Global;
 use std::process::Abort;
 use tora_arq::Times;
-use tora_script::ChannelTable;
 use tora_commands::{replay_and_flush, simulate_and_flush, simulate_told_and_flush};
 use tora_core::Erasure;
 use tora_drive::drive_in;
 use tora_lines::{Ended, ReplayError};
 use tora_replay::{replay, replay_with};
-use tora_script::{Setup, WorldOptions};
+use tora_script::{ChannelTable, Setup, WorldOptions};
 use tora_sim::{Limits, Sim};
 use tora_simulate::{simulate, simulate_telling_and_flush, simulate_with};
 

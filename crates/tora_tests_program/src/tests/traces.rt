@@ -5,11 +5,9 @@ use super::route_rows::{FOUND_AND_LOST, FOUR_FOUND_AND_LOST};
 use super::sees::{same_at, sees_at};
 use std::process::Abort;
 use tora_arq::Times;
-use tora_script::ChannelTable;
 use tora_lines::{Ended, ReplayError};
-use tora_script::Setup;
+use tora_script::{ChannelTable, Setup, TraceOut, simulate_traced};
 use tora_sim::Sim;
-use tora_script::{TraceOut, simulate_traced};
 
 /// How a simulation is traced: where the writers of its output and its trace fail, and whether with `-v`.
 type How = (Fails, Fails, bool);
