@@ -8,9 +8,9 @@
 //! `tora_bench node N` passes N datagrams as bytes between two nodes, each with a core and a link end.
 //! Each line is a name, nanoseconds an operation (the best of seven runs), and a number that depends on every result.
 //!
-//! `tora_bench lanes N` puts N items from each of three threads into the queue into the core, while the core takes them,
-//! and sends N outbound messages from one thread to another through one queue. Each line has a name, nanoseconds an
-//! operation (the best of seven runs), and the number of operations.
+//! `tora_bench lanes N` puts N items from each of three threads into the queue into the core, while the core takes
+//! them, and sends N outbound messages from one thread to another through one queue. Each line has a name, nanoseconds
+//! an operation (the best of seven runs), and the number of operations.
 //!
 //! `tora_bench udp N` binds two sockets of the loopback, runs `run_neighbour` at each end, and passes N updates of 32
 //! bytes from one end to the other, each in a DATA frame of 76 bytes, with at most 32 unacknowledged. It prints

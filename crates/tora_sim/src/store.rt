@@ -4,10 +4,10 @@
 //! which they were sent. It stores the index of each datagram's frame; a HELLO that a link end repeats is stored once.
 //! Readers return the frames that were sent.
 //!
-//! The prefix law also speaks about all cargoes that were ever put into a lane, so a `Lane` keeps them all. The waiting
-//! ones are stored uncompressed, the first few inline. Those that have left are compressed in `KeptCargoes`, most of them
-//! to 12 bytes. Memory is requested before a core's step, so the step itself needs none: a lane has a list of its own, or
-//! takes one from the pool `Pool`.
+//! The prefix law also speaks about all cargoes that were ever put into a lane, so a `Lane` keeps them all. The
+//! waiting ones are stored uncompressed, the first few inline. Those that have left are compressed in `KeptCargoes`,
+//! most of them to 12 bytes. Memory is requested before a core's step, so the step itself needs none: a lane has a
+//! list of its own, or takes one from the pool `Pool`.
 
 mod datagrams;
 mod inline_cargoes;
