@@ -54,7 +54,7 @@ REASONS = [
 OPEN = [
     (2**62, "GREATEST_NUMBER of tora_frame", r"^(running|script)/"),
     (2**62, "GREATEST_TAU of tora_height", r"^(core|height|packet)/"),
-    (2**62, "LAST_NUMBER of tora_life", r"^(life|sim)/"),
+    (2**62, "LAST_NUMBER of tora_life", r"^sim/"),
     (2**62, "GREATEST_LIFE of tora_router", r"^router/"),
     (2**61, "MOST_IN_ALL of tora_lane", r"^lane/"),
     (2**30, "GREATEST_DELTA of tora_height", r"^(core|height)/"),
@@ -67,13 +67,6 @@ OPEN = [
     (100, "MOST_FAILURES of tora_neighbour", r"^neighbour/src/turn"),
     (10, "BEAT_TICKS of tora_neighbour", r"^neighbour/specs/Turns"),
     (560, "LONGEST_FRAME of tora_frame", r"^(keyed|neighbour)/"),
-    (16, "RESERVED of tora_life", r"^life/(src/(life_file|numbers)|specs/(InMemory|Numbers))"),
-    (16, "a constant of tora_life for the bytes of a slot", r"^life/"),
-    (32, "a constant of tora_life for the bytes of both slots", r"^life/"),
-    (64, "a constant of tora_life for the bytes of a file", r"^life/"),
-    (65, "a constant of tora_life for the bytes of a first read", r"^life/"),
-    (80, "a constant of tora_life for the bytes of a disk in memory", r"^(life|world)/"),
-    (16, "TAG of tora_key", r"^key/"),
     (64, "a constant of tora_replay for the digits of a packet", r"^replay/"),
 ]
 

@@ -1,6 +1,7 @@
 -- HMAC-SHA-256 (RFC 2104, FIPS 198-1), as functions on lists of bytes.
 use Rattle.std.specs.Prelude.{ℕ, ◌-◌, List, ◌++◌, length, map, take, replicate, bit_xor, nat_lt, if◌then◌else◌}
 use Rattle.sha2.specs.Sha256.{sha256}
+use Rattle.tora_key.specs.declared.key.TheConstants.{TAG}
 
 -- a key of more than 64 bytes is hashed first
 abbrev pub shortened : List ℕ → List ℕ
@@ -27,4 +28,4 @@ hmac_of key message = hmac_under (padded key) message
 
 -- the first 16 bytes of the HMAC-SHA-256 of a message, under the block of a key
 unfoldable pub tag_of : List ℕ → List ℕ → List ℕ
-tag_of block message = take 16 (hmac_under block message)
+tag_of block message = take TAG (hmac_under block message)

@@ -137,8 +137,8 @@ pub fn hmac(key: &[u8], message: &[u8]) -> [u8; 32]
 
 /// Whether two tags are equal. It reads all bytes of both, wherever the first difference is.
 pub fn is_same(a: &[u8], b: &[u8]) -> bool
-    requires a { length a.now ≡ 16 }
-    requires b { length b.now ≡ 16 }
+    requires a { length a.now ≡ TAG }
+    requires b { length b.now ≡ TAG }
     ensures { result ≡ bytes_eq a.now b.now }
 {
     let mut differing: u8 = 0;

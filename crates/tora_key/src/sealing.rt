@@ -9,8 +9,8 @@ impl Key {
     /// Writes a message and its tag to the front of a buffer that is long enough, and returns their length in bytes.
     #[tactic(auto, unfolding(crate::specs::Sealing::sealed))]
     pub fn seal(&self, message: &[u8], room: &mut [u8]) -> usize
-        requires { length message.now + 16 ≤ length room.old }
-        ensures count { result ≡ length message.now + 16 }
+        requires { length message.now + TAG ≤ length room.old }
+        ensures count { result ≡ length message.now + TAG }
         ensures sealed { take result room.new ≡ sealed self.now message.now }
     {
         let tag = self.tag(message);

@@ -1,5 +1,6 @@
 -- The calls of the disk that a life file makes, in their order.
 use Rattle.std.specs.Prelude.{◌≡◌, ℕ, Bool, if◌then◌else◌, Result, Ok, Err, is_ok, List, [], take, replicate, MatchResult}
+use Rattle.tora_life.specs.declared.lengths.TheConstants.{SLOT_LENGTH, FIRST_READ}
 use Rattle.tora_life.specs.declared.disk.DiskError.{DiskError}
 use Rattle.tora_life.specs.declared.migration.Version.{Version}
 use Rattle.tora_life.specs.declared.migration.Version.TheVariants.{Untagged, Tagged}
@@ -15,7 +16,7 @@ use Rattle.tora_life.specs.Numbers.{numbers_of}
 -- where a slot begins
 abbrev pub place_of : Slot → ℕ
 place_of First = 0
-place_of Second = 16
+place_of Second = SLOT_LENGTH
 
 -- one write of these bytes at an offset, and then a sync if the write succeeded
 abbrev pub WritesAndSyncs : {D : Type 0} → (D → ℕ → List ℕ → Result (Unit {0}) DiskError → D → Type 0)
@@ -57,6 +58,6 @@ OpensBy {D = D} syncs reads writes owner old answer new =
     (synced : Result (Unit {0}) DiskError) × (between : D) × syncs old synced between
     × MatchResult synced
     (λ _. (count : Result ℕ DiskError) × (bytes : List ℕ) × (after : D)
-    × reads between 0 (replicate 65 0) count bytes after × Migrates writes syncs owner (file_read count bytes)
+    × reads between 0 (replicate FIRST_READ 0) count bytes after × Migrates writes syncs owner (file_read count bytes)
     (version_read owner count bytes) after answer new)
     (λ _. (new ≡ between) × (answer ≡ Err Disk))

@@ -1,6 +1,8 @@
 -- A life file on a disk in memory: the results and effects of its calls, as functions of its numbers and the disk's
 -- state.
-use Rattle.std.specs.Prelude.{ℕ, ◌+◌, ◌^◌, List, Result, Ok, Err, if◌then◌else◌, ◌==◌, nat_lt, true, replicate}
+use Rattle.std.specs.Prelude.{ℕ, ◌+◌, List, Result, Ok, Err, if◌then◌else◌, ◌==◌, nat_lt, true, replicate}
+use Rattle.tora_life.specs.declared.lengths.TheConstants.{FIRST_READ}
+use Rattle.tora_life.specs.declared.numbers.TheConstants.{LAST_NUMBER, RESERVED}
 use Rattle.tora_life.specs.declared.numbers.Numbers.{Numbers}
 use Rattle.tora_life.specs.declared.numbers.LifeError.{LifeError}
 use Rattle.tora_life.specs.declared.numbers.LifeError.TheVariants.{Disk, Failed, Spent}
@@ -22,10 +24,10 @@ by_result (Err _) ok err = err
 
 -- the count of bytes that the read of `open` returns
 abbrev pub count_read : State → Result ℕ DiskError
-count_read s = read_answer s 0 (replicate 65 0)
+count_read s = read_answer s 0 (replicate FIRST_READ 0)
 
 abbrev pub buffer_read : State → List ℕ
-buffer_read s = bytes_read s 0 (replicate 65 0)
+buffer_read s = bytes_read s 0 (replicate FIRST_READ 0)
 
 -- the result of the write of a migration
 abbrev pub migration_answer : Owner → List ℕ → State → Result (Unit {0}) DiskError
@@ -64,17 +66,17 @@ open_state owner s =
 
 -- the result of the write of a draw that reserves numbers
 abbrev pub slot_answer : Numbers → State → Result (Unit {0}) DiskError
-slot_answer numbers s = write_answer s (place_of (lesser_slot numbers)) (slot_of (value_of numbers + 16))
+slot_answer numbers s = write_answer s (place_of (lesser_slot numbers)) (slot_of (value_of numbers + RESERVED))
 
 abbrev pub slot_state : Numbers → State → State
-slot_state numbers s = after_write s (place_of (lesser_slot numbers)) (slot_of (value_of numbers + 16))
+slot_state numbers s = after_write s (place_of (lesser_slot numbers)) (slot_of (value_of numbers + RESERVED))
 
 -- `draw`: the next number; if the reserved numbers are used up, a write and then a sync come first
 abbrev pub draw_answer : Numbers → State → Result ℕ LifeError
 draw_answer numbers s =
     if numbers.failed then Err Failed
     else if numbers.drawn == value_of numbers then
-    (if nat_lt (2 ^ 62) (value_of numbers + 16) then Err Spent
+    (if nat_lt LAST_NUMBER (value_of numbers + RESERVED) then Err Spent
     else by_result (slot_answer numbers s) (by_result (sync_answer (slot_state numbers s)) (Ok (numbers.drawn + 1))
     (Err Disk)) (Err Disk))
     else Ok (numbers.drawn + 1)
@@ -83,7 +85,7 @@ abbrev pub draw_state : Numbers → State → State
 draw_state numbers s =
     if numbers.failed then s
     else if numbers.drawn == value_of numbers then
-    (if nat_lt (2 ^ 62) (value_of numbers + 16) then s
+    (if nat_lt LAST_NUMBER (value_of numbers + RESERVED) then s
     else by_result (slot_answer numbers s) (after_sync (slot_state numbers s)) (slot_state numbers s))
     else s
 

@@ -1,6 +1,7 @@
 -- The meaning of the bytes of a life file.
 use Rattle.std.specs.Prelude.{◌≡◌, ℕ, ◌+◌, ◌-◌, ◌^◌, ◌≤◌, zero, suc, max, List, ◌++◌, length, take, drop, if◌then◌else◌, ◌&&◌, ◌==◌, nat_le}
 use Rattle.std.specs.Int.{w64, from_be_bytes, to_be_bytes}
+use Rattle.tora_life.specs.declared.lengths.TheConstants.{SLOT_LENGTH, SLOTS_LENGTH}
 use Rattle.tora_life.specs.declared.tags.Owner.{Owner}
 use Rattle.tora_life.specs.Tags.{tag_of}
 
@@ -12,13 +13,13 @@ number_of bytes = from_be_bytes w64 bytes
 -- is not complementary, or is incomplete, counts as 0
 unfoldable pub slot_bound : List ℕ → ℕ
 slot_bound slot =
-    if nat_le 16 (length slot) && (number_of (take 8 slot) + number_of (take 8 (drop 8 slot)) == 2 ^ 64 - 1)
+    if nat_le SLOT_LENGTH (length slot) && (number_of (take 8 slot) + number_of (take 8 (drop 8 slot)) == 2 ^ 64 - 1)
     then number_of (take 8 slot) else 0
 
 -- slot i of a file: slot 0 is its first sixteen bytes
 abbrev pub slot_value : List ℕ → ℕ → ℕ
-slot_value file zero = slot_bound (take 16 file)
-slot_value file (suc i) = slot_value (drop 16 file) i
+slot_value file zero = slot_bound (take SLOT_LENGTH file)
+slot_value file (suc i) = slot_value (drop SLOT_LENGTH file) i
 
 -- the value of a file: the greater of the bounds in its two slots
 abbrev pub file_value : List ℕ → ℕ
@@ -31,4 +32,4 @@ slot_of bound = to_be_bytes w64 bound ++ to_be_bytes w64 (2 ^ 64 - 1 - bound)
 -- the file opens for its owner, has the owner's tag, and draws only numbers above n
 pub record Covers (owner : Owner) (n : ℕ) (file : List ℕ) : Type 0 where
   pub value : n ≤ file_value file
-  pub tag : drop 32 file ≡ tag_of owner
+  pub tag : drop SLOTS_LENGTH file ≡ tag_of owner

@@ -1,6 +1,7 @@
 -- Life files of both versions, and the migration of a file without a tag.
 use Rattle.std.specs.Prelude.{ℕ, ◌-◌, min, List, ◌++◌, length, take, drop, replicate, if◌then◌else◌, nat_lt, Result, Ok, Err}
 use Rattle.std.specs.Str.{bytes_eq}
+use Rattle.tora_life.specs.declared.lengths.TheConstants.{SLOT_LENGTH, SLOTS_LENGTH, FILE_LENGTH}
 use Rattle.tora_life.specs.declared.numbers.LifeError.{LifeError}
 use Rattle.tora_life.specs.declared.numbers.LifeError.TheVariants.{Damaged, Foreign}
 use Rattle.tora_life.specs.declared.migration.Version.{Version}
@@ -19,8 +20,9 @@ version_by (Of other) = Err Foreign
 
 -- the version of a file with these bytes, opened for an owner: two slots, and then the tag
 abbrev pub version_of : Owner → List ℕ → Result Version LifeError
-version_of owner file = if nat_lt 64 (length file) then Err Damaged
-    else if bytes_eq (drop 32 file) (tag_of owner) then Ok Tagged else version_by (tag_read (drop 32 file))
+version_of owner file = if nat_lt FILE_LENGTH (length file) then Err Damaged
+    else if bytes_eq (drop SLOTS_LENGTH file) (tag_of owner) then Ok Tagged
+    else version_by (tag_read (drop SLOTS_LENGTH file))
 
 -- a slot filled up to sixteen bytes: zeros in its first half, and the bytes of the first half in its second. So it is
 -- not complementary, and counts as 0. A complete slot is unchanged
@@ -30,11 +32,12 @@ slot_filled slot =
 
 -- the file of an owner after the migration: the first 32 bytes, filled up, and the tag
 abbrev pub migrated : Owner → List ℕ → List ℕ
-migrated owner file = slot_filled (take 16 file) ++ slot_filled (take 16 (drop 16 file)) ++ tag_of owner
+migrated owner file = slot_filled (take SLOT_LENGTH file) ++ slot_filled (take SLOT_LENGTH (drop SLOT_LENGTH file))
+    ++ tag_of owner
 
 -- the offset from which a migration writes: 32, or the end of the file if that is lower
 abbrev pub migration_place : List ℕ → ℕ
-migration_place file = min (length file) 32
+migration_place file = min (length file) SLOTS_LENGTH
 
 abbrev pub migration_bytes : Owner → List ℕ → List ℕ
 migration_bytes owner file = drop (migration_place file) (migrated owner file)

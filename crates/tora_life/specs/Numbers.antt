@@ -1,5 +1,6 @@
 -- The numbers of an open life file, and the effect of a draw.
-use Rattle.std.specs.Prelude.{◌≡◌, ℕ, ◌+◌, ◌^◌, ◌<◌, ◌≤◌, max, Bool, true, false, if◌then◌else◌, ◌==◌, nat_le, Result, Ok, Err, IsTrue, IsFalse, List}
+use Rattle.std.specs.Prelude.{◌≡◌, ℕ, ◌+◌, ◌<◌, ◌≤◌, max, Bool, true, false, if◌then◌else◌, ◌==◌, nat_le, Result, Ok, Err, IsTrue, IsFalse, List}
+use Rattle.tora_life.specs.declared.numbers.TheConstants.{LAST_NUMBER, RESERVED}
 use Rattle.tora_life.specs.declared.numbers.Numbers.{Numbers}
 use Rattle.tora_life.specs.declared.numbers.LifeError.{LifeError}
 use Rattle.tora_life.specs.declared.numbers.LifeError.TheVariants.{Disk, Failed, Spent, Damaged, Foreign}
@@ -30,13 +31,13 @@ lesser_slot numbers = if nat_le numbers.first numbers.second then First else Sec
 pub record Reserves (numbers : Numbers) : Type 0 where
   pub sound : IsFalse numbers.failed
   pub used_up : numbers.drawn ≡ value_of numbers
-  pub left : value_of numbers + 16 ≤ 2 ^ 62
+  pub left : value_of numbers + RESERVED ≤ LAST_NUMBER
 
 -- the next draw has to reserve numbers, and cannot
 pub record IsSpent (numbers : Numbers) : Type 0 where
   pub sound : IsFalse numbers.failed
   pub used_up : numbers.drawn ≡ value_of numbers
-  pub none_left : 2 ^ 62 < value_of numbers + 16
+  pub none_left : LAST_NUMBER < value_of numbers + RESERVED
 
 abbrev pub with_bound : Slot → ℕ → Numbers → Numbers
 with_bound First bound numbers = record numbers { first = bound }
@@ -44,7 +45,7 @@ with_bound Second bound numbers = record numbers { second = bound }
 
 -- the numbers after sixteen more were reserved
 abbrev pub reserved : Numbers → Numbers
-reserved numbers = with_bound (lesser_slot numbers) (value_of numbers + 16) numbers
+reserved numbers = with_bound (lesser_slot numbers) (value_of numbers + RESERVED) numbers
 
 -- after a draw: one more number is drawn, or none; after `Disk` the file has failed
 abbrev pub numbers_after : Result ℕ LifeError → Numbers → Numbers
@@ -61,7 +62,7 @@ pub record IsKept {D : Type 0} (tells : D → Bool) (seen : D → List ℕ) (may
     → Type 0) (owner : Owner) (numbers : Numbers) (disk : D) : Type 0 where
   pub room : numbers.drawn ≤ value_of numbers
   -- if numbers are left to draw, the value is at most 2^62
-  pub reach : numbers.drawn < value_of numbers → value_of numbers ≤ 2 ^ 62
+  pub reach : numbers.drawn < value_of numbers → value_of numbers ≤ LAST_NUMBER
   -- every file that a crash leaves opens for the owner, and draws only numbers above those drawn
   pub images : IsTrue (tells disk) → (c : List ℕ) → may_leave disk c → Covers owner numbers.drawn c
   -- if no call has failed, the bounds are those in the file, and the whole file is on the disk

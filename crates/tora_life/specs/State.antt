@@ -1,5 +1,6 @@
 -- A disk in memory: what a crash may leave, and the results and effects of its calls.
 use Rattle.std.specs.Prelude.{◌≡◌, ◌⊎◌, ℕ, ◌+◌, ◌-◌, ◌^◌, ◌≤◌, min, max, Bool, true, false, List, [], ◌∷◌, ◌++◌, length, take, drop, replicate, Result, Ok, Err, if◌then◌else◌, nat_lt, IsFalse, ◌||◌, Option, Some, None}
+use Rattle.tora_life.specs.declared.lengths.TheConstants.{DISK_LENGTH}
 use Rattle.tora_life.specs.TornBytes.{torn_over}
 use Rattle.tora_life.specs.declared.state.State.{State}
 use Rattle.tora_life.specs.declared.state.DiskCall.{DiskCall}
@@ -35,14 +36,14 @@ MayLeave s file = (file ≡ seen_of s) ⊎ IsImage (synced_of s) (marks_of s) fi
 pub record IsWhole (s : State) : Type 0 where
   pub len : s.len ≤ s.reach
   pub synced_len : s.synced_len ≤ s.reach
-  pub reach : s.reach ≤ 80
-  pub bytes : length s.bytes ≡ 80
-  pub synced : length s.synced ≡ 80
-  pub written : length s.written ≡ 80
+  pub reach : s.reach ≤ DISK_LENGTH
+  pub bytes : length s.bytes ≡ DISK_LENGTH
+  pub synced : length s.synced ≡ DISK_LENGTH
+  pub written : length s.written ≡ DISK_LENGTH
 
 -- the bytes of the file, followed by zeros up to 80 bytes
 abbrev pub filled : List ℕ → List ℕ
-filled file = file ++ replicate (80 - length file) 0
+filled file = file ++ replicate (DISK_LENGTH - length file) 0
 
 -- a disk with this file, nothing written since a sync, and no call armed to fail
 abbrev pub fresh_state : List ℕ → State
@@ -52,7 +53,7 @@ fresh_state file = record {
   synced = filled file;
   synced_len = length file;
   written =
-      replicate 80 false;
+      replicate DISK_LENGTH false;
   reach = length file;
   read_fails = false;
   write_fails = false;
@@ -87,12 +88,12 @@ marked s at n = record s { written = over at (replicate n true) s.written; reach
 
 -- a write past 80 bytes fails, and so does an armed write
 abbrev pub write_answer : State → ℕ → List ℕ → Result (Unit {0}) DiskError
-write_answer s at bytes = if nat_lt 80 (at + length bytes) || s.write_fails then Err (record {}) else Ok tt
+write_answer s at bytes = if nat_lt DISK_LENGTH (at + length bytes) || s.write_fails then Err (record {}) else Ok tt
 
 -- a write past 80 bytes marks nothing; an armed write marks its range and keeps the old bytes
 abbrev pub after_write : State → ℕ → List ℕ → State
 after_write s at bytes =
-    if nat_lt 80 (at + length bytes) then record s { write_fails = false; failures = failures_more s.failures }
+    if nat_lt DISK_LENGTH (at + length bytes) then record s { write_fails = false; failures = failures_more s.failures }
     else if s.write_fails then record (marked s at (length bytes)) {
       write_fails = false;
       failures = failures_more s.failures;
@@ -107,7 +108,7 @@ sync_answer s = if s.sync_fails then Err (record {}) else Ok tt
 abbrev pub after_sync : State → State
 after_sync s =
     if s.sync_fails then record s { sync_fails = false; failures = failures_more s.failures }
-    else record s { synced = s.bytes; synced_len = s.len; written = replicate 80 false; reach = s.len }
+    else record s { synced = s.bytes; synced_len = s.len; written = replicate DISK_LENGTH false; reach = s.len }
 
 -- the next call of this kind fails
 abbrev pub armed : DiskCall → State → State

@@ -1,5 +1,6 @@
 //! The laws of the life file over all runs.
 ghost use Rattle.std.specs.Prelude.{◌≡◌, ◌≢◌, ◌⊎◌, ◌^◌, ◌<◌, ◌≤◌, ℕ, List, [], ◌∷◌, ◌++◌, length, Option, Err};
+ghost use Rattle.tora_life.specs.declared.lengths.TheConstants.{DISK_LENGTH, SLOTS_LENGTH};
 ghost use Rattle.tora_life.specs.declared.tags.Owner.{Owner};
 ghost use Rattle.tora_life.specs.declared.numbers.LifeError.TheVariants as LifeErrors;
 ghost use Rattle.tora_life.specs.declared.tags.Tag.TheVariants as Tags;
@@ -21,13 +22,13 @@ ghost use Rattle.tora_life.specs.LifeRun.{opened, state_in, after_event, drawn_b
 /// floor: a number such that neither it nor a smaller one is drawn again. The other clauses are steps of the proof, for
 /// a law about many life files.
 pub fn drawn_life_numbers_rise()
-    ensures rise { (owner : Owner) (file : List ℕ) (events : List LifeEvent) → length file ≤ 80
+    ensures rise { (owner : Owner) (file : List ℕ) (events : List LifeEvent) → length file ≤ DISK_LENGTH
         → IsRun (opened owner (fresh_state file)) events → RisesAbove (file_value file)
         (drawn_numbers (opened owner (fresh_state file)) events) }
 
     // The value of the file is the first floor, and a number that is drawn is the next floor. No event lowers the
     // floor.
-    ensures first { (owner : Owner) (file : List ℕ) → length file ≤ 80
+    ensures first { (owner : Owner) (file : List ℕ) → length file ≤ DISK_LENGTH
         → IsFloor (file_value file) (opened owner (fresh_state file)) }
     ensures draw { (n x : ℕ) (disk : LifeDisk) → IsFloor n disk → drawn_by Draw disk ≡ x ∷ []
         → (n < x) × IsFloor x (after_event Draw disk) }
@@ -51,6 +52,6 @@ pub fn tags_name_their_owners()
     ensures read { (owner : Owner) → owner.node < 2 ^ 32 → owner.peer < 2 ^ 32
         → tag_read (tag_of owner) ≡ Tags.Of owner }
     ensures foreign { (owner other : Owner) (slots : List ℕ) → other.node < 2 ^ 32 → other.peer < 2 ^ 32
-        → owner.node < 2 ^ 32 → owner.peer < 2 ^ 32 → owner ≢ other → length slots ≡ 32
+        → owner.node < 2 ^ 32 → owner.peer < 2 ^ 32 → owner ≢ other → length slots ≡ SLOTS_LENGTH
         → version_of owner (slots ++ tag_of other) ≡ Err LifeErrors.Foreign }
 {}

@@ -29,6 +29,7 @@ mod file_disk;
 mod fuse;
 mod fuse_disk;
 mod laws;
+mod lengths;
 mod life_file;
 mod mem_disk;
 mod migration;

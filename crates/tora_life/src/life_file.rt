@@ -1,5 +1,5 @@
 //! A life file: numbers that rise across crashes.
-ghost use Rattle.std.specs.Prelude.{◌≡◌, ◌≢◌, ◌⊎◌, ◌↔◌, ◌+◌, ◌^◌, ◌<◌, ◌≤◌, ℕ, List, Ok, Err, is_ok, IsOk, IfOk, IfErr};
+ghost use Rattle.std.specs.Prelude.{◌≡◌, ◌≢◌, ◌⊎◌, ◌↔◌, ◌+◌, ◌<◌, ◌≤◌, ℕ, List, Ok, Err, is_ok, IsOk, IfOk, IfErr};
 ghost use Rattle.std.specs.Prelude.{OnOk, IsErrOf, IsTrue, IsFalse};
 ghost use Rattle.tora_life.specs.Disk.{HasCause, IsOnlyImage, LeavesOnly};
 ghost use Rattle.tora_life.specs.LifeFile.{Covers, file_value, slot_of};
@@ -165,7 +165,7 @@ impl<D: Disk> LifeFile<D> {
         ensures numbers { self.new.numbers ≡ numbers_after result self.old.numbers }
         ensures owner { self.new.owner ≡ self.old.owner }
         ensures failures { OnOk result (D.failures self.new.disk ≡ D.failures self.old.disk) }
-        ensures within { IfOk result (λ n. n ≤ 2 ^ 62) }
+        ensures within { IfOk result (λ n. n ≤ LAST_NUMBER) }
 
         // After `Ok(n)` the value of each image is at least n. At each moment before that it is at least the greatest
         // number drawn before.
@@ -186,7 +186,7 @@ impl<D: Disk> LifeFile<D> {
 
         // The calls of the disk: none while there are reserved numbers, otherwise a write and a sync.
         ensures calls { Reserves self.old.numbers → WritesAndSyncs D.writes D.syncs
-            (place_of (lesser_slot self.old.numbers)) (slot_of (value_of self.old.numbers + 16)) self.old.disk
+            (place_of (lesser_slot self.old.numbers)) (slot_of (value_of self.old.numbers + RESERVED)) self.old.disk
             (is_ok result) self.new.disk }
         ensures no_calls { (Reserves self.old.numbers → ⊥) → self.new.disk ≡ self.old.disk }
     {

@@ -3,6 +3,7 @@ ghost use Rattle.std.specs.Prelude.{◌≡◌, ◌≤◌, [], length};
 
 use crate::call_record::CallRecord;
 use crate::disk::{Disk, DiskError};
+use crate::lengths::DISK_LENGTH;
 use crate::state::{DiskCall, State};
 use std::marker::Model;
 
@@ -42,7 +43,7 @@ impl MemDisk {
         ensures { result.state ≡ fresh_state [] }
     {
         MemDisk {
-            state: State::fresh([0; 80], 0),
+            state: State::fresh([0; DISK_LENGTH], 0),
             past: CallRecord::new(),
         }
     }
@@ -51,12 +52,12 @@ impl MemDisk {
     pub fn of(bytes: &[u8]) -> Option<MemDisk>
         ensures some { IfSome result (λ disk. disk.state ≡ fresh_state bytes.now) }
         ensures seen { IfSome result (λ disk. seen_of disk.state ≡ bytes.now) }
-        ensures fits { IsSome result ↔ (length bytes.now ≤ 80) }
+        ensures fits { IsSome result ↔ (length bytes.now ≤ DISK_LENGTH) }
     {
-        if bytes.len() > 80 {
+        if bytes.len() > DISK_LENGTH {
             return None;
         }
-        let mut there = [0; 80];
+        let mut there = [0; DISK_LENGTH];
         there[..bytes.len()].copy_from_slice(bytes);
         Some(MemDisk {
             state: State::fresh(there, bytes.len()),

@@ -2,6 +2,7 @@
 ghost use Rattle.std.specs.Prelude.{◌≡◌, ◌≤◌, length};
 ghost use Rattle.tora_life.specs.Migration.{version_of, version_by, slot_filled, migrated};
 
+use crate::lengths::{FILE_LENGTH, SLOT_LENGTH, SLOTS_LENGTH};
 use crate::numbers::LifeError;
 use crate::tags::{Owner, Tag, tag_bytes};
 
@@ -22,10 +23,10 @@ pub enum Version {
 pub fn found_version(owner: Owner, file: &[u8]) -> Result<Version, LifeError>
     ensures { result ≡ version_of owner file.now }
 {
-    if file.len() > 64 {
+    if file.len() > FILE_LENGTH {
         return Err(LifeError::Damaged);
     }
-    let (_, tag) = file.split_at(file.len().min(32));
+    let (_, tag) = file.split_at(file.len().min(SLOTS_LENGTH));
     let own = tag_bytes(owner);
     if tag == own.as_slice() {
         return Ok(Version::Tagged);
@@ -46,8 +47,8 @@ fn version_by_tag(tag: Tag) -> Result<Version, LifeError>
 
 /// A slot filled up to sixteen bytes, so that it counts as 0. A complete slot is unchanged.
 #[tactic(auto, unfolding(crate::specs::Migration::slot_filled))]
-fn filled_slot(slot: &[u8]) -> [u8; 16]
-    requires { length slot.now ≤ 16 }
+fn filled_slot(slot: &[u8]) -> [u8; SLOT_LENGTH]
+    requires { length slot.now ≤ SLOT_LENGTH }
     ensures { result ≡ slot_filled slot.now }
 {
     let (front, back) = slot.split_at(slot.len().min(8));
@@ -55,22 +56,22 @@ fn filled_slot(slot: &[u8]) -> [u8; 16]
     first[..front.len()].copy_from_slice(front);
     let mut second = first;
     second[..back.len()].copy_from_slice(back);
-    let mut filled = [0u8; 16];
+    let mut filled = [0u8; SLOT_LENGTH];
     filled[..8].copy_from_slice(&first);
     filled[8..].copy_from_slice(&second);
     filled
 }
 
 /// The file of an owner after the migration: its first 32 bytes, filled up, and the tag.
-pub fn migrated_bytes(owner: Owner, file: &[u8]) -> [u8; 64]
+pub fn migrated_bytes(owner: Owner, file: &[u8]) -> [u8; FILE_LENGTH]
     ensures { result ≡ migrated owner file.now }
 {
-    let (front, back) = file.split_at(file.len().min(16));
-    let mut whole = [0u8; 64];
-    let (slots, tag) = whole.split_at_mut(32);
-    let (first, second) = slots.split_at_mut(16);
+    let (front, back) = file.split_at(file.len().min(SLOT_LENGTH));
+    let mut whole = [0u8; FILE_LENGTH];
+    let (slots, tag) = whole.split_at_mut(SLOTS_LENGTH);
+    let (first, second) = slots.split_at_mut(SLOT_LENGTH);
     first.copy_from_slice(&filled_slot(front));
-    second.copy_from_slice(&filled_slot(&back[..back.len().min(16)]));
+    second.copy_from_slice(&filled_slot(&back[..back.len().min(SLOT_LENGTH)]));
     tag.copy_from_slice(&tag_bytes(owner));
     whole
 }

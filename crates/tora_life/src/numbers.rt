@@ -1,6 +1,7 @@
 //! The numbers of an open life file.
-ghost use Rattle.std.specs.Prelude.{◌≡◌, ◌+◌, ◌^◌, ◌<◌, ◌≤◌};
+ghost use Rattle.std.specs.Prelude.{◌≡◌, ◌+◌, ◌<◌, ◌≤◌};
 
+use crate::lengths::SLOT_LENGTH;
 use crate::slots::{Slot, bound_of};
 use thiserror::Error;
 
@@ -58,16 +59,16 @@ pub struct Numbers {
 }
 
 impl Numbers {
-    ghost use Rattle.std.specs.Prelude.{◌≡◌, ◌+◌, ◌^◌, ◌<◌, ◌≤◌};
+    ghost use Rattle.std.specs.Prelude.{◌≡◌, ◌+◌, ◌<◌, ◌≤◌};
     ghost use Rattle.tora_life.specs.Numbers.{value_of, lesser_slot, reserved, numbers_of};
 
     /// The numbers of a file with these bytes.
     pub fn read(bytes: &[u8]) -> Numbers
         ensures { result ≡ numbers_of bytes.now }
     {
-        let (front, back) = bytes.split_at(bytes.len().min(16));
+        let (front, back) = bytes.split_at(bytes.len().min(SLOT_LENGTH));
         let first = bound_of(front);
-        let second = bound_of(&back[..back.len().min(16)]);
+        let second = bound_of(&back[..back.len().min(SLOT_LENGTH)]);
         Numbers {
             first,
             second,
@@ -96,7 +97,7 @@ impl Numbers {
 
     /// The numbers after sixteen more were reserved and the new bound is on the disk.
     pub fn with_more(self) -> Numbers
-        requires { value_of self + 16 ≤ 2 ^ 62 }
+        requires { value_of self + RESERVED ≤ LAST_NUMBER }
         ensures { result ≡ reserved self }
     {
         let bound = self.value() + RESERVED;

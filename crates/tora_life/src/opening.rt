@@ -7,6 +7,7 @@ ghost use Rattle.tora_life.specs.Migration.{version_of, migrated};
 ghost use Rattle.tora_life.specs.Numbers.{numbers_of, value_of};
 
 use crate::disk::Disk;
+use crate::lengths::FIRST_READ;
 use crate::migration::{Version, found_version};
 use crate::numbers::{LifeError, Numbers};
 use crate::tags::Owner;
@@ -35,7 +36,7 @@ pub fn open_file<D: Disk>(disk: &mut D, owner: Owner) -> Result<Numbers, LifeErr
     let Ok(()) = disk.sync() else {
         return Err(LifeError::Disk);
     };
-    let mut bytes = [0; 65];
+    let mut bytes = [0; FIRST_READ];
     let Ok(count) = disk.read(0, &mut bytes) else {
         return Err(LifeError::Disk);
     };

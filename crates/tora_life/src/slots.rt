@@ -2,6 +2,8 @@
 ghost use Rattle.std.specs.Prelude.{◌≡◌};
 ghost use Rattle.tora_life.specs.LifeFile.{slot_bound, slot_of};
 
+use crate::lengths::SLOT_LENGTH;
+
 /// Slot 0, the bytes 0 to 15, and slot 1, the bytes 16 to 31.
 #[derive(Clone, Copy, Debug, PartialEq, Eq, Hash)]
 pub enum Slot {
@@ -18,7 +20,7 @@ impl Slot {
     {
         match self {
             Slot::First => 0,
-            Slot::Second => 16,
+            Slot::Second => SLOT_LENGTH,
         }
     }
 }

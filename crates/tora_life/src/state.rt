@@ -1,5 +1,6 @@
 //! The state of a disk in memory, and the effect of its calls.
 use crate::disk::DiskError;
+use crate::lengths::DISK_LENGTH;
 use crate::tearing::tear;
 
 /// The calls of a disk.
@@ -18,11 +19,11 @@ pub enum DiskCall {
 /// furthest write.
 #[derive(Clone, Copy, Debug)]
 pub struct State {
-    pub bytes: [u8; 80],
+    pub bytes: [u8; DISK_LENGTH],
     pub len: usize,
-    pub synced: [u8; 80],
+    pub synced: [u8; DISK_LENGTH],
     pub synced_len: usize,
-    pub written: [bool; 80],
+    pub written: [bool; DISK_LENGTH],
     pub reach: usize,
     /// The next read fails.
     pub read_fails: bool,
@@ -40,13 +41,13 @@ impl State {
     ghost use Rattle.tora_life.specs.State.{sync_answer, after_sync, armed, after_crash};
 
     /// The state of a file that is wholly on the disk, with no call armed.
-    pub fn fresh(bytes: [u8; 80], len: usize) -> State
+    pub fn fresh(bytes: [u8; DISK_LENGTH], len: usize) -> State
         ensures { result ≡ record {
           bytes = bytes;
           len = len;
           synced = bytes;
           synced_len = len;
-          written = replicate 80 false;
+          written = replicate DISK_LENGTH false;
           reach = len;
           read_fails = false;
           write_fails = false;
@@ -59,7 +60,7 @@ impl State {
             len,
             synced: bytes,
             synced_len: len,
-            written: [false; 80],
+            written: [false; DISK_LENGTH],
             reach: len,
             read_fails: false,
             write_fails: false,
@@ -92,7 +93,7 @@ impl State {
         ensures answer { result ≡ write_answer self.old at bytes.now }
         ensures after { self.new ≡ after_write self.old at bytes.now }
     {
-        if bytes.len() > 80 - at {
+        if bytes.len() > DISK_LENGTH - at {
             self.write_fails = false;
             self.failures = self.failures.saturating_add(1);
             return Err(DiskError);
@@ -121,7 +122,7 @@ impl State {
         }
         self.synced = self.bytes;
         self.synced_len = self.len;
-        self.written = [false; 80];
+        self.written = [false; DISK_LENGTH];
         self.reach = self.len;
         Ok(())
     }

@@ -9,6 +9,7 @@ ghost use Rattle.tora_life.specs.Calls.{place_of, WritesAndSyncs};
 ghost use Rattle.tora_life.specs.declared.tags.Owner.{Owner as Whose};
 
 use crate::disk::{Disk, DiskError};
+use crate::lengths::{FILE_LENGTH, SLOTS_LENGTH};
 use crate::migration::migrated_bytes;
 use crate::slots::{Slot, slot_bytes};
 use crate::tags::Owner;
@@ -40,9 +41,10 @@ pub fn replace_slot<D: Disk>(disk: &mut D, slot: Slot, bound: u64) -> Result<(),
     requires place { IsTrue (D.tells disk.old) → place_of slot ≤ length (D.seen disk.old) }
     ensures ok { IsTrue (D.tells disk.old) → OnOk result (IsReplaced slot bound (D.seen disk.old) (D.seen disk.new)
         (D.may_leave disk.new)) }
-    ensures images { IsTrue (D.tells disk.old) → (owner : Whose) → drop 32 (D.seen disk.old) ≡ tag_of owner
+    ensures images { IsTrue (D.tells disk.old) → (owner : Whose) → drop SLOTS_LENGTH (D.seen disk.old) ≡ tag_of owner
         → (c : List ℕ) → D.may_leave disk.new c → Covers owner (kept_bound slot (D.seen disk.old)) c }
-    ensures any_moment { IsTrue (D.tells disk.old) → (owner : Whose) → drop 32 (D.seen disk.old) ≡ tag_of owner
+    ensures any_moment { IsTrue (D.tells disk.old) → (owner : Whose)
+        → drop SLOTS_LENGTH (D.seen disk.old) ≡ tag_of owner
         → LeavesOnly D.moment D.left_since disk.old disk.new (Covers owner (kept_bound slot (D.seen disk.old))) }
     ensures tells { D.tells disk.new ≡ D.tells disk.old }
     ensures calls { WritesAndSyncs D.writes D.syncs (place_of slot) (slot_of bound) disk.old (is_ok result) disk.new }
@@ -57,7 +59,7 @@ pub fn replace_slot<D: Disk>(disk: &mut D, slot: Slot, bound: u64) -> Result<(),
 /// unchanged, so no file that a crash leaves meanwhile has a smaller value.
 pub fn migrate<D: Disk>(disk: &mut D, owner: Owner, file: &[u8]) -> Result<(), DiskError>
     requires file { IsTrue (D.tells disk.old) → file.now ≡ D.seen disk.old }
-    requires fits { length file.now ≤ 64 }
+    requires fits { length file.now ≤ FILE_LENGTH }
     requires only { IsTrue (D.tells disk.old) → IsOnlyImage (D.seen disk.old) (D.may_leave disk.old) }
     ensures seen { IsTrue (D.tells disk.old) → OnOk result (D.seen disk.new ≡ migrated owner file.now) }
     ensures ok { IsTrue (D.tells disk.old) → OnOk result (IsOnlyImage (D.seen disk.new) (D.may_leave disk.new)) }
@@ -69,7 +71,7 @@ pub fn migrate<D: Disk>(disk: &mut D, owner: Owner, file: &[u8]) -> Result<(), D
     ensures counted { OnOk result (D.failures disk.new ≡ D.failures disk.old) }
     ensures failures { IsErr result → HasCause (D.failures disk.old) (D.failures disk.new) }
 {
-    let place = file.len().min(32);
+    let place = file.len().min(SLOTS_LENGTH);
     let whole = migrated_bytes(owner, file);
     write_through(disk, place, &whole[place..])
 }
