@@ -16,6 +16,7 @@ from __future__ import annotations
 
 import argparse
 import collections
+import contextlib
 import dataclasses
 import functools
 import graphlib
@@ -27,92 +28,69 @@ from small_world import Erasure, World, first_world
 
 TIMES = 100  # how often a circle is followed
 
-
-class Graph:
-    """The states that were reached, by number: the first step to each, the steps from each, and how many rest."""
-
-    def __init__(self, first: World) -> None:
-        """The first state has the number 0."""
-        self.numbers = {first.key(): 0}
-        self.ways: list[tuple[int, str]] = [(0, "")]
-        self.follows: list[list[tuple[int, str]]] = [[]]
-        self.rest = 0
-        self.is_whole = True
-
-    def reach(self, at: int, step: str, key: tuple[object, ...]) -> int:
-        """Notes a step from a state, and returns the number of the state that it leads to."""
-        to = self.numbers.setdefault(key, len(self.numbers))
-        if to == len(self.ways):
-            self.ways.append((at, step))
-            self.follows.append([])
-        self.follows[at].append((to, step))
-        return to
-
-    def way(self, at: int) -> list[str]:
-        """The steps to a state."""
-        found = []
-        while at:
-            at, step = self.ways[at]
-            found.append(step)
-        return found[::-1]
-
-    def circle(self) -> tuple[list[str], list[str]] | None:
-        """The way to the nearest state on a circle, and a shortest circle from it."""
-        sorter = graphlib.TopologicalSorter({at: [to for to, _ in it] for at, it in enumerate(self.follows)})
-        left = set(range(len(self.follows)))
-        try:
-            sorter.prepare()
-            return None
-        except graphlib.CycleError:
-            while ends := sorter.get_ready():  # what leads to ends alone is on no circle
-                left.difference_update(ends)
-                sorter.done(*ends)
-        circles = ((at, self.circle_from(at, left)) for at in sorted(left))
-        return next((self.way(at), circle) for at, circle in circles if circle)
-
-    def circle_from(self, first: int, among: set[int]) -> list[str]:
-        """The steps of a shortest circle from a state, or none."""
-        ways: dict[int, list[str]] = {first: []}
-        queue = collections.deque([first])
-        while queue:
-            at = queue.popleft()
-            for to, step in self.follows[at]:
-                if to == first:
-                    return [*ways[at], step]
-                if to not in ways and to in among:
-                    ways[to] = [*ways[at], step]
-                    queue.append(to)
-        return []
+Graph = dict[int, list[tuple[int, str]]]  # by the number of a state: the states that follow, and the steps to them
 
 
-def explored(first: World, most: int) -> Graph:
-    """The states behind a first one, the nearest first, at most so many."""
-    graph, worlds = Graph(first), collections.deque([(0, first)])
+def explored(first: World, most: int) -> tuple[Graph, int, bool]:
+    """The states behind a first one, the nearest first, at most so many; how many rest, and whether these are all."""
+    graph: Graph = {}
+    numbers, worlds = {first.key(): 0}, collections.deque([first])
+    rest, is_whole = 0, True
     while worlds:
-        at, world = worlds.popleft()
-        steps = [(step, after, after.key()) for step, after in world.steps()]
-        graph.rest += not steps
+        steps = [(step, after, after.key()) for step, after in worlds.popleft().steps()]
+        rest += not steps
+        follows = graph.setdefault(len(graph), [])
         for step, after, key in steps:
-            if key not in graph.numbers:
-                if len(graph.numbers) >= most:
-                    graph.is_whole = False
-                    continue
-                worlds.append((len(graph.numbers), after))
-            graph.reach(at, step, key)
-    return graph
+            if key not in numbers and len(numbers) >= most:
+                is_whole = False
+                continue
+            if key not in numbers:
+                worlds.append(after)
+            follows.append((numbers.setdefault(key, len(numbers)), step))
+    return graph, rest, is_whole
 
 
 def along(world: World, order: list[str]) -> Graph:
     """The states of one order of steps."""
-    graph, at = Graph(world), 0
-    graph.is_whole = False
+    graph: Graph = {0: []}
+    numbers, at = {world.key(): 0}, 0
     for number, step in enumerate(order, 1):
         found = [it for it in world.steps() if it[0].split()[:3] == step.split()]
         if not found:
             sys.exit(f"explore: step {number} is not possible: {step}")
         told, world = found[0]
-        at = graph.reach(at, told, world.key())
+        to = numbers.setdefault(world.key(), len(numbers))
+        graph.setdefault(to, [])
+        graph[at].append((to, told))
+        at = to
     return graph
+
+
+def way(graph: Graph, first: int, last: int) -> list[str]:
+    """The steps of a shortest way from a state to another, or back to itself; none if there is no such way."""
+    ways: dict[int, list[str]] = {}
+    queue: collections.deque[tuple[int, list[str]]] = collections.deque([(first, [])])
+    while queue and last not in ways:
+        at, steps = queue.popleft()
+        for to, step in graph[at]:
+            if to not in ways:
+                ways[to] = [*steps, step]
+                queue.append((to, ways[to]))
+    return ways.get(last, [])
+
+
+def circle(graph: Graph) -> tuple[list[str], list[str]] | None:
+    """The way to the nearest state on a circle, and a shortest circle from it."""
+    sorter = graphlib.TopologicalSorter({at: [to for to, _ in follows] for at, follows in graph.items()})
+    done: set[int] = set()
+    with contextlib.suppress(graphlib.CycleError):
+        sorter.prepare()
+    while ends := sorter.get_ready():  # what leads to ends alone is on no circle
+        done.update(ends)
+        sorter.done(*ends)
+    left = {at: [it for it in follows if it[0] not in done] for at, follows in graph.items() if at not in done}
+    circles = ((at, way(left, at, at)) for at in left)
+    return next(((way(graph, 0, at) if at else [], steps) for at, steps in circles if steps), None)
 
 
 def asked() -> argparse.Namespace:
@@ -140,17 +118,17 @@ def main() -> None:
     up = [f"mend {a} {b}" for a, b in links]
     events = tuple(it.strip() for it in order if it and not it.startswith("deliver"))
     first = dataclasses.replace(functools.reduce(World.after, up, world), events=events)
-    graph = along(first, order) if words.order else explored(first, words.most)
-    print(f"{len(graph.ways)} states{'' if graph.is_whole else ' and more'}, {graph.rest} of them at rest")
-    found = graph.circle()
+    graph, rest, is_whole = (along(first, order), 0, False) if words.order else explored(first, words.most)
+    print(f"{len(graph)} states{'' if is_whole else ' and more'}, {rest} of them at rest")
+    found = circle(graph)
     if found is None:
-        print("every order ends" if graph.is_whole else "no circle among these")
+        print("every order ends" if is_whole else "no circle among these")
         return
-    way, circle = found
-    print(f"an order goes on for ever: after {len(way)} steps, {len(circle)} that repeat")
-    print(*way, "again and again:", *circle, f"after {TIMES} times:", sep="\n")
+    there, again = found
+    print(f"an order goes on for ever: after {len(there)} steps, {len(again)} that repeat")
+    print(*there, "again and again:", *again, f"after {TIMES} times:", sep="\n")
     file = SimulationFile(world, links)
-    for step in up + way + circle * TIMES:
+    for step in up + there + again * TIMES:
         file.follow(step)
     for n, node in file.world.nodes.items():
         print(f"node {n} {node.core.height(words.destination) or '-'}")

@@ -9,12 +9,13 @@ from __future__ import annotations
 import dataclasses
 import pathlib
 import re
+import struct
 import sys
-from collections.abc import Iterable, Iterator
+from collections.abc import Iterator
 
 sys.path.insert(0, str(pathlib.Path(__file__).resolve().parents[2] / "python" / "src"))
 from tora.core import Core  # noqa: E402
-from tora.lib import Erasure  # noqa: E402
+from tora.lib import Erasure as Erasure, Height  # noqa: E402
 
 NOW, UPDATE, CLEAR = 1, 2, 3  # the tick, and kinds of a packet: its second byte
 HEIGHT = re.compile(r"\((\d+,\d+,[01]),(-?\d+),(\d+)\)")  # the level, delta, and the node
@@ -23,14 +24,13 @@ HEIGHT = re.compile(r"\((\d+,\d+,[01]),(-?\d+),(\d+)\)")  # the level, delta, an
 def shown(packet: bytes) -> str:
     """A packet in words."""
     if packet[1] == UPDATE:
-        tau, oid, r, own = (int.from_bytes(packet[at:to], "big") for at, to in ((8, 16), (16, 20), (20, 21), (28, 32)))
-        return f"UPD ({tau},{oid},{r},{int.from_bytes(packet[24:28], 'big', signed=True)},{own})"
+        return f"UPD {Height(*struct.unpack('>8xQIB3xiI', packet))}"
     return f"CLR {packet[8:20].hex()}" if packet[1] == CLEAR else "QRY"
 
 
-def levels_of(packets: Iterable[bytes]) -> list[bytes]:
-    """The levels that the clears among some packets erase."""
-    return [it[8:20] for it in packets if it[1] == CLEAR]
+def beside(n: int, links: list[tuple[int, int]]) -> list[int]:
+    """The nodes to which a node has a link."""
+    return [b if a == n else a for a, b in links if n in (a, b)]
 
 
 @dataclasses.dataclass(frozen=True)
@@ -38,27 +38,10 @@ class Node:
     """A core, its text, and what the text does not show of its state: it follows from what the core took and sent."""
 
     core: Core
-    destination: int
-    erasure: Erasure
     text: str = ""
     told: frozenset[int] = frozenset()  # the neighbours that were told the own height
     defined: int = 0  # when the node defined its last level
     erased: bytes = b""  # the level that it erased last, where it remembers that
-
-    def after(self, up: list[int], call: str, other: int, *packet: bytes) -> tuple[Node, list[bytes]]:
-        """The node after an input, after which these links are up; and what it broadcasts."""
-        core, told, erased = self.core.clone(), self.told, self.erased
-        sent: list[bytes] = getattr(core, call)(other, *packet, NOW)
-        is_remembered = self.erasure == Erasure.REMEMBERED
-        if call.startswith("link") or is_remembered and levels_of(packet):
-            told -= {other}
-        if any(it[1] == UPDATE for it in sent):
-            told = frozenset(up)
-        if is_remembered:
-            erased = next(iter(levels_of([*sent, *packet])), erased)
-        height = core.height(self.destination)
-        defined = max(self.defined, height.tau if height and height.oid == height.id else 0)
-        return dataclasses.replace(self, core=core, text=core.show(), told=told, defined=defined, erased=erased), sent
 
 
 @dataclasses.dataclass(frozen=True)
@@ -67,16 +50,28 @@ class World:
 
     nodes: dict[int, Node]
     destination: int
+    erasure: Erasure
     events: tuple[str, ...] = ()
     links: frozenset[tuple[int, int]] = frozenset()
     queues: dict[tuple[int, int], tuple[bytes, ...]] = dataclasses.field(default_factory=dict)
 
     def _taken(self, n: int, call: str, other: int, *packet: bytes) -> World:
         """The state after a node took an input; what the node broadcasts is under way."""
-        up = [b if a == n else a for a, b in sorted(self.links) if n in (a, b)]
-        node, sent = self.nodes[n].after(up, call, other, *packet)
+        up = beside(n, sorted(self.links))
+        node, core = self.nodes[n], self.nodes[n].core.clone()
+        sent: list[bytes] = getattr(core, call)(other, *packet, NOW)
+        told, erased, height = node.told, node.erased, core.height(self.destination)
+        clears = [it for it in (*sent, *packet) if it[1] == CLEAR and self.erasure == Erasure.REMEMBERED]
+        if call.startswith("link") or any(it in clears for it in packet):
+            told -= {other}
+        if any(it[1] == UPDATE for it in sent):
+            told = frozenset(up)
+        if clears:
+            erased = clears[0][8:20]  # a level
+        defined = max(node.defined, height.tau if height and height.oid == height.id else 0)
+        nodes = self.nodes | {n: Node(core, core.show(), told, defined, erased)}
         queues = self.queues | {(n, k): (*self.queues.get((n, k), ()), *sent) for k in up}
-        return dataclasses.replace(self, nodes=self.nodes | {n: node}, queues=queues)
+        return dataclasses.replace(self, nodes=nodes, queues=queues)
 
     def after(self, step: str) -> World:
         """The state after a step."""
@@ -84,24 +79,19 @@ class World:
             case ["need", n]:
                 return self._taken(int(n), "need", self.destination)
             case ["deliver", a, b, *_]:
-                return self._delivered(int(a), int(b))
-            case ["cut", a, b]:
-                return self._changed(int(a), int(b), "link_down")
-            case ["mend", a, b]:
-                return self._changed(int(a), int(b), "link_up")
+                first, *others = self.queues[int(a), int(b)]
+                queues = self.queues | {(int(a), int(b)): tuple(others)}
+                return dataclasses.replace(self, queues=queues)._taken(int(b), "packet", int(a), first)
+            case ["cut" | "mend" as word, a, b]:
+                return self._changed(int(a), int(b), "link_down" if word == "cut" else "link_up")
             case ["rest"]:
                 return self
         sys.exit(f"explore: there is no step `{step}`")
 
-    def _delivered(self, a: int, b: int) -> World:
-        first, *others = self.queues[a, b]
-        world = dataclasses.replace(self, queues=self.queues | {(a, b): tuple(others)})
-        return world._taken(b, "packet", a, first)
-
     def _changed(self, a: int, b: int, call: str) -> World:
-        links = self.links ^ {(min(a, b), max(a, b))}
-        queues = {pair: queue for pair, queue in self.queues.items() if pair not in ((a, b), (b, a))}
-        world = dataclasses.replace(self, links=links, queues=queues)
+        """The state after a link came up or went down, whose packets are lost."""
+        queues = {pair: queue for pair, queue in self.queues.items() if {*pair} != {a, b}}
+        world = dataclasses.replace(self, links=self.links ^ {(min(a, b), max(a, b))}, queues=queues)
         return world._taken(a, call, b)._taken(b, call, a)
 
     def steps(self) -> Iterator[tuple[str, World]]:
@@ -130,6 +120,5 @@ class World:
 
 def first_world(count: int, links: list[tuple[int, int]], destination: int, erasure: Erasure) -> World:
     """A world of so many nodes whose links are down, without events."""
-    beside = {n: [b if a == n else a for a, b in links if n in (a, b)] for n in range(1, count + 1)}
-    nodes = {n: Node(Core(n, beside[n], [destination], erasure), destination, erasure) for n in beside}
-    return World(nodes, destination)
+    cores = {n: Core(n, beside(n, links), [destination], erasure) for n in range(1, count + 1)}
+    return World({n: Node(core) for n, core in cores.items()}, destination, erasure)
