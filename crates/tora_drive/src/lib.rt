@@ -23,6 +23,7 @@ mod line;
 mod needs;
 mod one_line;
 mod own;
+mod performing;
 mod recorded;
 mod records;
 mod stepping;

@@ -19,7 +19,7 @@ use crate::nodes::{NodeSlot, Sending, no_counts};
 use crate::places::places_of;
 use crate::queue::Queue;
 use crate::ready::none_ready;
-use crate::sim::Sim;
+use crate::sim::{Buffers, Sim};
 use crate::store::{Datagrams, KeptCargoes, Lane, Pool};
 use crate::topology::Topology;
 use std::alloc::Global;
@@ -85,6 +85,7 @@ impl Sim {
             deadlines,
             ready,
             pool: Pool::new(alloc),
+            buffers: Buffers::new(),
         })
     }
 }

@@ -21,7 +21,7 @@ use crate::sim::Sim;
 use crate::store::Datagrams;
 use std::alloc::AllocError;
 use tora_arq::{calls_keep_an_end, data_frames_are_what_was_submitted};
-use tora_frame::{BorrowedFrame, Header, Packets};
+use tora_frame::{BorrowedFrame, Header};
 use tora_height::Id;
 
 impl Sim {
@@ -62,8 +62,7 @@ impl Sim {
         }
         data_frames_are_what_was_submitted();
         calls_keep_an_end();
-        let mut packets = Packets::new();
-        let Some(frame) = self.links[at].send(self.clock, &mut packets) else {
+        let Some(frame) = self.links[at].send(self.clock, &mut self.buffers.packets) else {
             return Err(SimError::NotPossible);
         };
         let far_end = far_end_at(&self.places, at);

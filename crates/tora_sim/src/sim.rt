@@ -12,7 +12,28 @@ use crate::topology::Topology;
 use crate::{Event, SimError};
 use std::marker::Model;
 use tora_arq::Times;
+use tora_core::Sends;
+use tora_frame::Packets;
 use tora_height::Id;
+
+/// Memory of a step, which means nothing between two steps. With new buffers for each step, 500 moving nodes would take a
+/// third more instructions.
+#[derive(Drop)]
+pub(crate) struct Buffers {
+    /// The packets of the frame that is being sent.
+    pub(crate) packets: Packets,
+    /// The packets that a core broadcasts.
+    pub(crate) sends: Sends,
+}
+
+impl Buffers {
+    pub(crate) fn new() -> Buffers {
+        Buffers {
+            packets: Packets::new(),
+            sends: Sends::new(),
+        }
+    }
+}
 
 /// A simulated world.
 #[derive(Drop)]
@@ -35,6 +56,7 @@ pub struct Sim {
     pub(crate) ready: Vec<bool>,
     /// A pool of lists for lanes that are longer than their inline places.
     pub(crate) pool: Pool,
+    pub(crate) buffers: Buffers,
 }
 
 impl Model for Sim {

@@ -11,7 +11,6 @@ use crate::sim::Sim;
 use crate::turns::{forget_waiting, take_items};
 use crate::unready::unready_range;
 use std::alloc::AllocError;
-use tora_core::Sends;
 use tora_height::Id;
 
 impl Sim {
@@ -59,14 +58,13 @@ impl Sim {
         let before = unready_range(&self.ready, first, count);
         let mut unready = before;
         let mut seat = count;
-        let mut sends = Sends::new();
         let taken = take_items(
             &mut self.nodes[home],
             &mut self.links,
             &mut unready,
             &mut seat,
             &mut self.pool,
-            &mut sends,
+            &mut self.buffers.sends,
             most,
         );
         // the ends that the items may have changed, or that were not ready before
