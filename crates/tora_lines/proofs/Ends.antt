@@ -2,6 +2,7 @@
 use Rattle.std.proofs.Common.{◌≡◌, ℕ, ◌+◌, ◌<◌, List, [], ◌++◌, length, Option, Result, Ok, Err, refl, sym, ap, ◌∙◌}
 use Rattle.std.specs.Io.KnownBytes.{Appends}
 use Rattle.std.proofs.lemmas.List.{append-nil}
+use Rattle.tora_lines.specs.declared.session.TheConstants.{LONGEST_LINE}
 use Rattle.tora_lines.specs.LineText.{Text, faulty}
 use Rattle.tora_lines.specs.Engine.{Kind, IsFault, text_of, IsOpen, Prints, IsAnswered, IsDrained, Stops, Finishes, Ends}
 use Rattle.tora_lines.specs.declared.ended.Ended.{Ended}
@@ -9,7 +10,7 @@ use Rattle.tora_lines.specs.declared.ended.ReplayError.{ReplayError}
 use Rattle.tora_lines.specs.declared.ended.ReplayError.TheVariants.{Memory, Read, Write}
 use Rattle.tora_lines.proofs.Flow.{text_too_long, text_ends, text_last, text_last_faults, Appends-nil, Appends-then, Prints-then}
 
-pub too_long : {S : Type 0} (kind : Kind S) (state : S) (n : ℕ) (bytes : List ℕ) (old new : Option (List ℕ)) (next : S) (m : ℕ) (left : List ℕ) → IsDrained kind state n bytes old new next m left → 4096 < length left → Prints kind state n bytes old new (λ more. faulty m)
+pub too_long : {S : Type 0} (kind : Kind S) (state : S) (n : ℕ) (bytes : List ℕ) (old new : Option (List ℕ)) (next : S) (m : ℕ) (left : List ℕ) → IsDrained kind state n bytes old new next m left → LONGEST_LINE < length left → Prints kind state n bytes old new (λ more. faulty m)
 too_long kind state n bytes old new next m left d long =
     Prints-then kind state n bytes old new new next m left (λ more. faulty m) d.prints (record { written = []; grown = Appends-nil new; goes = λ more. text_too_long kind next m left more d.is_open long })
 

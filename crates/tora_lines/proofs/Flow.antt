@@ -3,6 +3,7 @@ use Rattle.std.proofs.Common.{◌≡◌, ℕ, suc, ◌+◌, ◌<◌, true, false
 use Rattle.std.specs.List.{position}
 use Rattle.std.specs.Io.KnownBytes.{Appends, Consumes, Keeps}
 use Rattle.std.proofs.lemmas.List.{append-nil, length-append}
+use Rattle.tora_lines.specs.declared.session.TheConstants.{LONGEST_LINE}
 use Rattle.tora_lines.specs.Words.{split}
 use Rattle.tora_lines.specs.Pieces.{without_last_empty, pieces_of}
 use Rattle.tora_lines.specs.LineText.{Text, faulty, prepend}
@@ -70,7 +71,7 @@ pub text_faults : {S : Type 0} (kind : Kind S) (state : S) (n i : ℕ) (bytes mo
 unfolding text_of
 text_faults kind state n i bytes more h r = ap (kind.text state n) (lines_first i bytes more h) ∙ r n (pieces_of (drop (i + 1) bytes ++ more))
 
-pub text_too_long : {S : Type 0} (kind : Kind S) (state : S) (n : ℕ) (bytes more : List ℕ) → IsOpen bytes → 4096 < length bytes → text_of kind state n (bytes ++ more) ≡ faulty n
+pub text_too_long : {S : Type 0} (kind : Kind S) (state : S) (n : ℕ) (bytes more : List ℕ) → IsOpen bytes → LONGEST_LINE < length bytes → text_of kind state n (bytes ++ more) ≡ faulty n
 unfolding text_of
 text_too_long kind state n bytes more h long =
     let l = lines_open bytes more h (omega arith) in

@@ -7,6 +7,7 @@ use Rattle.std.proofs.lemmas.List.{length-append, length-drop}
 use Rattle.std.proofs.lemmas.List.Elements.{All-append}
 use Rattle.std.proofs.lemmas.List.Sums.{passes_at_first}
 use Rattle.std.proofs.lemmas.List.Splits.{slice_split_at}
+use Rattle.tora_lines.specs.declared.session.TheConstants.{LONGEST_LINE}
 use Rattle.tora_lines.specs.Pieces.{without_last_empty, pieces_of}
 use Rattle.tora_lines.specs.LineText.{faulty, prepend}
 use Rattle.tora_lines.specs.Engine.{Kind, IsFault, GoesOn, text_of, IsOpen, Prints, Answers, IsAnswered, Keeps, Stops, IsDrained, TakesChunk}
@@ -82,7 +83,7 @@ joined_prints kind state n pending chunk end rest next b c j a = record {
 
 -- ---- a line that is too long
 
-pub long_is_none : {S : Type 0} (kind : Kind S) (state : S) (line : List ℕ) → 4096 < length line → IsFault kind state line
+pub long_is_none : {S : Type 0} (kind : Kind S) (state : S) (line : List ℕ) → LONGEST_LINE < length line → IsFault kind state line
 long_is_none kind state line long = kind.long state line long
 
 -- from the promise of `keep` to that of `answer`

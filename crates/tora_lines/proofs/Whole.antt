@@ -3,6 +3,7 @@ use Rattle.std.proofs.Common.{◌≡◌, ◌≢◌, ℕ, ◌+◌, ◌≤◌, Lis
 use Rattle.std.specs.Prelude.{IfOk, IfErr, IfSome}
 use Rattle.std.specs.Io.KnownBytes.{Appends, Consumes, Keeps, IsAtEnd}
 use Rattle.std.proofs.lemmas.List.{append-nil, length-append, length-take}
+use Rattle.tora_lines.specs.declared.session.TheConstants.{LONGEST_LINE}
 use Rattle.tora_lines.specs.LineText.{Text, faulty, prepend}
 use Rattle.tora_lines.specs.Engine.{Kind, text_of, Prints, IsDrained, Stops, IsFrontOfText, IsWholeText, IsFinished, Finishes, Ends, IsUnderway}
 use Rattle.tora_lines.specs.declared.ended.Ended.{Ended}
@@ -45,7 +46,7 @@ chunk_prints kind start state n left chunk r0 r w0 w w' most onward u p =
     Prints-then kind start 1 (u.given ++ chunk) w0 w w' state n (left ++ chunk) onward (onto kind start state n left chunk w0 w u.given u.drained.prints) p
 
 pub takes_chunk : {S : Type 0} (kind : Kind S) (start : S) (state : S) (n : ℕ) (left chunk : List ℕ) (r0 r r' w0 w w' : Option (List ℕ)) (most more : ℕ) (next : S) (m : ℕ) (rest : List ℕ)
-    → IsUnderway kind start state n left r0 r w0 w most → Consumes r r' chunk → IsDrained kind state n (left ++ chunk) w w' next m rest → length rest ≤ 4096 → most + length chunk ≤ more → IsUnderway kind start next m rest r0 r' w0 w' more
+    → IsUnderway kind start state n left r0 r w0 w most → Consumes r r' chunk → IsDrained kind state n (left ++ chunk) w w' next m rest → length rest ≤ LONGEST_LINE → most + length chunk ≤ more → IsUnderway kind start next m rest r0 r' w0 w' more
 takes_chunk kind start state n left chunk r0 r r' w0 w w' most more next m rest u c d short h = record {
   given = u.given ++ chunk;
   read = Consumes-then r0 r r' u.given chunk u.read c;

@@ -2,6 +2,7 @@
 use Rattle.std.specs.Prelude.{◌≡◌, ℕ, ◌+◌, ◌-◌, ◌≤◌, ◌<◌, ◌==◌, Bool, true, false, List, [], ◌∷◌, ◌++◌, length, drop, Option, Some, None, Result, Ok, Err}
 use Rattle.std.specs.List.{position}
 use Rattle.std.specs.Io.KnownBytes.{Appends, Consumes}
+use Rattle.tora_lines.specs.declared.session.TheConstants.{LONGEST_LINE}
 use Rattle.tora_lines.specs.Pieces.{pieces_of}
 use Rattle.tora_lines.specs.LineText.{Text, prepend, faulty}
 use Rattle.tora_lines.specs.declared.ended.Ended.{Ended}
@@ -23,7 +24,7 @@ GoesOnIn text state line next out =
 -- fault
 pub record Kind (S : Type 0) : Type 0 where
   pub text : S → ℕ → List (List ℕ) → Text
-  pub long : (state : S) (line : List ℕ) → 4096 < length line → IsFaultIn text state line
+  pub long : (state : S) (line : List ℕ) → LONGEST_LINE < length line → IsFaultIn text state line
 
 abbrev pub IsFault : {S : Type 0} → Kind S → S → List ℕ → Type 0
 IsFault kind state line = IsFaultIn kind.text state line
@@ -86,8 +87,8 @@ Answers kind state line next old new (Err Write) = Unit {0}
 
 -- The bytes were appended to the pending ones (true), or the line is too long (false).
 abbrev pub Keeps : List ℕ → List ℕ → List ℕ → Result Bool ReplayError → Type 0
-Keeps old bytes new (Ok true) = (new ≡ old ++ bytes) × (length new ≤ 4096)
-Keeps old bytes new (Ok false) = 4096 < length old + length bytes
+Keeps old bytes new (Ok true) = (new ≡ old ++ bytes) × (length new ≤ LONGEST_LINE)
+Keeps old bytes new (Ok false) = LONGEST_LINE < length old + length bytes
 Keeps old bytes new (Err Memory) = Unit {0}
 Keeps old bytes new (Err Read) = ⊥
 Keeps old bytes new (Err Write) = ⊥
@@ -116,7 +117,7 @@ Drains kind state n bytes old new next m (Err e) = Stops kind state n bytes old 
 abbrev pub TakesChunk : {S : Type 0} → Kind S → S → ℕ → List ℕ → Option (List ℕ) → Option (List ℕ) → S → ℕ → List ℕ
     → Result Bool ReplayError → Type 0
 TakesChunk kind state n bytes old new next m left (Ok true) = IsDrained kind state n bytes old new next m left
-    × (length left ≤ 4096)
+    × (length left ≤ LONGEST_LINE)
 TakesChunk kind state n bytes old new next m left (Ok false) = Prints kind state n bytes old new (λ more. faulty m)
 TakesChunk kind state n bytes old new next m left (Err e) = Stops kind state n bytes old new e
 
@@ -153,5 +154,5 @@ pub record IsUnderway {S : Type 0} (kind : Kind S) (start state : S) (n : ℕ) (
   pub given : List ℕ
   pub read : Consumes old_reader reader given
   pub drained : IsDrained kind start 1 given old_writer writer state n left
-  pub short : length left ≤ 4096
+  pub short : length left ≤ LONGEST_LINE
   pub few : length given ≤ most

@@ -2,6 +2,7 @@
 use Rattle.std.specs.Prelude.{◌≡◌, ℕ, ◌+◌, nat_lt, if◌then◌else◌, codes, List, [], ◌∷◌, ◌++◌, length, Option, Some, None}
 use Rattle.std.specs.Option.{option_map_or, option_and_then}
 use Rattle.std.specs.Fmt.{decimal}
+use Rattle.tora_lines.specs.declared.session.TheConstants.{LONGEST_LINE}
 use Rattle.tora_lines.specs.Pieces.{pieces_of}
 use Rattle.tora_lines.specs.declared.ended.Ended.{Ended}
 use Rattle.tora_lines.specs.declared.ended.Ended.TheVariants.{Whole, Fault}
@@ -26,7 +27,7 @@ pub record Rules (S : Type 0) : Type 0 where
 
 -- the reply to a line of any length
 unfoldable pub reply : {S : Type 0} → Rules S → S → List ℕ → Option (S × List ℕ)
-reply rules state line = if nat_lt 4096 (length line) then None else rules.reply state line
+reply rules state line = if nat_lt LONGEST_LINE (length line) then None else rules.reply state line
 
 -- ---- all lines
 

@@ -1,6 +1,7 @@
 -- Lines of any length: one of more than 4,096 bytes is processed as an empty line.
 use Rattle.std.specs.Prelude.{◌≡◌, ◌⊎◌, ℕ, nat_lt, ◌<◌, ◌≤◌, if◌then◌else◌, Bool, true, false, List, [], ◌++◌, length, map, Option, Result, Ok, Err}
 use Rattle.std.specs.Io.KnownBytes.{Appends, Consumes}
+use Rattle.tora_lines.specs.declared.session.TheConstants.{LONGEST_LINE}
 use Rattle.tora_lines.specs.Pieces.{pieces_of}
 use Rattle.tora_lines.specs.LineText.{Text, prepend, faulty}
 use Rattle.tora_lines.specs.Engine.{Kind, IsOpen, Begins}
@@ -10,7 +11,7 @@ use Rattle.tora_lines.specs.declared.ended.ReplayError.TheVariants.{Memory, Read
 use Rattle.tora_lines.specs.declared.shortened.Held.{Held}
 
 abbrev pub shortened : List ℕ → List ℕ
-shortened line = if nat_lt 4096 (length line) then [] else line
+shortened line = if nat_lt LONGEST_LINE (length line) then [] else line
 
 -- the output for bytes that begin with line n
 unfoldable pub shortened_text_of : {S : Type 0} → Kind S → S → ℕ → List ℕ → Text
@@ -18,8 +19,8 @@ shortened_text_of kind state n bytes = kind.text state n (map shortened (pieces_
 
 -- the stored line has these bytes, or it is too long
 abbrev pub Holds : Held → List ℕ → Type 0
-Holds held text = ((held.is_too_long ≡ false) × (held.bytes.items ≡ text) × (length text ≤ 4096))
-    ⊎ ((held.is_too_long ≡ true) × (4096 < length text))
+Holds held text = ((held.is_too_long ≡ false) × (held.bytes.items ≡ text) × (length text ≤ LONGEST_LINE))
+    ⊎ ((held.is_too_long ≡ true) × (LONGEST_LINE < length text))
 
 -- The written text, followed by `onward`, is the output for these bytes and any that follow them.
 pub record Goes (text : List ℕ → Text) (bytes : List ℕ) (old new : Option (List ℕ)) (onward : List ℕ

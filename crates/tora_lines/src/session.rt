@@ -16,7 +16,7 @@ pub trait FileKind: Drop {
 
     /// Processes a line of at most 4,096 bytes, and writes its output to `text`, which is empty before.
     fn take(&mut self, alloc: Global, line: &[u8], text: &mut String) -> Result<(), LineError>
-        requires short { length line.now ≤ 4096 }
+        requires short { length line.now ≤ LONGEST_LINE }
         requires empty { string_bytes text.old ≡ [] }
         ensures { TakesLine kind self.old line.now self.new (string_bytes text.new) result };
 
