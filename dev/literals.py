@@ -58,7 +58,7 @@ OPEN = [
     (2**62, "GREATEST_LIFE of tora_router", r"^router/"),
     (2**61, "MOST_IN_ALL of tora_lane", r"^lane/"),
     (2**30, "GREATEST_DELTA of tora_height", r"^(core|height)/"),
-    (4096, "LONGEST_LINE of tora_lines", r"^(drive|lines|node|replay)/"),
+    (4096, "LONGEST_LINE of tora_lines", r"^(drive|node)/"),
     (1000, "MOST_PASSES of tora_script", r"^(drive|script)/"),
     (10000, "MOST_ROUNDS of tora_script", r"^script/"),
     (1000000, "PARTS of tora_channel", r"^channel/"),
@@ -67,7 +67,6 @@ OPEN = [
     (100, "MOST_FAILURES of tora_neighbour", r"^neighbour/src/turn"),
     (10, "BEAT_TICKS of tora_neighbour", r"^neighbour/specs/Turns"),
     (560, "LONGEST_FRAME of tora_frame", r"^(keyed|neighbour)/"),
-    (64, "a constant of tora_replay for the digits of a packet", r"^replay/"),
 ]
 
 
