@@ -52,22 +52,9 @@ REASONS = [
 
 # Literals in place of which a constant can be named: the number, the constant, a pattern of crate/folder/file.
 OPEN = [
-    (2**62, "GREATEST_NUMBER of tora_frame", r"^(running|script)/"),
     (2**62, "GREATEST_TAU of tora_height", r"^(core|height|packet)/"),
     (2**62, "LAST_NUMBER of tora_life", r"^sim/"),
-    (2**62, "GREATEST_LIFE of tora_router", r"^router/"),
-    (2**61, "MOST_IN_ALL of tora_lane", r"^lane/"),
     (2**30, "GREATEST_DELTA of tora_height", r"^(core|height)/"),
-    (4096, "LONGEST_LINE of tora_lines", r"^(drive|lines|node|replay)/"),
-    (1000, "MOST_PASSES of tora_script", r"^(drive|script)/"),
-    (10000, "MOST_ROUNDS of tora_script", r"^script/"),
-    (1000000, "PARTS of tora_script", r"^script/(src/channel|specs/(Channel|Parts|Table))"),
-    (1000000, "a constant of tora_neighbour for nanoseconds in a millisecond", r"^neighbour/"),
-    (100, "TICK of tora_neighbour", r"^neighbour/(src/(clock|node_clock)|specs/SystemTicks)"),
-    (100, "MOST_FAILURES of tora_neighbour", r"^neighbour/src/turn"),
-    (10, "BEAT_TICKS of tora_neighbour", r"^neighbour/specs/Turns"),
-    (560, "LONGEST_FRAME of tora_frame", r"^(keyed|neighbour)/"),
-    (64, "a constant of tora_replay for the digits of a packet", r"^replay/"),
 ]
 
 

@@ -5,6 +5,7 @@ use Rattle.tora_packet.specs.PacketParts.{IsId}
 use Rattle.tora_world.specs.declared.event.Event.{Event}
 use Rattle.tora_world.specs.declared.event.Event.TheVariants.{Tick, Transmit, CoreTurn}
 use Rattle.tora_world.specs.World.{World, is_empty, refusal_of, world_after, world_after_all}
+use Rattle.tora_script.specs.declared.rounds.TheConstants.{MOST_PASSES}
 use Rattle.tora_script.specs.declared.turns.EndTurn.{EndTurn}
 use Rattle.tora_script.specs.declared.turns.EndTurn.TheVariants as turn
 use Rattle.tora_script.specs.Rounds.{Plan, repeats, once, while_possible, plan_then, each, each_core, each_end, each_end_once, end_event}
@@ -68,8 +69,8 @@ module _ (nodes : List ℕ) (ends far : List (ℕ × ℕ)) (ids : AllByRecursion
   all_step : Numbered (step nodes ends far)
   unfolding step
   all_step w =
-      then_numbered (once Tick) (plan_then (each_end_once turn.Open ends) (step_passes 1000 nodes ends far)) (repeats_numbered 1 Tick tt)
-      (then_numbered (each_end_once turn.Open ends) (step_passes 1000 nodes ends far) opens (all_passes 1000)) w
+      then_numbered (once Tick) (plan_then (each_end_once turn.Open ends) (step_passes MOST_PASSES nodes ends far)) (repeats_numbered 1 Tick tt)
+      (then_numbered (each_end_once turn.Open ends) (step_passes MOST_PASSES nodes ends far) opens (all_passes MOST_PASSES)) w
 
 pub steps_have_numbers : StepsHaveNumbers
 steps_have_numbers nodes ends far ids pairs w = all_step nodes ends far ids pairs w

@@ -8,6 +8,7 @@ use Rattle.tora_world.specs.declared.event.Event.TheVariants.{Tick, CoreTurn}
 use Rattle.tora_world.specs.Walks.{hop_at}
 use Rattle.tora_world.specs.World.{World, world_by, effect_by, world_after, world_after_all}
 use Rattle.tora_sim.specs.Quiet.{IsQuiet}
+use Rattle.tora_script.specs.declared.rounds.TheConstants.{MOST_PASSES}
 use Rattle.tora_script.specs.declared.turns.EndTurn.{EndTurn}
 use Rattle.tora_script.specs.declared.turns.EndTurn.TheVariants as turn
 use Rattle.tora_script.specs.Rounds.{Plan, end_event, repeats, while_possible, plan_then, each, each_core, each_end, each_end_once}
@@ -44,10 +45,10 @@ module _ (nodes : List ℕ) (ends far : List (ℕ × ℕ)) (w : World) (q : IsQu
   no_passes zero = refl
   no_passes (suc k) = rw no_pass refl
 
-  none_behind : plan_then (each_end_once turn.Open ends) (step_passes 1000 nodes ends far) w ≡ []
-  none_behind = then_none (each_end_once turn.Open ends) (step_passes 1000 nodes ends far) w (no_turns turn.Open 1) (no_passes 1000)
+  none_behind : plan_then (each_end_once turn.Open ends) (step_passes MOST_PASSES nodes ends far) w ≡ []
+  none_behind = then_none (each_end_once turn.Open ends) (step_passes MOST_PASSES nodes ends far) w (no_turns turn.Open 1) (no_passes MOST_PASSES)
 
-  pub quiet_world : world_after_all w (plan_then (each_end_once turn.Open ends) (step_passes 1000 nodes ends far) w) ≡ w
+  pub quiet_world : world_after_all w (plan_then (each_end_once turn.Open ends) (step_passes MOST_PASSES nodes ends far) w) ≡ w
   quiet_world = ap (world_after_all w) none_behind
 
 none_sent : (w : World) → sent_text w w ≡ []
@@ -90,7 +91,7 @@ routes_stay w v h (n ∷ nodes) dests = ap₂ (λ (xs ys : List Route). xs ++ ys
 
 -- a step is its tick, followed by the rest of its events
 step_is : (nodes : List ℕ) (ends far : List (ℕ × ℕ)) (w : World)
-    → world_after_all w (step nodes ends far w) ≡ world_after_all (world_after w Tick) (plan_then (each_end_once turn.Open ends) (step_passes 1000 nodes ends far) (world_after w Tick))
+    → world_after_all w (step nodes ends far w) ≡ world_after_all (world_after w Tick) (plan_then (each_end_once turn.Open ends) (step_passes MOST_PASSES nodes ends far) (world_after w Tick))
 unfolding step repeats
 step_is nodes ends far w = refl
 
@@ -100,7 +101,7 @@ module _ (s : RunningView) (o : OwnView) where
 
   -- the world after the events that follow the tick
   abbrev after : World → World
-  after w = world_after_all w (plan_then (each_end_once turn.Open s.ends) (step_passes 1000 s.nodes s.ends o.far) w)
+  after w = world_after_all w (plan_then (each_end_once turn.Open s.ends) (step_passes MOST_PASSES s.nodes s.ends o.far) w)
 
   -- the lines for what changed between two worlds
   abbrev told_of : World → World → List ℕ

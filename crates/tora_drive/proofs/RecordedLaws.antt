@@ -4,6 +4,7 @@ use Rattle.std.specs.Prelude.{nat_lt, option_map}
 use Rattle.std.proofs.lemmas.Bool.{lt-ltb}
 use Rattle.std.specs.Option.{option_and_then}
 use Rattle.tora_arq.specs.declared.times.Times.{Times}
+use Rattle.tora_lines.specs.declared.session.TheConstants.{LONGEST_LINE}
 use Rattle.tora_lines.specs.Fronts.{after}
 use Rattle.tora_lines.specs.LineText.{reply, state_behind}
 use Rattle.tora_script.specs.declared.node_marks.Mark.{Mark}
@@ -49,18 +50,18 @@ no_place options times o (Progress.Runs s) = rw (no_answer s o) refl
 
 pub long_is_fault : LongLinesAreFaults drive_reply
 long_is_fault options times v line long =
-    let over : nat_lt 4096 (length line) ≡ true = lt-ltb _ _ long in
+    let over : nat_lt LONGEST_LINE (length line) ≡ true = lt-ltb _ _ long in
     rw (over, no_place options times v.place.own v.place.progress) refl
 
 pub long_is_recorded_fault : LongLinesAreFaults recorded_reply
 long_is_recorded_fault options times v line long =
-    let over : nat_lt 4096 (length line) ≡ true = lt-ltb _ _ long in
+    let over : nat_lt LONGEST_LINE (length line) ≡ true = lt-ltb _ _ long in
     rw (over, no_line, no_place options times v.place.own v.place.progress) refl
 
 -- ---- a line `notice N K` is like an empty one
 
 module _ (options : WorldOptions) (times : Times) (last : DriveView) (line : List ℕ) (lines : List (List ℕ)) where
-  on : (v : DriveView) (b c : Bool) → says_notice line ≡ b → nat_lt 4096 (length line) ≡ c
+  on : (v : DriveView) (b c : Bool) → says_notice line ≡ b → nat_lt LONGEST_LINE (length line) ≡ c
       → ((w : DriveView) → state_behind (recorded_rules options times) w lines ≡ Some last → state_behind (drive_rules options times) w (map unnoticed lines) ≡ Some last)
       → option_and_then (λ r. state_behind (recorded_rules options times) r.0 lines) (if c then None else Some (if b then unrecorded v else drive_reply options times v line)) ≡ Some last
       → option_and_then (λ r. state_behind (drive_rules options times) r.0 (map unnoticed lines)) (reply (drive_rules options times) v (if b then [] else line)) ≡ Some last
@@ -72,7 +73,7 @@ module _ (options : WorldOptions) (times : Times) (last : DriveView) (line : Lis
 behind : (options : WorldOptions) (times : Times) (lines : List (List ℕ)) (v last : DriveView) → state_behind (recorded_rules options times) v lines ≡ Some last → state_behind (drive_rules options times) v (map unnoticed lines) ≡ Some last
 unfolding state_behind reply
 behind options times [] v last e = e
-behind options times (line ∷ lines) v last e = on options times last line lines v (says_notice line) (nat_lt 4096 (length line)) refl refl (λ w is. behind options times lines w last is) e
+behind options times (line ∷ lines) v last e = on options times last line lines v (says_notice line) (nat_lt LONGEST_LINE (length line)) refl refl (λ w is. behind options times lines w last is) e
 
 pub recorded_are_drives : RecordedAreDrives
 recorded_are_drives options times lines v e = behind options times lines (recorded_rules options times).start v e

@@ -10,6 +10,7 @@ use Rattle.tora_frame.specs.FrameParts.{FrameParts}
 use Rattle.tora_arq.specs.declared.times.Times.{Times}
 use Rattle.tora_arq.specs.LinkEnd.{bound_life}
 use Rattle.tora_core.specs.Numbers.{has_number}
+use Rattle.tora_lines.specs.declared.session.TheConstants.{LONGEST_LINE}
 use Rattle.tora_lines.specs.Fronts.{after, or_else, ◌>>=◌}
 use Rattle.tora_lines.specs.LineText.{reply, state_behind}
 use Rattle.tora_lines.specs.Words.{cut, id_of}
@@ -274,7 +275,7 @@ module _ (options : WorldOptions) (times : Times) (CutsNothing : Type 0) where
       → option_and_then (λ r. state_behind (drive_rules options times) r.0 lines) found ≡ Some last → Holds options times CutsNothing last.place.progress
   unfolding reply
   one_line v last line lines None none others is h e = absurd cc
-  one_line v last line lines (Some r) none others is h e = others r.0 e (longer v r.0 r.1 line (nat_lt 4096 (length line)) none is h)
+  one_line v last line lines (Some r) none others is h e = others r.0 e (longer v r.0 r.1 line (nat_lt LONGEST_LINE (length line)) none is h)
 
   behind_lines : (lines : List (List ℕ)) (v last : DriveView) → (CutsNothing → SaysNoNotice lines) → state_behind (drive_rules options times) v lines ≡ Some last → Holds options times CutsNothing v.place.progress → Holds options times CutsNothing last.place.progress
   unfolding state_behind

@@ -4,6 +4,7 @@ use Rattle.std.specs.Prelude.{nat_lt, option_map}
 use Rattle.std.specs.Option.{option_map_or, option_and_then}
 use Rattle.std.proofs.lemmas.List.{append-nil}
 use Rattle.tora_arq.specs.declared.times.Times.{Times}
+use Rattle.tora_lines.specs.declared.session.TheConstants.{LONGEST_LINE}
 use Rattle.tora_lines.specs.LineText.{reply, state_behind}
 use Rattle.tora_script.specs.declared.node_marks.Mark.{Mark}
 use Rattle.tora_script.specs.declared.setup.WorldOptions.{WorldOptions}
@@ -148,7 +149,7 @@ module _ (options : WorldOptions) (times : Times) where
   behind_lines (line ∷ lines) done v last e h =
       let next : DriveView = (recorded_reply options times v line).0 in
       let here = if says_notice line then [] else option_map_or (λ (q : Placed). place_script options times v.place.own v.place.progress line) (place_reply options times v.place.own v.place.progress line) [] in
-      let rest = behind_lines lines (done ++ here) next last (one_line v last line lines (nat_lt 4096 (length line)) e) (noted done v line (says_notice line) refl h) in
+      let rest = behind_lines lines (done ++ here) next last (one_line v last line lines (nat_lt LONGEST_LINE (length line)) e) (noted done v line (says_notice line) refl h) in
       rw append_assoc at rest
 
 pub records_are_simulated : RecordsAreSimulated

@@ -1,6 +1,7 @@
 -- The worlds that a recorded drive can have.
 use Rattle.std.specs.Prelude.{◌≡◌, ℕ, ◌+◌, ◌<◌, if◌then◌else◌, List, [], length, map, Some}
 use Rattle.tora_arq.specs.declared.times.Times.{Times}
+use Rattle.tora_lines.specs.declared.session.TheConstants.{LONGEST_LINE}
 use Rattle.tora_lines.specs.LineText.{state_behind}
 use Rattle.tora_lines.specs.Shortened.{shortened}
 use Rattle.tora_world.specs.declared.event.Event.{Event}
@@ -52,5 +53,5 @@ EveryRecordedDrive Holds =
 abbrev pub LongLinesAreFaults : (WorldOptions → Times → DriveView → List ℕ → DriveView × List ℕ) → Type 0
 LongLinesAreFaults reply =
     (options : WorldOptions) (times : Times) (v : DriveView) (line : List ℕ)
-    → 4096 < length line → reply options times v (shortened line)
+    → LONGEST_LINE < length line → reply options times v (shortened line)
     ≡ (record v { lines = v.lines + 1 }, fault_line (v.lines + 1) (cause_of options.limits v.place.progress []))

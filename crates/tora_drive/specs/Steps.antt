@@ -3,6 +3,7 @@ use Rattle.std.specs.Prelude.{ℕ, zero, suc, ◌==◌, ◌&&◌, Bool, if◌the
 use Rattle.std.specs.List.{list_any}
 use Rattle.tora_world.specs.declared.event.Event.TheVariants.{Tick, Transmit}
 use Rattle.tora_world.specs.World.{is_empty}
+use Rattle.tora_script.specs.declared.rounds.TheConstants.{MOST_PASSES}
 use Rattle.tora_script.specs.declared.turns.EndTurn.TheVariants as turn
 use Rattle.tora_script.specs.Rounds.{Plan, once, while_possible, plan_then, each, each_core, each_end_once, each_end}
 
@@ -34,4 +35,5 @@ step_passes (suc k) nodes ends far w = if is_empty (step_pass nodes ends far w) 
     else plan_then (step_pass nodes ends far) (step_passes k nodes ends far) w
 
 unfoldable pub step : List ℕ → List (ℕ × ℕ) → List (ℕ × ℕ) → Plan
-step nodes ends far = plan_then (once Tick) (plan_then (each_end_once turn.Open ends) (step_passes 1000 nodes ends far))
+step nodes ends far =
+    plan_then (once Tick) (plan_then (each_end_once turn.Open ends) (step_passes MOST_PASSES nodes ends far))

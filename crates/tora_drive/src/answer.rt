@@ -4,6 +4,7 @@ ghost use Rattle.std.specs.Prelude.{option_map};
 ghost use Rattle.std.specs.Option.{option_map_or};
 ghost use Rattle.tora_lines.specs.Gives.{Gives};
 ghost use Rattle.tora_world.specs.World.{world_after_all};
+ghost use Rattle.tora_script.specs.declared.rounds.TheConstants.{MOST_PASSES};
 ghost use Rattle.tora_script.specs.declared.turns.EndTurn.TheVariants.{Open};
 ghost use Rattle.tora_script.specs.Rounds.{plan_then, each_end_once};
 ghost use Rattle.tora_script.specs.RunningView.{running_view};
@@ -82,7 +83,7 @@ fn finish<S: Driven>(
     ensures view { OnOk result (running_view S.world running.new
         ≡ record (running_view S.world running.old) {
           world = world_after_all (S.world running.old.sim)
-              (plan_then (each_end_once Open running.old.ends.items) (step_passes 1000 running.old.nodes.items
+              (plan_then (each_end_once Open running.old.ends.items) (step_passes MOST_PASSES running.old.nodes.items
               running.old.ends.items own.now.far.items) (S.world running.old.sim));
         }) }
     ensures told { OnOk result (string_bytes out.new ≡ string_bytes out.old

@@ -94,7 +94,7 @@ fn make_passes<S: Simulator>(
 ) -> Result<(), AllocError>
     requires { AreKnown known ends.now (S.world sim.old) }
     ensures { IfOk result (λ _. S.world sim.new ≡ world_after_all (S.world sim.old)
-        (step_passes 1000 nodes.now ends.now far.now (S.world sim.old))) }
+        (step_passes MOST_PASSES nodes.now ends.now far.now (S.world sim.old))) }
 {
     for _ in 0..MOST_PASSES {
         let some = pass(sim, nodes, known, ends, far)?;
@@ -122,7 +122,8 @@ pub fn finish_step<S: Simulator>(
     far: &[(Id, Id)],
 ) -> Result<(), AllocError>
     ensures { IfOk result (λ _. S.world sim.new ≡ world_after_all (S.world sim.old)
-        (plan_then (each_end_once Open ends.now) (step_passes 1000 nodes.now ends.now far.now) (S.world sim.old))) }
+        (plan_then (each_end_once Open ends.now) (step_passes MOST_PASSES nodes.now ends.now far.now)
+        (S.world sim.old))) }
 {
     let known = are_known(sim, ends);
     turn_known_ends(sim, known, ends, EndTurn::Open, 1)?;

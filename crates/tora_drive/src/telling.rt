@@ -125,8 +125,8 @@ fn make_passes_told<S: Simulator>(
     far: &[(Id, Id)],
     text: &mut String,
 ) -> Result<(), AllocError>
-    ensures { IfOk result (λ _. Told (S.world sim.old) (step_passes 1000 nodes.now ends.now far.now (S.world sim.old))
-        (S.world sim.new) (string_bytes text.old) (string_bytes text.new)) }
+    ensures { IfOk result (λ _. Told (S.world sim.old) (step_passes MOST_PASSES nodes.now ends.now far.now
+        (S.world sim.old)) (S.world sim.new) (string_bytes text.old) (string_bytes text.new)) }
 {
     for _ in 0..MOST_PASSES {
         if !pass_told(sim, nodes, ends, far, text)? {

@@ -1,5 +1,6 @@
 -- What contracts see of the wire of a link, with a key or without one. With a key, each datagram has a tag.
 use Rattle.std.specs.Prelude.{◌≡◌, ℕ, ◌+◌, ◌-◌, ◌^◌, min, Bool, true, false, ◌&&◌, MatchBool, List, length, take, replicate, filter_map, Option, Some, None, Result, Ok, Err, IsErr, nat_lt, if◌then◌else◌}
+use Rattle.tora_frame.specs.declared.encoding.TheConstants.{LONGEST_FRAME}
 use Rattle.tora_neighbour.specs.declared.wire.WireError.{WireError}
 use Rattle.tora_neighbour.specs.Datagrams.{failures_after, IsCut}
 use Rattle.tora_key.specs.Sealing.{sealed, opened}
@@ -64,7 +65,7 @@ abbrev pub SendsWith : {W : Type 0} → (W → List ℕ → Result (Unit {0}) Wi
 SendsWith send f None bytes answer after =
     send f.wire bytes answer after.wire × (after ≡ record f { wire = after.wire })
 SendsWith send f (Some key) bytes answer after =
-    MatchBool (nat_lt 560 (length bytes))
+    MatchBool (nat_lt LONGEST_FRAME (length bytes))
     (IsErr answer × (after ≡ record f { told = false; failures = failures_after answer f.failures }))
     (send f.wire (sealed key bytes) answer after.wire × (after ≡ record f {
       wire = after.wire;

@@ -1,5 +1,5 @@
 //! The queue to a neighbour's thread.
-ghost use Rattle.std.specs.Prelude.{◌≡◌, ◌+◌, ◌^◌, ◌<◌, ◌≤◌, ◌++◌, ◌∷◌, [], List, length, IsOk, IsErr, OnOk, IfOk};
+ghost use Rattle.std.specs.Prelude.{◌≡◌, ◌+◌, ◌<◌, ◌≤◌, ◌++◌, ◌∷◌, [], List, length, IsOk, IsErr, OnOk, IfOk};
 ghost use Rattle.std.specs.Prelude.{IfErr, IfSome, IfNone};
 ghost use Rattle.tora_lane.specs.Out.{AreEndsOf, with_sent};
 ghost use Rattle.tora_seat.specs.declared.cargo.Cargo.{Cargo};
@@ -19,9 +19,9 @@ pub struct OutPut {
 }
 
 impl Model for OutPut {
-    ghost use Rattle.std.specs.Prelude.{◌≡◌, ◌+◌, ◌^◌, ◌≤◌, length};
+    ghost use Rattle.std.specs.Prelude.{◌≡◌, ◌+◌, ◌≤◌, length};
     ghost use Rattle.rtrb.specs.Ring.{sent, known_free};
-    ghost use Rattle.tora_lane.specs.declared.limits.TheConstants.{OUT_LANE_ROOM};
+    ghost use Rattle.tora_lane.specs.declared.limits.TheConstants.{MOST_IN_ALL, OUT_LANE_ROOM};
     ghost use Rattle.tora_lane.specs.Out.{SendEnd, send_end};
 
     ghost Value = { SendEnd };
@@ -29,7 +29,7 @@ impl Model for OutPut {
     ghost view = { λ o. send_end o.producer };
 
     ghost invariant = { λ o. (OUT_LANE_ROOM ≤ known_free o.producer + length (sent o.producer))
-        × (o.count ≡ length (sent o.producer)) × (o.count ≤ 2 ^ 61) };
+        × (o.count ≡ length (sent o.producer)) × (o.count ≤ MOST_IN_ALL) };
 }
 
 /// The neighbour's end of the queue from the core. Contracts see all that it has received, oldest first, and which of

@@ -1,5 +1,5 @@
 //! The queue into the core: a port for each seat, and the core's port.
-ghost use Rattle.std.specs.Prelude.{◌≡◌, ◌+◌, ◌^◌, ◌<◌, ◌≤◌, ◌++◌, ◌∷◌, [], true, false, List, length, IsErr, OnOk};
+ghost use Rattle.std.specs.Prelude.{◌≡◌, ◌+◌, ◌<◌, ◌≤◌, ◌++◌, ◌∷◌, [], true, false, List, length, IsErr, OnOk};
 ghost use Rattle.std.specs.Prelude.{OnErr, IfOk};
 ghost use Rattle.crossbeam_channel.specs.Ends.{sends_on};
 ghost use Rattle.tora_lane.specs.LaneRule.{items_of};
@@ -39,9 +39,10 @@ pub struct InPort {
 }
 
 impl Model for InPort {
-    ghost use Rattle.std.specs.Prelude.{◌≡◌, ◌^◌, ◌≤◌, length};
+    ghost use Rattle.std.specs.Prelude.{◌≡◌, ◌≤◌, length};
     ghost use Rattle.crossbeam_channel.specs.Claims.{IsSeatAt};
     ghost use Rattle.crossbeam_channel.specs.Ends.{sends_on};
+    ghost use Rattle.tora_lane.specs.declared.limits.TheConstants.{MOST_IN_ALL};
     ghost use Rattle.tora_lane.specs.declared.rule.LaneView.TheVariants.{Seat};
     ghost use Rattle.tora_lane.specs.Ports.{InEnd, lane_of, lane_view, own_of};
 
@@ -51,7 +52,7 @@ impl Model for InPort {
 
     ghost invariant = { λ p. IsSeatAt (sends_on p.sender) p.pass
         × (lane_view p.pass ≡ Seat p.seat (own_of (lane_view p.pass))) × (p.count ≡ length (own_of (lane_view p.pass)))
-        × (p.count ≤ 2 ^ 61) };
+        × (p.count ≤ MOST_IN_ALL) };
 }
 
 /// The core's port of the queue into the core. Contracts see its queue, the count of seats, all that it has taken, and

@@ -1,6 +1,7 @@
 -- What contracts see of a wire in memory, and the effect of its calls.
 use Rattle.std.specs.Prelude.{◌≡◌, ◌⊎◌, ℕ, ◌+◌, ◌-◌, ◌^◌, ◌<◌, ◌≤◌, min, Bool, false, List, [], ◌∷◌, ◌++◌, length, take, Option, Some, None, Result, Ok, Err}
 use Rattle.std.specs.declared.vec.Vec.{Vec}
+use Rattle.tora_frame.specs.declared.encoding.TheConstants.{LONGEST_FRAME}
 use Rattle.tora_neighbour.specs.declared.memory_wire.Sent.{Sent}
 use Rattle.tora_neighbour.specs.declared.wire.WireError.{WireError}
 use Rattle.tora_neighbour.specs.Datagrams.{IsCut}
@@ -20,9 +21,9 @@ sent_of s = take s.len s.bytes
 
 -- a datagram of at most 560 bytes is stored if fewer than n are stored; any other send fails
 abbrev pub SendsToMemory : ℕ → MemoryWireView → List ℕ → Result (Unit {0}) WireError → MemoryWireView → Type 0
-SendsToMemory n w bytes (Ok done) after = (length bytes ≤ 560) × (length w.tries < n)
+SendsToMemory n w bytes (Ok done) after = (length bytes ≤ LONGEST_FRAME) × (length w.tries < n)
     × (after ≡ record w { tries = w.tries ++ bytes ∷ [] })
-SendsToMemory n w bytes (Err error) after = ((560 < length bytes) ⊎ (n ≤ length w.tries))
+SendsToMemory n w bytes (Err error) after = ((LONGEST_FRAME < length bytes) ⊎ (n ≤ length w.tries))
     × (after ≡ record w { tells = false; failures = min (w.failures + 1) (2 ^ 64 - 1) })
 
 -- the first datagram is received; none only if all were received

@@ -3,10 +3,15 @@ use Rattle.std.specs.Prelude.{◌≡◌, ℕ, ◌/◌, ◌-◌, ◌^◌, min, Re
 use Rattle.std.specs.Time.{system_time_nanos}
 use Rattle.std.specs.declared.io.Error.{Error}
 use Rattle.std.specs.declared.time.SystemTime.{SystemTime}
+use Rattle.tora_neighbour.specs.declared.clock.TheConstants.{TICK}
+
+-- the whole units of 100 ms in this many nanoseconds, at most 2^64 - 1
+abbrev pub ticks_in : ℕ → ℕ
+ticks_in nanos = min (nanos / 1_000_000 / TICK) (2 ^ 64 - 1)
 
 -- the whole units of 100 ms since 1970, at most 2^64 - 1; 0 if the clock cannot be read
 abbrev pub tick_of : Result SystemTime Error → ℕ
-tick_of (Ok time) = min (system_time_nanos time / 1_000_000 / 100) (2 ^ 64 - 1)
+tick_of (Ok time) = ticks_in (system_time_nanos time)
 tick_of (Err _) = 0
 
 -- the tick of a reading that was made of the clock

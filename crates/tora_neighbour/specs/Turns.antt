@@ -6,6 +6,7 @@ use Rattle.tora_arq.specs.declared.link_event.LinkEvent.{LinkEvent}
 use Rattle.tora_arq.specs.Settings.{Settings, ticks_passed}
 use Rattle.tora_arq.specs.LinkEnd.{EndState, is_closed, bound_life, after_open, after_tick, frame_due, after_transmit}
 use Rattle.tora_arq.specs.LinkFacts.{list_of}
+use Rattle.tora_neighbour.specs.declared.turn_stages.TheConstants.{BEAT_TICKS}
 use Rattle.tora_neighbour.specs.declared.intake.Intake.{Intake}
 use Rattle.tora_neighbour.specs.declared.tally.Tally.{Tally}
 use Rattle.tora_neighbour.specs.declared.turn_parts.TheConstants.{MOST_FAILURES}
@@ -111,7 +112,7 @@ pub record IsTurn (s : Settings) (e : EndState) (t : Turn) (after : EndState) : 
 -- no beat was put before, or ten ticks have passed since the last one
 abbrev pub is_beat_due : Option ℕ → ℕ → Bool
 is_beat_due None now = true
-is_beat_due (Some last) now = nat_le 10 (ticks_passed last now)
+is_beat_due (Some last) now = nat_le BEAT_TICKS (ticks_passed last now)
 
 abbrev pub beat_after : Option ℕ → Turn → Option ℕ
 beat_after last t = if t.beat then Some t.now else last

@@ -6,9 +6,10 @@ use crate::wire::{Wire, WireError};
 use arrayvec::ArrayVec;
 use std::alloc::Global;
 use std::marker::Model;
+use tora_frame::LONGEST_FRAME;
 
 /// The greatest length of a datagram that a wire in memory stores, in bytes.
-pub const LONGEST: usize = 560;
+pub const LONGEST: usize = LONGEST_FRAME;
 
 /// A datagram that was sent.
 #[derive(Clone, Copy, Debug)]

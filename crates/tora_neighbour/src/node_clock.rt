@@ -3,18 +3,15 @@ ghost use Rattle.std.specs.Prelude.{◌≡◌, ◌≤◌, ◌⊎◌, ◌-◌, �
 ghost use Rattle.std.specs.Duration.{as_nanos};
 ghost use Rattle.tora_neighbour.specs.SystemTicks.{IsTickRead};
 
-use crate::clock::{Clock, SystemClock, tick_of};
+use crate::clock::{Clock, SystemClock, TICK, tick_of};
 use std::sync::atomic::{AtomicBool, Ordering};
 use std::time::{Duration, UNIX_EPOCH};
-
-/// The milliseconds in a tick.
-const TICK: u64 = 100;
 
 /// The milliseconds until the next tick, from 1 to 100, at a moment in milliseconds.
 fn rest_of_tick(moment: u128) -> u64
     ensures { result ≤ TICK }
 {
-    TICK - (moment % 100) as u64
+    (TICK - moment % TICK) as u64
 }
 
 /// The clock of a node: Unix time in ticks of 100 ms, and the last tick, 2^64 - 1, once the core has ended.
@@ -51,11 +48,11 @@ impl<R: SystemClock> NodeClock<R> {
             return Duration::ZERO;
         }
         let Ok(time) = self.rt.read_clock() else {
-            return Duration::from_millis(TICK);
+            return Duration::from_millis(TICK as u64);
         };
         match time.duration_since(UNIX_EPOCH) {
             Ok(since) => Duration::from_millis(rest_of_tick(since.as_millis())),
-            Err(_) => Duration::from_millis(TICK),
+            Err(_) => Duration::from_millis(TICK as u64),
         }
     }
 }

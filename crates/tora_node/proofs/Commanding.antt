@@ -7,6 +7,7 @@ use Rattle.std.proofs.lemmas.Bool.{le-ltb}
 use Rattle.std.proofs.lemmas.List.{append-nil, length-append}
 use Rattle.tora_lines.specs.Fronts.{after}
 use Rattle.tora_lines.specs.Words.{id_of, number_of}
+use Rattle.tora_node.specs.declared.commands.TheConstants.{LONGEST_COMMAND}
 use Rattle.tora_node.specs.CommandText.{asked_by, is_word}
 use Rattle.tora_lane.specs.Ports.{InEnd}
 use Rattle.tora_neighbour.specs.Turns.{AreRead}
@@ -346,11 +347,11 @@ last_goes a (c ∷ line) h =
     byte_goes a line c h.0 ∙ last_goes (a ++ c ∷ []) line h.1
     ∙ ap (λ (t : List ℕ). put_for (asked_in t) (Tells.Quit ∷ [])) (append_assoc a (c ∷ []) line)
 
-short : (line : List ℕ) → length line ≤ 4096 → asked_in line ≡ asked_by line
-short line h = rw (le-ltb 4096 (length line) h) refl
+short : (line : List ℕ) → length line ≤ LONGEST_COMMAND → asked_in line ≡ asked_by line
+short line h = rw (le-ltb LONGEST_COMMAND (length line) h) refl
 
-pub line_by_line : (line rest : List ℕ) → IsLine line → length line ≤ 4096 → put_from [] (line ++ 10 ∷ rest) ≡ put_for (asked_by line) (put_from [] rest)
+pub line_by_line : (line rest : List ℕ) → IsLine line → length line ≤ LONGEST_COMMAND → put_from [] (line ++ 10 ∷ rest) ≡ put_for (asked_by line) (put_from [] rest)
 line_by_line line rest h few = lines_go [] line rest h ∙ ap (λ (k : Command). put_for k (put_from [] rest)) (short line few)
 
-pub last_line : (line : List ℕ) → IsLine line → length line ≤ 4096 → put_from [] line ≡ put_for (asked_by line) (Tells.Quit ∷ [])
+pub last_line : (line : List ℕ) → IsLine line → length line ≤ LONGEST_COMMAND → put_from [] line ≡ put_for (asked_by line) (Tells.Quit ∷ [])
 last_line line h few = last_goes [] line h ∙ ap (λ (k : Command). put_for k (Tells.Quit ∷ [])) (short line few)

@@ -8,6 +8,7 @@ use Rattle.tora_neighbour.specs.Turns.{AreRead}
 use Rattle.tora_seat.specs.declared.item.Item.{Item}
 use Rattle.tora_seat.specs.declared.what.What.{What}
 use Rattle.tora_seat.specs.declared.what.What.TheVariants as Tells
+use Rattle.tora_node.specs.declared.commands.TheConstants.{LONGEST_COMMAND}
 use Rattle.tora_node.specs.declared.commands.Command.{Command}
 use Rattle.tora_node.specs.declared.commands.Command.TheVariants as Asks
 use Rattle.tora_node.specs.declared.commands.CommandsEnd.{CommandsEnd}
@@ -18,7 +19,7 @@ use Rattle.tora_node.specs.CommandText.{asked_by}
 
 -- the command of a line; a line of more than 4,096 bytes is not a command
 abbrev pub asked_in : List ℕ → Command
-asked_in line = if nat_lt 4096 (length line) then Asks.Unknown else asked_by line
+asked_in line = if nat_lt LONGEST_COMMAND (length line) then Asks.Unknown else asked_by line
 
 -- the item for a command, followed by the items after it; nothing follows Quit
 abbrev pub put_for : Command → List What → List What

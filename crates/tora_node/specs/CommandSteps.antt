@@ -8,6 +8,7 @@ use Rattle.tora_lines.specs.Reads.{Given, GoesOn}
 use Rattle.tora_lane.specs.Ports.{InEnd}
 use Rattle.tora_seat.specs.declared.item.Item.{Item}
 use Rattle.tora_seat.specs.declared.what.What.{What}
+use Rattle.tora_node.specs.declared.commands.TheConstants.{LONGEST_COMMAND}
 use Rattle.tora_node.specs.declared.commands.Command.{Command}
 use Rattle.tora_node.specs.declared.commands.CommandsEnd.{CommandsEnd}
 use Rattle.tora_node.specs.declared.commands.CommandsEnd.TheVariants as Ends
@@ -17,7 +18,8 @@ use Rattle.tora_node.specs.CommandRuns.{put_for, put_from, whats, HasPut, ReadsM
 -- the stored line has these bytes, or it is too long
 abbrev pub Holds : Line → List ℕ → Type 0
 Holds line text =
-    ((line.is_too_long ≡ false) × (line.bytes.items ≡ text)) ⊎ ((line.is_too_long ≡ true) × (4096 < length text))
+    ((line.is_too_long ≡ false) × (line.bytes.items ≡ text))
+    ⊎ ((line.is_too_long ≡ true) × (LONGEST_COMMAND < length text))
 
 -- the item of a command was put, and further lines follow (None) or not (Some)
 abbrev pub DidPut : {C : Type 0} → (C → ℕ → C → Type 0) → Command → InEnd × C → InEnd × C → Option CommandsEnd → Type 0

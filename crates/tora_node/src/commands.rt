@@ -326,8 +326,8 @@ pub fn run_commands<R: Wait + Log, Rd: Input, C: Clock>(
 /// The items for an input are those of its lines in order; after a last line without LF, `Quit` follows. This holds for
 /// lines of at most 4,096 bytes, and `command_of` gives the command of each.
 pub fn commands_are_put_line_by_line()
-    ensures line { (line rest : List ℕ) → IsLine line → length line ≤ 4096
+    ensures line { (line rest : List ℕ) → IsLine line → length line ≤ LONGEST_COMMAND
         → put_from [] (line ++ 10 ∷ rest) ≡ put_for (asked_by line) (put_from [] rest) }
-    ensures last { (line : List ℕ) → IsLine line → length line ≤ 4096
+    ensures last { (line : List ℕ) → IsLine line → length line ≤ LONGEST_COMMAND
         → put_from [] line ≡ put_for (asked_by line) (What.Quit ∷ []) }
 {}

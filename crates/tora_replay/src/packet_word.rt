@@ -2,6 +2,7 @@
 ghost use Rattle.std.specs.Prelude.{◌≡◌, ◌*◌, ◌<◌, ◌≤◌, length, false};
 ghost use Rattle.std.specs.Option.{option_map};
 ghost use Rattle.tora_packet.specs.PacketGrammar.{packet_reading};
+ghost use Rattle.tora_lines.specs.declared.session.TheConstants.{LONGEST_LINE};
 ghost use Rattle.tora_lines.specs.Words.{is_dash};
 ghost use Rattle.tora_replay.specs.Lines.{bytes_of};
 
@@ -27,7 +28,7 @@ fn reading(digits: &[u8], room: &mut [u8]) -> Option<Result<Packet, PacketError>
 fn short_reading(digits: &[u8]) -> Option<Result<Packet, PacketError>>
     requires some { 0 < length digits.now }
     requires plain { is_dash digits.now ≡ false }
-    requires room { length digits.now ≤ 64 }
+    requires room { length digits.now ≤ 2 * LONGEST_PACKET }
     ensures { result ≡ option_map packet_reading (bytes_of digits.now) }
 {
     reading(digits, &mut [0; LONGEST_PACKET])
@@ -36,7 +37,7 @@ fn short_reading(digits: &[u8]) -> Option<Result<Packet, PacketError>>
 fn long_reading(digits: &[u8]) -> Option<Result<Packet, PacketError>>
     requires some { 0 < length digits.now }
     requires plain { is_dash digits.now ≡ false }
-    requires room { length digits.now ≤ 4096 }
+    requires room { length digits.now ≤ LONGEST_LINE }
     ensures { result ≡ option_map packet_reading (bytes_of digits.now) }
 {
     reading(digits, &mut [0; 2048])
@@ -46,7 +47,7 @@ fn long_reading(digits: &[u8]) -> Option<Result<Packet, PacketError>>
 /// `None` for any other word.
 #[tactic(auto, unfolding(crate::specs::Lines::bytes_of))]
 pub fn packet(text: &[u8]) -> Option<Result<Packet, PacketError>>
-    requires { length text.now ≤ 4096 }
+    requires { length text.now ≤ LONGEST_LINE }
     ensures { result ≡ option_map packet_reading (bytes_of text.now) }
 {
     if text.is_empty() {

@@ -3,6 +3,7 @@ ghost use Rattle.tora_replay.specs.LineGrammar.{SpellsHeader, SpellsLine};
 ghost use Rattle.tora_replay.specs.declared.line.Line.{Line as AnyLine};
 ghost use Rattle.std.specs.Prelude.{◌≡◌, Some, List, ℕ, ◌≤◌, ◌<◌, IfSome, IfOk, All, codes, length};
 ghost use Rattle.std.specs.Option.{option_map};
+ghost use Rattle.tora_lines.specs.declared.session.TheConstants.{LONGEST_LINE};
 ghost use Rattle.tora_lines.specs.Words.{cut, number_of, id_of};
 ghost use Rattle.tora_lines.specs.Gives.{Gives};
 ghost use Rattle.tora_lines.specs.Fronts.{after};
@@ -52,7 +53,7 @@ pub fn header(alloc: Global, text: &[u8]) -> Result<Header, LineError>
 /// The rest of `from K HEX` after its first word: the neighbour K, and the packet that HEX encodes.
 #[tactic(auto, unfolding(crate::specs::Lines::from_of))]
 fn from(text: &[u8]) -> Option<Order>
-    requires { length text.now ≤ 4096 }
+    requires { length text.now ≤ LONGEST_LINE }
     ensures { result ≡ from_of text.now }
 {
     let (neighbour, rest) = words::cut(b' ', text)?;
@@ -70,7 +71,7 @@ fn is_show(text: &[u8]) -> bool
 
 #[tactic(auto, unfolding(crate::specs::Lines::order_of, crate::specs::Lines::with_id))]
 fn order(text: &[u8]) -> Option<Order>
-    requires { length text.now ≤ 4096 }
+    requires { length text.now ≤ LONGEST_LINE }
     ensures { result ≡ order_of text.now }
 {
     if let Some(rest) = after(b"from ", text) {
@@ -95,7 +96,7 @@ fn order(text: &[u8]) -> Option<Order>
 /// A line after the first.
 #[tactic(auto, unfolding(crate::specs::Lines::line_of))]
 pub fn line(text: &[u8]) -> Option<Line>
-    requires { length text.now ≤ 4096 }
+    requires { length text.now ≤ LONGEST_LINE }
     ensures { result ≡ line_of text.now }
 {
     let (now, rest) = words::cut(b' ', text)?;

@@ -3,6 +3,7 @@ ghost use Rattle.std.specs.Prelude.{◌≡◌, ◌≢◌, ◌≤◌, ℕ, List, 
 ghost use Rattle.std.specs.Prelude.{IfSome};
 ghost use Rattle.std.specs.Option.{option_and_then};
 ghost use Rattle.std.specs.Io.KnownBytes.{IsAtEnd};
+ghost use Rattle.tora_lines.specs.declared.session.TheConstants.{LONGEST_LINE};
 ghost use Rattle.tora_lines.specs.Gives.{Gives};
 ghost use Rattle.tora_replay.specs.Lines.{header_of};
 ghost use Rattle.tora_lines.specs.Pieces.{pieces_of};
@@ -63,7 +64,7 @@ impl Model for Replaying {
 
 impl Replaying {
     fn next(&mut self, line: &[u8], text: &mut String) -> Result<(), LineError>
-        requires short { length line.now ≤ 4096 }
+        requires short { length line.now ≤ LONGEST_LINE }
         requires empty { string_bytes text.old ≡ [] }
         ensures { Gives (λ _. (self.new, string_bytes text.new)) result (next_reply self.old line.now) }
     {
@@ -91,7 +92,7 @@ fn take_line(
     line: &[u8],
     text: &mut String,
 ) -> Result<(), LineError>
-    requires short { length line.now ≤ 4096 }
+    requires short { length line.now ≤ LONGEST_LINE }
     requires empty { string_bytes text.old ≡ [] }
     ensures { Gives (λ _. (replaying.new, string_bytes text.new)) result (replay_reply erasure replaying.old line.now) }
 {

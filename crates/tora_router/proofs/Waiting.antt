@@ -1,7 +1,8 @@
 -- Each served event lowers the number of waiting events by one.
 use Rattle.std.proofs.Common.{◌≡◌, ◌+◌, ◌≤◌, ℕ, zero, suc, Bool, true, false, true≢false, List, [], ◌∷◌, ◌++◌, length, drop, Option, Some, None, Err, Ok, if◌then◌else◌, refl, sym, ap, ◌∙◌, subst, arith, length-append}
-use Rattle.std.specs.Prelude.{is_some, not, nat_le, ◌^◌, slice_get, Result}
+use Rattle.std.specs.Prelude.{is_some, not, nat_le, slice_get, Result}
 use Rattle.tora_packet.specs.declared.Packet.{Packet}
+use Rattle.tora_frame.specs.declared.parts.TheConstants.{GREATEST_NUMBER}
 use Rattle.tora_arq.specs.declared.TheConstants.{QUEUE_PLACES}
 use Rattle.tora_arq.specs.declared.life.Life.{Life}
 use Rattle.tora_arq.specs.declared.link_event.LinkEvent.{LinkEvent}
@@ -35,7 +36,7 @@ end_waits e life reason q =
 submit_waits : (e : EndState) (life : Life) (packet : Packet) (phase : Phase) → e.phase ≡ phase → waits (on_submit_in e life packet phase).1 ≤ waits e
 submit_waits e life packet Closed q = omega arith
 submit_waits e life packet (Unbound own) q = omega arith
-submit_waits e life packet (Bound current) q = go (is_same_life life current) (nat_le (2 ^ 62) (e.acknowledged + length e.queue)) (nat_le QUEUE_PLACES (length e.queue))
+submit_waits e life packet (Bound current) q = go (is_same_life life current) (nat_le GREATEST_NUMBER (e.acknowledged + length e.queue)) (nat_le QUEUE_PLACES (length e.queue))
   where
     step : Bool → Bool → Bool → Result (Unit {0}) SubmitError × EndState
     step same spent full =

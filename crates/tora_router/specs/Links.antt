@@ -13,6 +13,7 @@ use Rattle.tora_arq.specs.LinkEnd.{EndState, is_closed, bound_life, after_open, 
 use Rattle.tora_arq.specs.NextDue.{is_any_due}
 use Rattle.tora_seat.specs.declared.cargo.Cargo.{Cargo}
 use Rattle.tora_seat.specs.Between.{after_cargo, after_cut_of_bound}
+use Rattle.tora_router.specs.declared.TheConstants.{GREATEST_LIFE}
 use Rattle.tora_router.specs.declared.change.Change.{Change}
 use Rattle.tora_router.specs.declared.change.Change.TheVariants as Changes
 use Rattle.tora_router.specs.declared.change.News.{News}
@@ -62,7 +63,8 @@ polled event link = record (with_state link (after_poll_event link.end.state)) {
 
 -- the end is closed, and may be opened with the number
 abbrev pub may_open : ℕ → Link → Bool
-may_open number link = is_closed link.end.state && (nat_lt link.end.state.last_life number && nat_le number (2 ^ 62))
+may_open number link =
+    is_closed link.end.state && (nat_lt link.end.state.last_life number && nat_le number GREATEST_LIFE)
 
 abbrev pub opened : ℕ → ℕ → Link → Link
 opened number now link = if may_open number link then with_state link (after_open link.end.state number now) else link

@@ -1,11 +1,12 @@
 -- Why a router can't be made.
-use Rattle.std.specs.Prelude.{ℕ, ◌==◌, ◌||◌, ◌^◌, Bool, nat_lt, codes, if◌then◌else◌, List, Option, Some, None, option_map}
+use Rattle.std.specs.Prelude.{ℕ, ◌==◌, ◌||◌, Bool, nat_lt, codes, if◌then◌else◌, List, Option, Some, None, option_map}
 use Rattle.tora_arq.specs.declared.times.Times.{Times}
 use Rattle.tora_core.specs.declared.errors.CoreError.{CoreError}
 use Rattle.tora_core.specs.declared.errors.CoreError.TheVariants as Core
 use Rattle.tora_core.specs.CoreRun.{core_refusal_within}
 use Rattle.tora_core.specs.Limits.{most_destinations, most_neighbours}
 use Rattle.tora_core.specs.Numbers.{has_number}
+use Rattle.tora_router.specs.declared.TheConstants.{GREATEST_LIFE}
 use Rattle.tora_router.specs.declared.config.Config.{Config}
 use Rattle.tora_router.specs.declared.router_error.RouterError.{RouterError}
 use Rattle.tora_router.specs.declared.router_error.RouterError.TheVariants as Fault
@@ -29,7 +30,7 @@ abbrev pub has_no_time : Times → Bool
 has_no_time t = (t.hello == 0 || t.silent == 0) || (t.retry == 0 || t.tries == 0)
 
 abbrev pub is_no_life : ℕ → Bool
-is_no_life number = number == 0 || nat_lt (2 ^ 62) number
+is_no_life number = number == 0 || nat_lt GREATEST_LIFE number
 
 -- the first cause that applies, apart from those of the core
 abbrev pub early_refusal : Config → List ℕ → List ℕ → ℕ → Option RouterError

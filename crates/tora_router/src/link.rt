@@ -1,5 +1,5 @@
 //! The state of a link in a router.
-ghost use Rattle.std.specs.Prelude.{◌≡◌, ◌≢◌, ◌<◌, ◌≤◌, ◌++◌, ◌^◌, ℕ, nat_le, true, Some, IfNone, IfOk, IfSome, drop};
+ghost use Rattle.std.specs.Prelude.{◌≡◌, ◌≢◌, ◌<◌, ◌≤◌, ◌++◌, ℕ, nat_le, true, Some, IfNone, IfOk, IfSome, drop};
 ghost use Rattle.std.specs.Prelude.{length, option_map};
 ghost use Rattle.tora_arq.specs.EndRange.{link_end_of};
 ghost use Rattle.tora_arq.specs.LinkEnd.{first_end, is_closed};
@@ -59,7 +59,7 @@ impl Link {
         ensures value { result ≡ may_open number self.now }
         ensures closed { result ≡ true → is_closed self.now.end.state ≡ true }
         ensures above { result ≡ true → self.now.end.state.last_life < number }
-        ensures within { result ≡ true → number ≤ 2 ^ 62 }
+        ensures within { result ≡ true → number ≤ GREATEST_LIFE }
     {
         let is_above = self.end.last_life() < number;
         let is_within = number <= GREATEST_LIFE;
@@ -71,7 +71,7 @@ impl Link {
     fn open(&mut self, number: u64, now: u64) -> bool
         ensures opened { self.new ≡ opened number now self.old }
         ensures answer { result ≡ may_open number self.old }
-        ensures within { result ≡ true → number ≤ 2 ^ 62 }
+        ensures within { result ≡ true → number ≤ GREATEST_LIFE }
     {
         let may_open = self.may_open(number);
         if may_open {
@@ -84,7 +84,7 @@ impl Link {
     pub fn tick(&mut self, number: u64, now: u64) -> bool
         ensures ticked { self.new ≡ ticked number now self.old }
         ensures answer { result ≡ may_open number self.old }
-        ensures within { result ≡ true → number ≤ 2 ^ 62 }
+        ensures within { result ≡ true → number ≤ GREATEST_LIFE }
     {
         let is_opened = self.open(number, now);
         self.end.on_tick(now);

@@ -1,8 +1,9 @@
 //! All links of a router. They take the cargoes of its core at once, without a lane.
-ghost use Rattle.std.specs.Prelude.{◌≡◌, ◌<◌, ◌≤◌, ◌++◌, ◌^◌, true, ℕ, nat_le, drop, slice_get, Option, Some, None};
+ghost use Rattle.std.specs.Prelude.{◌≡◌, ◌<◌, ◌≤◌, ◌++◌, true, ℕ, nat_le, drop, slice_get, Option, Some, None};
 ghost use Rattle.std.specs.Prelude.{IfNone, IfSome, MatchOption, length, option_map};
 ghost use Rattle.tora_frame.specs.FrameGrammar.{frame_reading};
 ghost use Rattle.tora_arq.specs.declared.link_event.LinkEvent.{LinkEvent as Event};
+ghost use Rattle.tora_router.specs.declared.TheConstants.{GREATEST_LIFE};
 ghost use Rattle.tora_router.specs.Links.{at_place, polled, ticked, heard, cut, event_of, first_in, to_peer, opens_at};
 ghost use Rattle.tora_router.specs.Links.{intake_at, frame_of_link, sent, link_change, told, is_link_due, peer_at};
 ghost use Rattle.tora_router.specs.declared.link.Link.{Link as One};
@@ -123,7 +124,7 @@ impl Links {
         requires { place < length self.old }
         ensures ticked { self.new ≡ at_place (ticked number now) place self.old }
         ensures opened { result ≡ opens_at number place self.old }
-        ensures within { result ≡ true → number ≤ 2 ^ 62 }
+        ensures within { result ≡ true → number ≤ GREATEST_LIFE }
     {
         self.list[place].tick(number, now)
     }

@@ -1,7 +1,8 @@
 -- A network of running nodes, and the effect of each part on it. A part is one atomic action of a thread; a run is a
 -- list of the parts of all threads.
-use Rattle.std.specs.Prelude.{◌≡◌, ◌⊎◌, ℕ, suc, ◌<◌, ◌≤◌, ◌^◌, ◌==◌, IsTrue, if◌then◌else◌, List, [], ◌∷◌, ◌++◌, length, drop, Ok, Err}
+use Rattle.std.specs.Prelude.{◌≡◌, ◌⊎◌, ℕ, suc, ◌<◌, ◌≤◌, ◌==◌, IsTrue, if◌then◌else◌, List, [], ◌∷◌, ◌++◌, length, drop, Ok, Err}
 use Rattle.tora_packet.specs.declared.Packet.{Packet}
+use Rattle.tora_frame.specs.declared.parts.TheConstants.{GREATEST_NUMBER}
 use Rattle.tora_frame.specs.FrameParts.{FrameParts}
 use Rattle.tora_arq.specs.declared.life.Life.{Life}
 use Rattle.tora_arq.specs.declared.times.Times.{Times}
@@ -180,7 +181,7 @@ IsNotForged w n k now (Err error) = Unit {0}
 -- numbers rise over all starts of a node, queues keep their order, and no wire delivers a forged datagram that the end
 -- accepts
 abbrev pub IsGiven : Network → ℕ → ℕ → LinkPart → Type 0
-IsGiven w n k (Opens number now) = (w.numbers n k < number) × (number ≤ 2 ^ 62)
+IsGiven w n k (Opens number now) = (w.numbers n k < number) × (number ≤ GREATEST_NUMBER)
 IsGiven w n k (Takes cargo) = IsFront cargo (w.cargoes n k)
 IsGiven w n k (Hears now reading) = IsNotForged w n k now reading
 IsGiven w n k (Ticks now) = Unit {0}

@@ -13,6 +13,7 @@ use Rattle.tora_world.specs.declared.event.Event.{Event}
 use Rattle.tora_world.specs.declared.event.Event.TheVariants.{Need, Tick, Open, Pull, Transmit, Deliver, Pump, CoreTurn, Arm, Restart}
 use Rattle.tora_world.specs.declared.call.Call.{Call}
 use Rattle.tora_world.specs.declared.call.Call.TheVariants as Fails
+use Rattle.tora_script.specs.declared.parse.TheConstants.{MOST_ROUNDS}
 use Rattle.tora_script.specs.declared.script_line.SimulationLine.{SimulationLine}
 use Rattle.tora_script.specs.declared.script_line.SimulationLine.TheVariants.{Happens, Rounds, Part, Mend, Heights, Sent, Taken, Exact, Walk, Rest}
 use Rattle.tora_lines.specs.Words.{cut, number_of, id_of, list_of, is_dash}
@@ -291,9 +292,9 @@ rounds_found text rest o t h =
     let q = few r.0 o r.2 in
     rw (← q.1) (q.0, record { below = p.1; text_is = t ∙ ap (λ (x : List ℕ). codes "rounds " ++ x) p.0 })
   where
-    few : (r : ℕ) (o : SimulationLine) → rounds_from r ≡ Some o → (r ≤ 10000) × (Rounds r ≡ o)
+    few : (r : ℕ) (o : SimulationLine) → rounds_from r ≡ Some o → (r ≤ MOST_ROUNDS) × (Rounds r ≡ o)
     few r o h =
-        elim (leb r 10000) as (λ b. leb r 10000 ≡ b → cond b (Some (Rounds r)) None ≡ Some o → (r ≤ 10000) × (Rounds r ≡ o)) [
+        elim (leb r MOST_ROUNDS) as (λ b. leb r MOST_ROUNDS ≡ b → cond b (Some (Rounds r)) None ≡ Some o → (r ≤ MOST_ROUNDS) × (Rounds r ≡ o)) [
           | true ↦ λ e g. (grind (arith, nat_tests, e), some_is (Rounds r) o g)
           | false ↦ λ e g. absurd cc
         ] refl h

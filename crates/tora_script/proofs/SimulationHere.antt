@@ -4,11 +4,13 @@ use Rattle.std.specs.Fmt.{decimal}
 use Rattle.std.proofs.lemmas.Bool.{lt-ltb, le-leb}
 use Rattle.std.proofs.lemmas.Bool.Decides.{nat_tests}
 use Rattle.tora_packet.specs.PacketParts.{IsId}
+use Rattle.tora_frame.specs.declared.parts.TheConstants.{GREATEST_NUMBER}
 use Rattle.tora_arq.specs.declared.life.Life.{Life}
 use Rattle.tora_world.specs.declared.event.Event.{Event}
 use Rattle.tora_world.specs.declared.event.Event.TheVariants.{Need, Tick, Open, Pull, Transmit, Deliver, Pump, CoreTurn, Arm, Restart}
 use Rattle.tora_world.specs.declared.call.Call.{Call}
 use Rattle.tora_world.specs.declared.call.Call.TheVariants as Fails
+use Rattle.tora_script.specs.declared.parse.TheConstants.{MOST_ROUNDS}
 use Rattle.tora_script.specs.declared.script_line.SimulationLine.{SimulationLine}
 use Rattle.tora_script.specs.declared.script_line.SimulationLine.TheVariants.{Happens, Rounds, Part, Mend, Heights, Sent, Taken, Exact, Walk, Rest}
 use Rattle.tora_lines.specs.Fronts.{after}
@@ -30,7 +32,7 @@ unfolding life_number_of
 life_number_here n h =
     let below : n < 2 ^ 64 = omega (arith, h.1) in
     let low : ltb 0 n ≡ true = lt-ltb _ _ h.0 in
-    let high : leb n (2 ^ 62) ≡ true = le-leb _ _ h.1 in
+    let high : leb n GREATEST_NUMBER ≡ true = le-leb _ _ h.1 in
     rw (number_again n below, low, high) refl
 
 life_here : (life : Life) → IsLifeNumber life.own → IsLifeNumber life.peer → life_of (decimal life.own ++ 32 ∷ decimal life.peer) ≡ Some life
@@ -189,9 +191,9 @@ deliver_here : (i : ℕ) → i < 2 ^ 64 → deliver_of (decimal i) ≡ Some (Del
 unfolding deliver_of
 deliver_here i h = rw (number_again i h) refl
 
-rounds_here : (r : ℕ) → r ≤ 10000 → r < 2 ^ 64 → rounds_of (decimal r) ≡ Some (Rounds r)
+rounds_here : (r : ℕ) → r ≤ MOST_ROUNDS → r < 2 ^ 64 → rounds_of (decimal r) ≡ Some (Rounds r)
 unfolding rounds_of
-rounds_here r few h = let within : leb r 10000 ≡ true = le-leb _ _ few in rw (number_again r h, within) refl
+rounds_here r few h = let within : leb r MOST_ROUNDS ≡ true = le-leb _ _ few in rw (number_again r h, within) refl
 
 arm_here : (n : ℕ) (call : Call) → IsId n → arm_of (decimal n ++ 32 ∷ call_text call) ≡ Some (Arm n call)
 unfolding arm_of

@@ -2,6 +2,7 @@
 use Rattle.std.specs.Prelude.{ℕ, zero, suc, ◌+◌, ◌-◌, ◌*◌, ◌%◌, ◌^◌, ◌==◌, ◌&&◌, Bool, nat_lt, if◌then◌else◌, Some, None}
 use Rattle.rand_core.specs.Pcg32Seed.{pcg32_seed}
 use Rattle.rand_chacha.specs.ChaCha.{ChaCha, next_word, key_of}
+use Rattle.tora_script.specs.declared.channel.channel.TheConstants.{PARTS}
 use Rattle.tora_script.specs.declared.channel.channel.Channel.{Channel}
 use Rattle.tora_script.specs.declared.channel.channel.Copies.{Copies}
 use Rattle.tora_script.specs.declared.channel.channel.Place.{Place}
@@ -30,7 +31,7 @@ is_clear c = (c.loss == 0) && (c.repeat == 0) && (c.least == 0) && (c.most == 0)
 
 -- a random word falls into a share of this many millionths
 abbrev pub is_among : ℕ → ℕ → Bool
-is_among w share = nat_lt (w % 1000000) share
+is_among w share = nat_lt (w % PARTS) share
 
 -- the delay in rounds that a random word gives, from the least to the greatest
 abbrev pub delay_by : Channel → ℕ → ℕ

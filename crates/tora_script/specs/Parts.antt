@@ -4,6 +4,7 @@ use Rattle.std.specs.List.{list_all}
 use Rattle.std.specs.Char.{is_ascii_digit}
 use Rattle.tora_lines.specs.Words.{cut, number_of}
 use Rattle.tora_lines.specs.Fronts.{◌>>=◌}
+use Rattle.tora_script.specs.declared.channel.channel.TheConstants.{PARTS}
 use Rattle.tora_script.specs.declared.channel.channel.Channel.{Channel}
 use Rattle.tora_script.specs.declared.channel.parts.Parts.{Parts}
 
@@ -21,7 +22,7 @@ millionths text = digit_at text 0 * 100000 + digit_at text 1 * 10000 + digit_at 
     digit_at text 4 * 10 + digit_at text 5
 
 abbrev pub whole_share : ℕ → Option ℕ
-whole_share n = if n == 0 then Some 0 else if n == 1 then Some 1000000 else None
+whole_share n = if n == 0 then Some 0 else if n == 1 then Some PARTS else None
 
 abbrev pub fraction_from : List ℕ → ℕ → Option ℕ
 fraction_from digits whole = if (whole == 0) && is_fraction digits then Some (millionths digits) else None

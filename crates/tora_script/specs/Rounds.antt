@@ -9,6 +9,7 @@ use Rattle.tora_world.specs.declared.event.Event.TheVariants.{Tick, Open, Pull, 
 use Rattle.tora_world.specs.World.{World, datagram, is_empty, world_after_all}
 use Rattle.tora_script.specs.Table.{Channels}
 use Rattle.tora_sim.specs.Readers.{ends_in}
+use Rattle.tora_script.specs.declared.rounds.TheConstants.{MOST_PASSES}
 use Rattle.tora_script.specs.Air.{MomentView, AirView, air_view, copies_in, at_once, after_air}
 use Rattle.tora_script.specs.declared.air.Air.{Air}
 use Rattle.tora_script.specs.declared.turns.EndTurn.{EndTurn}
@@ -104,7 +105,7 @@ passes (suc k) nodes ends parted m w = if is_empty (pass nodes ends parted m w) 
 
 unfoldable pub round : List ℕ → List (ℕ × ℕ) → List (ℕ × ℕ) → MomentView → List (ℕ × ℕ) → Plan
 round nodes ends parted m later = plan_then (once Tick) (plan_then (each_end_once turn.Open ends)
-    (plan_then (arrivals parted later) (passes 1000 nodes ends parted m)))
+    (plan_then (arrivals parted later) (passes MOST_PASSES nodes ends parted m)))
 
 -- ---- rounds
 

@@ -3,6 +3,7 @@ use Rattle.std.specs.Prelude.{◌≡◌, ℕ, ◌<◌, ◌≤◌, ◌^◌, codes
 use Rattle.std.specs.Fmt.{decimal}
 use Rattle.hex.specs.Hex.{decode_of}
 use Rattle.tora_packet.specs.PacketParts.{IsId}
+use Rattle.tora_frame.specs.declared.parts.TheConstants.{GREATEST_NUMBER}
 use Rattle.tora_arq.specs.declared.life.Life.{Life}
 use Rattle.tora_world.specs.declared.event.Event.{Event}
 use Rattle.tora_world.specs.declared.event.Event.TheVariants.{Need, Tick, Open, Pull, Transmit, Deliver, Pump, CoreTurn, Arm, Restart}
@@ -10,6 +11,7 @@ use Rattle.tora_world.specs.declared.call.Call.{Call}
 use Rattle.tora_world.specs.declared.call.Call.TheVariants as Fails
 use Rattle.tora_core.specs.declared.erasure.Erasure.{Erasure}
 use Rattle.tora_core.specs.declared.erasure.Erasure.TheVariants.{Plain, Remembered}
+use Rattle.tora_script.specs.declared.parse.TheConstants.{MOST_ROUNDS}
 use Rattle.tora_script.specs.declared.node_marks.Mark.{Mark}
 use Rattle.tora_script.specs.declared.node_marks.Mark.TheVariants.{Old, Erases}
 use Rattle.tora_script.specs.declared.script_line.SimulationLine.{SimulationLine}
@@ -24,7 +26,7 @@ pub record SpellsPair (word text : List ℕ) (n k : ℕ) : Type 0 where
 
 -- a session number, from 1 to 2^62
 abbrev pub IsLifeNumber : ℕ → Type 0
-IsLifeNumber n = (0 < n) × (n ≤ 2 ^ 62)
+IsLifeNumber n = (0 < n) × (n ≤ GREATEST_NUMBER)
 
 -- a word, the numbers of two nodes, and the two numbers of a session
 pub record SpellsLane (word text : List ℕ) (n k : ℕ) (life : Life) : Type 0 where
@@ -77,7 +79,7 @@ SpellsEvent text (Restart n torn) = SpellsRestart text n torn
 -- a line after the links
 abbrev pub SpellsSimulationLine : List ℕ → SimulationLine → Type 0
 SpellsSimulationLine text (Happens event) = SpellsEvent text event
-SpellsSimulationLine text (Rounds r) = (r ≤ 10000) × SpellsNumber (codes "rounds ") text r
+SpellsSimulationLine text (Rounds r) = (r ≤ MOST_ROUNDS) × SpellsNumber (codes "rounds ") text r
 SpellsSimulationLine text (Part a b) = SpellsPair (codes "part ") text a b
 SpellsSimulationLine text (Mend a b) = SpellsPair (codes "mend ") text a b
 SpellsSimulationLine text (Heights d) = SpellsId (codes "heights ") text d

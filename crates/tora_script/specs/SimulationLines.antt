@@ -1,7 +1,8 @@
 -- The lines of a simulation file, parsed.
-use Rattle.std.specs.Prelude.{ℕ, Bool, ◌==◌, ◌&&◌, ◌^◌, nat_lt, nat_le, if◌then◌else◌, codes, is_some, List, length, Option, Some, None, option_map}
+use Rattle.std.specs.Prelude.{ℕ, Bool, ◌==◌, ◌&&◌, nat_lt, nat_le, if◌then◌else◌, codes, is_some, List, length, Option, Some, None, option_map}
 use Rattle.std.specs.Result.{result_ok}
 use Rattle.hex.specs.Hex.{decode_of}
+use Rattle.tora_frame.specs.declared.parts.TheConstants.{GREATEST_NUMBER}
 use Rattle.tora_arq.specs.declared.life.Life.{Life}
 use Rattle.tora_world.specs.declared.event.Event.{Event}
 use Rattle.tora_world.specs.declared.event.Event.TheVariants.{Need, Tick, Open, Pull, Transmit, Deliver, Pump, CoreTurn, Arm, Restart}
@@ -9,6 +10,7 @@ use Rattle.tora_world.specs.declared.call.Call.{Call}
 use Rattle.tora_world.specs.declared.call.Call.TheVariants as Fails
 use Rattle.tora_core.specs.declared.erasure.Erasure.{Erasure}
 use Rattle.tora_core.specs.declared.erasure.Erasure.TheVariants.{Plain, Remembered}
+use Rattle.tora_script.specs.declared.parse.TheConstants.{MOST_ROUNDS}
 use Rattle.tora_script.specs.declared.node_marks.Mark.{Mark}
 use Rattle.tora_script.specs.declared.node_marks.Mark.TheVariants.{Old, Erases}
 use Rattle.tora_script.specs.declared.script_line.SimulationLine.{SimulationLine}
@@ -32,7 +34,7 @@ pair_of text = do
 
 -- a session number, from 1 to 2^62
 abbrev pub life_number_from : ℕ → Option ℕ
-life_number_from n = if nat_lt 0 n && nat_le n (2 ^ 62) then Some n else None
+life_number_from n = if nat_lt 0 n && nat_le n GREATEST_NUMBER then Some n else None
 
 unfoldable pub life_number_of : List ℕ → Option ℕ
 life_number_of text = number_of text >>= life_number_from
@@ -73,7 +75,7 @@ torn_of text = if is_dash text then Some None else if length text == 32 then opt
 
 -- a count of rounds, 10,000 at most
 abbrev pub rounds_from : ℕ → Option SimulationLine
-rounds_from r = if nat_le r 10000 then Some (Rounds r) else None
+rounds_from r = if nat_le r MOST_ROUNDS then Some (Rounds r) else None
 
 -- ---- events
 

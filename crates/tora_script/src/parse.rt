@@ -14,16 +14,14 @@ use crate::script_line::SimulationLine;
 use std::alloc::Global;
 use tora_arq::Life;
 use tora_core::Erasure;
+use tora_frame::GREATEST_NUMBER;
 use tora_height::Id;
 use tora_lines::words::LineError;
 use tora_lines::{after, behind, words};
 use tora_world::{Call, Event};
 
 /// The most rounds of one line.
-const MOST_ROUNDS: u64 = 10_000;
-
-/// The greatest session number.
-const GREATEST_LIFE: u64 = 0x4000_0000_0000_0000;
+pub(crate) const MOST_ROUNDS: u64 = 10_000;
 
 /// Whether the text is this word.
 #[tactic(auto, unfolding(crate::specs::SimulationLines::is_word))]
@@ -50,7 +48,7 @@ fn life_number(text: &[u8]) -> Option<u64>
     ensures { result ≡ life_number_of text.now }
 {
     let n = words::number(text)?;
-    if 0 < n && n <= GREATEST_LIFE {
+    if 0 < n && n <= GREATEST_NUMBER {
         Some(n)
     } else {
         None

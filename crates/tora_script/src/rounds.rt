@@ -90,7 +90,7 @@ fn pass<S: Simulator>(sim: &mut S, moment: &Moment<'_>) -> Result<bool, AllocErr
 fn make_passes<S: Simulator>(sim: &mut S, moment: &Moment<'_>) -> Result<(), AllocError>
     requires { AreKnown moment.now.is_known moment.now.network.ends.now (S.world sim.old) }
     ensures { IfOk result (λ _. S.world sim.new ≡ world_after_all (S.world sim.old)
-        (passes 1000 moment.now.network.nodes.now moment.now.network.ends.now moment.now.network.parted.now
+        (passes MOST_PASSES moment.now.network.nodes.now moment.now.network.ends.now moment.now.network.parted.now
         (moment_view moment.now)
         (S.world sim.old))) }
 {

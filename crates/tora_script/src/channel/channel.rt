@@ -9,7 +9,7 @@ use rand_core::utils::NextWord;
 use tora_height::Id;
 
 /// The number of parts in a whole: shares are in millionths.
-const PARTS: u32 = 1_000_000;
+pub(crate) const PARTS: u32 = 1_000_000;
 
 /// The effect of a channel on datagrams: each is lost or not, arrives after a number of rounds, and may arrive twice.
 #[derive(Clone, Copy, Debug, PartialEq, Eq)]

@@ -6,7 +6,7 @@ ghost use Rattle.std.specs.Char.{is_ascii_digit};
 ghost use Rattle.tora_script.specs.Parts.{digit_at, is_fraction, whole_share, share_of, delay_of, once, with_part};
 ghost use Rattle.tora_script.specs.Parts.{parts_of, channel_by};
 
-use crate::channel::channel::Channel;
+use crate::channel::channel::{Channel, PARTS};
 use tora_lines::words;
 
 /// The greatest delay in rounds.
@@ -53,7 +53,7 @@ fn whole_share(number: u64) -> Option<u32>
 {
     match number {
         0 => Some(0),
-        1 => Some(1_000_000),
+        1 => Some(PARTS),
         _ => None,
     }
 }

@@ -1,3 +1,4 @@
+use Rattle.tora_script.specs.declared.rounds.TheConstants.{MOST_PASSES}
 use Rattle.tora_script.specs.declared.turns.EndTurn.TheVariants as turn
 use Rattle.tora_script.specs.Rounds.{each_end_once}
 use Rattle.tora_drive.specs.Steps.{step_passes}
@@ -14,5 +15,5 @@ returns g c =
     let w1 = g.S.Simulator.world c.turn_known_ends.new.sim in
     let w2 = g.S.Simulator.world c.make_passes.new.sim in
     let opens = each_end_once turn.Open c.args.ends.now in
-    let all = step_passes 1000 c.args.nodes.now c.args.ends.now c.args.far.now in
+    let all = step_passes MOST_PASSES c.args.nodes.now c.args.ends.now c.args.far.now in
     after_then w0 w1 w2 opens all c.in_ok-turn_known_ends.ensures.after_is c.in_ok-make_passes.ensures
