@@ -53,7 +53,6 @@ REASONS = [
 # Literals in place of which a constant can be named: the number, the constant, a pattern of crate/folder/file.
 OPEN = [
     (2**62, "GREATEST_TAU of tora_height", r"^(core|height|packet)/"),
-    (2**62, "LAST_NUMBER of tora_life", r"^sim/"),
     (2**30, "GREATEST_DELTA of tora_height", r"^(core|height)/"),
 ]
 

@@ -1,7 +1,8 @@
 //! The life file of a link end.
-ghost use Rattle.std.specs.Prelude.{◌≡◌, ◌≢◌, ◌<◌, ◌≤◌, ◌^◌, ℕ, IfSome, IfNone, MatchResult};
+ghost use Rattle.std.specs.Prelude.{◌≡◌, ◌≢◌, ◌<◌, ◌≤◌, ℕ, IfSome, IfNone, MatchResult};
 ghost use Rattle.tora_life.specs.LifeRun.{opened, after_event, drawn_by, owner_in};
 ghost use Rattle.tora_life.specs.LifeRun.LifeEvent.{Draw, Arm};
+ghost use Rattle.tora_life.specs.declared.numbers.TheConstants.{LAST_NUMBER};
 ghost use Rattle.tora_world.specs.World.{reopened};
 ghost use Rattle.tora_sim.specs.Files.{disk_of, IsDrawn};
 ghost use Rattle.tora_arq.specs.LinkFacts.{list_of};
@@ -49,9 +50,9 @@ impl FileSlot {
         ensures drawn { list_of result ≡ drawn_by Draw (disk_of self.old) }
         ensures disk { disk_of self.new ≡ after_event Draw (disk_of self.old) }
         ensures owner { owner_in (disk_of self.new) ≡ owner_in (disk_of self.old) }
-        // The number is above every number that was drawn, and at most 2^62.
+        // The number is above every number that was drawn, and at most `LAST_NUMBER`.
         ensures above { IfSome result (λ n. (earlier : ℕ) → IsDrawn earlier (disk_of self.old) → earlier < n) }
-        ensures within { IfSome result (λ n. n ≤ 2 ^ 62) }
+        ensures within { IfSome result (λ n. n ≤ LAST_NUMBER) }
         ensures last { IfSome result (λ n. IsDrawn n (disk_of self.new)) }
         ensures kept { IfNone result ((earlier : ℕ) → IsDrawn earlier (disk_of self.old)
             → IsDrawn earlier (disk_of self.new)) }
