@@ -4,4 +4,5 @@ pub mod News
 pub mod Places
 pub mod Served
 pub mod Settling
+pub mod Still
 pub mod Waiting

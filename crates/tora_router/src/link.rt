@@ -1,6 +1,6 @@
 //! The state of a link in a router.
 ghost use Rattle.std.specs.Prelude.{◌≡◌, ◌≢◌, ◌<◌, ◌≤◌, ◌++◌, ℕ, nat_le, true, Some, IfNone, IfOk, IfSome, drop};
-ghost use Rattle.std.specs.Prelude.{length, option_map};
+ghost use Rattle.std.specs.Prelude.{is_some, length, option_map};
 ghost use Rattle.tora_arq.specs.EndRange.{link_end_of};
 ghost use Rattle.tora_arq.specs.LinkEnd.{first_end, is_closed};
 ghost use Rattle.tora_arq.specs.Settings.{IsTimes, settings_of};
@@ -38,6 +38,14 @@ impl Link {
         ensures { self.new ≡ given cargo.now self.old }
     {
         hand_in(&mut self.end, cargo);
+    }
+
+    /// Whether the end has an event.
+    #[inline(always)]
+    pub fn has_event(&self) -> bool
+        ensures { result ≡ is_some (event_of self.now) }
+    {
+        self.end.next_event().is_some()
     }
 
     /// Removes and returns the first event of the end, and notes the change of the link that it reports.
@@ -121,10 +129,14 @@ impl Link {
         ensures sent { self.new ≡ sent now self.old }
         ensures none { IfNone result ((self.new ≡ self.old) × (out.new ≡ out.old)) }
     {
-        let Some(frame) = self.end.poll_transmit_into(now, packets) else {
+        if !self.end.has_frame_due(now) {
+            return None;
+        }
+        let due = self.end.poll_transmit_into(now, packets);
+        let Some(frame) = &due else {
             return None;
         };
-        encode_into(&frame, bytes);
+        encode_into(frame, bytes);
         let count = bytes.len();
         out[..count].copy_from_slice(bytes.as_slice());
         Some(count)

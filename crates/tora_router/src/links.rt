@@ -1,6 +1,6 @@
 //! All links of a router. They take the cargoes of its core at once, without a lane.
 ghost use Rattle.std.specs.Prelude.{◌≡◌, ◌<◌, ◌≤◌, ◌++◌, true, ℕ, nat_le, drop, slice_get, Option, Some, None};
-ghost use Rattle.std.specs.Prelude.{IfNone, IfSome, MatchOption, length, option_map};
+ghost use Rattle.std.specs.Prelude.{IfNone, IfSome, MatchOption, is_some, length, option_map};
 ghost use Rattle.tora_frame.specs.FrameGrammar.{frame_reading};
 ghost use Rattle.tora_arq.specs.declared.link_event.LinkEvent.{LinkEvent as Event};
 ghost use Rattle.tora_router.specs.declared.TheConstants.{GREATEST_LIFE};
@@ -102,6 +102,19 @@ impl Links {
         ensures { Some result ≡ option_map (λ (link : One). link.tally) (slice_get self.now place) }
     {
         self.list[place].tally
+    }
+
+    /// Whether an event waits.
+    #[inline(always)]
+    pub fn has_event(&self) -> bool
+        ensures { result ≡ is_some (first_in event_of self.now) }
+    {
+        for place in 0..self.list.len() {
+            if self.list[place].has_event() {
+                return true;
+            }
+        }
+        false
     }
 
     /// Removes and returns the first waiting event, with the place of its link.

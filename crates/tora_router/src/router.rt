@@ -138,7 +138,8 @@ impl Router {
     }
 
     /// Serves the first event of the first link that has one, and returns whether there was one.
-    fn serve_event(&mut self, now: u64) -> bool
+    #[inline(never)]
+    fn serve_first_event(&mut self, now: u64) -> bool
         ensures served { router_of self.new ≡ after_first_event now (router_of self.old) }
         ensures answer { result ≡ is_some (first_in event_of self.old.links) }
     {
@@ -156,7 +157,20 @@ impl Router {
         true
     }
 
+    /// As `serve_first_event`, but tests first whether there is an event; after most calls there is none.
+    #[inline(always)]
+    fn serve_event(&mut self, now: u64) -> bool
+        ensures served { router_of self.new ≡ after_first_event now (router_of self.old) }
+        ensures answer { result ≡ is_some (first_in event_of self.old.links) }
+    {
+        if !self.links.has_event() {
+            return false;
+        }
+        self.serve_first_event(now)
+    }
+
     /// Serves events until none waits.
+    #[inline(always)]
     fn settle(&mut self, now: u64)
         ensures settled { router_of self.new ≡ settled now (router_of self.old) }
         ensures none { first_in event_of self.new.links ≡ None }
