@@ -53,6 +53,7 @@ pub struct Moment<'a> {
 
 impl Moment<'_> {
     /// Whether the channel delivers each datagram at once, and once.
+    #[inline(always)]
     pub fn is_clear(&self) -> bool
         ensures { result ≡ true → IsClear (moment_view self.now) }
     {
@@ -60,6 +61,7 @@ impl Moment<'_> {
     }
 
     /// Whether two nodes are parted.
+    #[inline(always)]
     pub fn is_parted(&self, a: Id, b: Id) -> bool
         ensures { result ≡ is_parted self.now.network.parted.now a b }
     {

@@ -1,5 +1,5 @@
 -- Stored datagrams: frames in one list, and the packets of all DATA frames in another.
-use Rattle.std.specs.Prelude.{◌≡◌, ℕ, ◌+◌, ◌-◌, ◌^◌, ◌≤◌, ◌<◌, ◌++◌, List, Vec, length, map, min, slice_range, vec_capacity}
+use Rattle.std.specs.Prelude.{◌≡◌, ℕ, ◌+◌, ◌-◌, ◌≤◌, ◌<◌, ◌++◌, List, Vec, length, map, min, slice_range, vec_capacity}
 use Rattle.tora_packet.specs.declared.Packet.{Packet}
 use Rattle.tora_frame.specs.declared.parts.Body.{Body}
 use Rattle.tora_frame.specs.declared.parts.Body.TheVariants as Carries
@@ -7,6 +7,7 @@ use Rattle.tora_frame.specs.FrameParts.{FrameParts, IsFrame, batch, frame_of}
 use Rattle.tora_sim.specs.declared.store.kept_frames.KeptBody.{KeptBody}
 use Rattle.tora_sim.specs.declared.store.kept_frames.KeptBody.TheVariants.{Hello, Data, Ack}
 use Rattle.tora_sim.specs.declared.store.kept_frames.KeptFrame.{KeptFrame}
+use Rattle.tora_sim.specs.declared.store.kept_hellos.TheConstants.{FIRST_HELLO}
 
 -- the frames in order, and for how many more frames and packets there is room
 pub record DatagramList : Type 0 where
@@ -42,9 +43,9 @@ pub record IsKept (packets : List Packet) (kept : KeptFrame) : Type 0 where
   pub within : IsWithin packets kept.body
   pub frame : IsFrame (frame_in packets kept)
 
--- how many more items a list has memory for, with indexes that fit 32 bits
+-- how many more items a list has memory for, with indexes below the places of HELLOs
 abbrev pub short_places : {A : Type 0} {B : Type 0} → Vec A B → ℕ
-short_places items = min (vec_capacity items - length items.items) (2 ^ 32 - length items.items)
+short_places items = min (vec_capacity items - length items.items) (FIRST_HELLO - length items.items)
 
 -- the frames stored in these lists, and for how many more there is room
 abbrev pub kept_list : {A B : Type 0} → Vec KeptFrame A → Vec Packet B → DatagramList

@@ -135,8 +135,8 @@ fn numbered_hello(datagrams: &Datagrams, i: u64) -> Option<(Header, usize)>
     ensures valid { IfSome result (λ told. IsHeader told.0) }
 {
     let number = usize::try_from(i).ok()?;
-    let told = datagrams.hello(number.checked_sub(1)?)?;
-    Some((told.header(), told.far_end as usize))
+    let (header, far_end) = datagrams.hello(number.checked_sub(1)?)?;
+    Some((header, far_end as usize))
 }
 
 /// A guess at the index of the link end that receives a datagram, given by its number from 1.

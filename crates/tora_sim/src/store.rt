@@ -1,7 +1,7 @@
 //! What a simulated world keeps: the datagrams that were sent, and the outbound messages (cargoes) of its lanes.
 //!
 //! The prefix law lets each datagram be delivered late, twice or never, so `Datagrams` keeps them all, in the order in
-//! which they were sent. It stores the index of each datagram's frame; a HELLO that a link end repeats is stored once.
+//! which they were sent. It stores the place of each datagram's frame; a HELLO that a link end repeats is stored once.
 //! Readers return the frames that were sent.
 //!
 //! The prefix law also speaks about all cargoes that were ever put into a lane, so a `Lane` keeps them all. The
@@ -13,9 +13,9 @@ mod datagrams;
 mod inline_cargoes;
 mod kept_cargoes;
 mod kept_frames;
+mod kept_hellos;
 mod kept_list;
 mod lane;
-mod last_hellos;
 mod packets;
 mod pool;
 mod room;

@@ -1,20 +1,19 @@
 //! Frames, with the packets of all of them in one list.
-ghost use Rattle.std.specs.Prelude.{◌≡◌, ◌<◌, ◌≤◌, ◌+◌, ◌^◌, ◌∷◌, ◌++◌, [], length, option_map, slice_get, slice_range};
-ghost use Rattle.std.specs.Prelude.{vec_len, vec_capacity, Some, IfSome, IsTrue, OnOk};
-ghost use Rattle.tora_frame.specs.FrameParts.{IsFrame, IsHeader, batch, frame_of};
-ghost use Rattle.tora_frame.specs.declared.parts.Body.{Body};
+ghost use Rattle.std.specs.Prelude.{◌≡◌, ◌<◌, ◌≤◌, ◌+◌, ◌∷◌, ◌++◌, [], length, slice_get, slice_range};
+ghost use Rattle.std.specs.Prelude.{vec_len, vec_capacity, OnOk};
+ghost use Rattle.tora_frame.specs.FrameParts.{IsFrame, batch};
 ghost use Rattle.tora_frame.specs.declared.parts.Body.TheVariants as Carries;
+ghost use Rattle.tora_sim.specs.declared.store.kept_hellos.TheConstants.{FIRST_HELLO};
 ghost use Rattle.tora_sim.specs.Datagrams.{DatagramList, HasRoom, IsKept, IsMore, IsWithin, body_in, frame_in};
-ghost use Rattle.tora_sim.specs.Datagrams.{way_of};
 
+use crate::store::kept_hellos::FIRST_HELLO;
 use std::alloc::{AllocError, Global};
 use std::marker::Model;
 use tora_frame::{BorrowedBody, BorrowedFrame, Header, MOST_PACKETS};
-use tora_height::Id;
 use tora_packet::Packet;
 
-/// The most frames, and the most packets, that are stored: the index of each fits 32 bits.
-const MOST_KEPT: usize = 0x1_0000_0000;
+/// The most frames, and the most packets, that are stored: the index of each frame is below the places of HELLOs.
+const MOST_KEPT: usize = FIRST_HELLO as usize;
 
 /// The body of a stored frame, without the packets of a DATA frame.
 #[derive(Drop)]
@@ -33,26 +32,8 @@ pub enum KeptBody {
 pub struct KeptFrame {
     header: Header,
     /// A guess at the index of the receiving link end; whoever uses it checks which end is there.
-    pub far_end: u32,
+    far_end: u32,
     body: KeptBody,
-}
-
-impl KeptFrame {
-    /// The header.
-    #[inline(always)]
-    pub fn header(&self) -> Header
-        ensures { result ≡ self.now.header }
-    {
-        self.header
-    }
-
-    /// Whether the frame is a HELLO.
-    #[inline(always)]
-    fn is_hello(&self) -> bool
-        ensures { IsTrue result → self.now.body ≡ KeptBody.Hello }
-    {
-        matches!(&self.body, KeptBody::Hello)
-    }
 }
 
 /// Stored frames, in order of arrival.
@@ -110,6 +91,7 @@ impl KeptFrames {
         requires { HasRoom self.old }
         ensures items { self.new.items ≡ self.old.items ++ frame.now ∷ [] }
         ensures place { result ≡ length self.old.items }
+        ensures low { result < FIRST_HELLO }
     {
         let place = self.frames.len() as u32;
         let body = keep_body(&mut self.packets, frame);
@@ -133,30 +115,6 @@ impl KeptFrames {
         Some(frame_of(&self.packets, kept))
     }
 
-    /// The frame at the index `place`, if it is a HELLO.
-    #[inline(always)]
-    pub fn hello(&self, place: usize) -> Option<&KeptFrame>
-        ensures hello { IfSome result (λ kept. slice_get self.now.items place
-            ≡ Some (frame_of kept.now.header Body.Hello)) }
-        ensures valid { IfSome result (λ kept. IsHeader kept.now.header) }
-    {
-        let Some(kept) = self.frames.get(place) else {
-            return None;
-        };
-        if kept.is_hello() { Some(kept) } else { None }
-    }
-
-    /// The sender and the receiver of the frame at the index `place`.
-    #[inline(always)]
-    pub fn way(&self, place: usize) -> Option<(Id, Id)>
-        ensures { result ≡ option_map way_of (slice_get self.now.items place) }
-    {
-        let Some(kept) = self.frames.get(place) else {
-            return None;
-        };
-        Some((kept.header.sender, kept.header.receiver))
-    }
-
     /// A guess at the index of the link end that receives the frame at the index `place`.
     #[inline(always)]
     pub fn far_end(&self, place: usize) -> u32 {
@@ -170,7 +128,7 @@ impl KeptFrames {
 /// Stores the packets of a frame, and returns its body.
 fn keep_body(packets: &mut Vec<Packet>, frame: &BorrowedFrame<'_>) -> KeptBody
     requires places { vec_len packets.old + 16 ≤ vec_capacity packets.old }
-    requires numbers { vec_len packets.old + 16 ≤ 2 ^ 32 }
+    requires numbers { vec_len packets.old + 16 ≤ FIRST_HELLO }
     ensures body { body_in packets.new.items result ≡ frame.now.body }
     ensures within { IsWithin packets.new.items result }
     ensures more { IsMore packets.old.items packets.new.items }
@@ -187,7 +145,7 @@ fn keep_body(packets: &mut Vec<Packet>, frame: &BorrowedFrame<'_>) -> KeptBody
 fn keep_data(packets: &mut Vec<Packet>, number: u64, count: u64, carried: &[Packet]) -> KeptBody
     requires many { length carried.now ≤ 16 }
     requires places { vec_len packets.old + 16 ≤ vec_capacity packets.old }
-    requires numbers { vec_len packets.old + 16 ≤ 2 ^ 32 }
+    requires numbers { vec_len packets.old + 16 ≤ FIRST_HELLO }
     ensures body { body_in packets.new.items result ≡ Carries.Data number count (batch carried.now) }
     ensures within { IsWithin packets.new.items result }
     ensures more { IsMore packets.old.items packets.new.items }

@@ -51,7 +51,7 @@ invariant_of-self c =
     )
 
 -- no frame was due
-module _ (c : goal.After-packets-in_default-1) where
+module _ (c : goal.After-self-in_default-1) where
   none : frame_due c.index_mut.result.now.settings c.index_mut.result.now.state c.self.inside.clock ≡ None
   none = sym c.in_default.ensures.frame
 
@@ -81,7 +81,7 @@ returns-in_default-clause-done c =
     (transmit_refused s.topology s.times s.clock s.nodes.items s.links.items s.datagrams.items c.self.invariant.0 c.args._n c.args._k c.args.at c.index_mut.result.now (end_of c.args._n c.args._k c.args.at c.self.view_is c.requires.end) c.index_mut.ensures.value
     (ap is_some (none c)))))
 
-module _ (c : goal.After-packets-2-1) where
+module _ (c : goal.After-self-3-1) where
   due : frame_due c.index_mut.result.now.settings c.index_mut.result.now.state c.self.inside.clock ≡ Some c.in-Some.frame
   due = sym c.in-Some.ensures.frame
 

@@ -25,7 +25,7 @@ loop-n-preserved c =
     subst (λ (ns : List ℕ). AreMade c.args.topology.now c.args.times ns c.add_node.new.nodes.items c.add_node.new.links.items) (sym (take_more c.as_slice-n-items.result.now c.loop-n.n-index 0 c.loop-n-test.true))
     (more (take c.loop-n.n-index c.as_slice-n-items.result.now) c.loop-n.invariant)
 
-module _ (c : goal.After-new-2) where
+module _ (c : goal.After-new-3) where
   made : AreMade c.in-Ok.own c.args.times (nodes_in c.in-Ok.own.links) c.loop-n.nodes.items c.loop-n.links.items
   made =
       let same : c.as_slice-n-items.result.now ≡ nodes_in c.in-Ok.own.links = c.as_slice-n-items.ensures.value ∙ c.nodes-named.ensures.items in
