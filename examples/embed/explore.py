@@ -25,6 +25,7 @@ import sys
 
 from simulation_file import SimulationFile
 from small_world import Erasure, World, first_world
+from tora.lib import NoLibraryError
 
 TIMES = 100  # how often a circle is followed
 
@@ -137,4 +138,7 @@ def main() -> None:
 
 
 if __name__ == "__main__":
-    main()
+    try:
+        main()
+    except NoLibraryError as cause:
+        sys.exit(f"explore: {cause}")

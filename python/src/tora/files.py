@@ -56,7 +56,7 @@ def check_outputs(outputs: Iterable[Path], inputs: Iterable[Path] = (), overwrit
         if os.path.isdir(path):
             raise StudyError("Is a directory", file=path)
         if os.path.isfile(path) and not overwrite:
-            raise UsageError("the output exists, and is not overwritten unless that is asked for", file=path)
+            raise UsageError("the output exists, and only --overwrite replaces it", file=path)
         seen.add(real)
 
 

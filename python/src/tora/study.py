@@ -149,7 +149,7 @@ class Study:
             raise StudyError(cause.strerror or str(cause), file=folder) from None
         if os.path.exists(path):
             if Study.read(folder) != self:
-                raise StudyError("the folder holds another study, of which this file tells", file=path)
+                raise StudyError("the folder holds another study, which this file describes; name another folder", file=path)
         elif any(not name.startswith(".") for name in os.listdir(folder)):
             raise StudyError(f"the folder is not empty, and holds no study ({NAME})", file=folder)
         else:
