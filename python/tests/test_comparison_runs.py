@@ -48,6 +48,7 @@ def test_refusals(config: dict[str, object], cause: str) -> None:
 
 def test_workflow(tmp_path: Path, capsys: pytest.CaptureFixture[str]) -> None:
     """The table has the rows in their order, and the manifest what they were made of; a second call makes nothing again."""
+    pytest.importorskip("snakemake")
     compare = tmp_path / "tora-compare"
     compare.write_text(STUB)
     compare.chmod(0o755)

@@ -17,14 +17,14 @@ pytest.importorskip("pyroute2")
 
 def is_able() -> bool:
     """Whether this process can make a network namespace with a TUN device."""
-    if os.geteuid() != 0 or shutil.which("ip") is None or shutil.which("unshare") is None:
+    if os.geteuid() != 0 or any(shutil.which(it) is None for it in ("ip", "ping", "unshare")):
         return False
     words = ["unshare", "--net", "ip", "tuntap", "add", "probe", "mode", "tun"]
     return subprocess.run(words, capture_output=True, check=False).returncode == 0
 
 
 if not is_able():
-    pytest.skip("network namespaces need root, `ip` and /dev/net/tun", allow_module_level=True)
+    pytest.skip("network namespaces need root, `ip`, `ping`, `unshare` and /dev/net/tun", allow_module_level=True)
 
 SOURCES = pathlib.Path(__file__).parents[1] / "src"
 LAST = 20.0  # seconds that a start may take on a machine at work
