@@ -27,6 +27,7 @@ mod facts;
 mod growing_end;
 mod held;
 mod life;
+mod limit_values;
 mod link_end;
 mod link_event;
 mod phase;
@@ -55,6 +56,7 @@ pub use facts::{
 };
 pub use growing_end::GrowingEnd;
 pub use life::Life;
+pub use limit_values::limits_have_their_values;
 pub use link_end::LinkEnd;
 pub use link_event::LinkEvent;
 pub use reason::Reason;

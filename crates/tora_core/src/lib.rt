@@ -27,6 +27,7 @@ mod errors;
 mod facts;
 mod laws;
 mod levels;
+mod limit_values;
 mod limits;
 mod links;
 mod neighbour_places;
@@ -55,6 +56,7 @@ pub use facts::{
     other_views_stay, sends_ascend, tables_stay, up_links_are_of_neighbours,
 };
 pub use laws::{rules_are_kept, runs_are_kept};
+pub use limit_values::limits_have_their_values;
 pub use limits::CoreLimits;
 pub use node::Core;
 pub use relation::{

@@ -21,12 +21,14 @@ mod borrowed;
 mod decoding;
 mod encoding;
 mod layout;
+mod limit_values;
 mod packets;
 mod parts;
 
 pub use borrowed::{BorrowedBody, BorrowedFrame};
 pub use decoding::{decode, decode_into, one_frame_spelling};
 pub use encoding::{LONGEST_FRAME, encode, encode_into, longest_frame};
+pub use limit_values::limits_have_their_values;
 pub use parts::{Body, Frame, GREATEST_NUMBER, Header, MOST_PACKETS, Packets, Version};
 use thiserror::Error;
 use tora_packet::PacketError;

@@ -6,7 +6,9 @@
 
 mod key;
 mod laws;
+mod limit_values;
 mod sealing;
 
 pub use key::{Key, TAG, hmac, is_same};
 pub use laws::keyed_links_give_what_was_tagged;
+pub use limit_values::limits_have_their_values;

@@ -7,9 +7,11 @@
 #![tactic(auto)]
 
 mod key_file;
+mod limit_values;
 mod link_wire;
 mod noticed_wire;
 
 pub use key_file::{KEY, LONGEST_KEY_FILE, key_in, overwrite};
+pub use limit_values::limits_have_their_values;
 pub use link_wire::LinkWire;
 pub use tora_key::Key;

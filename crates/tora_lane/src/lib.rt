@@ -21,6 +21,7 @@
 
 mod errors;
 mod laws;
+mod limit_values;
 mod limits;
 mod making;
 mod node_lanes;
@@ -31,6 +32,7 @@ mod rule;
 
 pub use errors::LaneError;
 pub use laws::what_was_offered_was_sent;
+pub use limit_values::limits_have_their_values;
 pub use limits::{CORE_LANE_ROOM, MOST_IN_ALL, MOST_LINKS, OUT_LANE_ROOM};
 pub use making::lanes;
 pub use node_lanes::Lanes;

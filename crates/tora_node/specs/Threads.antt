@@ -66,8 +66,8 @@ module _ {D W C : Type 0} {disk : Disk.Ghosts D} {wire : Wire.Ghosts W} where
   abbrev pub clock_started : Start D W C disk wire → C
   clock_started start = start.clock
 
--- The thread ran this link over this wire, each turn at a tick of this clock, with session numbers that follow `drawn`.
--- Its turns put the items and took the messages, at the same port and from the same queue
+-- The thread ran this link over this wire. Each turn has a tick of this clock, and the session numbers follow `drawn`.
+-- The port holds the items that its turns put, and the queue gave the messages that they took
 pub record LinkLeaves {W C : Type 0} (send : W → List ℕ → Result (Unit {0}) WireError → W → Type 0) (receive : W
     → Result (Option ℕ) WireError → List ℕ → W → Type 0) (tell : C → ℕ → C
     → Type 0) (link : LinkName) (wire : W) (clock : C) (drawn : ℕ) (hub : LaneHub) (rest : LinkRest) : Type 0 where

@@ -15,6 +15,7 @@ mod config;
 mod core_task;
 mod core_thread;
 mod fault;
+mod limit_values;
 mod link_task;
 mod log_hub;
 mod node;
@@ -34,6 +35,7 @@ pub use commands::{
 pub use config::Config;
 pub use core_thread::{CoreEnd, run_core};
 pub use fault::NodeError;
+pub use limit_values::limits_have_their_values;
 pub use log_hub::LogHub;
 pub use node::{Ended, run_node};
 pub use tora_neighbour::{

@@ -20,6 +20,7 @@ mod decoding;
 mod encoding;
 mod kinds;
 mod lengths;
+mod limit_values;
 
 pub use decoding::{decode, one_packet_spelling};
 pub use encoding::{append, encode};
@@ -28,6 +29,7 @@ pub use lengths::{
     CLEAR_LENGTH, LONGEST_PACKET, QUERY_LENGTH, SHORTEST_PACKET, UPDATE_LENGTH, cut_packet,
     encoded_length, is_packet_length,
 };
+pub use limit_values::limits_have_their_values;
 use std::fmt;
 use thiserror::Error;
 use tora_height::Id;

@@ -6,7 +6,7 @@ ghost use Rattle.tora_script.specs.SimulationText.{is_done};
 use crate::simulation::{Simulation, Stage};
 use crate::simulator::Simulator;
 
-/// Whether this many rounds are all rounds of `--until`.
+/// Whether as many rounds are done as `--until` says; `false` without it.
 pub fn is_done(until: Option<u64>, rounds: u64) -> bool
     ensures { result ≡ is_done until rounds }
 {
@@ -17,7 +17,8 @@ pub fn is_done(until: Option<u64>, rounds: u64) -> bool
 }
 
 impl<S: Simulator> Simulation<S> {
-    /// Whether all rounds of `--until` are done. Before the simulation runs, no round is done.
+    /// Whether as many rounds are done as `--until` says; `false` without it. Before the simulation runs, 0 rounds are
+    /// done.
     pub fn is_done(&self) -> bool
         ensures { result ≡ is_done_at self.now.setup.until self.now.stage }
     {

@@ -14,6 +14,7 @@ mod channel;
 mod clear;
 mod deliveries;
 mod done;
+mod limit_values;
 mod link_lines;
 mod network;
 mod node_marks;
@@ -42,6 +43,7 @@ pub use channel::{
     channel_parts, channel_table,
 };
 pub use clear::clear_channel_delivers_at_once;
+pub use limit_values::limits_have_their_values;
 pub use link_lines::LinkLines;
 pub use network::Network;
 pub use node_marks::{Mark, choices};

@@ -23,6 +23,7 @@ mod inputs;
 mod item;
 mod lanes;
 mod laws;
+mod limit_values;
 mod relation;
 mod rows;
 mod seat;
@@ -43,6 +44,7 @@ pub use laws::{
     handed_back_packets_end_their_lives, items_step_few_inputs,
     lives_are_current_where_links_are_up, lives_have_no_gap, offers_are_their_own_answers,
 };
+pub use limit_values::limits_have_their_values;
 pub use relation::{cut_links_go_down, serving_is_the_relation};
 pub use rows::LinkRow;
 pub use seat::BareSeat;

@@ -170,7 +170,7 @@ impl LinkSlot {
         self.parts.restart(end, torn);
     }
 
-    /// Records a packet of the peer that the node's core stepped, with its session.
+    /// Records a packet that the node's core took from the peer, with its session.
     pub fn note_step(&mut self, life: Life, packet: Packet)
         requires { length self.old.steps < self.old.step_room }
         ensures { self.new ≡ record self.old { steps = self.old.steps ++ record { life = life; packet = packet } ∷ [] } }

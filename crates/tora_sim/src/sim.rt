@@ -16,8 +16,8 @@ use tora_core::Sends;
 use tora_frame::Packets;
 use tora_height::Id;
 
-/// Memory of a step, which means nothing between two steps. With new buffers for each step, 500 moving nodes would take a
-/// third more instructions.
+/// Memory of a step, which means nothing between two steps. It is kept because filling new buffers for each step takes
+/// time.
 #[derive(Drop)]
 pub(crate) struct Buffers {
     /// The packets of the frame that is being sent.

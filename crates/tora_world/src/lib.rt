@@ -4,6 +4,7 @@
 mod call;
 mod event;
 mod laws;
+mod limit_values;
 mod limits;
 mod rest;
 mod sim_error;
@@ -16,6 +17,7 @@ pub use laws::{
     only_needs_are_refused, prefix_law, simulator_runs_are_free_runs, worked_events_hold,
     worked_free_events_hold, worked_schedules_hold,
 };
+pub use limit_values::limits_have_their_values;
 pub use limits::{GREATEST_NODES, Limits, MOST_NODES};
 pub use rest::{
     entries_at_rest_are_heights, rest_is_computed, routes_at_rest_arrive, walks_at_rest_go_down,

@@ -1,0 +1,13 @@
+//! The values of the limits of a link end: other contracts cite the limits by name.
+ghost use Rattle.std.specs.Prelude.{◌≡◌};
+ghost use Rattle.tora_arq.specs.declared.TheConstants.{WINDOW, QUEUE_PLACES, EVENT_PLACES, PLACES_OF_A_FRAME};
+ghost use Rattle.tora_arq.specs.declared.times.TheConstants.Times.{STANDARD};
+
+/// The limits have these values.
+pub fn limits_have_their_values()
+    ensures window { WINDOW ≡ 32 }
+    ensures queue_places { QUEUE_PLACES ≡ 256 }
+    ensures event_places { EVENT_PLACES ≡ 64 }
+    ensures places_of_a_frame { PLACES_OF_A_FRAME ≡ 34 }
+    ensures standard { STANDARD ≡ record { hello = 10, silent = 50, retry = 5, tries = 8 } }
+{}

@@ -1,0 +1,15 @@
+//! The values of the limits of life files: other contracts cite the limits by name.
+ghost use Rattle.std.specs.Prelude.{◌≡◌, ◌^◌};
+ghost use Rattle.tora_life.specs.declared.lengths.TheConstants.{SLOT_LENGTH, SLOTS_LENGTH, FILE_LENGTH, FIRST_READ, DISK_LENGTH};
+ghost use Rattle.tora_life.specs.declared.numbers.TheConstants.{LAST_NUMBER, RESERVED};
+
+/// The limits have these values.
+pub fn limits_have_their_values()
+    ensures slot_length { SLOT_LENGTH ≡ 16 }
+    ensures slots_length { SLOTS_LENGTH ≡ 32 }
+    ensures file_length { FILE_LENGTH ≡ 64 }
+    ensures first_read { FIRST_READ ≡ 65 }
+    ensures disk_length { DISK_LENGTH ≡ 80 }
+    ensures last_number { LAST_NUMBER ≡ 2 ^ 62 }
+    ensures reserved { RESERVED ≡ 16 }
+{}
