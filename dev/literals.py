@@ -23,6 +23,7 @@ DECLARED = re.compile(r"\s*(pub(\(\w+\))? )?const \w+: [^=]+ = ")
 WORDS = {2**n + d for n in (16, 32, 63, 64, 68) for d in (-1, 0)}
 REASONS = [
     ("the range of a machine word", WORDS, r"", r""),
+    ("the value of a limit, in the law that fixes it", None, r"/src/limit_values", r""),
     ("a value of an example", None, r"/specs/Worked", r""),
     ("a value of an example", {10, 17, 50}, r"^(arq/src/facts|world/src/laws)", r"worked|STANDARD|second_life|binding"),
     ("the code of a character: LF, blank, comma, minus, dot, the digit 0", {10, 32, 44, 45, 46, 48},

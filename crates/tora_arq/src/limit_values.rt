@@ -9,5 +9,5 @@ pub fn limits_have_their_values()
     ensures queue_places { QUEUE_PLACES ≡ 256 }
     ensures event_places { EVENT_PLACES ≡ 64 }
     ensures places_of_a_frame { PLACES_OF_A_FRAME ≡ 34 }
-    ensures standard { STANDARD ≡ record { hello = 10, silent = 50, retry = 5, tries = 8 } }
+    ensures standard { STANDARD ≡ record { hello = 10; silent = 50; retry = 5; tries = 8 } }
 {}

@@ -20,6 +20,7 @@ mod core_node;
 mod core_readers;
 mod handle;
 mod heights;
+mod limit_values;
 mod router_calls;
 mod router_handle;
 mod router_parts;
