@@ -1,7 +1,9 @@
 //! The values of the codes, which `include/tora.h` has, too: contracts cite the codes by name.
 ghost use Rattle.std.specs.Prelude.{◌≡◌};
-ghost use Rattle.tora_c.specs.declared.codes.TheConstants.{OK, MEMORY, TOO_MANY, REPEATED, OWN_ID, NULL, ZERO, CHOICE, ABSENT};
-ghost use Rattle.tora_c.specs.declared.codes.TheConstants.{ROOM, UNKNOWN, UNKNOWN_NEIGHBOUR, LIFE, REFUSED, NO_PACKET, NO_FRAME, NO_NEIGHBOUR};
+ghost use Rattle.tora_c.specs.declared.codes.TheConstants.{OK, MEMORY, TOO_MANY, REPEATED, OWN_ID, NULL, ZERO};
+ghost use Rattle.tora_c.specs.declared.codes.TheConstants.{CHOICE, ABSENT};
+ghost use Rattle.tora_c.specs.declared.codes.TheConstants.{ROOM, UNKNOWN, UNKNOWN_NEIGHBOUR, LIFE, REFUSED};
+ghost use Rattle.tora_c.specs.declared.codes.TheConstants.{NO_PACKET, NO_FRAME, NO_NEIGHBOUR};
 ghost use Rattle.tora_c.specs.declared.TheConstants.{ABI_VERSION};
 
 /// The codes have these values.

@@ -1,6 +1,7 @@
 //! The values of the limits of life files: other contracts cite the limits by name.
 ghost use Rattle.std.specs.Prelude.{◌≡◌, ◌^◌};
-ghost use Rattle.tora_life.specs.declared.lengths.TheConstants.{SLOT_LENGTH, SLOTS_LENGTH, FILE_LENGTH, FIRST_READ, DISK_LENGTH};
+ghost use Rattle.tora_life.specs.declared.lengths.TheConstants.{SLOT_LENGTH, SLOTS_LENGTH, FILE_LENGTH, FIRST_READ};
+ghost use Rattle.tora_life.specs.declared.lengths.TheConstants.{DISK_LENGTH};
 ghost use Rattle.tora_life.specs.declared.numbers.TheConstants.{LAST_NUMBER, RESERVED};
 
 /// The limits have these values.
