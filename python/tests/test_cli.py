@@ -138,7 +138,7 @@ def test_reports_of_the_comparison(capsys: pytest.CaptureFixture[str]) -> None:
     where = ["--where", "nodes=50", "--where", "flows=10"]
     runs = told(capsys, "summary", PROVED, *where, "--report", "runs")[1]
     assert "| AODV | 0 m/s | 20 | 0.990 [" in runs and "| TORA:notice=1,waits=1 | 20 m/s | 20 | 0.898 [" in runs and "scipy.stats.bootstrap" in runs
-    aims = told(capsys, "summary", PROVED, *where, "--report", "aims")[1]
+    aims = told(capsys, "summary", PROVED, *where, "--report", "aims", "--tora", "TORA:notice=1,waits=1")[1]
     assert "| TORA:notice=1,waits=1 | 20 m/s | 20 | -0.64 [" in aims and "] | open | 1.19 [" in aims and "| mean of the 5 speeds | 20 | 2.28 [" in aims
     losses = told(capsys, "summary", PROVED, *where, "--report", "losses")[1]
     assert "| the radio gave it up | 14047 | 37571 | 61765 | 5512 |" in losses

@@ -31,7 +31,7 @@ def test_judged() -> None:
 
 def test_aims_by_hand() -> None:
     """Pairs of one seed and speed; each pair differs by the same, so that there is no interval and nothing is judged."""
-    lines = report(table(), "aims")
+    lines = report(table(), "aims", "TORA:notice=1,waits=1")
     assert lines[4] == "| TORA:notice=1,waits=1 | 0 m/s | 6 | 2.00 | - | 2.00 | - | 6 | 1.00 | - |"
     assert lines[6].startswith("| TORA:notice=1,waits=1 | mean of the 2 speeds | 6 | 2.00 |")
 

@@ -228,7 +228,7 @@ def _add_summary(words: argparse._SubParsersAction[Parser]) -> None:
     added.add_argument("--report", action=Once, choices=["runs", "aims", "losses"], help="a table of the ns-3 comparison in Markdown")
     added.add_argument(
         "--tora", metavar="NAME", action=Once, type=text,
-        help="with --report aims: the protocol that is compared with AODV and OLSR (TORA:notice=1,waits=1)",
+        help="with --report aims: the protocol that is compared with AODV and OLSR (TORA)",
     )
     added.add_argument("--format", action=Once, choices=["text", "csv", "markdown"], default="text", help="(text)")
     add_output(added, "write to a file")

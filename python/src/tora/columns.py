@@ -20,6 +20,16 @@ STUDY_DESIGN = (
 COMPARISON_DESIGN = "protocol nodes speed flows".split()
 REST_DESIGN = "erasure nodes delay_most".split()
 
+#: The units of columns of a design, for the axis of a plot.
+UNITS = {
+    **dict.fromkeys("speed speed_least speed_most mean_speed speed_deviation".split(), "m/s"),
+    **dict.fromkeys("width height range safety_distance".split(), "m"),
+    **dict.fromkeys("pause settle interval".split(), "s"),
+    **dict.fromkeys("hello_ticks silence_ticks retry_ticks hop_ticks".split(), "ticks of 100 ms"),
+    **dict.fromkeys("delay_least delay_most".split(), "rounds of 100 ms"),
+    "acceleration": "m/s²",
+}
+
 #: Columns that say which file a run had: neither design nor measure.
 IDENTITIES = ("channel_file",)
 
@@ -58,7 +68,7 @@ MEASURES = {
     for measure in [
         *_shares("contact_kept", "share of contact time kept"),
         *_shares("connected", "share of rounds and flows with a path"),
-        *_shares("available", "share of these in which the route works"),
+        *_shares("available", "share of rounds with a path: route works"),
         *_shares("stale no_hop looping", "share of rounds with a path: {}"),
         *_shares("unavailable", "share in which the route does not work"),
         *_shares("delivery_ratio delivery", "data packets delivered / sent"),

@@ -25,7 +25,7 @@ LOST = (
     ("TORA: it waited too long", "lost_late"),
     ("it waits at the end, or was dropped without a word", "lost_other"),
 )
-TORA = "TORA:notice=1,waits=1"  # the protocol beside AODV and OLSR, where none is told
+TORA = "TORA"  # the protocol beside AODV and OLSR, where none is told
 POINTS = -2.0  # of delivery below AODV's at most
 TIMES = {20.0: 3.0, 50.0: 5.0}  # by nodes: control bytes by AODV's at most
 TOLD = f"means over seeds and their 95 % intervals: {METHODS['bca']}; none for fewer than {stats.FEWEST} runs, or where all are equal"

@@ -17,7 +17,7 @@ from matplotlib.axes import Axes
 from matplotlib.figure import Figure
 
 from tora import stats
-from tora.columns import measure_of
+from tora.columns import UNITS, measure_of
 from tora.errors import UsageError
 from tora.files import Path, write_file
 from tora.summary import Summary, keys_of
@@ -174,7 +174,7 @@ def mark_places(panel: Axes, table: Table, by: str) -> None:
     places = sorted(set(table.frame[by]))
     if len(places) <= 10:
         panel.set_xticks(places, [f"{place:g}" for place in places])
-    panel.set_xlabel(by)
+    panel.set_xlabel(f"{by}, {UNITS[by]}" if by in UNITS else by)
 
 
 @styled
