@@ -13,12 +13,15 @@ chromium-driver and python3-selenium. Exit status: 0 if all is made or agrees; 1
 wrong usage.
 """
 import argparse
+import csv
 import os
 import pathlib
 import re
 import subprocess
 import sys
 import tempfile
+
+import pandas as pd
 
 TOP = pathlib.Path(__file__).resolve().parents[1]
 DOCS = TOP / "docs"
@@ -36,7 +39,6 @@ STORED = DOCS / "studies"
 MARK = re.compile(r"<!-- made: (\S+) -->")
 SIZES = {"20-5": (20, 5), "20-10": (20, 10), "50-5": (50, 5), "50-10": (50, 10)}  # of the comparison: nodes and flows
 NOTICE, WAITS = "TORA:notice=1", "TORA:notice=1,waits=1"
-PROTOCOLS = {"20-5": ("TORA", NOTICE, WAITS)}  # that are judged, where it is not WAITS alone
 GROWTH = ("unavailable", "rounds_lost_by_outage", "restore_median", "control", "control_per_delivered", "hops_mean")
 
 
@@ -83,11 +85,8 @@ def fixed(digits):
 def whole(kind, size):
     """A table that the package makes whole."""
     nodes, flows = SIZES[size]
-    held = table("ns3-proved", nodes=nodes, flows=flows)
-    if kind != "aims":
-        return report(held, kind)[2:]
-    parts = [report(held, "aims", tora)[2:] for tora in PROTOCOLS.get(size, (WAITS,))]
-    return parts[0][:2] + [line for part in parts for line in part[2:]]
+    held = table("ns3-whole", nodes=nodes, flows=flows)
+    return report(held, kind, "TORA")[2:] if kind == "aims" else report(held, kind)[2:]
 
 
 def beside(tora, other):
@@ -105,10 +104,9 @@ def beside(tora, other):
     return [rows[speed] for speed in sorted(rows)]
 
 
-def across(size, measure, digits):
+def across(nodes, flows, measure, digits, of="ns3-whole"):
     """A measure of the comparison: a line for each protocol, a column for each greatest speed."""
-    nodes, flows = SIZES[size]
-    held = table("ns3-proved", nodes=nodes, flows=flows).frame
+    held = table(of, nodes=nodes, flows=flows).frame
     speeds = sorted(held["speed"].unique())
     lines = [cells("protocol", *(f"{speed:g} m/s" for speed in speeds)), "|" + "---|" * (len(speeds) + 1)]
     for protocol, rows in sorted(held.groupby("protocol")):
@@ -117,19 +115,35 @@ def across(size, measure, digits):
     return lines
 
 
-BEFORE = {"TORA": ("ns3", "500 m, without notice"), WAITS.replace(",", ";"): ("ns3-proved", "500 m"),
-          WAITS.replace(",", ";") + ";erasure=remembered": ("sparse", "1,000 m, remembered")}
-
-
-def routers():
-    """The module with a router in each node beside the one before it, in pairs of runs: a line for each network and greatest speed."""
-    lines = [cells("side of the square", "greatest speed", "pairs", "delivery before", "delivery now", "control bytes, ratio"), "|" + "---|" * 6]
-    for (protocol, speed), now in table("ns3-routers").frame.groupby(["protocol", "speed"]):
-        name, label = BEFORE[protocol]
-        both = now.merge(table(name, protocol=protocol, nodes=20, flows=5).frame, on=["protocol", "speed", "seed"], suffixes=("", "_before"))
-        ratio = both["control_bytes"].sum() / both["control_bytes_before"].sum()
-        lines.append(cells(label, f"{speed:g} m/s", str(len(both)), f"{both['delivery_before'].mean():.3f}", f"{both['delivery'].mean():.3f}", f"{ratio:.2f}"))
+def times():
+    """The processor time and the greatest memory of a run: means by nodes, greatest speed and protocol, and times by OLSR's."""
+    with open(STORED / "ns3-times.csv", encoding="utf-8") as text:
+        rows = list(csv.DictReader(text))
+    lines = [cells("nodes", "greatest speed", "protocol", "runs", "processor time, s", "by OLSR's", "memory, MB"), "|" + "---|" * 7]
+    means = {}
+    for row in rows:
+        means.setdefault((int(row["nodes"]), float(row["speed"]), row["protocol"]), []).append((float(row["seconds"]), float(row["megabytes"])))
+    for (nodes, speed, protocol), held in sorted(means.items()):
+        seconds, megabytes = (sum(it[at] for it in held) / len(held) for at in (0, 1))
+        other = means[nodes, speed, "OLSR"]
+        ratio = seconds / (sum(it[0] for it in other) / len(other))
+        lines.append(cells(str(nodes), f"{speed:g} m/s", protocol, str(len(held)), f"{seconds:.1f}", f"{ratio:.2f}", f"{megabytes:.0f}"))
     return lines
+
+
+def older():
+    """The module beside the older one, in pairs of runs: a line for each size, number of flows and greatest speed."""
+    whole, before = table("ns3-whole"), table("ns3-proved", protocol=WAITS.replace(",", ";"))
+    both = Table(whole.path, pd.concat([whole.frame[whole.frame["protocol"] == "TORA"], before.frame], ignore_index=True), whole.design)
+    lines = [cells("nodes", "flows", "greatest speed", "pairs", "delivery, points", "control bytes, ratio"), "|" + "---|" * 6]
+    found = {}
+    for measure, ratio in (("delivery", False), ("control_bytes", True)):
+        for row in compare(both, {"protocol": WAITS.replace(",", ";")}, [measure], ratio=ratio).rows.to_dict("records"):
+            if row["protocol"] == "TORA":
+                scale = 1 if ratio else 100
+                told = interval(stats.Interval(*(scale * row[name] for name in ("value", "low", "high"))), 2)
+                found.setdefault((row["nodes"], row["flows"], row["speed"]), [str(row["pairs"])]).append(told)
+    return lines + [cells(f"{nodes:g}", f"{flows:g}", f"{speed:g} m/s", *found[nodes, flows, speed]) for nodes, flows, speed in sorted(found)]
 
 
 # ---- tables of sparse networks
@@ -281,9 +295,11 @@ SILENCE = {"available": 3, "stale": 3, "restore_median": 0, "restore_95": 0, "ro
            "hops_mean": 1}
 WITH_NOTICE = {"available": 3, "no_hop": 3, "looping": 3, "rounds_lost_by_outage": 0, "control_per_node": 1, "control_per_delivered": 2, "hops_mean": 1}
 WHOLE = {f"ns3-{size}-{kind}": (lambda kind=kind, size=size: whole(kind, size)) for size in SIZES for kind in ("runs", "aims", "losses")}
-WHOLE |= {f"ns3-{size}-delivery": (lambda size=size: across(size, "delivery", 3)) for size in SIZES}
-WHOLE |= {f"ns3-{size}-control_rate": (lambda size=size: across(size, "control_rate", 2)) for size in ("20-5", "50-10")}
-WHOLE |= {"ns3-routers": routers}
+WHOLE |= {f"ns3-{size}-delivery": (lambda of=of: across(*of, "delivery", 3)) for size, of in SIZES.items()}
+WHOLE |= {f"ns3-{size}-control_rate": (lambda size=size: across(*SIZES[size], "control_rate", 2)) for size in ("20-5", "50-10")}
+WHOLE |= {f"ns3-100-{measure}": (lambda measure=measure, digits=digits: across(100, 5, measure, digits, of="ns3-100"))
+          for measure, digits in (("delivery", 3), ("control_rate", 1))}
+WHOLE |= {"ns3-times": times, "ns3-older": older}
 WHOLE |= {"sparse-delivery": lambda: sparse("delivery_reachable", 1, 3), "sparse-bytes": lambda: sparse("control_bytes", 1000, 0),
           "sparse-most": lambda: sparse("control_most", 1000, 1), "sparse-erasures": erasures}
 WHOLE |= {"live-working": lambda: hosts("working_ms", 1, "down", "silent", "killed", "started again"),
@@ -413,8 +429,8 @@ PICTURES = {
     "notice.png": lambda: draw("notice", "notice"),
     "large.png": lambda: draw("large", "growth", measures=GROWTH),
     "ns3.png": lambda: draw("ns3", "comparison"),
-    **{f"ns3-{size}.png": (lambda size=size: draw(f"ns3-{size}", "comparison", of="ns3-proved", nodes=SIZES[size][0], flows=SIZES[size][1])) for size in SIZES},
-    "ns3-delivery.png": lambda: draw("ns3-delivery", "comparison", of="ns3-proved", measures=("delivery", "control_rate"), nodes=50, flows=5),
+    **{f"ns3-{size}.png": (lambda size=size: draw(f"ns3-{size}", "comparison", of="ns3-whole", nodes=SIZES[size][0], flows=SIZES[size][1])) for size in SIZES},
+    "ns3-delivery.png": lambda: draw("ns3-delivery", "comparison", of="ns3-whole", measures=("delivery", "control_rate"), nodes=50, flows=5),
     "live-mended.png": lambda: plots.write_picture(live.mended(live.read(STORED / "live.csv")), STORED / "live-mended.png", overwrite=True),
     "live-cost.png": lambda: plots.write_picture(live.cost(live.read(STORED / "live.csv")), STORED / "live-cost.png", overwrite=True),
     "storms.png": lambda: draw("storms", "storms"),

@@ -11,6 +11,7 @@ from pathlib import Path
 import pytest
 
 from conftest import REPOSITORY
+from tora import timed
 from tora.cli import main
 from tora.comparison_runs import parts_of, runs_of
 from tora.errors import UsageError
@@ -79,3 +80,12 @@ def test_workflow(tmp_path: Path, capsys: pytest.CaptureFixture[str]) -> None:
     assert "another one than that of the manifest" in capsys.readouterr().err
     again = subprocess.run([*words[:-6], "--config", "nodes=20 20", f"out={tmp_path}"], capture_output=True, text=True)
     assert again.returncode == 1 and "compare: nodes: 20 stands twice" in again.stderr
+
+
+def test_what_a_program_takes_is_written(tmp_path: Path) -> None:
+    """The status is the program's, and the file has two positive numbers."""
+    told = tmp_path / "told.tsv"
+    assert timed.main([str(told), sys.executable, "-c", "raise SystemExit(3)"]) == 3
+    head, row = told.read_text().splitlines()
+    assert head == "seconds\tmegabytes" and all(float(it) > 0 for it in row.split("\t"))
+    assert timed.main([str(told), sys.executable, "-c", "import os; os.kill(os.getpid(), 15)"]) == 128 + 15

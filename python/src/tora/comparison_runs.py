@@ -103,16 +103,16 @@ def write_table(config: dict[str, Any], compare: str) -> None:
 
 
 def write_times(config: dict[str, Any]) -> None:
-    """Writes ``times.csv`` in this folder: the processor time and the greatest memory of each run, as snakemake's benchmarks tell them."""
+    """Writes ``times.csv`` in this folder: the processor time and the greatest memory of each run, as `timed` wrote them."""
     runs, columns = runs_of(config), ("nodes", "speed", "flows", "seed")
     lines = [",".join(("protocol", *columns, "seconds", "megabytes"))]
     for name, told in runs.items():
         words = dict(word.removeprefix("--").split("=", 1) for word in told if "=" in word)
         with reading(f"times/{name}.tsv", "utf-8") as source:
             row = next(csv.DictReader(source, delimiter="\t"), {})
-        if not {"cpu_time", "max_rss"} <= row.keys():
-            raise StudyError("a benchmark of snakemake is needed, with cpu_time and max_rss", file=f"times/{name}.tsv")
-        lines.append(",".join((words["label"], *(words[it] for it in columns), row["cpu_time"], row["max_rss"])))
+        if not {"seconds", "megabytes"} <= row.keys():
+            raise StudyError("it has no line of seconds and megabytes", file=f"times/{name}.tsv")
+        lines.append(",".join((words["label"], *(words[it] for it in columns), row["seconds"], row["megabytes"])))
     write_files({"times.csv": "\n".join([*lines, ""])}, overwrite=True)
 
 
