@@ -148,7 +148,7 @@ def older():
 
 # ---- tables of sparse networks
 
-PLAIN, REMEMBERED = (f"TORA:notice=1;waits=1;erasure={word}" for word in ("plain", "remembered"))
+PLAIN, REMEMBERED = "TORA:erasure=plain", "TORA"
 SHORT = {PLAIN: "TORA, plain", REMEMBERED: "TORA, remembered"}
 
 

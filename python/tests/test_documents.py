@@ -23,7 +23,7 @@ def commands(name: str) -> list[str]:
         variables = dict(re.findall(r'^(\w+)="(.*)"$', block, re.MULTILINE))
         for line in block.replace("\\\n", " ").splitlines():
             for part in line.split(" && "):
-                if part.strip().startswith("python/tora-study "):
+                if part.strip().startswith(("python/tora-study ", "tora-study ")):
                     found.append(re.sub(r"\$(\w+)", lambda it: variables[it[1]], part.strip()))
     return found
 
