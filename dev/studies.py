@@ -85,8 +85,7 @@ def fixed(digits):
 def whole(kind, size):
     """A table that the package makes whole."""
     nodes, flows = SIZES[size]
-    held = table("ns3-whole", nodes=nodes, flows=flows)
-    return report(held, kind, "TORA")[2:] if kind == "aims" else report(held, kind)[2:]
+    return report(table("ns3-whole", nodes=nodes, flows=flows), kind)[2:]
 
 
 def beside(tora, other):

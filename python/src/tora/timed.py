@@ -10,6 +10,9 @@ import sys
 
 def main(words: list[str]) -> int:
     """Runs the program of the words after the first, which names the file."""
+    if len(words) < 2:
+        print("timed: it takes the name of a file and then a program with its words", file=sys.stderr)
+        return 2
     path, *command = words
     _, status, used = os.wait4(os.spawnvp(os.P_NOWAIT, command[0], command), 0)
     with open(path, "w", encoding="utf-8") as out:
