@@ -10,16 +10,16 @@ use log::{LevelFilter, Logged};
 use std::io;
 use std::io::{BufWriter, IsTerminal};
 use std::process::ExitCode;
+use tora_commands::drive_command::DriveWords;
 use tora_commands::{
-    LogLines, MEMORY, SetupWords, USAGE, command, drive_command, key_command, node_command,
+    LogLines, MEMORY, SetupWords, Shown, USAGE, command, drive_command, key_command, node_command,
     record_command, replay_command, simulate_file, stop, usage,
 };
 pub use tora_lines::{Ended, ReplayError, numbers_are_read_as_printed};
-pub use tora_replay::{
-    fault_is_the_first, first_lines_are_read_as_written, lines_are_read_as_written, replay,
-};
 pub use tora_script::{
-    Simulator, simulate_in, simulation_fault_is_the_first, simulation_lines_are_read_as_written,
+    Simulator, replay, replay_fault_is_the_first, replay_first_lines_are_read_as_written,
+    replay_lines_are_read_as_written, simulate_in, simulation_fault_is_the_first,
+    simulation_lines_are_read_as_written,
 };
 pub use tora_simulate::{simulate, simulate_with};
 
@@ -49,7 +49,11 @@ fn setup_words<'a>(sim: &'a ArgMatches<'_>) -> SetupWords<'a> {
 fn simulate_to_output(rt: &HostRuntime, sim: &ArgMatches<'_>, is_verbose: bool) -> ExitCode {
     let path = sim.get_str("FILE").unwrap_or("");
     let has_bar = sim.get_flag("progress") && rt.stderr().is_terminal();
-    let (trace, shown) = (sim.get_str("trace"), (is_verbose, has_bar));
+    let trace = sim.get_str("trace");
+    let shown = Shown {
+        is_verbose,
+        has_bar,
+    };
     let Ok(mut writer) = BufWriter::new(rt.alloc(), io::writer(rt)) else {
         return stop(rt, MEMORY, "memory");
     };
@@ -59,13 +63,14 @@ fn simulate_to_output(rt: &HostRuntime, sim: &ArgMatches<'_>, is_verbose: bool) 
 /// Drives a world by the lines of standard input, and records it if a path for the record is given.
 fn drive_input(rt: &HostRuntime, drive: &ArgMatches<'_>) -> ExitCode {
     let mut writer = io::writer(rt);
-    let (times, erasure) = (drive.get_str("times"), drive.get_str("erasure"));
-    let is_large = drive.get_flag("large");
+    let words = DriveWords {
+        times: drive.get_str("times"),
+        erasure: drive.get_str("erasure"),
+        is_large: drive.get_flag("large"),
+    };
     match drive.get_str("record") {
-        None => drive_command::run(rt, times, erasure, is_large, rt.stdin(), &mut writer),
-        Some(path) => {
-            record_command::run(rt, times, erasure, is_large, path, rt.stdin(), &mut writer)
-        }
+        None => drive_command::run(rt, words, rt.stdin(), &mut writer),
+        Some(path) => record_command::run(rt, words, path, rt.stdin(), &mut writer),
     }
 }
 

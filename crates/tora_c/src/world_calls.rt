@@ -11,6 +11,7 @@ use crate::router_parts::{TimesParts, times_of};
 use crate::world_handle::WorldHandle;
 use crate::world_node::{WorldNode, options_of};
 use std::alloc::Global;
+use tora_drive::DriveSetup;
 
 /// Replaces the world at `world` by a new one that has taken no line.
 #[unsafe(no_mangle)]
@@ -23,7 +24,7 @@ pub extern "C" fn tora_world_new(
 ) -> u32
     ensures made { result ≡ OK →
         MatchOption (options_of limits erasure) ⊥
-        (λ o. held_world world.new.held ≡ Some (first_world o (times_of times.now))) }
+        (λ o. held_world world.new.held ≡ Some (first_world (record { options = o; times = times_of times.now }))) }
     ensures kept { ¬ (result ≡ OK) → world.new.held ≡ world.old.held }
     ensures code { MatchOption (options_of limits erasure) (result ≡ CHOICE)
         (λ _. (result ≡ OK) ⊎ (result ≡ MEMORY)) }
@@ -31,7 +32,11 @@ pub extern "C" fn tora_world_new(
     let Some(options) = options_of(limits, erasure) else {
         return CHOICE;
     };
-    let node = WorldNode::new(alloc, options, times_of(times));
+    let setup = DriveSetup {
+        options,
+        times: times_of(times),
+    };
+    let node = WorldNode::new(alloc, setup);
     match boxed(alloc, node) {
         Ok(node) => {
             world.put(alloc, node);

@@ -6,8 +6,7 @@ ghost use Rattle.tora_c.specs.WorldHeld.{after_line, anew, first_world, limits_o
 use crate::codes::{MEMORY, OK};
 use crate::core_node::erasure_of;
 use std::alloc::Global;
-use tora_arq::Times;
-use tora_drive::Drive;
+use tora_drive::{Drive, DriveSetup};
 use tora_script::WorldOptions;
 use tora_sim::Sim;
 use tora_world::Limits;
@@ -43,12 +42,12 @@ pub fn options_of(limits: u32, erasure: u32) -> Option<WorldOptions>
 
 impl WorldNode {
     /// A world that has taken no line.
-    pub fn new(alloc: Global, options: WorldOptions, times: Times) -> WorldNode
-        requires { IsTimes times }
-        ensures { world_view result ≡ first_world options times }
+    pub fn new(alloc: Global, setup: DriveSetup) -> WorldNode
+        requires { IsTimes setup.times }
+        ensures { world_view result ≡ first_world setup }
     {
         WorldNode {
-            drive: Drive::new(alloc, options, times),
+            drive: Drive::new(alloc, setup),
             answer: String::new(alloc),
         }
     }

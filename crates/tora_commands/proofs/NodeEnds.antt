@@ -5,9 +5,9 @@ use Rattle.std.specs.Prelude.{IfOk, Some, replicate}
 use Rattle.std.specs.declared.io.Error.{Error}
 use Rattle.toml.specs.Data.{Members}
 use Rattle.toml.specs.Parse.{parse_document}
-use Rattle.tora_config.specs.Ways.{said_way, ways_in}
-use Rattle.tora_config.specs.declared.NodeConfig.{NodeConfig}
-use Rattle.tora_config.specs.declared.ways.LinkWay.{LinkWay}
+use Rattle.tora_commands.specs.ConfigEndpoints.{said_endpoint, endpoints_in}
+use Rattle.tora_commands.specs.declared.configuration.NodeConfig.{NodeConfig}
+use Rattle.tora_commands.specs.declared.configuration.endpoints.LinkEndpoint.{LinkEndpoint}
 use Rattle.tora_simulate.specs.Paths.{IsRead}
 use Rattle.tora_core.specs.CoreRun.{CoreView}
 use Rattle.tora_life.specs.declared.numbers.LifeError.{LifeError}
@@ -15,14 +15,14 @@ use Rattle.tora_neighbour.specs.declared.wire.WireError.{WireError}
 use Rattle.tora_node.specs.NodeRuns.{EndedView}
 use Rattle.tora_node.specs.WholeRuns.{NodeAnswers}
 use Rattle.tora_node.specs.declared.fault.NodeError.{NodeError}
-use Rattle.tora_commands.specs.Statuses.{EndsNode, HasNoKey, HasNoWays, HasWays, IsConfigOf, IsConfigured, IsNoConfig, IsRefused, IsUnconfigured, IsUneven, IsUnstarted, RanAndEnded, status_of_node}
+use Rattle.tora_commands.specs.Statuses.{EndsNode, HasNoKey, HasNoEndpoints, HasEndpoints, IsConfigOf, IsConfigured, IsNoConfig, IsRefused, IsUnconfigured, IsUneven, IsUnstarted, RanAndEnded, status_of_node}
 use Rattle.tora_node.specs.declared.fault.NodeError.TheVariants.{Memory as NoRoom}
 
--- as many items were made as there are ways
-pub ways_had : {K E : Type 0} (text : List ℕ) (ways : List LinkWay) (count : K → ℕ) (made : Result K E) → ((table : Members) → parse_document text ≡ Some table → ways_in table ≡ Ok (map said_way ways))
-    → IfOk made (λ k. count k ≡ length ways) → IfOk made (λ k. HasWays text (count k))
-ways_had text ways count (Ok k) exact is = record { ways = map said_way ways; exact = exact; count_is = length-map ways said_way ∙ sym is }
-ways_had text ways count (Err e) exact is = search rules
+-- as many items were made as there are endpoints
+pub endpoints_had : {K E : Type 0} (text : List ℕ) (endpoints : List LinkEndpoint) (count : K → ℕ) (made : Result K E) → ((table : Members) → parse_document text ≡ Some table → endpoints_in table ≡ Ok (map said_endpoint endpoints))
+    → IfOk made (λ k. count k ≡ length endpoints) → IfOk made (λ k. HasEndpoints text (count k))
+endpoints_had text endpoints count (Ok k) exact is = record { endpoints = map said_endpoint endpoints; exact = exact; count_is = length-map endpoints said_endpoint ∙ sym is }
+endpoints_had text endpoints count (Err e) exact is = search rules
 
 -- one more copy of the same value
 pub one_more_of : {C : Type 0} (n : ℕ) (clock : C) (all : List C) → all ≡ replicate n clock → all ++ clock ∷ [] ≡ replicate (n + 1) clock
@@ -33,8 +33,8 @@ module _ {R : Type 0} (did_open : List ℕ → Result R Error → Type 0) where
   by_config text status (inl fault) = inl fault
   by_config text status (inr memory) = inr (inr (inr (inr memory)))
 
-  pub by_ways : (text : List ℕ) (status : ℕ) → HasNoWays text status ⊎ (HasNoKey did_open status ⊎ (status ≡ 5)) → IsRefused did_open text status
-  by_ways text status fault = inr (inr fault)
+  pub by_endpoints : (text : List ℕ) (status : ℕ) → HasNoEndpoints text status ⊎ (HasNoKey did_open status ⊎ (status ≡ 5)) → IsRefused did_open text status
+  by_endpoints text status fault = inr (inr fault)
 
   pub by_count : (text : List ℕ) (config : NodeConfig) (status : ℕ) → IsConfigOf text config → IsUneven text config status → IsRefused did_open text status
   by_count text config status says uneven = inr (inl (config, says, uneven))

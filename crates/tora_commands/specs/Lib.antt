@@ -1,5 +1,13 @@
 pub mod ChannelFiles
+pub mod ConfigAddresses
+pub mod ConfigFaultText
+pub mod ConfigNumbers
+pub mod ConfigReading
+pub mod ConfigReasonText
+pub mod ConfigRefusal
+pub mod ConfigEndpoints
 pub mod Driving
+pub mod NodeConfig
 pub mod SetupWords
 pub mod Statuses
 pub mod TimesWord

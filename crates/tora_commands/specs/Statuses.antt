@@ -4,12 +4,12 @@ use Rattle.std.specs.declared.io.Error.{Error}
 use Rattle.toml.specs.Data.{Members}
 use Rattle.toml.specs.Parse.{parse_document}
 use Rattle.tora_core.specs.CoreRun.{CoreView, first_core_of}
-use Rattle.tora_config.specs.NodeConfig.{IsNodeConfig, IsWritten, peers_of}
-use Rattle.tora_config.specs.Reading.{Fails, IsNoToml, Reads, configuration_in}
-use Rattle.tora_config.specs.Ways.{WaySaid, ways_in}
-use Rattle.tora_config.specs.declared.NodeConfig.{NodeConfig}
-use Rattle.tora_config.specs.declared.fault.ConfigError.{ConfigError}
-use Rattle.tora_config.specs.declared.fault.ConfigError.TheVariants.{Memory as NoRoom}
+use Rattle.tora_commands.specs.NodeConfig.{IsNodeConfig, IsWritten, peers_of}
+use Rattle.tora_commands.specs.ConfigReading.{Fails, IsNoToml, Reads, configuration_in}
+use Rattle.tora_commands.specs.ConfigEndpoints.{EndpointSaid, endpoints_in}
+use Rattle.tora_commands.specs.declared.configuration.NodeConfig.{NodeConfig}
+use Rattle.tora_commands.specs.declared.configuration.fault.ConfigError.{ConfigError}
+use Rattle.tora_commands.specs.declared.configuration.fault.ConfigError.TheVariants.{Memory as NoRoom}
 use Rattle.tora_life.specs.declared.disk.Disk as Disk
 use Rattle.tora_neighbour.specs.declared.clock.Clock as Clock
 use Rattle.tora_neighbour.specs.declared.wire.Wire as Wire
@@ -64,23 +64,23 @@ pub record IsNoConfig (text : List ℕ) (status : ℕ) : Type 0 where
   pub syntax : parse_document text ≡ None → IsNoToml {X = NodeConfig} (Err error)
   pub status_is : status ≡ 1
 
--- `read_ways` returns this error for the text.
-pub record HasNoWays (text : List ℕ) (status : ℕ) : Type 0 where
+-- `read_endpoints` returns this error for the text.
+pub record HasNoEndpoints (text : List ℕ) (status : ℕ) : Type 0 where
   pub error : ConfigError
   pub is : IsFaulty error
-  pub exact : (table : Members) → parse_document text ≡ Some table → Fails error (ways_in table)
+  pub exact : (table : Members) → parse_document text ≡ Some table → Fails error (endpoints_in table)
   pub status_is : status ≡ 1
 
--- `read_ways` returns this many ways from the text.
-pub record HasWays (text : List ℕ) (count : ℕ) : Type 0 where
-  pub ways : List WaySaid
-  pub exact : (table : Members) → parse_document text ≡ Some table → ways_in table ≡ Ok ways
-  pub count_is : length ways ≡ count
+-- `read_endpoints` returns this many endpoints from the text.
+pub record HasEndpoints (text : List ℕ) (count : ℕ) : Type 0 where
+  pub endpoints : List EndpointSaid
+  pub exact : (table : Members) → parse_document text ≡ Some table → endpoints_in table ≡ Ok endpoints
+  pub count_is : length endpoints ≡ count
 
--- There are not as many ways as links.
+-- There are not as many endpoints as links.
 pub record IsUneven (text : List ℕ) (config : NodeConfig) (status : ℕ) : Type 0 where
   pub count : ℕ
-  pub ways : HasWays text count
+  pub endpoints : HasEndpoints text count
   pub uneven : count ≢ length config.links.items
   pub status_is : status ≡ 1
 
@@ -97,7 +97,7 @@ abbrev pub IsRefused : {R : Type 0} → (List ℕ → Result R Error → Type 0)
 IsRefused did_open text status =
     IsNoConfig text status
     ⊎ (((config : NodeConfig) × IsConfigOf text config × IsUneven text config status)
-    ⊎ (HasNoWays text status ⊎ (HasNoKey did_open status ⊎ (status ≡ 5))))
+    ⊎ (HasNoEndpoints text status ⊎ (HasNoKey did_open status ⊎ (status ≡ 5))))
 
 -- Opening or reading the file at a path gave an error, or its text is refused.
 abbrev pub IsUnconfigured : {R : Type 0} → (List ℕ → Result R Error → Type 0) → (R → Result (List ℕ) Error → Type 0)

@@ -17,12 +17,20 @@ use crate::{INPUT, SetupFault, USAGE, asked_times, status, stop};
 use std::alloc::Global;
 use std::io;
 use std::process::ExitCode;
-use tora_arq::Times;
-use tora_drive::{Driven, drive_in};
+use tora_drive::{DriveSetup, Driven, drive_in};
 use tora_lines::{Ended, Input, Output, ReplayError, flushed};
-use tora_script::WorldOptions;
 use tora_sim::Sim;
 use tora_simulate::{Recent, write_through};
+
+/// The words after the options of `tora drive`; `None` for an option that is not given.
+#[derive(Clone, Copy)]
+pub struct DriveWords<'a> {
+    pub times: Option<&'a str>,
+    /// The choice of erasure of the nodes.
+    pub erasure: Option<&'a str>,
+    /// Whether `--large` is given.
+    pub is_large: bool,
+}
 
 /// Writes the greeting `tora drive 1`, then flushes the writer.
 pub(crate) fn greet<W: Output>(writer: &mut W) -> io::Result<()>
@@ -35,35 +43,33 @@ pub(crate) fn greet<W: Output>(writer: &mut W) -> io::Result<()>
 /// Runs `tora drive`, then flushes the writer. The error is `Write` if only the flush fails.
 fn drive_and_flush<S: Driven, R: Input, W: Output>(
     alloc: Global,
-    options: WorldOptions,
-    times: Times,
+    setup: DriveSetup,
     reader: &mut R,
     writer: &mut W,
 ) -> Result<Ended, ReplayError>
-    requires { IsTimes times }
+    requires { IsTimes setup.times }
     ensures whole { IfOk result (λ ended. IfSome (R.remaining reader.old) (λ input.
-        Drives options times input (W.contents writer.old) (W.contents writer.new) ended)) }
+        Drives setup input (W.contents writer.old) (W.contents writer.new) ended)) }
     ensures at_end { result ≡ Ok Ended.Whole → IsAtEnd (R.remaining reader.new) }
     ensures begun { IfErr result (λ e. e ≢ ReplayError.Write →
-        IsDriveBegun options times (R.remaining reader.old) (R.remaining reader.new) (W.contents writer.old)
+        IsDriveBegun setup (R.remaining reader.old) (R.remaining reader.new) (W.contents writer.old)
         (W.contents writer.new)) }
     ensures reads { IsReadSo R.did_read reader.old reader.new result }
     ensures flushed { IsFlushed W.did_write W.did_flush result writer.new }
 {
-    let result = drive_in::<S, R, W>(alloc, options, times, reader, writer);
+    let result = drive_in::<S, R, W>(alloc, setup, reader, writer);
     flushed(writer, result)
 }
 
-/// Drives a world with these options, whose link ends have these times.
+/// Drives a world with these settings.
 fn run_with<T: AllocGlobal + Eprint, R: Input + Drop, W: Output>(
     rt: &T,
-    options: WorldOptions,
-    times: Times,
+    setup: DriveSetup,
     reader: R,
     writer: &mut W,
 ) -> ExitCode
-    requires { IsTimes times }
-    ensures { EndsDrive options times R.remaining R.did_read W.contents W.did_write W.did_flush reader writer.old
+    requires { IsTimes setup.times }
+    ensures { EndsDrive setup R.remaining R.did_read W.contents W.did_write W.did_flush reader writer.old
         writer.new (exit_status result) }
 {
     match greet(writer) {
@@ -72,38 +78,36 @@ fn run_with<T: AllocGlobal + Eprint, R: Input + Drop, W: Output>(
     }
     let alloc = rt.alloc();
     let mut reader = Recent::new(alloc, reader);
-    let result = drive_and_flush::<Sim, Recent<R>, W>(alloc, options, times, &mut reader, writer);
+    let result = drive_and_flush::<Sim, Recent<R>, W>(alloc, setup, &mut reader, writer);
     tell(rt, &reader, result);
     status(rt, result)
 }
 
 /// Drives a world by the lines of a reader, and returns a status: 0 at the end of the input, 1 if reading or writing
-/// failed, 5 if memory ran out. `times` and `erasure` are words of the command line; if one is malformed, the command
-/// line is at fault (2), and nothing is written. `is_large` selects the greatest limits.
+/// failed, 5 if memory ran out. If the word for times or erasure is malformed, the command line is at fault (2), and
+/// nothing is written.
 ///
 /// The writer must pass on at once what is written, because the other program waits for it.
 pub fn run<T: AllocGlobal + Eprint, R: Input + Drop, W: Output>(
     rt: &T,
-    times: Option<&str>,
-    erasure: Option<&str>,
-    is_large: bool,
+    words: DriveWords<'_>,
     reader: R,
     writer: &mut W,
 ) -> ExitCode
-    ensures times { asked_times (option_map (λ w. w.now) times.entry) ≡ None
+    ensures times { asked_times (option_map (λ w. w.now) words.entry.times) ≡ None
         → (exit_status result ≡ 2) × (writer.new ≡ writer.old) }
-    ensures erasure { asked_options is_large (option_map (λ w. w.now) erasure.entry) ≡ None
+    ensures erasure { asked_options words.entry.is_large (option_map (λ w. w.now) words.entry.erasure) ≡ None
         → (exit_status result ≡ 2) × (writer.new ≡ writer.old) }
-    ensures ends { IfSome (asked_times (option_map (λ w. w.now) times.entry)) (λ t.
-        IfSome (asked_options is_large (option_map (λ w. w.now) erasure.entry)) (λ o.
-        EndsDrive o t R.remaining R.did_read W.contents W.did_write W.did_flush reader writer.old writer.new
-        (exit_status result))) }
+    ensures ends { IfSome (asked_times (option_map (λ w. w.now) words.entry.times)) (λ t.
+        IfSome (asked_options words.entry.is_large (option_map (λ w. w.now) words.entry.erasure)) (λ o.
+        EndsDrive (record { options = o; times = t }) R.remaining R.did_read W.contents W.did_write W.did_flush reader
+        writer.old writer.new (exit_status result))) }
 {
-    let Some(times) = asked_times(times) else {
+    let Some(times) = asked_times(words.times) else {
         return stop(rt, USAGE, SetupFault::Times.cause());
     };
-    let Some(options) = asked_options(is_large, erasure) else {
+    let Some(options) = asked_options(words.is_large, words.erasure) else {
         return stop(rt, USAGE, SetupFault::Erasure.cause());
     };
-    run_with(rt, options, times, reader, writer)
+    run_with(rt, DriveSetup { options, times }, reader, writer)
 }

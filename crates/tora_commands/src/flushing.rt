@@ -3,7 +3,7 @@ ghost use Rattle.std.specs.Prelude.{◌≡◌, ◌≢◌, Bool, Ok, IfOk, IfErr,
 ghost use Rattle.std.specs.Io.KnownBytes.{IsAtEnd, Keeps};
 ghost use Rattle.tora_arq.specs.Settings.{IsTimes};
 ghost use Rattle.tora_lines.specs.LineText.{fault_of};
-ghost use Rattle.tora_replay.specs.ReplayText.{first_fault_with, ReplaysWith, IsBegunWith};
+ghost use Rattle.tora_script.specs.ReplayText.{first_fault_with, ReplaysWith, IsBegunWith};
 ghost use Rattle.tora_script.specs.SimulationText.{first_simulation_fault, Simulates, IsSimulationBegun};
 ghost use Rattle.tora_lines.specs.Flushing.{after_flush};
 ghost use Rattle.tora_lines.specs.Reads.{IsReadSo};
@@ -13,8 +13,7 @@ use std::alloc::Global;
 use tora_arq::Times;
 use tora_core::Erasure;
 use tora_lines::{Ended, Input, Output, ReplayError, flushed};
-use tora_replay::replay_with;
-use tora_script::{Simulator, simulate_in, simulate_told};
+use tora_script::{Simulator, replay_with, simulate_in, simulate_told};
 
 /// Replays for a node with this choice of erasure, then flushes the writer. The error is `Write` if only the flush
 /// fails.

@@ -1,8 +1,8 @@
 //! The commands of the program `tora`, over any readers and writers, and their exit statuses.
 //!
 //! They are the command line (`command`), the replay of a reader (`replay_command`), the simulation of a file
-//! (`simulate_file`), and the running node (`node_command`). This crate does not use the program's standard input and
-//! output; `main` passes them in.
+//! (`simulate_file`), and the running node (`node_command`) with its configuration file (`configuration`). This crate
+//! does not use the program's standard input and output; `main` passes them in.
 #![tactic(auto)]
 
 ghost use Rattle.std.specs.Prelude.{◌≡◌, ◌≢◌, ◌⊎◌, [], true, None, is_ok, option_map, IfSome, IfOk, IfErr};
@@ -15,10 +15,12 @@ ghost use Rattle.tora_script.specs.Table.{lines_of};
 ghost use Rattle.tora_commands.specs.ChannelFiles.{IsTableFile, IsNoTable, IsTracePlace, EndsFiled};
 ghost use Rattle.tora_simulate.specs.Endings.{EndsSimulated};
 
+mod asked;
 mod bar;
 mod bar_command;
 mod channel_file;
 mod command_line;
+pub mod configuration;
 pub mod drive_command;
 mod flushing;
 mod hashing;
@@ -28,6 +30,7 @@ mod life_files;
 mod link_wires;
 mod log_lines;
 pub mod node_command;
+mod node_configuration;
 mod progress;
 pub mod record_command;
 pub mod replay_command;
@@ -35,6 +38,7 @@ mod setup_words;
 mod times_word;
 pub mod traced_command;
 
+pub use asked::{AskedSimulation, Shown};
 pub use bar::{Paced, Wiping};
 pub use channel_file::ChannelFile;
 use clap::error::ErrorKind;
@@ -47,7 +51,6 @@ use std::process::ExitCode;
 use std::time::Clock;
 pub use times_word::asked_times;
 use tora_lines::Output;
-use tora_script::Setup;
 use tora_sim::Sim;
 pub use tora_simulate::{
     INPUT, LIFE, MEMORY, SOCKET, USAGE, sim_command, simulate_telling_and_flush, status, stop,
@@ -100,44 +103,43 @@ fn asked_file<T: Paths + AllocGlobal + Eprint>(
     channel_file::channel_file(rt, path)
 }
 
-/// Simulates the lines of the file at a path with these settings and the channel file, and writes a trace if there is a
-/// path for one; with or without a bar.
+/// Simulates the lines of the file at a path as asked, and writes a trace if there is a path for one; with or without a
+/// bar.
 fn simulate_over<T: Paths + AllocGlobal + Eprint + Clock, W: Output>(
     rt: &T,
-    setup: Setup,
-    file: ChannelFile,
+    asked: AskedSimulation,
     path: &str,
     trace: Option<&str>,
-    shown: (bool, bool),
+    shown: Shown,
     writer: &mut W,
 ) -> ExitCode
-    requires { IsTimes setup.times }
+    requires { IsTimes asked.setup.times }
     ensures { EndsSimulated (T.did_open rt.now) (T.did_create rt.now) T.File.remaining T.did_get
-        (rules_with setup (lines_of file.table)) W.contents W.did_write W.did_flush path.now
+        (rules_with asked.setup (lines_of asked.file.table)) W.contents W.did_write W.did_flush path.now
         (option_map (λ t. t.now) trace.entry) writer.old writer.new (exit_status result) }
 {
-    let (is_verbose, has_bar) = shown;
+    let (is_verbose, has_bar) = (shown.is_verbose, shown.has_bar);
     match trace {
-        Some(trace) => {
-            let paths = (path, trace);
-            traced_command::run::<Sim, T, W>(rt, setup, file, paths, shown, writer)
+        Some(trace) => traced_command::run::<Sim, T, W>(rt, asked, path, trace, shown, writer),
+        None => {
+            let AskedSimulation { setup, file } = asked;
+            if has_bar {
+                bar_command::run::<Sim, T, W>(rt, setup, file.table, path, is_verbose, writer)
+            } else {
+                sim_command::run::<Sim, T, W>(rt, setup, file.table, path, is_verbose, writer)
+            }
         }
-        None if has_bar => {
-            bar_command::run::<Sim, T, W>(rt, setup, file.table, path, is_verbose, writer)
-        }
-        None => sim_command::run::<Sim, T, W>(rt, setup, file.table, path, is_verbose, writer),
     }
 }
 
 /// Simulates the lines of the file at a path with the settings that words of the command line ask for, and writes a
 /// trace if there is a path for one. If a word is malformed, or the channel file cannot be read, nothing is written.
-/// `shown` says whether standard error reports why events are refused, and whether it shows a bar.
 pub fn simulate_file<T: Paths + AllocGlobal + Eprint + Clock, W: Output>(
     rt: &T,
     words: SetupWords<'_>,
     path: &str,
     trace: Option<&str>,
-    shown: (bool, bool),
+    shown: Shown,
     writer: &mut W,
 ) -> ExitCode
     ensures usage { asked_by words.entry ≡ None → (exit_status result ≡ 2) × (writer.new ≡ writer.old) }
@@ -155,7 +157,10 @@ pub fn simulate_file<T: Paths + AllocGlobal + Eprint + Clock, W: Output>(
         Err(fault) => return refuse_setup(rt, fault),
     };
     match asked_file(rt, words.channel_file, trace) {
-        Ok(file) => simulate_over(rt, setup, file, path, trace, shown, writer),
+        Ok(file) => {
+            let asked = AskedSimulation { setup, file };
+            simulate_over(rt, asked, path, trace, shown, writer)
+        }
         Err(code) => code,
     }
 }

@@ -2,13 +2,13 @@
 ghost use Rattle.std.specs.Prelude.{◌≡◌, IfOk, IfErr, length};
 ghost use Rattle.tora_commands.specs.Statuses.{status_of_fault, IsUnstarted};
 
+use crate::configuration::LinkConfig;
 use crate::node_command::{Fault, say};
 use std::alloc::{AllocError, Global};
 use std::fs::File;
 use std::io::ErrorKind;
 use std::rt::Files;
 use std::{fs, io};
-use tora_config::LinkConfig;
 use tora_height::Id;
 use tora_life::{Disk, FileDisk, LifeError, Owner, Tag};
 use tora_simulate::tell_at;

@@ -1,9 +1,10 @@
 //! The wires of a node's links.
 ghost use Rattle.std.specs.Prelude.{◌≡◌, ◌⊎◌, IfOk, IfErr, IfSome, is_some, length, map};
-ghost use Rattle.tora_commands.specs.Statuses.{status_of_fault, HasWays, HasNoWays, HasNoKey, IsUnstarted};
+ghost use Rattle.tora_commands.specs.Statuses.{status_of_fault, HasEndpoints, HasNoEndpoints, HasNoKey, IsUnstarted};
 ghost use Rattle.tora_keyed.specs.Links.{over, cleared};
 ghost use Rattle.tora_neighbour.specs.WakingWire.{WireView};
 
+use crate::configuration::{ConfigError, LinkEndpoint, read_endpoints};
 use crate::key_file::key_at;
 use crate::node_command::{Fault, say};
 use log::Log;
@@ -14,17 +15,16 @@ use std::io::ErrorKind;
 use std::net::Net;
 use std::rt::Files;
 use std::time::Clock;
-use tora_config::{ConfigError, LinkWay, read_ways};
 use tora_keyed::{Key, LinkWire};
 use tora_neighbour::{NodeClock, SocketWaker, UnixClock, WakingWire};
 use tora_simulate::{Paths, tell_at};
 
 /// The addresses of a link, and its key: it has one exactly if it has a key file.
 #[derive(Drop)]
-pub(crate) struct KeyedWay {
-    way: LinkWay,
+pub(crate) struct KeyedEndpoint {
+    endpoint: LinkEndpoint,
     key: Option<Key>,
-    ghost keyed: { is_some key ≡ is_some way.key_file },
+    ghost keyed: { is_some key ≡ is_some endpoint.key_file },
 }
 
 /// The wire of a link of the program.
@@ -36,12 +36,12 @@ pub(crate) type ProgramWaker<'a, R> = SocketWaker<'a, &'a R>;
 /// The key of a link, if it has one.
 fn key_of<R: Paths + Files<File = File> + Eprint>(
     rt: &R,
-    way: &LinkWay,
+    endpoint: &LinkEndpoint,
 ) -> Result<Option<Key>, Fault>
-    ensures key { IfOk result (λ key. is_some key ≡ is_some way.now.key_file) }
+    ensures key { IfOk result (λ key. is_some key ≡ is_some endpoint.now.key_file) }
     ensures none { IfErr result (λ fault. HasNoKey (R.did_open rt.now) (status_of_fault fault)) }
 {
-    match &way.key_file {
+    match &endpoint.key_file {
         Some(path) => {
             let key = key_at(rt, path.as_str())?;
             Ok(Some(key))
@@ -52,17 +52,17 @@ fn key_of<R: Paths + Files<File = File> + Eprint>(
 
 /// The addresses of each link, by ascending neighbour, from the configuration text at a path, and the keys from their
 /// files. Reports on standard error what is wrong.
-pub(crate) fn ways_in<R: Paths + Files<File = File> + AllocGlobal + Eprint>(
+pub(crate) fn endpoints_in<R: Paths + Files<File = File> + AllocGlobal + Eprint>(
     rt: &R,
     path: &str,
     text: &str,
-) -> Result<Vec<KeyedWay>, Fault>
-    ensures ways { IfOk result (λ keyed. HasWays text.now (length keyed.items)) }
-    ensures fault { IfErr result (λ fault. HasNoWays text.now (status_of_fault fault)
+) -> Result<Vec<KeyedEndpoint>, Fault>
+    ensures endpoints { IfOk result (λ keyed. HasEndpoints text.now (length keyed.items)) }
+    ensures fault { IfErr result (λ fault. HasNoEndpoints text.now (status_of_fault fault)
         ⊎ (HasNoKey (R.did_open rt.now) (status_of_fault fault) ⊎ (status_of_fault fault ≡ 5))) }
 {
-    let ways = match read_ways(rt.alloc(), text) {
-        Ok(ways) => ways,
+    let endpoints = match read_endpoints(rt.alloc(), text) {
+        Ok(endpoints) => endpoints,
         Err(ConfigError::Memory) => return Err(say(rt, Fault::Memory)),
         Err(error) => {
             let fault = say(rt, Fault::Config);
@@ -70,35 +70,35 @@ pub(crate) fn ways_in<R: Paths + Files<File = File> + AllocGlobal + Eprint>(
             return Err(fault);
         }
     };
-    with_keys(rt, ways)
+    with_keys(rt, endpoints)
 }
 
 /// The addresses by ascending neighbour, with the keys from their files. Reports on standard error what is wrong.
 fn with_keys<R: Paths + Files<File = File> + AllocGlobal + Eprint>(
     rt: &R,
-    ways: Vec<LinkWay>,
-) -> Result<Vec<KeyedWay>, Fault>
-    ensures count { IfOk result (λ keyed. length keyed.items ≡ length ways.items) }
+    endpoints: Vec<LinkEndpoint>,
+) -> Result<Vec<KeyedEndpoint>, Fault>
+    ensures count { IfOk result (λ keyed. length keyed.items ≡ length endpoints.items) }
     ensures fault { IfErr result (λ fault. HasNoKey (R.did_open rt.now) (status_of_fault fault)
         ⊎ (status_of_fault fault ≡ 5)) }
 {
     let mut keyed = Vec::new(rt.alloc());
-    for way in ways {
-        let key = match key_of(rt, &way) {
+    for endpoint in endpoints {
+        let key = match key_of(rt, &endpoint) {
             Ok(key) => key,
             Err(fault) => return Err(fault),
         };
-        let Ok(()) = keyed.push(KeyedWay { way, key }) else {
+        let Ok(()) = keyed.push(KeyedEndpoint { endpoint, key }) else {
             return Err(say(rt, Fault::Memory));
         };
     }
-    keyed.sort_unstable_by_key(|keyed| keyed.way.peer);
+    keyed.sort_unstable_by_key(|keyed| keyed.endpoint.peer);
     Ok(keyed)
 }
 
 /// Reports on standard error why the socket of a link cannot be bound.
-fn tell_socket(rt: &impl Eprint, way: &LinkWay, error: &impl Display) {
-    let (peer, port) = (way.peer, way.local.port());
+fn tell_socket(rt: &impl Eprint, endpoint: &LinkEndpoint, error: &impl Display) {
+    let (peer, port) = (endpoint.peer, endpoint.local.port());
     let _ = rt.eprintln(format_args!("tora: socket: port {port} of the link to {peer}: {error}"));
 }
 
@@ -111,22 +111,22 @@ fn wire_of<'a, R: Net + Eprint + Clock, L: Log>(
     log: &'a L,
     alloc: Global,
     clock: &'a NodeClock<&'a R>,
-    keyed: KeyedWay,
+    keyed: KeyedEndpoint,
 ) -> Result<Woken<'a, R, L>, Fault>
     ensures wire { IfOk result (λ woken. (wire : WireView _) × (woken.0 ≡ over wire keyed.key)
-        × (wire.remote ≡ keyed.way.remote) × (wire.failures ≡ 0)) }
+        × (wire.remote ≡ keyed.endpoint.remote) × (wire.failures ≡ 0)) }
     ensures fault { IfErr result (λ fault. IsUnstarted (status_of_fault fault)) }
 {
-    let KeyedWay { way, key } = keyed;
-    match WakingWire::bind(rt, alloc, clock, way.local, way.remote) {
+    let KeyedEndpoint { endpoint, key } = keyed;
+    match WakingWire::bind(rt, alloc, clock, endpoint.local, endpoint.remote) {
         Ok((wire, waker)) => {
-            let wire = LinkWire::new(wire, key, way.peer, UnixClock::new(rt), log);
+            let wire = LinkWire::new(wire, key, endpoint.peer, UnixClock::new(rt), log);
             Ok((wire, waker))
         }
         Err(error) if error.kind() == ErrorKind::OutOfMemory => Err(say(rt, Fault::Memory)),
         Err(error) => {
             let fault = say(rt, Fault::Socket);
-            tell_socket(rt, &way, &error);
+            tell_socket(rt, &endpoint, &error);
             Err(fault)
         }
     }
@@ -138,15 +138,15 @@ pub(crate) fn bind<'a, R: Net + Eprint + Clock, L: Log>(
     log: &'a L,
     alloc: Global,
     clock: &'a NodeClock<&'a R>,
-    ways: Vec<KeyedWay>,
+    endpoints: Vec<KeyedEndpoint>,
 ) -> Result<(Vec<ProgramWire<'a, R, L>>, Vec<ProgramWaker<'a, R>>), Fault>
-    ensures count { IfOk result (λ bound. length bound.0.items ≡ length ways.items) }
+    ensures count { IfOk result (λ bound. length bound.0.items ≡ length endpoints.items) }
     ensures fault { IfErr result (λ fault. IsUnstarted (status_of_fault fault)) }
 {
     let mut wires = Vec::new(alloc);
     let mut wakers = Vec::new(alloc);
-    for way in ways {
-        let (wire, waker) = wire_of(rt, log, alloc, clock, way)?;
+    for endpoint in endpoints {
+        let (wire, waker) = wire_of(rt, log, alloc, clock, endpoint)?;
         let (Ok(()), Ok(())) = (wires.push(wire), wakers.push(waker)) else {
             return Err(say(rt, Fault::Memory));
         };

@@ -1,35 +1,33 @@
 //! `tora node CONFIG`: a node over UDP and real life files.
-ghost use Rattle.std.specs.Prelude.{◌≡◌, ◌⊎◌, List, map, length, replicate, IfOk, IfErr, IfSome, Err, None, Some};
-ghost use Rattle.std.specs.Prelude.{string_bytes};
+ghost use Rattle.std.specs.Prelude.{◌≡◌, ◌⊎◌, List, map, length, replicate, IfSome, Err, Some};
 ghost use Rattle.std.specs.Process.{exit_status};
-ghost use Rattle.tora_commands.specs.Statuses.{core_of, status_of_node, status_of_fault, IsConfigOf, IsNoConfig};
-ghost use Rattle.tora_commands.specs.Statuses.{IsConfigured, IsUnconfigured, IsUnstarted, RanNode, RanAndEnded};
-ghost use Rattle.tora_commands.specs.Statuses.{EndsNode};
-ghost use Rattle.tora_config.specs.NodeConfig.{IsNodeConfig};
+ghost use Rattle.tora_commands.specs.Statuses.{core_of, status_of_node, status_of_fault};
+ghost use Rattle.tora_commands.specs.Statuses.{IsUnstarted, RanNode, RanAndEnded, EndsNode};
+ghost use Rattle.tora_commands.specs.NodeConfig.{IsNodeConfig};
 ghost use Rattle.tora_node.specs.NewLinks.{IsOpened};
 ghost use Rattle.tora_node.specs.WholeRuns.{NodeAnswers};
-ghost use Rattle.tora_simulate.specs.Paths.{IsRead, IsUnread, IsFailed};
 
+use crate::configuration::NodeConfig;
 use crate::life_files::{open, tell_life};
-use crate::link_wires::{KeyedWay, ProgramWaker, ProgramWire, bind, close, lend, ways_in};
+use crate::link_wires::{ProgramWaker, ProgramWire, bind, close, lend};
+use crate::node_configuration::{praise, read};
 use crate::{INPUT, LIFE, MEMORY, SOCKET, stop};
 use log::Log;
 use std::alloc::Global;
 use std::fs::File;
-use std::io::{ErrorKind, Read, Write};
+use std::io::{Read, Write};
 use std::net::Net;
 use std::process::ExitCode;
 use std::rt::Files;
 use std::sync::Wait;
 use std::thread::Threads;
 use std::time::Clock;
-use tora_config::{ConfigError, NodeConfig, read_config};
 use tora_core::numbers_are_put_in_order;
 use tora_height::Id;
 use tora_life::{Disk, FileDisk};
 use tora_neighbour::{NodeClock, Wake, Wire};
 use tora_node::{Config, Ended, NodeError, run_node};
-use tora_simulate::{Paths, tell, tell_at, text_at};
+use tora_simulate::{Paths, tell};
 
 /// Why a node is not started.
 #[derive(Clone, Copy, Debug, PartialEq, Eq)]
@@ -84,96 +82,6 @@ fn status(rt: &impl Eprint, ended: Result<Ended, NodeError>) -> ExitCode
         NodeError::Wire(_) => stop(rt, SOCKET, "socket"),
         NodeError::Output => stop(rt, INPUT, "input"),
     }
-}
-
-/// The text at a path. Reports on standard error why it cannot be read.
-fn text_of<R: Paths + AllocGlobal + Eprint>(rt: &R, path: &str) -> Result<String, Fault>
-    ensures read { IfOk result (λ text. IsRead (R.did_open rt.now path.now) R.did_read R.File.remaining
-        (string_bytes text)) }
-    ensures failed { IfErr result (λ fault. IsFailed (IsUnread (R.did_open rt.now path.now) R.did_read)
-        (status_of_fault fault)) }
-{
-    match text_at(rt, rt.alloc(), path) {
-        Ok(text) => Ok(text),
-        Err(error) => {
-            if error.kind() == ErrorKind::OutOfMemory {
-                return Err(say(rt, Fault::Memory));
-            }
-            let fault = say(rt, Fault::Config);
-            tell_at(rt, "input: ", path, &error);
-            Err(fault)
-        }
-    }
-}
-
-/// The configuration in the text at a path. Reports on standard error what is wrong.
-fn config_of<R: AllocGlobal + Eprint>(rt: &R, path: &str, text: &str) -> Result<NodeConfig, Fault>
-    ensures says { IfOk result (IsConfigOf text.now) }
-    ensures refused { IfErr result (λ fault. IsNoConfig text.now (status_of_fault fault)
-        ⊎ (status_of_fault fault ≡ 5)) }
-{
-    match read_config(rt.alloc(), text) {
-        Ok(config) => Ok(config),
-        Err(ConfigError::Memory) => Err(say(rt, Fault::Memory)),
-        Err(error) => {
-            let fault = say(rt, Fault::Config);
-            tell_at(rt, "input: ", path, &error);
-            Err(fault)
-        }
-    }
-}
-
-/// Reads the configuration at a path, and the keys of its links. Reports on standard error what is wrong.
-fn read<R: Paths + Files<File = File> + AllocGlobal + Eprint>(
-    rt: &R,
-    path: &str,
-) -> Result<(NodeConfig, Vec<KeyedWay>), Fault>
-    ensures says { IfOk result (λ read. IsConfigured (R.did_open rt.now) R.did_read ⟦<File as Read>⟧.remaining path.now
-        read.0) }
-    ensures count { IfOk result (λ read. length read.1.items ≡ length read.0.links.items) }
-    ensures refused { IfErr result (λ fault. IsUnconfigured (R.did_open rt.now) R.did_read ⟦<File as Read>⟧.remaining
-        path.now (status_of_fault fault)) }
-{
-    let text = match text_of(rt, path) {
-        Ok(text) => text,
-        Err(fault) => return Err(fault),
-    };
-    let said = text.as_str();
-    let config = match config_of(rt, path, said) {
-        Ok(config) => config,
-        Err(fault) => return Err(fault),
-    };
-    let ways = match ways_in(rt, path, said) {
-        Ok(ways) => ways,
-        Err(fault) => return Err(fault),
-    };
-    if ways.len() != config.links.len() {
-        return Err(say(rt, Fault::Config));
-    }
-    Ok((config, ways))
-}
-
-/// The ending of a noun after this count: `s`, or nothing for 1.
-fn plural(count: usize) -> &'static str {
-    if count == 1 { "" } else { "s" }
-}
-
-/// Reports on standard error that the configuration is valid, with two counts.
-fn praise_counts(
-    rt: &impl Eprint,
-    path: &str,
-    (m, first): (usize, &str),
-    (n, second): (usize, &str),
-) {
-    let (p, q) = (plural(m), plural(n));
-    let _ = rt.eprintln(format_args!("tora: {path}: ok, {m} {first}{p}, {n} {second}{q}"));
-}
-
-/// Reports on standard error that the configuration is valid, and how many links and destinations it has.
-fn praise(rt: &impl Eprint, path: &str, config: &NodeConfig) {
-    let links = (config.links.len(), "link");
-    let dests = (config.dests.len(), "destination");
-    praise_counts(rt, path, links, dests);
 }
 
 /// Reports on standard error that the socket of the link to `peer` failed.
@@ -248,7 +156,7 @@ pub fn run<
         (Some writer) result.1 (exit_status result.0) }
 {
     let alloc = rt.alloc();
-    let (config, ways) = match read(rt, path) {
+    let (config, endpoints) = match read(rt, path) {
         Ok(read) => read,
         Err(fault) => return (code_of(fault), Some(writer)),
     };
@@ -257,7 +165,7 @@ pub fn run<
         return (ExitCode::SUCCESS, Some(writer));
     }
     let clock = NodeClock::new(rt);
-    let (mut wires, wakers) = match bind(rt, log, alloc, &clock, ways) {
+    let (mut wires, wakers) = match bind(rt, log, alloc, &clock, endpoints) {
         Ok(bound) => bound,
         Err(fault) => return (code_of(fault), Some(writer)),
     };

@@ -12,7 +12,7 @@ ghost use Rattle.tora_commands.specs.Driving.{EndsRecorded, EndsRecordedTo};
 ghost use Rattle.tora_commands.specs.SetupWords.{asked_options};
 ghost use Rattle.tora_commands.specs.TimesWord.{asked_times};
 
-use crate::drive_command::greet;
+use crate::drive_command::{DriveWords, greet};
 use crate::setup_words::asked_options;
 use crate::sim_command::tell;
 use crate::traced_command::{refuse_trace, traced_status};
@@ -20,49 +20,46 @@ use crate::{INPUT, MEMORY, SetupFault, USAGE, asked_times, stop};
 use std::alloc::Global;
 use std::io::BufWriter;
 use std::process::ExitCode;
-use tora_arq::Times;
-use tora_drive::{Driven, drive_recorded};
+use tora_drive::{DriveSetup, Driven, drive_recorded};
 use tora_lines::{Ended, Input, Output, ReplayError, flushed};
-use tora_script::{TraceOut, WorldOptions};
+use tora_script::TraceOut;
 use tora_sim::Sim;
 use tora_simulate::{Paths, Recent};
 
 /// Runs `tora drive` and writes its record, then flushes the writer. The error is `Write` if only the flush fails.
 fn drive_and_flush<S: Driven, R: Input, W: Output, V: Output>(
     alloc: Global,
-    options: WorldOptions,
-    times: Times,
+    setup: DriveSetup,
     reader: &mut R,
     writer: &mut W,
     out: &mut TraceOut<V>,
 ) -> Result<Ended, ReplayError>
-    requires { IsTimes times }
+    requires { IsTimes setup.times }
     ensures whole { IfOk result (λ ended. IfSome (R.remaining reader.old) (λ input.
-        DrivesRecorded options times input (W.contents writer.old) (W.contents writer.new) ended)) }
+        DrivesRecorded setup input (W.contents writer.old) (W.contents writer.new) ended)) }
     ensures at_end { result ≡ Ok Ended.Whole → IsAtEnd (R.remaining reader.new) }
     ensures begun { IfErr result (λ e. e ≢ ReplayError.Write →
-        IsRecordedBegun options times (R.remaining reader.old) (R.remaining reader.new) (W.contents writer.old)
+        IsRecordedBegun setup (R.remaining reader.old) (R.remaining reader.new) (W.contents writer.old)
         (W.contents writer.new)) }
     ensures reads { IsReadSo R.did_read reader.old reader.new result }
     ensures flushed { IsFlushed W.did_write W.did_flush result writer.new }
 {
-    let result = drive_recorded::<S, R, W, V>(alloc, options, times, reader, writer, out);
+    let result = drive_recorded::<S, R, W, V>(alloc, setup, reader, writer, out);
     flushed(writer, result)
 }
 
-/// Drives a world with these options and times, writes the record to the file at a path, and flushes both.
+/// Drives a world with these settings, writes the record to the file at a path, and flushes both.
 pub fn run_over<T: AllocGlobal + Eprint, R: Input + Drop, W: Output, V: Output>(
     rt: &T,
-    options: WorldOptions,
-    times: Times,
+    setup: DriveSetup,
     reader: R,
     writer: &mut W,
     path: &str,
     out: &mut TraceOut<V>,
 ) -> ExitCode
-    requires { IsTimes times }
-    ensures { EndsRecorded options times R.remaining R.did_read W.contents W.did_write W.did_flush reader
-        writer.old writer.new (is_some out.new.failure) (exit_status result) }
+    requires { IsTimes setup.times }
+    ensures { EndsRecorded setup R.remaining R.did_read W.contents W.did_write W.did_flush reader writer.old writer.new
+        (is_some out.new.failure) (exit_status result) }
 {
     match greet(writer) {
         Ok(()) => {}
@@ -70,30 +67,22 @@ pub fn run_over<T: AllocGlobal + Eprint, R: Input + Drop, W: Output, V: Output>(
     }
     let alloc = rt.alloc();
     let mut reader = Recent::new(alloc, reader);
-    let result = drive_and_flush::<Sim, Recent<R>, W, V>(
-        alloc,
-        options,
-        times,
-        &mut reader,
-        writer,
-        out,
-    );
+    let result = drive_and_flush::<Sim, Recent<R>, W, V>(alloc, setup, &mut reader, writer, out);
     tell(rt, &reader, result);
     out.flush();
     traced_status(rt, result, out, path)
 }
 
-/// Drives a world with these options and times of link ends, and writes the record to the file at a path.
+/// Drives a world with these settings, and writes the record to the file at a path.
 fn run_with<T: Paths + AllocGlobal + Eprint, R: Input + Drop, W: Output>(
     rt: &T,
-    options: WorldOptions,
-    times: Times,
+    setup: DriveSetup,
     path: &str,
     reader: R,
     writer: &mut W,
 ) -> ExitCode
-    requires { IsTimes times }
-    ensures { EndsRecordedTo (T.did_create rt.now path.now) options times R.remaining R.did_read W.contents
+    requires { IsTimes setup.times }
+    ensures { EndsRecordedTo (T.did_create rt.now path.now) setup R.remaining R.did_read W.contents
         W.did_write W.did_flush reader writer.old writer.new (exit_status result) }
 {
     let made = match rt.create_path(path) {
@@ -104,7 +93,7 @@ fn run_with<T: Paths + AllocGlobal + Eprint, R: Input + Drop, W: Output>(
         return stop(rt, MEMORY, "memory");
     };
     let mut out = TraceOut::new(lines);
-    run_over::<T, R, W, BufWriter<T::File>>(rt, options, times, reader, writer, path, &mut out)
+    run_over::<T, R, W, BufWriter<T::File>>(rt, setup, reader, writer, path, &mut out)
 }
 
 /// Drives a world by the lines of a reader, as `drive_command::run` does, and writes its record to the file at a path,
@@ -115,27 +104,25 @@ fn run_with<T: Paths + AllocGlobal + Eprint, R: Input + Drop, W: Output>(
 /// command line is at fault (2).
 pub fn run<T: Paths + AllocGlobal + Eprint, R: Input + Drop, W: Output>(
     rt: &T,
-    times: Option<&str>,
-    erasure: Option<&str>,
-    is_large: bool,
+    words: DriveWords<'_>,
     path: &str,
     reader: R,
     writer: &mut W,
 ) -> ExitCode
-    ensures times { asked_times (option_map (λ w. w.now) times.entry) ≡ None
+    ensures times { asked_times (option_map (λ w. w.now) words.entry.times) ≡ None
         → (exit_status result ≡ 2) × (writer.new ≡ writer.old) }
-    ensures erasure { asked_options is_large (option_map (λ w. w.now) erasure.entry) ≡ None
+    ensures erasure { asked_options words.entry.is_large (option_map (λ w. w.now) words.entry.erasure) ≡ None
         → (exit_status result ≡ 2) × (writer.new ≡ writer.old) }
-    ensures ends { IfSome (asked_times (option_map (λ w. w.now) times.entry)) (λ t.
-        IfSome (asked_options is_large (option_map (λ w. w.now) erasure.entry)) (λ o.
-        EndsRecordedTo (T.did_create rt.now path.now) o t R.remaining R.did_read W.contents W.did_write W.did_flush
-        reader writer.old writer.new (exit_status result))) }
+    ensures ends { IfSome (asked_times (option_map (λ w. w.now) words.entry.times)) (λ t.
+        IfSome (asked_options words.entry.is_large (option_map (λ w. w.now) words.entry.erasure)) (λ o.
+        EndsRecordedTo (T.did_create rt.now path.now) (record { options = o; times = t }) R.remaining R.did_read
+        W.contents W.did_write W.did_flush reader writer.old writer.new (exit_status result))) }
 {
-    let Some(times) = asked_times(times) else {
+    let Some(times) = asked_times(words.times) else {
         return stop(rt, USAGE, SetupFault::Times.cause());
     };
-    let Some(options) = asked_options(is_large, erasure) else {
+    let Some(options) = asked_options(words.is_large, words.erasure) else {
         return stop(rt, USAGE, SetupFault::Erasure.cause());
     };
-    run_with(rt, options, times, path, reader, writer)
+    run_with(rt, DriveSetup { options, times }, path, reader, writer)
 }

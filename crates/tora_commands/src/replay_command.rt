@@ -2,7 +2,7 @@
 ghost use Rattle.std.specs.Prelude.{◌≡◌, false, None, IfSome, option_map};
 ghost use Rattle.std.specs.Process.{exit_status};
 ghost use Rattle.tora_simulate.specs.Endings.{EndsBy};
-ghost use Rattle.tora_replay.specs.ReplayText.{replay_rules_of};
+ghost use Rattle.tora_script.specs.ReplayText.{replay_rules_of};
 ghost use Rattle.tora_commands.specs.SetupWords.{asked_erasure};
 
 use crate::flushing::replay_and_flush;
@@ -12,7 +12,7 @@ use std::fmt::Display;
 use std::process::ExitCode;
 use tora_core::Erasure;
 use tora_lines::{Ended, Input, Output, ReplayError};
-use tora_replay::cause_of;
+use tora_script::replay_cause;
 use tora_simulate::{Recent, tell as tell_error};
 
 /// Reports why a line is a fault.
@@ -37,7 +37,7 @@ fn tell<T: AllocGlobal + Eprint, R: Input>(
             tell_lost_line(rt, number);
         }
         Ok(Ended::Fault(number)) => {
-            let cause = cause_of(rt.alloc(), number, reader.line(number));
+            let cause = replay_cause(rt.alloc(), number, reader.line(number));
             tell_line(rt, number, &cause);
         }
         Err(error) => tell_error(rt, &error),

@@ -17,14 +17,14 @@ use crate::channel_file::ChannelFile;
 use crate::hashing::Hashing;
 use crate::progress::rounds_of;
 use crate::sim_command::{refuse, tell};
-use crate::{INPUT, MEMORY, status, stop};
+use crate::{AskedSimulation, INPUT, MEMORY, Shown, status, stop};
 use std::alloc::Global;
 use std::io;
 use std::io::{BufWriter, ErrorKind};
 use std::process::ExitCode;
 use std::time::Clock;
 use tora_lines::{Ended, Input, Output, ReplayError, flushed};
-use tora_script::{ChannelTable, Setup, TraceOut, Watched, simulate_traced};
+use tora_script::{ChannelTable, Reports, Setup, TraceOut, Watched, simulate_traced};
 use tora_simulate::{Opened, Paths, Recent, tell_at};
 
 /// Reports which path cannot be that of the trace or the record, and why, and returns the status of the cause.
@@ -64,15 +64,13 @@ pub fn traced_status<T: Eprint, V: Output>(
 
 /// Simulates with these settings, over a channel that the table changes by round, writes the trace, and flushes the
 /// writer. The error is `Write` if only the flush fails.
-fn simulate_and_flush<S: Watched, T: Eprint, R: Input, W: Output, V: Output>(
-    rt: &T,
-    alloc: Global,
+fn simulate_and_flush<S: Watched, T: AllocGlobal + Eprint, R: Input, W: Output, V: Output>(
+    reports: Reports<'_, T>,
     setup: Setup,
     table: ChannelTable,
     reader: &mut R,
     writer: &mut W,
     out: &mut TraceOut<V>,
-    is_verbose: bool,
 ) -> Result<Ended, ReplayError>
     requires { IsTimes setup.times }
     ensures whole { IfOk result (λ ended. IfSome (R.remaining reader.old) (λ input.
@@ -84,9 +82,7 @@ fn simulate_and_flush<S: Watched, T: Eprint, R: Input, W: Output, V: Output>(
     ensures reads { IsReadSo R.did_read reader.old reader.new result }
     ensures flushed { IsFlushed W.did_write W.did_flush result writer.new }
 {
-    let result = simulate_traced::<S, T, R, W, V>(
-        rt, alloc, setup, table, reader, writer, out, is_verbose,
-    );
+    let result = simulate_traced::<S, T, R, W, V>(reports, setup, table, reader, writer, out);
     flushed(writer, result)
 }
 
@@ -106,39 +102,36 @@ fn finish<R: Input + Drop, V: Output>(
     }
 }
 
-/// Simulates the lines of a reader with these settings and the channel file, writes the trace to the file at a path,
-/// and flushes both.
+/// Simulates the lines of a reader as asked, writes the trace to the file at a path, and flushes both.
 pub fn run_over<S: Watched, T: AllocGlobal + Eprint, R: Input + Drop, W: Output, V: Output>(
-    rt: &T,
-    setup: Setup,
-    file: ChannelFile,
+    reports: Reports<'_, T>,
+    asked: AskedSimulation,
     reader: R,
-    is_verbose: bool,
     writer: &mut W,
     path: &str,
     out: &mut TraceOut<V>,
 ) -> ExitCode
-    requires { IsTimes setup.times }
-    ensures ends { EndsBy (rules_with setup (lines_of file.table)) R.remaining R.did_read W.contents W.did_write
-        W.did_flush reader writer.old writer.new (is_some out.new.failure) (exit_status result) }
+    requires { IsTimes asked.setup.times }
+    ensures ends { EndsBy (rules_with asked.setup (lines_of asked.file.table)) R.remaining R.did_read W.contents
+        W.did_write W.did_flush reader writer.old writer.new (is_some out.new.failure) (exit_status result) }
     ensures trace { (before : TraceOut V) × IsHandedOn V.did_flush before out.new }
 {
+    let rt = reports.rt;
     let alloc = rt.alloc();
     let mut reader = Hashing::new(Recent::new(alloc, reader));
+    let AskedSimulation { setup, file } = asked;
     let ChannelFile { table, digest } = file;
     match &digest {
         None => out.begin(alloc, setup, None),
         Some(digest) => out.begin(alloc, setup, Some(digest.as_str())),
     }
     let result = simulate_and_flush::<S, T, Hashing<Recent<R>>, W, V>(
-        rt,
-        alloc,
+        reports,
         setup,
         table,
         &mut reader,
         writer,
         out,
-        is_verbose,
     );
     tell(rt, &reader.reader, result);
     finish(alloc, reader, result, out);
@@ -165,29 +158,27 @@ fn make_trace<T: Paths + AllocGlobal + Eprint>(
     }
 }
 
-/// Simulates the lines of the file at a path with these settings and the channel file, and writes the trace to the file
-/// at another path, which is created or emptied. `shown` says whether standard error reports why events are refused,
-/// and whether it shows a bar.
+/// Simulates the lines of the file at a path as asked, and writes the trace to the file at another path, which is
+/// created or emptied.
 ///
 /// The status is that of the simulation, or 1 if that is 0 and the trace could not be written; 1, before anything is
 /// simulated, if the file cannot be opened, that of the trace cannot be created, or both paths are the same; 5 if
 /// memory ran out.
 pub fn run<S: Watched, T: Paths + AllocGlobal + Eprint + Clock, W: Output>(
     rt: &T,
-    setup: Setup,
-    file: ChannelFile,
-    paths: (&str, &str),
-    shown: (bool, bool),
+    asked: AskedSimulation,
+    path: &str,
+    trace: &str,
+    shown: Shown,
     writer: &mut W,
 ) -> ExitCode
-    requires { IsTimes setup.times }
+    requires { IsTimes asked.setup.times }
     ensures ends { EndsTraced (T.did_open rt.now) (T.did_create rt.now) T.File.remaining T.did_get
-        (rules_with setup (lines_of file.table)) W.contents W.did_write W.did_flush paths.entry.0.now
-        paths.entry.1.now writer.old writer.new (exit_status result) }
-    ensures same { paths.entry.0.now ≡ paths.entry.1.now → (exit_status result ≡ 1) × (writer.new ≡ writer.old) }
+        (rules_with asked.setup (lines_of asked.file.table)) W.contents W.did_write W.did_flush path.now trace.now
+        writer.old writer.new (exit_status result) }
+    ensures same { path.now ≡ trace.now → (exit_status result ≡ 1) × (writer.new ≡ writer.old) }
 {
-    let (path, trace) = paths;
-    let (is_verbose, has_bar) = shown;
+    let (is_verbose, has_bar) = (shown.is_verbose, shown.has_bar);
     if path == trace {
         let code = stop(rt, INPUT, "input");
         tell_at(rt, "", path, &"the trace would overwrite this file");
@@ -203,13 +194,18 @@ pub fn run<S: Watched, T: Paths + AllocGlobal + Eprint + Clock, W: Output>(
         Err(code) => return code,
     };
     if has_bar {
-        let paced = Paced::new(rt, total, setup.until, opened);
+        let paced = Paced::new(rt, total, asked.setup.until, opened);
         let wiping = Wiping::new(rt);
+        let reports = Reports {
+            rt: &wiping,
+            is_verbose,
+        };
         return run_over::<S, Wiping<'_, T>, Paced<'_, T, Opened<'_, T>>, W, BufWriter<T::File>>(
-            &wiping, setup, file, paced, is_verbose, writer, trace, &mut out,
+            reports, asked, paced, writer, trace, &mut out,
         );
     }
+    let reports = Reports { rt, is_verbose };
     run_over::<S, T, Opened<'_, T>, W, BufWriter<T::File>>(
-        rt, setup, file, opened, is_verbose, writer, trace, &mut out,
+        reports, asked, opened, writer, trace, &mut out,
     )
 }

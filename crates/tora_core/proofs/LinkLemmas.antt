@@ -15,7 +15,7 @@ use Rattle.tora_height.specs.declared.direction.Direction.TheVariants.{Undirecte
 use Rattle.tora_height.specs.Height.{Quintuple}
 use Rattle.tora_height.specs.HeightOrder.{direction_by, height_cmp, link_status}
 use Rattle.tora_core.specs.declared.rows.Row.{Row}
-use Rattle.tora_core.specs.View.{all_told, are_null, heights_of, is_downstream, least_height, lower_of, lower_row_of, neighbours_of, with_entry, without_row, is_told, told_row}
+use Rattle.tora_core.specs.View.{are_null, heights_of, is_downstream, least_height, lower_of, lower_row_of, neighbours_of, with_entry, without_row, is_told}
 use Rattle.tora_core.specs.Links.{AreKept, IsLeastAt, IsLeastPlace, IsNotBelow, IsNull, IsOnlyPlace, LinkTable, directions_of, downstream_in, empty_place, entry_at, is_above, is_down, low_of, with_entry_at}
 use Rattle.tora_core.proofs.NumberLemmas.{not-same}
 use Rattle.tora_core.proofs.ReactsWords.{below-above, lt-not_gt, not-below}

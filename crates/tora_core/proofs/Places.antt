@@ -13,9 +13,9 @@ use Rattle.tora_core.specs.declared.rows.Row.{Row}
 use Rattle.tora_core.specs.declared.Input.{Input}
 use Rattle.tora_core.specs.declared.Input.TheVariants as In
 use Rattle.tora_core.specs.Numbers.{with_number, without_number}
-use Rattle.tora_core.specs.View.{View, neighbours_of, known_heights, told_row, row_with_entry, erased_row, are_null, untold_row, with_row, withdrawn_row, without_entry, without_row, without_told, with_entry, cleared_row, is_entry_at, is_told, has_downstream, lacks_downstream, is_at, greatest_level, least_delta}
+use Rattle.tora_core.specs.View.{View, neighbours_of, known_heights, told_row, row_with_entry, erased_row, are_null, untold_row, with_row, withdrawn_row, without_entry, without_row, with_entry, cleared_row, is_entry_at, is_told, has_downstream, lacks_downstream, is_at, greatest_level, least_delta}
 use Rattle.tora_core.specs.Heights.{fresh_time, fitted_height}
-use Rattle.tora_core.specs.Rules.{Outcome, silent, query_broadcast, update_broadcast_of, update_broadcast, joined_height, after_join, new_level_at, new_level, after_erase, after_link_loss, below_delta, propagated_level, reflected_level, after_update_loss_at, after_update_loss, cleared_level, hearing_clear, is_outdated, rows_behind_clear, link_row, on_update, on_outdated, on_taken_update, on_clear, on_heard_clear, on_packet, outcome_at_destination, outcome_elsewhere, outcome_of}
+use Rattle.tora_core.specs.Rules.{Outcome, silent, query_broadcast, update_broadcast_of, update_broadcast, joined_height, after_join, new_level_at, new_level, after_erase, after_link_loss, below_delta, propagated_level, reflected_level, after_update_loss_at, after_update_loss, cleared_level, hearing_clear, is_outdated, rows_behind_clear, link_row, on_outdated, on_taken_update, on_clear, on_heard_clear, on_packet, outcome_at_destination, outcome_elsewhere, outcome_of}
 use Rattle.tora_core.specs.CoreRun.{up_after}
 
 -- the outcome has a view of node n for destination d, with rows for these neighbours

@@ -1,5 +1,5 @@
 -- A storm: three nodes with links to each other send clears, queries and updates to each other in turns without end.
-use Rattle.std.specs.Prelude.{◌≡◌, ℕ, ◌^◌, false, true, List, [], ◌∷◌, ◌++◌, fold, Option, None, Some, ℤ, pos, neg_ℤ, ◌+ℤ◌, ◌≤ℤ◌}
+use Rattle.std.specs.Prelude.{◌≡◌, ℕ, false, true, List, [], ◌∷◌, ◌++◌, fold, None, Some, ℤ, pos, ◌+ℤ◌}
 use Rattle.std.specs.List.{cons_option}
 use Rattle.tora_height.specs.Height.{Quintuple, quintuple}
 use Rattle.tora_core.specs.declared.erasure.Erasure.TheVariants.{Plain}

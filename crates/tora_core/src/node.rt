@@ -17,7 +17,7 @@ use crate::place_hints::PlaceHints;
 use crate::refusals::{core_refusal, is_from};
 use crate::show::text_of;
 use crate::sorted_lists::{note, sorted};
-use crate::table::{TableHints, first_views, step};
+use crate::table::{TableHints, TableNames, first_views, step};
 use crate::{CoreLimits, Input, MOST_DESTINATIONS, Sends};
 use arrayvec::ArrayVec;
 use std::alloc::Global;
@@ -255,15 +255,12 @@ impl Core {
         if let Some(error) = self.refusal(input) {
             return Err(error);
         }
-        step(
-            &mut self.views,
-            self.destinations.as_slice(),
-            self.neighbours.as_slice(),
-            &self.hints,
-            input,
-            now,
-            sends,
-        );
+        let names = TableNames {
+            destinations: self.destinations.as_slice(),
+            neighbours: self.neighbours.as_slice(),
+            hints: &self.hints,
+        };
+        step(&mut self.views, names, input, now, sends);
         note(input, &mut self.up);
         Ok(())
     }

@@ -48,69 +48,53 @@ pub struct TableHints {
     pub destinations: PlaceHints,
 }
 
-/// Applies an input, and appends the packets to broadcast. `destinations` are those of the views, and each view has a
-/// place for each of `neighbours`. It takes no memory.
+/// What the rows and columns of a table are named by, in ascending order: the destinations of its views, and the
+/// neighbours that each view has a place for.
+#[derive(Clone, Copy)]
+pub struct TableNames<'a> {
+    pub destinations: &'a [Id],
+    pub neighbours: &'a [Id],
+    pub hints: &'a TableHints,
+}
+
+/// Applies an input, and appends the packets to broadcast. It takes no memory.
 pub fn step(
     views: &mut [Destination],
-    destinations: &[Id],
-    neighbours: &[Id],
-    hints: &TableHints,
+    names: TableNames<'_>,
     input: &Input,
     now: u64,
     sends: &mut Sends,
 )
     requires may { All (λ t. CanTake input.now t.view) views.old }
     requires few { length views.old ≤ MOST_DESTINATIONS }
-    requires ascending { IsAscending destinations.now }
-    requires names { destinations.now ≡ destinations_of (views_in views.old) }
-    requires sorted { IsAscending neighbours.now }
-    requires places { All (λ t. t.neighbours ≡ neighbours.now) views.old }
-    requires known { IsOfOne input.now neighbours.now }
+    requires ascending { IsAscending names.destinations.now }
+    requires names { names.destinations.now ≡ destinations_of (views_in views.old) }
+    requires sorted { IsAscending names.neighbours.now }
+    requires places { All (λ t. t.neighbours ≡ names.neighbours.now) views.old }
+    requires known { IsOfOne input.now names.neighbours.now }
     requires linked { All (λ t. IsLinked input.now (up_neighbours t.view)) views.old }
     requires empty { sends.old.items ≡ [] }
     ensures views { views.new ≡ map (next_in input.now now) views.old }
     ensures sends { sends.new.items ≡ filter_map (next_packet input.now now) (views_in views.old) }
 {
     match input {
-        Input::LinkUp(k) => {
-            link_up(
-                views,
-                *k,
-                place_in(*k, neighbours, &hints.neighbours),
-                sends,
-            )
-        }
-        Input::LinkDown(k) => {
-            link_down(
-                views,
-                *k,
-                place_in(*k, neighbours, &hints.neighbours),
-                now,
-                sends,
-            )
-        }
-        Input::Need(d) => step_need(*d, views, destinations, &hints.destinations, now, sends),
+        Input::LinkUp(k) => link_up(views, *k, place_in(*k, names), sends),
+        Input::LinkDown(k) => link_down(views, *k, place_in(*k, names), now, sends),
+        Input::Need(d) => list(step_need(*d, views, names, now), sends),
         Input::Packet(k, packet) => {
-            step_packet(
-                *k,
-                place_in(*k, neighbours, &hints.neighbours),
-                packet,
-                views,
-                destinations,
-                &hints.destinations,
-                now,
-                sends,
-            )
+            let row = place_in(*k, names);
+            list(step_packet(*k, row, packet, views, names, now), sends)
         }
     }
 }
 
 /// The place of a neighbour.
-fn place_in(k: Id, neighbours: &[Id], hints: &PlaceHints) -> usize
-    requires { IsAscending neighbours.now × (has_number k neighbours.now ≡ true) }
-    ensures { IsOnlyPlace k result neighbours.now }
+fn place_in(k: Id, names: TableNames<'_>) -> usize
+    requires { IsAscending names.neighbours.now × (has_number k names.neighbours.now ≡ true) }
+    ensures { IsOnlyPlace k result names.entry.neighbours.now }
 {
-    place_near(hints.place(k), k, neighbours).unwrap_or(neighbours.len())
+    let neighbours = names.neighbours;
+    place_near(names.hints.neighbours.place(k), k, neighbours).unwrap_or(neighbours.len())
 }
 
 /// Passes a link that came up to every view; the neighbour is at `place`.
@@ -141,53 +125,45 @@ fn link_down(views: &mut [Destination], k: Id, place: usize, now: u64, sends: &m
     }
 }
 
-/// Passes a need to the view of its destination only. The result does not depend on the tick `now`.
-fn step_need(
-    d: Id,
-    views: &mut [Destination],
-    destinations: &[Id],
-    hints: &PlaceHints,
-    now: u64,
-    sends: &mut Sends,
-)
+/// Passes a need to the view of its destination only, and returns the packet to broadcast. The result does not depend on
+/// the tick `now`.
+fn step_need(d: Id, views: &mut [Destination], names: TableNames<'_>, now: u64) -> Option<Packet>
     requires may { All (λ t. CanTake (Input.Need d) t.view) views.old }
-    requires ascending { IsAscending destinations.now }
-    requires names { destinations.now ≡ destinations_of (views_in views.old) }
-    requires empty { sends.old.items ≡ [] }
+    requires ascending { IsAscending names.destinations.now }
+    requires names { names.destinations.now ≡ destinations_of (views_in views.old) }
     ensures views { views.new ≡ map (next_in (Input.Need d) now) views.old }
-    ensures sends { sends.new.items ≡ filter_map (next_packet (Input.Need d) now) (views_in views.old) }
+    ensures packet { cons_option result [] ≡ filter_map (next_packet (Input.Need d) now) (views_in views.old) }
 {
-    let Some(place) = place_near(hints.place(d), d, destinations) else {
-        return;
+    let Some(place) = place_near(names.hints.destinations.place(d), d, names.destinations) else {
+        return None;
     };
-    list(views[place].need(), sends);
+    views[place].need()
 }
 
-/// Passes a packet of neighbour `k`, whose rows are at `row` in all views, to the view of its destination only.
+/// Passes a packet of neighbour `k`, whose rows are at `row` in all views, to the view of its destination only, and
+/// returns the packet to broadcast.
 fn step_packet(
     k: Id,
     row: usize,
     packet: &Packet,
     views: &mut [Destination],
-    destinations: &[Id],
-    hints: &PlaceHints,
+    names: TableNames<'_>,
     now: u64,
-    sends: &mut Sends,
-)
+) -> Option<Packet>
     requires may { All (λ t. CanTake (Input.Packet k packet.now) t.view) views.old }
-    requires ascending { IsAscending destinations.now }
-    requires names { destinations.now ≡ destinations_of (views_in views.old) }
+    requires ascending { IsAscending names.destinations.now }
+    requires names { names.destinations.now ≡ destinations_of (views_in views.old) }
     requires places { All (λ t. IsOnlyPlace k row t.neighbours) views.old }
     requires up { All (λ t. has_number k (up_neighbours t.view) ≡ true) views.old }
-    requires empty { sends.old.items ≡ [] }
     ensures views { views.new ≡ map (next_in (Input.Packet k packet.now) now) views.old }
-    ensures sends { sends.new.items ≡ filter_map (next_packet (Input.Packet k packet.now) now) (views_in views.old) }
+    ensures packet { cons_option result [] ≡ filter_map (next_packet (Input.Packet k packet.now) now)
+        (views_in views.old) }
 {
     let d = packet.destination();
-    let Some(place) = place_near(hints.place(d), d, destinations) else {
-        return;
+    let Some(place) = place_near(names.hints.destinations.place(d), d, names.destinations) else {
+        return None;
     };
-    list(views[place].packet(k, row, packet, now), sends);
+    views[place].packet(k, row, packet, now)
 }
 
 /// Appends a packet, if there is one.

@@ -24,7 +24,7 @@ use Rattle.tora_script.specs.SimulationText.{RunningView, Reply, event_reply, ha
 use Rattle.tora_drive.specs.declared.line.DriveLine.{DriveLine}
 use Rattle.tora_drive.specs.declared.line.DriveLine.TheVariants.{Script, Step, Needs, Near, Far, Notice, Bytes, Forget}
 use Rattle.tora_drive.specs.Records.{routes_at, routes_of, is_same_hop, hop_line, hops_text}
-use Rattle.tora_drive.specs.DriveText.{OwnView, Outcome, outcome, quiet, shown, unnamed, impossible, named, with_far, without_far, is_forgotten, needs_text, bytes_line, outcome_of, may_turn, may_change_hops}
+use Rattle.tora_drive.specs.DriveText.{StateView, Outcome, outcome, quiet, shown, unnamed, impossible, named, with_silent, without_silent, is_forgotten, needs_text, bytes_line, outcome_of, may_turn, may_change_hops}
 
 -- ---- events
 
@@ -100,13 +100,13 @@ unchanged s q r stays e =
     let w : s.world ≡ r.run.world = sym stays ∙ ap (λ (x : Outcome). x.run.world) e in
     subst (λ (x : World). SameCores s.world x) w (same s.world)
 
-happened : (s : RunningView) (o : OwnView) (event : Event) (forgotten : Bool) (r : Outcome) → may_turn event ≡ false
+happened : (s : RunningView) (o : StateView) (event : Event) (forgotten : Bool) (r : Outcome) → may_turn event ≡ false
     → (if forgotten then unnamed s o else outcome (event_reply s event).0 o (event_reply s event).1 (is_some (refusal_of s.world event))) ≡ r → SameCores s.world r.run.world
 happened s o event true r h e = unchanged s (unnamed s o) r refl e
 happened s o event false r h e = let w : world_after s.world event ≡ r.run.world = ap (λ (x : Outcome). x.run.world) e in subst (λ (x : World). SameCores s.world x) w (event_stays s.world event h)
 
 -- a reply of a simulation with unchanged cores
-replied : (s : RunningView) (o : OwnView) (b : Bool) (q : Reply) (r : Outcome) → SameCores s.world q.0.world → option_map (quiet o) (if b then Some q else None) ≡ Some r → SameCores s.world r.run.world
+replied : (s : RunningView) (o : StateView) (b : Bool) (q : Reply) (r : Outcome) → SameCores s.world q.0.world → option_map (quiet o) (if b then Some q else None) ≡ Some r → SameCores s.world r.run.world
 replied s o true q r stays e = subst (λ (x : World). SameCores s.world x) (ap (λ (x : Outcome). x.run.world) (this (quiet o q) r e)) stays
 replied s o false q r stays e = absurd cc
 
@@ -122,19 +122,19 @@ both_cut w a b =
 parts : (s : RunningView) (a b : ℕ) → SameCores s.world (part_of s a b).world
 parts s a b = either s.has_notice s.world (cut_both a b s.world) s.world (both_cut s.world a b) (same s.world)
 
-bytes_shown : (s : RunningView) (o : OwnView) (i : ℕ) (f : Option FrameParts) (r : Outcome) → option_map_or (λ f. shown s o (bytes_line i f)) f (unnamed s o) ≡ r → SameCores s.world r.run.world
+bytes_shown : (s : RunningView) (o : StateView) (i : ℕ) (f : Option FrameParts) (r : Outcome) → option_map_or (λ f. shown s o (bytes_line i f)) f (unnamed s o) ≡ r → SameCores s.world r.run.world
 bytes_shown s o i None r e = unchanged s (unnamed s o) r refl e
 bytes_shown s o i (Some f) r e = unchanged s (shown s o (bytes_line i f)) r refl e
 
-forgot : (s : RunningView) (o p : OwnView) (b : Bool) (r : Outcome) → (if b then shown s p [] else unnamed s o) ≡ r → SameCores s.world r.run.world
+forgot : (s : RunningView) (o p : StateView) (b : Bool) (r : Outcome) → (if b then shown s p [] else unnamed s o) ≡ r → SameCores s.world r.run.world
 forgot s o p true r e = unchanged s (shown s p []) r refl e
 forgot s o p false r e = unchanged s (unnamed s o) r refl e
 
-noticed : (s : RunningView) (o : OwnView) (n k : ℕ) (b : Bool) (r : Outcome) → (if b then shown (record s { world = after_cut_at s.world n k }) o [] else impossible s o) ≡ r → SameCores s.world r.run.world
+noticed : (s : RunningView) (o : StateView) (n k : ℕ) (b : Bool) (r : Outcome) → (if b then shown (record s { world = after_cut_at s.world n k }) o [] else impossible s o) ≡ r → SameCores s.world r.run.world
 noticed s o n k true r e = subst (λ (x : World). SameCores s.world x) (ap (λ (x : Outcome). x.run.world) e) (cut s.world n k)
 noticed s o n k false r e = unchanged s (impossible s o) r refl e
 
-pub line_stays : (s : RunningView) (o : OwnView) (line : DriveLine) (r : Outcome) → may_change_hops line ≡ false → outcome_of s o line ≡ Some r → SameCores s.world r.run.world
+pub line_stays : (s : RunningView) (o : StateView) (line : DriveLine) (r : Outcome) → may_change_hops line ≡ false → outcome_of s o line ≡ Some r → SameCores s.world r.run.world
 unfolding outcome_of running_reply
 line_stays s o (Script (Happens event)) r h e = happened s o event (is_forgotten o event) r h (this _ r e)
 line_stays s o (Script (Rounds n)) r h e = absurd cc
@@ -148,8 +148,8 @@ line_stays s o (Script (Walk n d)) r h e = replied s o (has_number n s.nodes && 
 line_stays s o (Script Rest) r h e = unchanged s (quiet o (at_rest_reply s)) r refl (this _ r e)
 line_stays s o Step r h e = absurd cc
 line_stays s o Needs r h e = unchanged s (shown s o (needs_text s.world s.nodes s.dests)) r refl (this _ r e)
-line_stays s o (Near n k) r h e = unchanged s (shown s (record o { far = without_far (n, k) o.far }) []) r refl (where_some (has_end n k s.ends) _ r e)
-line_stays s o (Far n k) r h e = unchanged s (shown s (record o { far = with_far (n, k) o.far }) []) r refl (where_some (has_end n k s.ends) _ r e)
+line_stays s o (Near n k) r h e = unchanged s (shown s (record o { silent = without_silent (n, k) o.silent }) []) r refl (where_some (has_end n k s.ends) _ r e)
+line_stays s o (Far n k) r h e = unchanged s (shown s (record o { silent = with_silent (n, k) o.silent }) []) r refl (where_some (has_end n k s.ends) _ r e)
 line_stays s o (Notice n k) r h e = noticed s o n k (is_some (bound_life (s.world.ends n k))) r (where_some (has_end n k s.ends) _ r e)
 line_stays s o (Bytes i) r h e = bytes_shown s o i (named o s.world i) r (this _ r e)
 line_stays s o (Forget i) r h e = forgot s o (record o { forgotten = max o.forgotten i }) (nat_le i (length s.world.datagrams)) r (this _ r e)

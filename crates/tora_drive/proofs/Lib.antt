@@ -2,6 +2,7 @@ pub mod AnswerLaws
 pub mod DigitLaws
 pub mod DriveLaws
 pub mod HopLaws
+pub mod LengthLaws
 pub mod NumberLaws
 pub mod OrderLaws
 pub mod QuietLaws
@@ -10,8 +11,8 @@ pub mod RecordedLaws
 pub mod RunLaws
 pub mod ScheduleLaws
 pub mod ScriptLaws
-pub mod SendLaws
 pub mod SimulatedLaws
 pub mod StepLaws
 pub mod TakenLaws
 pub mod TellLaws
+pub mod TurnLaws

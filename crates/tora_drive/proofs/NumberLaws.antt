@@ -10,7 +10,7 @@ use Rattle.tora_script.specs.declared.turns.EndTurn.{EndTurn}
 use Rattle.tora_script.specs.declared.turns.EndTurn.TheVariants as turn
 use Rattle.tora_script.specs.Rounds.{Plan, repeats, once, while_possible, plan_then, each, each_core, each_end, each_end_once, end_event}
 use Rattle.tora_drive.specs.Scripts.{HasNumbers, IsEnd, StepsHaveNumbers}
-use Rattle.tora_drive.specs.Steps.{is_far, sends_of, step_pass, step_passes, step}
+use Rattle.tora_drive.specs.Steps.{is_silent, sends_of, step_pass, step_passes, step}
 
 all_append : (xs ys : List Event) → AllByRecursion HasNumbers xs → AllByRecursion HasNumbers ys → AllByRecursion HasNumbers (xs ++ ys)
 all_append [] ys p q = q
@@ -41,7 +41,7 @@ end_numbered turn.Pull e h = h
 end_numbered turn.Transmit e h = h
 end_numbered turn.Pump e h = h
 
-module _ (nodes : List ℕ) (ends far : List (ℕ × ℕ)) (ids : AllByRecursion IsId nodes) (pairs : AllByRecursion IsEnd ends) where
+module _ (nodes : List ℕ) (ends silent : List (ℕ × ℕ)) (ids : AllByRecursion IsId nodes) (pairs : AllByRecursion IsEnd ends) where
   cores : Numbered (each_core nodes)
   cores = each_numbered IsId (λ n. while_possible (CoreTurn n)) (λ n h. repeats_numbered 1024 (CoreTurn n) h) nodes ids
 
@@ -51,26 +51,26 @@ module _ (nodes : List ℕ) (ends far : List (ℕ × ℕ)) (ids : AllByRecursion
   opens : Numbered (each_end_once turn.Open ends)
   opens = each_numbered IsEnd (λ e. once (end_event turn.Open e)) (λ e h. repeats_numbered 1 (end_event turn.Open e) (end_numbered turn.Open e h)) ends pairs
 
-  sends : Numbered (each (sends_of far) ends)
-  sends = each_numbered IsEnd (sends_of far) (λ e h w. none_or (is_far far e) (while_possible (Transmit e.0 e.1) w) (repeats_numbered 1024 (Transmit e.0 e.1) h w)) ends pairs
+  sends : Numbered (each (sends_of silent) ends)
+  sends = each_numbered IsEnd (sends_of silent) (λ e h w. none_or (is_silent silent e) (while_possible (Transmit e.0 e.1) w) (repeats_numbered 1024 (Transmit e.0 e.1) h w)) ends pairs
 
-  one_pass : Numbered (step_pass nodes ends far)
+  one_pass : Numbered (step_pass nodes ends silent)
   unfolding step_pass
   one_pass w =
-      then_numbered (each_core nodes) (plan_then (each_end turn.Pull ends) (plan_then (each (sends_of far) ends) (each_end turn.Pump ends))) cores
-      (then_numbered (each_end turn.Pull ends) (plan_then (each (sends_of far) ends) (each_end turn.Pump ends)) (turns turn.Pull) (then_numbered (each (sends_of far) ends) (each_end turn.Pump ends) sends (turns turn.Pump))) w
+      then_numbered (each_core nodes) (plan_then (each_end turn.Pull ends) (plan_then (each (sends_of silent) ends) (each_end turn.Pump ends))) cores
+      (then_numbered (each_end turn.Pull ends) (plan_then (each (sends_of silent) ends) (each_end turn.Pump ends)) (turns turn.Pull) (then_numbered (each (sends_of silent) ends) (each_end turn.Pump ends) sends (turns turn.Pump))) w
 
-  all_passes : (k : ℕ) → Numbered (step_passes k nodes ends far)
+  all_passes : (k : ℕ) → Numbered (step_passes k nodes ends silent)
   unfolding step_passes
   all_passes zero w = tt
   all_passes (suc k) w =
-      none_or (is_empty (step_pass nodes ends far w)) (plan_then (step_pass nodes ends far) (step_passes k nodes ends far) w) (then_numbered (step_pass nodes ends far) (step_passes k nodes ends far) one_pass (all_passes k) w)
+      none_or (is_empty (step_pass nodes ends silent w)) (plan_then (step_pass nodes ends silent) (step_passes k nodes ends silent) w) (then_numbered (step_pass nodes ends silent) (step_passes k nodes ends silent) one_pass (all_passes k) w)
 
-  all_step : Numbered (step nodes ends far)
+  all_step : Numbered (step nodes ends silent)
   unfolding step
   all_step w =
-      then_numbered (once Tick) (plan_then (each_end_once turn.Open ends) (step_passes MOST_PASSES nodes ends far)) (repeats_numbered 1 Tick tt)
-      (then_numbered (each_end_once turn.Open ends) (step_passes MOST_PASSES nodes ends far) opens (all_passes MOST_PASSES)) w
+      then_numbered (once Tick) (plan_then (each_end_once turn.Open ends) (step_passes MOST_PASSES nodes ends silent)) (repeats_numbered 1 Tick tt)
+      (then_numbered (each_end_once turn.Open ends) (step_passes MOST_PASSES nodes ends silent) opens (all_passes MOST_PASSES)) w
 
 pub steps_have_numbers : StepsHaveNumbers
-steps_have_numbers nodes ends far ids pairs w = all_step nodes ends far ids pairs w
+steps_have_numbers nodes ends silent ids pairs w = all_step nodes ends silent ids pairs w

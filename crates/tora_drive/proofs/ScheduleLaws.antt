@@ -18,6 +18,7 @@ use Rattle.tora_world.specs.Walks.{AreIds, EveryWorld}
 use Rattle.tora_sim.specs.Topologies.{topology_of, with_choices, with_olds, with_old}
 use Rattle.tora_script.specs.Marks.{with_mark, with_marks}
 use Rattle.tora_script.specs.Simulator.{mixed_topology, started}
+use Rattle.tora_drive.specs.declared.setup.DriveSetup.{DriveSetup}
 use Rattle.tora_drive.specs.Runs.{DriveEvent, after_driven, schedule_of_one, schedule_of, SaysNoNotice, IsOfEvents, EveryDrive, AreSchedules, HasNoGaps}
 use Rattle.tora_drive.proofs.RunLaws.{drives_are_runs}
 
@@ -98,34 +99,34 @@ record IsOfRun (times : Times) (w : World) : Type 0 where
   schedule : Schedule
   world_is : w ≡ after_schedule schedule (first_world topology times)
 
-of_run : (options : WorldOptions) (times : Times) (CutsNothing : Type 0) (w : World) → IsOfEvents options times CutsNothing w → IsOfRun times w
-of_run options times CutsNothing w h =
-    let first = begun options h.links h.dests h.marks times h.first h.begins in
+of_run : (setup : DriveSetup) (CutsNothing : Type 0) (w : World) → IsOfEvents setup CutsNothing w → IsOfRun setup.times w
+of_run setup CutsNothing w h =
+    let first = begun setup.options h.links h.dests h.marks setup.times h.first h.begins in
     record {
-      topology = mixed_topology options.erasure h.links h.dests h.marks;
-      sound = (options.limits, mixed options.limits (with_choices (topology_of h.links h.dests) options.erasure []) h.marks first.0);
-      ids = mixed_ids (with_choices (topology_of h.links h.dests) options.erasure []) h.marks (record { links = h.ids.links; destinations = h.ids.destinations });
+      topology = mixed_topology setup.options.erasure h.links h.dests h.marks;
+      sound = (setup.options.limits, mixed setup.options.limits (with_choices (topology_of h.links h.dests) setup.options.erasure []) h.marks first.0);
+      ids = mixed_ids (with_choices (topology_of h.links h.dests) setup.options.erasure []) h.marks (record { links = h.ids.links; destinations = h.ids.destinations });
       schedule = schedule_of h.first h.events;
       world_is = h.world_is ∙ are_schedules h.first h.events ∙ ap (λ (x : World). after_schedule (schedule_of h.first h.events) x) first.1;
     }
 
-pub drives_keep_the_prefix_law : EveryRun (λ first es w. TakenBeginsSent w) → EveryDrive (λ options times lines w. TakenBeginsSent w)
-drives_keep_the_prefix_law law options times lines v s e is =
-    let run : IsOfRun times s.world = of_run options times (SaysNoNotice lines) s.world (drives_are_runs options times lines v s e is) in
-    subst (λ (x : World). TakenBeginsSent x) (sym run.world_is) (law run.topology times run.schedule)
+pub drives_keep_the_prefix_law : EveryRun (λ first es w. TakenBeginsSent w) → EveryDrive (λ setup lines w. TakenBeginsSent w)
+drives_keep_the_prefix_law law setup lines v s e is =
+    let run : IsOfRun setup.times s.world = of_run setup (SaysNoNotice lines) s.world (drives_are_runs setup lines v s e is) in
+    subst (λ (x : World). TakenBeginsSent x) (sym run.world_is) (law run.topology setup.times run.schedule)
 
-pub drives_keep_the_no_gap_law : EveryEnd (λ t first es w n k. IsWithoutGap t first es w n k) → EveryDrive (λ options times lines w. HasNoGaps times w)
-drives_keep_the_no_gap_law law options times lines v s e is =
-    let run : IsOfRun times s.world = of_run options times (SaysNoNotice lines) s.world (drives_are_runs options times lines v s e is) in
+pub drives_keep_the_no_gap_law : EveryEnd (λ t first es w n k. IsWithoutGap t first es w n k) → EveryDrive (λ setup lines w. HasNoGaps setup.times w)
+drives_keep_the_no_gap_law law setup lines v s e is =
+    let run : IsOfRun setup.times s.world = of_run setup (SaysNoNotice lines) s.world (drives_are_runs setup lines v s e is) in
     record {
       topology = run.topology;
       sound = run.sound;
       schedule = run.schedule;
       world_is = run.world_is;
-      gapless = λ n k linked. subst (λ (x : World). IsWithoutGap run.topology (first_world run.topology times) run.schedule x n k) (sym run.world_is) (law run.topology times run.schedule n k run.sound linked);
+      gapless = λ n k linked. subst (λ (x : World). IsWithoutGap run.topology (first_world run.topology setup.times) run.schedule x n k) (sym run.world_is) (law run.topology setup.times run.schedule n k run.sound linked);
     }
 
-pub drives_keep_laws_of_worlds : (Holds : World → Type 0) → EveryWorld Holds → EveryDrive (λ options times lines w. Holds w)
-drives_keep_laws_of_worlds Holds law options times lines v s e is =
-    let run : IsOfRun times s.world = of_run options times (SaysNoNotice lines) s.world (drives_are_runs options times lines v s e is) in
-    subst Holds (sym run.world_is) (law run.topology times run.schedule run.sound run.ids)
+pub drives_keep_laws_of_worlds : (Holds : World → Type 0) → EveryWorld Holds → EveryDrive (λ setup lines w. Holds w)
+drives_keep_laws_of_worlds Holds law setup lines v s e is =
+    let run : IsOfRun setup.times s.world = of_run setup (SaysNoNotice lines) s.world (drives_are_runs setup lines v s e is) in
+    subst Holds (sym run.world_is) (law run.topology setup.times run.schedule run.sound run.ids)

@@ -14,7 +14,7 @@ use Rattle.tora_script.specs.SimulationGrammar.{call_text, SpellsTorn, SpellsEve
 use Rattle.tora_script.proofs.SimulationHere.{simulation_line_here}
 use Rattle.tora_script.specs.SimulationText.{RunningView, Reply, event_reply, has_end, running_reply}
 use Rattle.tora_drive.specs.declared.line.DriveLine.TheVariants.{Script, Step, Needs, Near, Far, Notice, Bytes, Forget}
-use Rattle.tora_drive.specs.DriveText.{OwnView, Outcome, outcome, quiet, shown, unnamed, named, with_far, without_far, is_forgotten, needs_text, bytes_line, outcome_of}
+use Rattle.tora_drive.specs.DriveText.{StateView, Outcome, outcome, quiet, shown, unnamed, named, with_silent, without_silent, is_forgotten, needs_text, bytes_line, outcome_of}
 use Rattle.tora_drive.specs.Recording.{torn_text, event_text}
 use Rattle.tora_drive.specs.Scripts.{simulated, ScriptsStandForLines, IsTorn, HasNumbers, EventsAreRead}
 use Rattle.tora_drive.specs.Steps.{step}
@@ -41,7 +41,7 @@ where_some false q r e = absurd cc
 stays : (s : RunningView) (q r : Outcome) → q.run ≡ s → q ≡ r → simulated s [] ≡ Some r.run
 stays s q r same e = ap (λ (x : RunningView). Some x) (sym same ∙ ap (λ (x : Outcome). x.run) e)
 
-module _ (s : RunningView) (o : OwnView) where
+module _ (s : RunningView) (o : StateView) where
   one_event : (event : Event) (b : Bool) → is_some (refusal_of s.world event) ≡ b → simulated s (if b then [] else Happens event ∷ []) ≡ Some (event_reply s event).0
   unfolding running_reply
   one_event event true stop = rw (same_world s.world event stop) refl
@@ -60,7 +60,7 @@ module _ (s : RunningView) (o : OwnView) where
   bytes_stand i None r e = stays s (unnamed s o) r refl e
   bytes_stand i (Some f) r e = stays s (shown s o (bytes_line i f)) r refl e
 
-  forgot : (p : OwnView) (b : Bool) (r : Outcome) → (if b then shown s p [] else unnamed s o) ≡ r → simulated s [] ≡ Some r.run
+  forgot : (p : StateView) (b : Bool) (r : Outcome) → (if b then shown s p [] else unnamed s o) ≡ r → simulated s [] ≡ Some r.run
   forgot p true r e = stays s (shown s p []) r refl e
   forgot p false r e = stays s (unnamed s o) r refl e
 
@@ -76,10 +76,10 @@ scripts_stand s o (Script (Taken b a life)) r cut e = order s o (running_reply s
 scripts_stand s o (Script (Exact d)) r cut e = order s o (running_reply s (Exact d)) r e
 scripts_stand s o (Script (Walk n d)) r cut e = order s o (running_reply s (Walk n d)) r e
 scripts_stand s o (Script Rest) r cut e = order s o (running_reply s Rest) r e
-scripts_stand s o Step r cut e = all_happen s (step s.nodes s.ends o.far s.world) ∙ ap (λ (x : Outcome). Some x.run) (this _ r e)
+scripts_stand s o Step r cut e = all_happen s (step s.nodes s.ends o.silent s.world) ∙ ap (λ (x : Outcome). Some x.run) (this _ r e)
 scripts_stand s o Needs r cut e = stays s (shown s o (needs_text s.world s.nodes s.dests)) r refl (this _ r e)
-scripts_stand s o (Near n k) r cut e = stays s (shown s (record o { far = without_far (n, k) o.far }) []) r refl (where_some (has_end n k s.ends) _ r e)
-scripts_stand s o (Far n k) r cut e = stays s (shown s (record o { far = with_far (n, k) o.far }) []) r refl (where_some (has_end n k s.ends) _ r e)
+scripts_stand s o (Near n k) r cut e = stays s (shown s (record o { silent = without_silent (n, k) o.silent }) []) r refl (where_some (has_end n k s.ends) _ r e)
+scripts_stand s o (Far n k) r cut e = stays s (shown s (record o { silent = with_silent (n, k) o.silent }) []) r refl (where_some (has_end n k s.ends) _ r e)
 scripts_stand s o (Notice n k) r cut e = absurd (cut n k refl)
 scripts_stand s o (Bytes i) r cut e = bytes_stand s o i (named o s.world i) r (this _ r e)
 scripts_stand s o (Forget i) r cut e = forgot s o (record o { forgotten = max o.forgotten i }) (nat_le i (length s.world.datagrams)) r (this _ r e)

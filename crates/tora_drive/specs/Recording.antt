@@ -1,32 +1,31 @@
 -- The record of a drive: lines of a simulation file with the same effect.
-use Rattle.std.specs.Prelude.{◌≡◌, ℕ, ◌+◌, Bool, true, false, if◌then◌else◌, codes, List, [], ◌∷◌, ◌++◌, Option, Some, None}
+use Rattle.std.specs.Prelude.{◌≡◌, ℕ, ◌+◌, Bool, true, false, if◌then◌else◌, codes, List, [], ◌∷◌, ◌++◌, Option, Some, None, option_map, String, string_bytes}
+use Rattle.std.specs.declared.alloc.Global.{Global}
 use Rattle.std.specs.List.{flat_map}
 use Rattle.std.specs.Option.{option_map_or}
 use Rattle.std.specs.Fmt.{decimal}
 use Rattle.hex.specs.Hex.{encode_lower}
-use Rattle.tora_arq.specs.declared.times.Times.{Times}
 use Rattle.tora_lines.specs.declared.ended.Ended.{Ended}
 use Rattle.tora_lines.specs.LineText.{Rules}
 use Rattle.tora_lines.specs.Engine.{IsWholeText, IsFrontOfText}
 use Rattle.tora_world.specs.declared.event.Event.{Event}
 use Rattle.tora_world.specs.declared.event.Event.TheVariants as Happen
 use Rattle.tora_script.specs.declared.node_marks.Mark.{Mark}
-use Rattle.tora_script.specs.declared.setup.WorldOptions.{WorldOptions}
 use Rattle.tora_world.specs.World.{World, world_after_all}
 use Rattle.tora_script.specs.declared.script_line.SimulationLine.TheVariants.{Happens, Rounds, Part, Mend, Heights, Sent, Taken, Exact, Walk, Rest}
-use Rattle.tora_script.specs.declared.turns.EndTurn.{EndTurn}
-use Rattle.tora_script.specs.Rounds.{Plan, repeats, end_event, Happened}
+use Rattle.tora_script.specs.Rounds.{Happened}
 use Rattle.tora_script.specs.Setup.{plain}
 use Rattle.tora_script.specs.Simulator.{started}
 use Rattle.tora_script.specs.SimulationGrammar.{call_text}
 use Rattle.tora_script.specs.SimulationLines.{link_of, mark_of}
 use Rattle.tora_script.specs.SimulationText.{RunningView, Progress, begun_in}
+use Rattle.tora_drive.specs.declared.setup.DriveSetup.{DriveSetup}
 use Rattle.tora_drive.specs.declared.cause.Cause.TheVariants.{Recorded}
 use Rattle.tora_drive.specs.declared.line.DriveLine.{DriveLine}
 use Rattle.tora_drive.specs.declared.line.DriveLine.TheVariants.{Script, Step, Needs, Near, Far, Notice, Bytes, Forget}
 use Rattle.tora_drive.specs.DriveLines.{drive_line_of}
-use Rattle.tora_drive.specs.DriveText.{OwnView, outcome_of, place_reply, DriveView, drive_reply, drive_rules, fault_line, shortened_text}
-use Rattle.tora_drive.specs.Steps.{is_far, step}
+use Rattle.tora_drive.specs.DriveText.{StateView, outcome_of, place_reply, DriveView, drive_reply, drive_rules, fault_line, shortened_text}
+use Rattle.tora_drive.specs.Steps.{step}
 use Rattle.tora_drive.specs.Taking.{line_in}
 
 -- ---- the line of an event
@@ -58,36 +57,42 @@ event_line event = event_text event ++ 10 ∷ []
 abbrev pub events_text : List Event → List ℕ
 events_text events = flat_map event_line events
 
--- the turn of an end, at most this many events, unless the end is left out
-abbrev pub turns_of : List (ℕ × ℕ) → EndTurn → ℕ → ℕ × ℕ → Plan
-turns_of left_out kind most e w = if is_far left_out e then [] else repeats most (end_event kind e) w
-
--- Events, possibly none, led from one world to another, and their lines were appended to a text.
-pub record HappenedTold (before : World) (events : List Event) (after : World) (some : Bool) (old new : List ℕ) : Type 0
-  where
-    pub happened : Happened before events after some
-    pub told : new ≡ old ++ events_text events
-
--- `HappenedTold` without the answer whether an event happened
-pub record Told (before : World) (events : List Event) (after : World) (old new : List ℕ) : Type 0 where
-  pub after_is : after ≡ world_after_all before events
-  pub told : new ≡ old ++ events_text events
-
--- ---- the record after an accepted line, if there is a record
+-- ---- a record, if there is one
 
 abbrev pub Record : Type 0
 Record = Option (List ℕ)
+
+abbrev pub text_record : Option (String Global) → Record
+text_record text = option_map string_bytes text
 
 abbrev pub with_record : Record → List ℕ → Record
 with_record None bytes = None
 with_record (Some text) bytes = Some (text ++ bytes)
 
+-- Events, possibly none, led from one world to another, and their lines were appended to the record.
+pub record HappenedTold (before : World) (events : List Event) (after : World) (some : Bool) (old new : Record) : Type 0
+  where
+    pub happened : Happened before events after some
+    pub told : new ≡ with_record old (events_text events)
+
+-- `HappenedTold` without the answer whether an event happened
+pub record Told (before : World) (events : List Event) (after : World) (old new : Record) : Type 0 where
+  pub after_is : after ≡ world_after_all before events
+  pub told : new ≡ with_record old (events_text events)
+
+-- ---- the record after an accepted line
+
+-- the record with a text, if there is one
+abbrev pub with_text : Record → Record → Record
+with_text r None = r
+with_text r (Some text) = with_record r text
+
 abbrev pub with_line : Record → List ℕ → Record
 with_line r line = with_record r (line ++ 10 ∷ [])
 
 -- the record with the events of the line, if the line is `step`
-abbrev pub step_recorded : Record → RunningView → OwnView → DriveLine → Record
-step_recorded r s o Step = with_record r (events_text (step s.nodes s.ends o.far s.world))
+abbrev pub step_recorded : Record → RunningView → StateView → DriveLine → Record
+step_recorded r s o Step = with_record r (events_text (step s.nodes s.ends o.silent s.world))
 step_recorded r s o (Script line) = r
 step_recorded r s o Needs = r
 step_recorded r s o (Near n k) = r
@@ -118,37 +123,36 @@ line_recorded r (Bytes i) line refused = r
 line_recorded r (Forget i) line refused = r
 
 -- the record after a line of a running simulation; a fault has no line in it
-unfoldable pub answer_recorded : Record → RunningView → OwnView → List ℕ → Record
+unfoldable pub answer_recorded : Record → RunningView → StateView → List ℕ → Record
 answer_recorded r s o text =
     option_map_or (λ line. option_map_or (λ q. line_recorded (step_recorded r s o line) line text q.refused)
     (outcome_of s o line) r) (line_in s.world o.forgotten text) r
 
 -- the record of the first line after the links and the lines about nodes
-abbrev pub first_recorded : Record → WorldOptions → Times → OwnView → List ℕ → List (ℕ × ℕ) → List Mark → List ℕ
-    → Record
-first_recorded r options times o dests links marks line = option_map_or (λ w.
-    answer_recorded r (begun_in dests (plain times) w) o line) (started options links dests marks times) r
+abbrev pub first_recorded : Record → DriveSetup → StateView → List ℕ → List (ℕ × ℕ) → List Mark → List ℕ → Record
+first_recorded r setup o dests links marks line =
+    option_map_or (λ w. answer_recorded r (begun_in dests (plain setup.times) w) o line)
+    (started setup.options links dests marks setup.times) r
 
-abbrev pub link_recorded : Record → WorldOptions → Times → OwnView → List ℕ → List (ℕ × ℕ) → List Mark → List ℕ
+abbrev pub link_recorded : Record → DriveSetup → StateView → List ℕ → List (ℕ × ℕ) → List Mark → List ℕ
     → Option (ℕ × ℕ) → Option Mark → Record
-link_recorded r options times o dests links marks line (Some link) mark = with_line r line
-link_recorded r options times o dests links marks line None (Some mark) = with_line r line
-link_recorded r options times o dests links marks line None None =
-    first_recorded r options times o dests links marks line
+link_recorded r setup o dests links marks line (Some link) mark = with_line r line
+link_recorded r setup o dests links marks line None (Some mark) = with_line r line
+link_recorded r setup o dests links marks line None None = first_recorded r setup o dests links marks line
 
 -- `first_recorded` at any stage; the record does not change unless the stage is `Links`
-abbrev pub run_recorded : Record → WorldOptions → Times → OwnView → Progress → List ℕ → Record
-run_recorded r options times o Progress.First line = r
-run_recorded r options times o (Progress.Links dests links marks) line =
-    first_recorded r options times o dests links marks line
-run_recorded r options times o (Progress.Runs s) line = r
+abbrev pub run_recorded : Record → DriveSetup → StateView → Progress → List ℕ → Record
+run_recorded r setup o Progress.First line = r
+run_recorded r setup o (Progress.Links dests links marks) line =
+    first_recorded r setup o dests links marks line
+run_recorded r setup o (Progress.Runs s) line = r
 
 -- the record after any line that is accepted
-unfoldable pub place_recorded : Record → WorldOptions → Times → OwnView → Progress → List ℕ → Record
-place_recorded r options times o Progress.First line = with_line r line
-place_recorded r options times o (Progress.Links dests links marks) line =
-    link_recorded r options times o dests links marks line (link_of line) (mark_of line)
-place_recorded r options times o (Progress.Runs s) line = answer_recorded r s o line
+unfoldable pub place_recorded : Record → DriveSetup → StateView → Progress → List ℕ → Record
+place_recorded r setup o Progress.First line = with_line r line
+place_recorded r setup o (Progress.Links dests links marks) line =
+    link_recorded r setup o dests links marks line (link_of line) (mark_of line)
+place_recorded r setup o (Progress.Runs s) line = answer_recorded r s o line
 
 -- the emptied record, if there is a record
 abbrev pub cleared : Record → Record
@@ -156,10 +160,10 @@ cleared None = None
 cleared (Some text) = Some []
 
 -- the record of this line alone, which is empty for a fault
-abbrev pub drive_recorded : Record → WorldOptions → Times → DriveView → List ℕ → Record
-drive_recorded r options times v line =
-    option_map_or (λ q. place_recorded (cleared r) options times v.place.own v.place.progress line)
-    (place_reply options times v.place.own v.place.progress line) (cleared r)
+abbrev pub drive_recorded : Record → DriveSetup → DriveView → List ℕ → Record
+drive_recorded r setup v line =
+    option_map_or (λ q. place_recorded (cleared r) setup v.place.state v.place.progress line)
+    (place_reply setup v.place.state v.place.progress line) (cleared r)
 
 -- ---- a recorded drive
 
@@ -183,25 +187,25 @@ abbrev pub unrecorded : DriveView → DriveView × List ℕ
 unrecorded v = (record v { lines = v.lines + 1 }, fault_line (v.lines + 1) Recorded)
 
 -- the answer to a line: as in any drive, except that `notice N K` is a fault
-abbrev pub recorded_reply : WorldOptions → Times → DriveView → List ℕ → DriveView × List ℕ
-recorded_reply options times v line = if says_notice line then unrecorded v else drive_reply options times v line
+abbrev pub recorded_reply : DriveSetup → DriveView → List ℕ → DriveView × List ℕ
+recorded_reply setup v line = if says_notice line then unrecorded v else drive_reply setup v line
 
-abbrev pub recorded_rules : WorldOptions → Times → Rules DriveView
-recorded_rules options times = record {
-  start = (drive_rules options times).start;
-  reply = λ v line. Some (recorded_reply options times v line);
+abbrev pub recorded_rules : DriveSetup → Rules DriveView
+recorded_rules setup = record {
+  start = (drive_rules setup).start;
+  reply = λ v line. Some (recorded_reply setup v line);
   at_end = λ v n. None;
 }
 
 -- ---- what `drive_recorded` promises
 
 -- The known bytes grew by the answers to the lines of the input, and the input ends as the result says.
-abbrev pub DrivesRecorded : WorldOptions → Times → List ℕ → Option (List ℕ) → Option (List ℕ) → Ended → Type 0
-DrivesRecorded options times input old new ended =
-    IsWholeText (shortened_text (recorded_rules options times)) input old new ended
+abbrev pub DrivesRecorded : DriveSetup → List ℕ → Option (List ℕ) → Option (List ℕ) → Ended → Type 0
+DrivesRecorded setup input old new ended =
+    IsWholeText (shortened_text (recorded_rules setup)) input old new ended
 
 -- The reader returned some bytes, and the writer got a prefix of the answers to them.
-abbrev pub IsRecordedBegun : WorldOptions → Times → Option (List ℕ) → Option (List ℕ) → Option (List ℕ)
+abbrev pub IsRecordedBegun : DriveSetup → Option (List ℕ) → Option (List ℕ) → Option (List ℕ)
     → Option (List ℕ) → Type 0
-IsRecordedBegun options times old_reader new_reader old_writer new_writer =
-    IsFrontOfText (shortened_text (recorded_rules options times)) old_reader new_reader old_writer new_writer
+IsRecordedBegun setup old_reader new_reader old_writer new_writer =
+    IsFrontOfText (shortened_text (recorded_rules setup)) old_reader new_reader old_writer new_writer

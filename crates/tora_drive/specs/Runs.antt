@@ -6,7 +6,6 @@ use Rattle.tora_lines.specs.LineText.{state_behind}
 use Rattle.tora_world.specs.declared.event.Event.{Event}
 use Rattle.tora_world.specs.declared.event.Event.TheVariants.{Tick}
 use Rattle.tora_script.specs.declared.node_marks.Mark.{Mark}
-use Rattle.tora_script.specs.declared.setup.WorldOptions.{WorldOptions}
 use Rattle.tora_world.specs.Topology.{Topology, IsWithinLimits, is_link}
 use Rattle.tora_world.specs.World.{World, own_choice, first_world, world_after}
 use Rattle.tora_world.specs.FreeWorld.{Schedule, after_schedule, FreeEvent as Free}
@@ -16,6 +15,7 @@ use Rattle.tora_sim.specs.Cuts.{after_cut_at}
 use Rattle.tora_sim.specs.Topologies.{topology_of}
 use Rattle.tora_script.specs.Simulator.{started}
 use Rattle.tora_script.specs.SimulationText.{RunningView, Progress}
+use Rattle.tora_drive.specs.declared.setup.DriveSetup.{DriveSetup}
 use Rattle.tora_drive.specs.declared.line.DriveLine.TheVariants.{Notice}
 use Rattle.tora_drive.specs.DriveLines.{drive_line_of}
 use Rattle.tora_drive.specs.DriveText.{DriveView, drive_rules}
@@ -58,29 +58,29 @@ IsNotice line = (n : ℕ) × (k : ℕ) × (drive_line_of line ≡ Some (Notice n
 abbrev pub SaysNoNotice : List (List ℕ) → Type 0
 SaysNoNotice lines = AllByRecursion (λ line. IsNotice line → ⊥) lines
 
--- A world is the result of some events, from the first world with these options of some links, destinations and lines
+-- A world is the result of some events, from the first world with these settings of some links, destinations and lines
 -- about nodes. If no line cuts a session, they are events of the simulator alone.
-pub record IsOfEvents (options : WorldOptions) (times : Times) (CutsNothing : Type 0) (w : World) : Type 0 where
+pub record IsOfEvents (setup : DriveSetup) (CutsNothing : Type 0) (w : World) : Type 0 where
   pub links : List (ℕ × ℕ)
   pub dests : List ℕ
   pub marks : List Mark
   pub ids : AreIds (topology_of links dests)
   pub first : World
-  pub begins : started options links dests marks times ≡ Some first
+  pub begins : started setup.options links dests marks setup.times ≡ Some first
   pub events : List DriveEvent
   pub world_is : w ≡ after_all_driven first events
   pub plain : CutsNothing → (happened : List Event) × (events ≡ happening happened)
 
 -- a statement holds for the world after any lines of a drive, if there is one
-abbrev pub EveryDrive : (WorldOptions → Times → List (List ℕ) → World → Type 0) → Type 0
+abbrev pub EveryDrive : (DriveSetup → List (List ℕ) → World → Type 0) → Type 0
 EveryDrive Holds =
-    (options : WorldOptions) (times : Times) (lines : List (List ℕ)) (v : DriveView) (s : RunningView)
-    → state_behind (drive_rules options times) (drive_rules options times).start lines ≡ Some v
-    → v.place.progress ≡ Progress.Runs s → Holds options times lines s.world
+    (setup : DriveSetup) (lines : List (List ℕ)) (v : DriveView) (s : RunningView)
+    → state_behind (drive_rules setup) (drive_rules setup).start lines ≡ Some v
+    → v.place.progress ≡ Progress.Runs s → Holds setup lines s.world
 
 -- the world after any lines of a drive is the result of events
 abbrev pub DrivesAreRuns : Type 0
-DrivesAreRuns = EveryDrive (λ options times lines w. IsOfEvents options times (SaysNoNotice lines) w)
+DrivesAreRuns = EveryDrive (λ setup lines w. IsOfEvents setup (SaysNoNotice lines) w)
 
 -- events and cuts are a schedule of the free world
 abbrev pub AreSchedules : Type 0

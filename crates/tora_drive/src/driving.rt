@@ -6,15 +6,15 @@ ghost use Rattle.tora_drive.specs.DriveText.{Drives, IsDriveBegun};
 ghost use Rattle.tora_lines.specs.Reads.{IsReadSo, IsUnwritten};
 
 use crate::drive::Drive;
+use crate::drive_state::DriveState;
 use crate::driven::Driven;
-use crate::own::Own;
+use crate::setup::DriveSetup;
 use std::alloc::Global;
-use tora_arq::Times;
 use tora_lines::{Ended, Input, Output, ReplayError, read_shortened_lines};
-use tora_script::{Stage, WorldOptions};
+use tora_script::Stage;
 
 /// Reads lines to the end of the input. It answers each line by one call of the writer's `write_all` before it reads
-/// on. The world has these options, and its link ends have these times, none of which is 0.
+/// on. No time of the settings is 0.
 ///
 /// A line of more than 4,096 bytes counts as an empty one, which is always a fault: the world does not change, and the
 /// drive goes on.
@@ -24,29 +24,27 @@ use tora_script::{Stage, WorldOptions};
 #[tactic(auto, unfolding(tora_lines::specs::Shortened::shortened_text_of))]
 pub fn drive_in<S: Driven, R: Input, W: Output>(
     alloc: Global,
-    options: WorldOptions,
-    times: Times,
+    setup: DriveSetup,
     reader: &mut R,
     writer: &mut W,
 ) -> Result<Ended, ReplayError>
-    requires { IsTimes times }
+    requires { IsTimes setup.times }
     // The written text is the answers to all lines, and the input ends as the result says.
     ensures whole { IfOk result (λ ended. IfSome (R.remaining reader.old) (λ input.
-        Drives options times input (W.contents writer.old) (W.contents writer.new) ended)) }
+        Drives setup input (W.contents writer.old) (W.contents writer.new) ended)) }
     ensures at_end { result ≡ Ok Ended.Whole → IsAtEnd (R.remaining reader.new) }
     // The written text is a prefix of the answers to the lines that were read.
     ensures begun { IfErr result (λ e. e ≢ ReplayError.Write →
-        IsDriveBegun options times (R.remaining reader.old) (R.remaining reader.new) (W.contents writer.old)
+        IsDriveBegun setup (R.remaining reader.old) (R.remaining reader.new) (W.contents writer.old)
         (W.contents writer.new)) }
     ensures reads { IsReadSo R.did_read reader.old reader.new result }
     ensures failed { IfErr result (λ e. e ≡ ReplayError.Write → IsUnwritten W.did_write writer.new) }
 {
     let state: Drive<S> = Drive {
         lines: 0,
-        options,
-        times,
+        setup,
         stage: Stage::First,
-        own: Own::new(alloc),
+        state: DriveState::new(alloc),
     };
     read_shortened_lines(alloc, state, reader, writer)
 }

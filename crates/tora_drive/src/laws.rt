@@ -23,12 +23,12 @@ pub fn drives_are_runs_of_events()
     ensures schedules { AreSchedules }
     // The prefix law: what a core took from a neighbour in a session is a prefix of what the neighbour's core sent in
     // it.
-    ensures prefix { EveryDrive (λ options times lines w. TakenBeginsSent w) }
+    ensures prefix { EveryDrive (λ setup lines w. TakenBeginsSent w) }
     // The no-gap law: while a session is current at a core, all that the core broadcasts is sent in it.
-    ensures gapless { EveryDrive (λ options times lines w. HasNoGaps times w) }
+    ensures gapless { EveryDrive (λ setup lines w. HasNoGaps setup.times w) }
     // Exact entries give walks: if each entry that is not NULL is the neighbour's height, next hops lead to the
     // destination.
-    ensures walks { EveryDrive (λ options times lines w. (d n : ℕ) (height : Quintuple) → IsExact w d
+    ensures walks { EveryDrive (λ setup lines w. (d n : ℕ) (height : Quintuple) → IsExact w d
         → height_at w n d ≡ Some (Some height) → Arrives w n d) }
 {
     prefix_law();
@@ -41,7 +41,7 @@ pub fn drives_are_runs_of_events()
 pub fn recorded_drives_are_drives()
     ensures drives { RecordedAreDrives }
     ensures silent { RecordedSaysNoNotice }
-    ensures events { EveryRecordedDrive (λ options times w. IsOfHappened options times w) }
+    ensures events { EveryRecordedDrive (λ setup w. IsOfHappened setup w) }
 {}
 
 /// The lines that a record has for a line of a drive change the simulation as that line does. Each of them is read as

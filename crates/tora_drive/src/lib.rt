@@ -5,9 +5,10 @@
 //! defines the lines.
 //!
 //! ```rust
-//! let ended = drive_in::<Sim, R, W>(alloc, WorldOptions::within(Limits::STANDARD), Times::STANDARD, &mut reader, &mut writer)?;
+//! let setup = DriveSetup { options: WorldOptions::within(Limits::STANDARD), times: Times::STANDARD };
+//! let ended = drive_in::<Sim, R, W>(alloc, setup, &mut reader, &mut writer)?;
 //!
-//! let mut drive: Drive<Sim> = Drive::new(alloc, WorldOptions::within(Limits::STANDARD), Times::STANDARD);
+//! let mut drive: Drive<Sim> = Drive::new(alloc, setup);
 //! drive.answer(alloc, b"dests 2", &mut text)?; // the text is `ok` and its end
 //! ```
 #![tactic(auto)]
@@ -15,6 +16,7 @@
 mod answer;
 mod cause;
 mod drive;
+mod drive_state;
 mod driven;
 mod driving;
 mod event_lines;
@@ -22,14 +24,14 @@ mod laws;
 mod line;
 mod needs;
 mod one_line;
-mod own;
 mod performing;
 mod recorded;
 mod records;
+mod sent_line;
+mod setup;
 mod stepping;
 mod taken;
 mod taking;
-mod telling;
 
 pub use cause::Cause;
 pub use drive::Drive;
@@ -42,3 +44,4 @@ pub use laws::{
 pub use line::{DriveLine, drive_line, says_notice};
 pub use recorded::{Recording, drive_recorded};
 pub use records::Route;
+pub use setup::DriveSetup;

@@ -7,12 +7,12 @@ ghost use Rattle.tora_drive.specs.DriveView.{record_view, view_of};
 ghost use Rattle.tora_drive.specs.Recording.{drive_recorded};
 
 use crate::drive::Drive;
+use crate::drive_state::DriveState;
 use crate::driven::Driven;
-use crate::own::Own;
+use crate::setup::DriveSetup;
 use std::alloc::{AllocError, Global};
-use tora_arq::Times;
 use tora_lines::LONGEST_LINE;
-use tora_script::{Stage, WorldOptions};
+use tora_script::Stage;
 
 /// The line, or an empty one if it is too long.
 fn shortened(line: &[u8]) -> &[u8]
@@ -22,34 +22,30 @@ fn shortened(line: &[u8]) -> &[u8]
 }
 
 impl<S: Driven> Drive<S> {
-    /// A drive before its first line. Its world will have these options, and its link ends these times, none of which
-    /// is 0. It takes no memory.
-    pub fn new(alloc: Global, options: WorldOptions, times: Times) -> Drive<S>
-        requires { IsTimes times }
-        ensures view { view_of S.world result ≡ (drive_rules options times).start }
-        ensures record { record_view result.own ≡ None }
-        ensures options { result.options ≡ options }
-        ensures times { result.times ≡ times }
+    /// A drive before its first line, with these settings, of which no time is 0. It takes no memory.
+    pub fn new(alloc: Global, setup: DriveSetup) -> Drive<S>
+        requires { IsTimes setup.times }
+        ensures view { view_of S.world result ≡ (drive_rules setup).start }
+        ensures record { record_view result.state ≡ None }
+        ensures setup { result.setup ≡ setup }
     {
         Drive {
             lines: 0,
-            options,
-            times,
+            setup,
             stage: Stage::First,
-            own: Own::new(alloc),
+            state: DriveState::new(alloc),
         }
     }
 
     /// Resets the drive to the state that `new` makes.
     fn begin_anew(&mut self, alloc: Global)
-        ensures view { view_of S.world self.new ≡ (drive_rules self.old.options self.old.times).start }
-        ensures record { record_view self.new.own ≡ None }
-        ensures options { self.new.options ≡ self.old.options }
-        ensures times { self.new.times ≡ self.old.times }
+        ensures view { view_of S.world self.new ≡ (drive_rules self.old.setup).start }
+        ensures record { record_view self.new.state ≡ None }
+        ensures setup { self.new.setup ≡ self.old.setup }
     {
         self.lines = 0;
         self.stage = Stage::First;
-        self.own = Own::new(alloc);
+        self.state = DriveState::new(alloc);
     }
 
     /// Takes a line without its LF, as `drive_in` takes the lines of its input: a line of more than 4,096 bytes counts
@@ -64,15 +60,14 @@ impl<S: Driven> Drive<S> {
         text: &mut String,
     ) -> Result<(), AllocError>
         ensures answer { OnOk result ((view_of S.world self.new, string_bytes text.new)
-            ≡ drive_reply self.old.options self.old.times (view_of S.world self.old) (shortened line.now)) }
-        ensures record { OnOk result (record_view self.new.own ≡ drive_recorded (record_view self.old.own)
-            self.old.options self.old.times (view_of S.world self.old) (shortened line.now)) }
+            ≡ drive_reply self.old.setup (view_of S.world self.old) (shortened line.now)) }
+        ensures record { OnOk result (record_view self.new.state ≡ drive_recorded (record_view self.old.state)
+            self.old.setup (view_of S.world self.old) (shortened line.now)) }
         ensures anew { IfErr result (λ _.
-            view_of S.world self.new ≡ (drive_rules self.old.options self.old.times).start) }
-        ensures unrecorded { IfErr result (λ _. record_view self.new.own ≡ None) }
+            view_of S.world self.new ≡ (drive_rules self.old.setup).start) }
+        ensures unrecorded { IfErr result (λ _. record_view self.new.state ≡ None) }
         ensures silent { IfErr result (λ _. string_bytes text.new ≡ []) }
-        ensures options { self.new.options ≡ self.old.options }
-        ensures times { self.new.times ≡ self.old.times }
+        ensures setup { self.new.setup ≡ self.old.setup }
     {
         text.clear();
         match self.reply(alloc, shortened(line), text) {

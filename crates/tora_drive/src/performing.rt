@@ -1,5 +1,5 @@
 //! What each line of a running simulation does.
-ghost use Rattle.std.specs.Prelude.{◌≡◌, ◌++◌, [], OnOk, IfOk, Err, Some, None, string_bytes};
+ghost use Rattle.std.specs.Prelude.{◌≡◌, ◌≢◌, ◌++◌, [], OnOk, IfOk, Err, Some, None, string_bytes};
 ghost use Rattle.std.specs.Prelude.{is_some, if◌then◌else◌};
 ghost use Rattle.std.specs.Option.{option_map_or};
 ghost use Rattle.tora_lines.specs.Gives.{Gives};
@@ -7,20 +7,19 @@ ghost use Rattle.tora_lines.specs.LineText.{TakesReply};
 ghost use Rattle.tora_world.specs.World.{refusal_of};
 ghost use Rattle.tora_script.specs.RunningView.{running_view};
 ghost use Rattle.tora_script.specs.SimulationText.{refusal_text, event_reply, has_end};
-ghost use Rattle.tora_drive.specs.DriveText.{named, with_far, without_far, outcome, shown, unnamed, is_forgotten};
-ghost use Rattle.tora_drive.specs.DriveText.{event_outcome, after_step, bytes_line, silenced, noticed, forgetting};
+ghost use Rattle.tora_drive.specs.DriveText.{named, with_silent, without_silent, outcome, shown, unnamed, is_forgotten};
+ghost use Rattle.tora_drive.specs.DriveText.{event_outcome, bytes_line, silenced, noticed, forgetting};
 ghost use Rattle.tora_drive.specs.DriveText.{script_outcome, outcome_of};
-ghost use Rattle.tora_drive.specs.DriveView.{own_view, record_view};
-ghost use Rattle.tora_drive.specs.Recording.{events_text, with_record, step_recorded};
-ghost use Rattle.tora_drive.specs.Steps.{step};
+ghost use Rattle.tora_drive.specs.DriveView.{state_view, record_view};
+ghost use Rattle.tora_drive.specs.Recording.{step_recorded};
+ghost use Rattle.tora_drive.specs.declared.line.DriveLine.TheVariants.{Step};
 
+use crate::drive_state::DriveState;
 use crate::driven::Driven;
 use crate::line::DriveLine;
 use crate::needs::write_needs;
-use crate::own::Own;
 use crate::records::write_frame;
-use crate::telling::make_step_told;
-use std::alloc::{AllocError, Global};
+use std::alloc::AllocError;
 use tora_height::Id;
 use tora_lines::numbered;
 use tora_lines::words::LineError;
@@ -55,11 +54,11 @@ fn happen<S: Driven>(
 }
 
 /// Whether an event is the delivery of a forgotten datagram, which can no longer be named.
-fn is_forgotten(own: &Own, event: &Event) -> bool
-    ensures { result ≡ is_forgotten (own_view own.now) event.now }
+fn is_forgotten(state: &DriveState, event: &Event) -> bool
+    ensures { result ≡ is_forgotten (state_view state.now) event.now }
 {
     match event {
-        Event::Deliver(i) => *i <= own.forgotten,
+        Event::Deliver(i) => *i <= state.forgotten,
         _ => false,
     }
 }
@@ -67,59 +66,43 @@ fn is_forgotten(own: &Own, event: &Event) -> bool
 /// Makes an event happen, unless it names a forgotten datagram. Returns whether it was refused.
 fn event<S: Driven>(
     running: &mut Running<S>,
-    own: &Own,
+    state: &DriveState,
     event: &Event,
     out: &mut String,
 ) -> Result<bool, AllocError>
     requires { string_bytes out.old ≡ [] }
-    ensures { IfOk result (λ r. outcome (running_view S.world running.new) (own_view own.now) (string_bytes out.new) r
-        ≡ event_outcome (running_view S.world running.old) (own_view own.now) event.now) }
+    ensures { IfOk result (λ r. outcome (running_view S.world running.new) (state_view state.now) (string_bytes
+        out.new) r
+        ≡ event_outcome (running_view S.world running.old) (state_view state.now) event.now) }
 {
-    if is_forgotten(own, event) {
+    if is_forgotten(state, event) {
         refuse(out, SimError::NoDatagram)?;
         return Ok(true);
     }
     happen(running, event, out)
 }
 
-/// A round in which nothing is delivered; its events are recorded.
-fn step<S: Driven>(alloc: Global, running: &mut Running<S>, own: &mut Own) -> Result<(), AllocError>
-    ensures view { OnOk result (running_view S.world running.new
-        ≡ record (running_view S.world running.old) {
-          world = after_step (running_view S.world running.old)
-              (own_view own.old);
-        }) }
-    ensures own { own_view own.new ≡ own_view own.old }
-    ensures record { OnOk result (record_view own.new ≡ with_record (record_view own.old)
-        (events_text (step (running_view S.world running.old).nodes (running_view S.world running.old).ends
-        (own_view own.old).far (S.world running.old.sim)))) }
-{
-    let mut text = String::new(alloc);
-    let (nodes, ends) = (&running.nodes, &running.ends);
-    make_step_told(&mut running.sim, nodes, ends, &own.far, &mut text)?;
-    own.put(text.as_bytes())
-}
-
 /// Makes an end silent or ends its silence. A fault if there is no such end.
 fn silence<S: Driven>(
     running: &Running<S>,
-    own: &mut Own,
+    state: &mut DriveState,
     end: (Id, Id),
-    is_far: bool,
+    is_silent: bool,
 ) -> Result<(), LineError>
-    ensures gives { Gives (λ _. shown (running_view S.world running.now) (own_view own.new) []) result
-        (silenced (running_view S.world running.now) (own_view own.old) end.0 end.1
-        (if is_far then with_far end (own_view own.old).far else without_far end (own_view own.old).far)) }
-    ensures kept { result ≡ Err LineError.Fault → own_view own.new ≡ own_view own.old }
-    ensures record { record_view own.new ≡ record_view own.old }
+    ensures gives { Gives (λ _. shown (running_view S.world running.now) (state_view state.new) []) result
+        (silenced (running_view S.world running.now) (state_view state.old) end.0 end.1
+        (if is_silent then with_silent end (state_view state.old).silent else without_silent end (state_view
+        state.old).silent)) }
+    ensures kept { result ≡ Err LineError.Fault → state_view state.new ≡ state_view state.old }
+    ensures record { record_view state.new ≡ record_view state.old }
 {
     if !has_end(end.0, end.1, &running.ends) {
         return Err(LineError::Fault);
     }
-    if is_far {
-        own.silence(end)?;
+    if is_silent {
+        state.silence(end)?;
     } else {
-        own.wake(end);
+        state.wake(end);
     }
     Ok(())
 }
@@ -128,15 +111,16 @@ fn silence<S: Driven>(
 /// an empty text. A fault if there is no such end.
 fn notice<S: Driven>(
     running: &mut Running<S>,
-    own: &Own,
+    state: &DriveState,
     end: (Id, Id),
     out: &mut String,
 ) -> Result<bool, LineError>
     requires { string_bytes out.old ≡ [] }
-    ensures gives { Gives (λ r. outcome (running_view S.world running.new) (own_view own.now) (string_bytes out.new) r)
+    ensures gives { Gives (λ r. outcome (running_view S.world running.new) (state_view state.now) (string_bytes
+        out.new) r)
         result
         (if has_end end.0 end.1 (running_view S.world running.old).ends then Some
-        (noticed (running_view S.world running.old) (own_view own.now) end.0 end.1) else None) }
+        (noticed (running_view S.world running.old) (state_view state.now) end.0 end.1) else None) }
     ensures kept { result ≡ Err LineError.Fault → running_view S.world running.new ≡ running_view S.world running.old }
 {
     if !has_end(end.0, end.1, &running.ends) {
@@ -154,17 +138,18 @@ fn notice<S: Driven>(
 /// or it is forgotten.
 fn write_bytes<S: Driven>(
     running: &Running<S>,
-    own: &Own,
+    state: &DriveState,
     i: u64,
     out: &mut String,
 ) -> Result<bool, AllocError>
     requires { string_bytes out.old ≡ [] }
-    ensures { IfOk result (λ r. outcome (running_view S.world running.now) (own_view own.now) (string_bytes out.new) r
-        ≡ option_map_or (λ f. shown (running_view S.world running.now) (own_view own.now) (bytes_line i f))
-        (named (own_view own.now) (S.world running.now.sim) i) (unnamed (running_view S.world running.now)
-        (own_view own.now))) }
+    ensures { IfOk result (λ r. outcome (running_view S.world running.now) (state_view state.now) (string_bytes
+        out.new) r
+        ≡ option_map_or (λ f. shown (running_view S.world running.now) (state_view state.now) (bytes_line i f))
+        (named (state_view state.now) (S.world running.now.sim) i) (unnamed (running_view S.world running.now)
+        (state_view state.now))) }
 {
-    if i <= own.forgotten {
+    if i <= state.forgotten {
         refuse(out, SimError::NoDatagram)?;
         return Ok(true);
     }
@@ -183,21 +168,21 @@ fn write_bytes<S: Driven>(
 /// Forgets the datagrams up to a number. Returns whether that is refused, because fewer were sent.
 fn forget<S: Driven>(
     running: &Running<S>,
-    own: &mut Own,
+    state: &mut DriveState,
     i: u64,
     out: &mut String,
 ) -> Result<bool, AllocError>
     requires { string_bytes out.old ≡ [] }
-    ensures view { IfOk result (λ r. outcome (running_view S.world running.now) (own_view own.new)
-        (string_bytes out.new) r ≡ forgetting (running_view S.world running.now) (own_view own.old) i) }
-    ensures record { record_view own.new ≡ record_view own.old }
+    ensures view { IfOk result (λ r. outcome (running_view S.world running.now) (state_view state.new)
+        (string_bytes out.new) r ≡ forgetting (running_view S.world running.now) (state_view state.old) i) }
+    ensures record { record_view state.new ≡ record_view state.old }
 {
     if i > running.sim.datagrams() {
         refuse(out, SimError::NoDatagram)?;
         return Ok(true);
     }
-    if own.forgotten < i {
-        own.forgotten = i;
+    if state.forgotten < i {
+        state.forgotten = i;
     }
     Ok(false)
 }
@@ -206,17 +191,18 @@ fn forget<S: Driven>(
 /// refused.
 fn perform_script<S: Driven>(
     running: &mut Running<S>,
-    own: &Own,
+    state: &DriveState,
     line: SimulationLine,
     out: &mut String,
 ) -> Result<bool, LineError>
     requires { string_bytes out.old ≡ [] }
-    ensures gives { Gives (λ r. outcome (running_view S.world running.new) (own_view own.now) (string_bytes out.new) r)
-        result (script_outcome (running_view S.world running.old) (own_view own.now) line) }
+    ensures gives { Gives (λ r. outcome (running_view S.world running.new) (state_view state.now) (string_bytes
+        out.new) r)
+        result (script_outcome (running_view S.world running.old) (state_view state.now) line) }
     ensures kept { result ≡ Err LineError.Fault → running_view S.world running.new ≡ running_view S.world running.old }
 {
     match line {
-        SimulationLine::Happens(happens) => Ok(event(running, own, &happens, out)?),
+        SimulationLine::Happens(happens) => Ok(event(running, state, &happens, out)?),
         line => {
             running.answer(line, out)?;
             Ok(false)
@@ -224,43 +210,41 @@ fn perform_script<S: Driven>(
     }
 }
 
-/// Carries out a line, and writes its first output to an empty text. Returns whether it was refused.
+/// Carries out a line other than `step`, and writes its first output to an empty text. Returns whether it was refused.
 #[tactic(auto, unfolding(crate::specs::DriveText::outcome_of))]
 pub fn perform<S: Driven>(
-    alloc: Global,
     running: &mut Running<S>,
-    own: &mut Own,
+    state: &mut DriveState,
     line: DriveLine,
     out: &mut String,
 ) -> Result<bool, LineError>
-    requires { string_bytes out.old ≡ [] }
-    ensures gives { Gives (λ r. outcome (running_view S.world running.new) (own_view own.new) (string_bytes out.new) r)
-        result (outcome_of (running_view S.world running.old) (own_view own.old) line) }
+    requires other { line ≢ Step }
+    requires empty { string_bytes out.old ≡ [] }
+    ensures gives { Gives (λ r. outcome (running_view S.world running.new) (state_view state.new) (string_bytes
+        out.new) r)
+        result (outcome_of (running_view S.world running.old) (state_view state.old) line) }
     ensures kept { result ≡ Err LineError.Fault → running_view S.world running.new ≡ running_view S.world running.old }
-    ensures own { result ≡ Err LineError.Fault → own_view own.new ≡ own_view own.old }
-    ensures record { IfOk result (λ r. record_view own.new ≡ step_recorded (record_view own.old)
-        (running_view S.world running.old) (own_view own.old) line) }
+    ensures state { result ≡ Err LineError.Fault → state_view state.new ≡ state_view state.old }
+    ensures record { IfOk result (λ r. record_view state.new ≡ step_recorded (record_view state.old)
+        (running_view S.world running.old) (state_view state.old) line) }
 {
     match line {
-        DriveLine::Script(line) => perform_script(running, own, line, out),
-        DriveLine::Step => {
-            step(alloc, running, own)?;
-            Ok(false)
-        }
+        DriveLine::Script(line) => perform_script(running, state, line, out),
+        DriveLine::Step => unreachable!(),
         DriveLine::Needs => {
             write_needs(out, &running.sim, &running.nodes, &running.dests)?;
             Ok(false)
         }
         DriveLine::Near(n, k) => {
-            silence(running, own, (n, k), false)?;
+            silence(running, state, (n, k), false)?;
             Ok(false)
         }
         DriveLine::Far(n, k) => {
-            silence(running, own, (n, k), true)?;
+            silence(running, state, (n, k), true)?;
             Ok(false)
         }
-        DriveLine::Notice(n, k) => notice(running, own, (n, k), out),
-        DriveLine::Bytes(i) => Ok(write_bytes(running, own, i, out)?),
-        DriveLine::Forget(i) => Ok(forget(running, own, i, out)?),
+        DriveLine::Notice(n, k) => notice(running, state, (n, k), out),
+        DriveLine::Bytes(i) => Ok(write_bytes(running, state, i, out)?),
+        DriveLine::Forget(i) => Ok(forget(running, state, i, out)?),
     }
 }

@@ -8,14 +8,14 @@ ghost use Rattle.tora_drive.specs.Recording.{DrivesRecorded, IsRecordedBegun};
 ghost use Rattle.tora_lines.specs.Reads.{IsReadSo, IsUnwritten};
 
 use crate::drive::Drive;
+use crate::drive_state::DriveState;
 use crate::driven::Driven;
 use crate::line::says_notice;
-use crate::own::Own;
+use crate::setup::DriveSetup;
 use std::alloc::{AllocError, Global};
-use tora_arq::Times;
 use tora_lines::words::LineError;
 use tora_lines::{Ended, FileKind, Input, Output, ReplayError, read_shortened_lines};
-use tora_script::{Stage, TraceOut, WorldOptions};
+use tora_script::{Stage, TraceOut};
 
 /// A drive whose record is written line by line.
 #[derive(Drop)]
@@ -25,10 +25,10 @@ pub struct Recording<'a, S, W> {
 }
 
 /// Writes the record of the last line.
-fn hand_on<W: Output>(own: &Own, out: &mut TraceOut<W>)
-    ensures { ArePut W.did_write out.old (record_view own.now) out.new }
+fn hand_on<W: Output>(state: &DriveState, out: &mut TraceOut<W>)
+    ensures { ArePut W.did_write out.old (record_view state.now) out.new }
 {
-    if let Some(bytes) = &own.recorded {
+    if let Some(bytes) = &state.recorded {
         out.put(0, bytes.as_slice());
     }
 }
@@ -43,7 +43,7 @@ impl<S: Driven, W: Output> FileKind for Recording<'_, S, W> {
         }
         self.drive.reply(alloc, line, text)?;
         let drive = &self.drive;
-        hand_on(&drive.own, self.out);
+        hand_on(&drive.state, self.out);
         Ok(())
     }
 
@@ -61,20 +61,19 @@ impl<S: Driven, W: Output> FileKind for Recording<'_, S, W> {
 #[tactic(auto, unfolding(tora_lines::specs::Shortened::shortened_text_of))]
 pub fn drive_recorded<S: Driven, R: Input, W: Output, V: Output>(
     alloc: Global,
-    options: WorldOptions,
-    times: Times,
+    setup: DriveSetup,
     reader: &mut R,
     writer: &mut W,
     out: &mut TraceOut<V>,
 ) -> Result<Ended, ReplayError>
-    requires { IsTimes times }
+    requires { IsTimes setup.times }
     // The written text is the answers to all lines, and the input ends as the result says.
     ensures whole { IfOk result (λ ended. IfSome (R.remaining reader.old) (λ input.
-        DrivesRecorded options times input (W.contents writer.old) (W.contents writer.new) ended)) }
+        DrivesRecorded setup input (W.contents writer.old) (W.contents writer.new) ended)) }
     ensures at_end { result ≡ Ok Ended.Whole → IsAtEnd (R.remaining reader.new) }
     // The written text is a prefix of the answers to the lines that were read.
     ensures begun { IfErr result (λ e. e ≢ ReplayError.Write →
-        IsRecordedBegun options times (R.remaining reader.old) (R.remaining reader.new) (W.contents writer.old)
+        IsRecordedBegun setup (R.remaining reader.old) (R.remaining reader.new) (W.contents writer.old)
         (W.contents writer.new)) }
     ensures reads { IsReadSo R.did_read reader.old reader.new result }
     ensures failed { IfErr result (λ e. e ≡ ReplayError.Write → IsUnwritten W.did_write writer.new) }
@@ -82,10 +81,9 @@ pub fn drive_recorded<S: Driven, R: Input, W: Output, V: Output>(
     let state: Recording<'_, S, V> = Recording {
         drive: Drive {
             lines: 0,
-            options,
-            times,
+            setup,
             stage: Stage::First,
-            own: Own::recorded(alloc),
+            state: DriveState::recorded(alloc),
         },
         out,
     };

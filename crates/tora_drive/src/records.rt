@@ -1,19 +1,22 @@
 //! The lines that report what a line changed in a world.
-ghost use Rattle.std.specs.Prelude.{◌≡◌, ◌<◌, ◌+◌, ◌-◌, ◌++◌, ◌∷◌, [], codes, OnOk, IfOk, length, string_bytes};
+ghost use Rattle.std.specs.Prelude.{◌≡◌, ◌<◌, ◌≤◌, ◌+◌, ◌-◌, ◌++◌, ◌∷◌, [], codes, OnOk, IfOk, length, string_bytes};
 ghost use Rattle.std.specs.Prelude.{if◌then◌else◌};
 ghost use Rattle.tora_drive.specs.Records.{sent_line, sent_of, sent_from, is_same_hop, hop_line, routes_at, routes_of};
 ghost use Rattle.std.specs.List.{flat_map};
 ghost use Rattle.std.specs.Fmt.{decimal};
-ghost use Rattle.tora_frame.specs.FrameGrammar.{frame_spelling};
+ghost use Rattle.tora_frame.specs.FrameGrammar.{frame_spelling, data_head_length, packets_length};
 ghost use Rattle.tora_drive.specs.DriveText.{bytes_line, may_change_hops};
 
 use crate::driven::Driven;
 use crate::line::DriveLine;
+use crate::sent_line::write_line;
 use std::alloc::{AllocError, Global};
-use tora_frame::{BorrowedBody, BorrowedFrame, Frame, LONGEST_FRAME, encode};
+use tora_frame::{
+    BorrowedBody, BorrowedFrame, Frame, LONGEST_FRAME, MOST_PACKETS, Version, encode,
+};
 use tora_height::Id;
-use tora_script::{Running, SimulationLine, Simulator};
-use tora_trace::HopText;
+use tora_packet::{Packet, encoded_length};
+use tora_script::{HopText, Running, SimulationLine, Simulator};
 use tora_world::Event;
 
 /// The length of a HELLO in bytes.
@@ -21,6 +24,12 @@ const HELLO_LENGTH: usize = 28;
 
 /// The length of an ACK in bytes.
 const ACK_LENGTH: usize = 36;
+
+/// The place of the packet in a DATA frame of version 1.
+const PACKET_OFFSET: usize = 44;
+
+/// The place of the first packet in a DATA frame of version 2.
+const BATCH_OFFSET: usize = 48;
 
 /// The next hop of a node to a destination before a line.
 #[derive(Clone, Copy, Debug)]
@@ -31,23 +40,39 @@ pub struct Route {
     pub hop: Option<Id>,
 }
 
-/// The length of a frame in bytes. Only a frame with packets is encoded for that.
+/// The length of packets in bytes, one after another from a place on.
+fn length_behind(place: usize, packets: &[Packet]) -> usize
+    requires place { place ≤ BATCH_OFFSET }
+    requires many { length packets.now ≤ MOST_PACKETS }
+    ensures { result ≡ place + packets_length packets.now }
+{
+    let mut len = place;
+    for packet in packets {
+        len += encoded_length(packet);
+    }
+    len
+}
+
+/// The length of a DATA frame with these packets in bytes.
+fn data_length(version: Version, packets: &[Packet]) -> usize
+    requires { length packets.now ≤ MOST_PACKETS }
+    ensures { result ≡ 28 + data_head_length version + packets_length packets.now }
+{
+    match version {
+        Version::One => length_behind(PACKET_OFFSET, packets),
+        Version::Two => length_behind(BATCH_OFFSET, packets),
+    }
+}
+
+/// The length of a frame in bytes.
 fn length_of(frame: &BorrowedFrame<'_>) -> usize
     ensures { result ≡ length (frame_spelling frame.now) }
 {
     match frame.body() {
         BorrowedBody::Hello => HELLO_LENGTH,
-        BorrowedBody::Data(..) => spelled_length(frame),
+        BorrowedBody::Data(_, _, packets) => data_length(frame.header().version, packets),
         BorrowedBody::Ack(_) => ACK_LENGTH,
     }
-}
-
-/// The length of a frame's encoding.
-#[inline(never)]
-fn spelled_length(frame: &BorrowedFrame<'_>) -> usize
-    ensures { result ≡ length (frame_spelling frame.now) }
-{
-    encode(&frame.to_frame()).len()
 }
 
 /// Appends `sent A B ID LENGTH` to a text.
@@ -56,9 +81,7 @@ fn write_datagram(out: &mut String, i: u64, frame: &BorrowedFrame<'_>) -> Result
     ensures { OnOk result (string_bytes out.new ≡ string_bytes out.old ++ sent_line i frame.now) }
 {
     let header = *frame.header();
-    let (sender, receiver) = (header.sender, header.receiver);
-    let length = length_of(frame);
-    writeln!(out, "sent {sender} {receiver} {i} {length}")
+    write_line(out, header.sender, header.receiver, i, length_of(frame))
 }
 
 /// Appends the line of a datagram, given by its number from 1, to a text.

@@ -1,61 +1,177 @@
-//! A step: a round in which nothing is delivered, and silent ends send nothing.
-ghost use Rattle.std.specs.Prelude.{◌≡◌, IfOk};
-ghost use Rattle.tora_world.specs.World.{world_after, world_after_all};
-ghost use Rattle.tora_world.specs.declared.event.Event.TheVariants.{Tick};
+//! A step: a round in which nothing is delivered, and silent ends send nothing. The line of each event that happens is
+//! appended to a text, if there is one.
+ghost use Rattle.std.specs.Prelude.{◌≡◌, Some, OnOk, IfOk, string_bytes};
+ghost use Rattle.tora_world.specs.World.{world_after};
+ghost use Rattle.tora_world.specs.declared.event.Event.TheVariants.{Tick, CoreTurn};
 ghost use Rattle.tora_script.specs.declared.turns.EndTurn.TheVariants.{Open};
-ghost use Rattle.tora_script.specs.Rounds.{plan_then, each, each_end_once, Happened, AreKnown};
-ghost use Rattle.tora_drive.specs.Steps.{is_far, sends_of, step_pass, step_passes};
+ghost use Rattle.tora_script.specs.Rounds.{repeats, while_possible, plan_then, each, each_core, each_end_once};
+ghost use Rattle.tora_script.specs.Rounds.{AreKnown};
+ghost use Rattle.tora_drive.specs.Steps.{is_silent, most_of, is_silenced, turn_of, step_pass, step_passes};
+ghost use Rattle.tora_drive.specs.Recording.{text_record, with_record, event_line, HappenedTold, Told};
 
+use crate::event_lines::tell_event;
 use std::alloc::AllocError;
 use tora_height::Id;
 use tora_script::{
-    EndTurn, MOST_PASSES, MOST_TIMES, Simulator, are_known, either, next_place, turn_cores,
-    turn_end, turn_known_ends,
+    EndTurn, MOST_PASSES, MOST_TIMES, Simulator, are_known, either, next_place, turn_end,
 };
 use tora_world::Event;
 
-/// Whether an end is silent.
-pub fn is_far(far: &[(Id, Id)], end: (Id, Id)) -> bool
-    ensures { result ≡ is_far far.now end }
-{
-    far.iter().any(|e| end.0 == e.0 && end.1 == e.1)
+/// What a step visits: nodes and link ends, some of which are silent. If `are_known`, the ends are those of the
+/// simulator, and those that have nothing to do are skipped.
+#[derive(Clone, Copy)]
+struct Visited<'a> {
+    nodes: &'a [Id],
+    ends: &'a [(Id, Id)],
+    silent: &'a [(Id, Id)],
+    are_known: bool,
 }
 
-/// Lets an end send its due frames, unless it is silent. `place` is its index.
-fn send_of<S: Simulator>(
+/// Whether an end is silent.
+pub fn is_silent(silent: &[(Id, Id)], end: (Id, Id)) -> bool
+    ensures { result ≡ is_silent silent.now end }
+{
+    silent.iter().any(|e| end.0 == e.0 && end.1 == e.1)
+}
+
+/// How often the event of a turn happens at most.
+#[inline(always)]
+fn most_of(kind: EndTurn) -> u64
+    ensures { result ≡ most_of kind }
+{
+    match kind {
+        EndTurn::Open => 1,
+        _ => MOST_TIMES,
+    }
+}
+
+/// Whether a step leaves this turn of an end out, because the end is silent.
+#[inline(always)]
+fn is_silenced(silent: &[(Id, Id)], kind: EndTurn, end: (Id, Id)) -> bool
+    ensures { result ≡ is_silenced silent.now kind end }
+{
+    match kind {
+        EndTurn::Transmit => is_silent(silent, end),
+        _ => false,
+    }
+}
+
+/// Makes an event happen until it is refused, at most `most` times, and appends its line to a text each time. Returns
+/// whether it happened at all. `place` is the index of its node or link end.
+#[inline(never)]
+fn repeat_told<S: Simulator>(
     sim: &mut S,
     place: usize,
-    end: (Id, Id),
-    far: &[(Id, Id)],
+    event: &Event,
+    most: u64,
+    text: &mut String,
 ) -> Result<bool, AllocError>
-    ensures { IfOk result (λ some. Happened (S.world sim.old) (sends_of far.now end (S.world sim.old)) (S.world sim.new)
-        some) }
+    ensures { IfOk result (λ some. HappenedTold (S.world sim.old) (repeats most event.now (S.world sim.old))
+        (S.world sim.new) some (Some (string_bytes text.old)) (Some (string_bytes text.new))) }
 {
-    if is_far(far, end) {
-        return Ok(false);
+    let mut some = false;
+    for _ in 0..most {
+        if !sim.may_happen(place, event) {
+            return Ok(some);
+        }
+        let refused = sim.happen_at(place, event)?;
+        match refused {
+            None => {
+                tell_event(text, event)?;
+                some = true;
+            }
+            Some(_) => return Ok(some),
+        }
     }
-    turn_end(sim, EndTurn::Transmit, place, end, MOST_TIMES)
+    Ok(some)
 }
 
-/// Lets each end that is not silent send its due frames. If `known`, `ends` are the ends of the simulator, and those
-/// that have nothing to do are skipped.
-fn send_all<S: Simulator>(
+/// Lets a core take its items.
+#[inline(always)]
+fn turn_core<S: Simulator>(
     sim: &mut S,
-    known: bool,
-    ends: &[(Id, Id)],
-    far: &[(Id, Id)],
+    place: usize,
+    n: Id,
+    text: &mut Option<String>,
 ) -> Result<bool, AllocError>
-    requires { AreKnown known ends.now (S.world sim.old) }
-    ensures { IfOk result (λ some. Happened (S.world sim.old) (each (sends_of far.now) ends.now (S.world sim.old))
-        (S.world sim.new) some) }
+    ensures { IfOk result (λ some. HappenedTold (S.world sim.old) (while_possible (CoreTurn n) (S.world sim.old))
+        (S.world sim.new) some (text_record text.old) (text_record text.new)) }
+{
+    if !sim.may_happen(place, &Event::CoreTurn(n)) {
+        return Ok(false);
+    }
+    match text {
+        None => sim.turn(place, n, MOST_TIMES),
+        Some(text) => repeat_told(sim, place, &Event::CoreTurn(n), MOST_TIMES, text),
+    }
+}
+
+/// Lets each core take its items. Cores of which the simulator knows that they have no item are skipped.
+#[inline(always)]
+fn turn_cores<S: Simulator>(
+    sim: &mut S,
+    nodes: &[Id],
+    text: &mut Option<String>,
+) -> Result<bool, AllocError>
+    ensures { IfOk result (λ some. HappenedTold (S.world sim.old) (each_core nodes.now (S.world sim.old))
+        (S.world sim.new) some (text_record text.old) (text_record text.new)) }
+{
+    if !sim.may_turn() {
+        return Ok(false);
+    }
+    let mut some = false;
+    let mut place = sim.next_core(nodes, 0);
+    while place < nodes.len() {
+        let any = turn_core(sim, place, nodes[place], text)?;
+        some = either(some, any);
+        place = sim.next_core(nodes, place + 1);
+    }
+    Ok(some)
+}
+
+/// Gives a link end its turn, unless the end is silent and would send. `place` is its index.
+#[inline(always)]
+fn turn_of<S: Simulator>(
+    sim: &mut S,
+    kind: EndTurn,
+    place: usize,
+    end: (Id, Id),
+    silent: &[(Id, Id)],
+    text: &mut Option<String>,
+) -> Result<bool, AllocError>
+    ensures { IfOk result (λ some. HappenedTold (S.world sim.old) (turn_of silent.now kind end (S.world sim.old))
+        (S.world sim.new) some (text_record text.old) (text_record text.new)) }
+{
+    if is_silenced(silent, kind, end) {
+        return Ok(false);
+    }
+    match text {
+        None => turn_end(sim, kind, place, end, most_of(kind)),
+        Some(text) => repeat_told(sim, place, &kind.event(end), most_of(kind), text),
+    }
+}
+
+/// Gives each link end its turn.
+#[inline(always)]
+fn turn_ends<S: Simulator>(
+    sim: &mut S,
+    kind: EndTurn,
+    visited: &Visited<'_>,
+    text: &mut Option<String>,
+) -> Result<bool, AllocError>
+    requires { AreKnown visited.now.are_known visited.now.ends.now (S.world sim.old) }
+    ensures { IfOk result (λ some. HappenedTold (S.world sim.old)
+        (each (turn_of visited.now.silent.now kind) visited.now.ends.now (S.world sim.old)) (S.world sim.new) some
+        (text_record text.old) (text_record text.new)) }
 {
     if sim.is_quiet() {
         return Ok(false);
     }
+    let (known, ends) = (visited.are_known, visited.ends);
     let mut some = false;
     let mut place = next_place(sim, known, ends, 0);
     while place < ends.len() {
-        let any = send_of(sim, place, ends[place], far)?;
+        let any = turn_of(sim, kind, place, ends[place], visited.silent, text)?;
         some = either(some, any);
         place = next_place(sim, known, ends, place + 1);
     }
@@ -66,19 +182,19 @@ fn send_all<S: Simulator>(
 #[tactic(auto, unfolding(crate::specs::Steps::step_pass))]
 fn pass<S: Simulator>(
     sim: &mut S,
-    nodes: &[Id],
-    known: bool,
-    ends: &[(Id, Id)],
-    far: &[(Id, Id)],
+    visited: &Visited<'_>,
+    text: &mut Option<String>,
 ) -> Result<bool, AllocError>
-    requires { AreKnown known ends.now (S.world sim.old) }
-    ensures { IfOk result (λ some. Happened (S.world sim.old) (step_pass nodes.now ends.now far.now (S.world sim.old))
-        (S.world sim.new) some) }
+    requires { AreKnown visited.now.are_known visited.now.ends.now (S.world sim.old) }
+    ensures { IfOk result (λ some. HappenedTold (S.world sim.old)
+        (step_pass visited.now.nodes.now visited.now.ends.now visited.now.silent.now (S.world sim.old)) (S.world
+        sim.new)
+        some (text_record text.old) (text_record text.new)) }
 {
-    let turned = turn_cores(sim, nodes)?;
-    let pulled = turn_known_ends(sim, known, ends, EndTurn::Pull, MOST_TIMES)?;
-    let sent = send_all(sim, known, ends, far)?;
-    let pumped = turn_known_ends(sim, known, ends, EndTurn::Pump, MOST_TIMES)?;
+    let turned = turn_cores(sim, visited.nodes, text)?;
+    let pulled = turn_ends(sim, EndTurn::Pull, visited, text)?;
+    let sent = turn_ends(sim, EndTurn::Transmit, visited, text)?;
+    let pumped = turn_ends(sim, EndTurn::Pump, visited, text)?;
     Ok(either(turned, either(pulled, either(sent, pumped))))
 }
 
@@ -87,17 +203,16 @@ fn pass<S: Simulator>(
 /// step would visit every end.
 fn make_passes<S: Simulator>(
     sim: &mut S,
-    nodes: &[Id],
-    known: bool,
-    ends: &[(Id, Id)],
-    far: &[(Id, Id)],
+    visited: &Visited<'_>,
+    text: &mut Option<String>,
 ) -> Result<(), AllocError>
-    requires { AreKnown known ends.now (S.world sim.old) }
-    ensures { IfOk result (λ _. S.world sim.new ≡ world_after_all (S.world sim.old)
-        (step_passes MOST_PASSES nodes.now ends.now far.now (S.world sim.old))) }
+    requires { AreKnown visited.now.are_known visited.now.ends.now (S.world sim.old) }
+    ensures { IfOk result (λ _. Told (S.world sim.old) (step_passes MOST_PASSES visited.now.nodes.now
+        visited.now.ends.now visited.now.silent.now (S.world sim.old)) (S.world sim.new) (text_record text.old)
+        (text_record text.new)) }
 {
     for _ in 0..MOST_PASSES {
-        let some = pass(sim, nodes, known, ends, far)?;
+        let some = pass(sim, visited, text)?;
         sim.settle();
         if !some {
             return Ok(());
@@ -107,26 +222,37 @@ fn make_passes<S: Simulator>(
 }
 
 /// The tick of a step.
-pub fn tick<S: Simulator>(sim: &mut S) -> Result<(), AllocError>
-    ensures { IfOk result (λ _. S.world sim.new ≡ world_after (S.world sim.old) Tick) }
+pub fn tick<S: Simulator>(sim: &mut S, text: &mut Option<String>) -> Result<(), AllocError>
+    ensures after { IfOk result (λ _. S.world sim.new ≡ world_after (S.world sim.old) Tick) }
+    ensures told { OnOk result (text_record text.new ≡ with_record (text_record text.old) (event_line Tick)) }
 {
     sim.happen(&Event::Tick)?;
-    Ok(())
+    match text {
+        None => Ok(()),
+        Some(text) => tell_event(text, &Event::Tick),
+    }
 }
 
 /// Does what a step does after its tick.
+#[inline(never)]
 pub fn finish_step<S: Simulator>(
     sim: &mut S,
     nodes: &[Id],
     ends: &[(Id, Id)],
-    far: &[(Id, Id)],
+    silent: &[(Id, Id)],
+    text: &mut Option<String>,
 ) -> Result<(), AllocError>
-    ensures { IfOk result (λ _. S.world sim.new ≡ world_after_all (S.world sim.old)
-        (plan_then (each_end_once Open ends.now) (step_passes MOST_PASSES nodes.now ends.now far.now)
-        (S.world sim.old))) }
+    ensures { IfOk result (λ _. Told (S.world sim.old)
+        (plan_then (each_end_once Open ends.now) (step_passes MOST_PASSES nodes.now ends.now silent.now)
+        (S.world sim.old)) (S.world sim.new) (text_record text.old) (text_record text.new)) }
 {
-    let known = are_known(sim, ends);
-    turn_known_ends(sim, known, ends, EndTurn::Open, 1)?;
-    make_passes(sim, nodes, known, ends, far)?;
+    let visited = Visited {
+        nodes,
+        ends,
+        silent,
+        are_known: are_known(sim, ends),
+    };
+    turn_ends(sim, EndTurn::Open, &visited, text)?;
+    make_passes(sim, &visited, text)?;
     Ok(())
 }

@@ -6,52 +6,49 @@ ghost use Rattle.tora_script.specs.RunningView.{running_view};
 ghost use Rattle.tora_script.specs.SimulationText.{first_progress};
 ghost use Rattle.tora_script.specs.SimulationView.{progress_of};
 ghost use Rattle.tora_drive.specs.DriveText.{closing, first_answer, run_begun, placed, place_reply, drive_reply};
-ghost use Rattle.tora_drive.specs.DriveView.{own_view, record_view, view_of, drive_kind};
+ghost use Rattle.tora_drive.specs.DriveView.{state_view, record_view, view_of, drive_kind};
 ghost use Rattle.tora_drive.specs.Recording.{with_line, first_recorded, run_recorded, place_recorded, drive_recorded};
 ghost use Rattle.tora_drive.specs.Recording.{unrecorded};
 
 use crate::answer::answer;
 use crate::cause::{Cause, fault_cause, write_fault};
 use crate::drive::Drive;
+use crate::drive_state::DriveState;
 use crate::driven::Driven;
-use crate::own::Own;
+use crate::setup::DriveSetup;
 use std::alloc::{AllocError, Global};
-use tora_arq::Times;
 use tora_lines::FileKind;
 use tora_lines::words::LineError;
-use tora_script::{
-    LinkLines, Running, Setup, Stage, WorldOptions, first_line, link, mark, take_link, take_mark,
-};
+use tora_script::{LinkLines, Running, Setup, Stage, first_line, link, mark, take_link, take_mark};
 
 /// Takes the first line after the links and the lines about nodes, and makes the world; at least one link is required.
 /// A line that is a fault changes nothing.
 fn begin<S: Driven>(
     alloc: Global,
-    options: WorldOptions,
-    times: Times,
+    setup: DriveSetup,
     lines: &LinkLines,
-    own: &mut Own,
+    state: &mut DriveState,
     line: &[u8],
     text: &mut String,
 ) -> Result<Running<S>, LineError>
-    requires times { IsTimes times }
+    requires times { IsTimes setup.times }
     requires empty { string_bytes text.old ≡ [] }
-    ensures gives { Gives (λ s. (running_view S.world s, own_view own.new, string_bytes text.new)) result
-        (first_answer options times (own_view own.old) lines.now.dests.items lines.now.links.items lines.now.marks.items
+    ensures gives { Gives (λ s. (running_view S.world s, state_view state.new, string_bytes text.new)) result
+        (first_answer setup (state_view state.old) lines.now.dests.items lines.now.links.items lines.now.marks.items
         line.now) }
-    ensures own { result ≡ Err LineError.Fault → own_view own.new ≡ own_view own.old }
-    ensures record { IfOk result (λ _. record_view own.new ≡ first_recorded (record_view own.old) options times
-        (own_view own.old) lines.now.dests.items lines.now.links.items lines.now.marks.items line.now) }
+    ensures state { result ≡ Err LineError.Fault → state_view state.new ≡ state_view state.old }
+    ensures record { IfOk result (λ _. record_view state.new ≡ first_recorded (record_view state.old) setup
+        (state_view state.old) lines.now.dests.items lines.now.links.items lines.now.marks.items line.now) }
 {
     if lines.links.is_empty() {
         return Err(LineError::Fault);
     }
-    let setup = Setup {
-        options,
-        ..Setup::plain(times)
+    let world = Setup {
+        options: setup.options,
+        ..Setup::plain(setup.times)
     };
-    let mut running = Running::new(alloc, &lines.dests, &lines.links, &lines.marks, setup)?;
-    answer(alloc, &mut running, own, line, text)?;
+    let mut running = Running::new(alloc, &lines.dests, &lines.links, &lines.marks, world)?;
+    answer(alloc, &mut running, state, line, text)?;
     Ok(running)
 }
 
@@ -63,12 +60,12 @@ fn acknowledge(text: &mut String) -> Result<(), AllocError>
 }
 
 /// Appends `ok` to a text, and a line to the record, if there is one.
-fn take_in(own: &mut Own, line: &[u8], text: &mut String) -> Result<(), AllocError>
+fn take_in(state: &mut DriveState, line: &[u8], text: &mut String) -> Result<(), AllocError>
     ensures text { OnOk result (string_bytes text.new ≡ string_bytes text.old ++ closing false) }
-    ensures view { own_view own.new ≡ own_view own.old }
-    ensures record { OnOk result (record_view own.new ≡ with_line (record_view own.old) line.now) }
+    ensures view { state_view state.new ≡ state_view state.old }
+    ensures record { OnOk result (record_view state.new ≡ with_line (record_view state.old) line.now) }
 {
-    own.put_line(line)?;
+    state.put_line(line)?;
     acknowledge(text)
 }
 
@@ -89,26 +86,25 @@ fn begin_links<S: Driven>(stage: &mut Stage<S>, alloc: Global, line: &[u8]) -> R
 #[inline(never)]
 fn begin_run<S: Driven>(
     stage: &mut Stage<S>,
-    own: &mut Own,
-    options: WorldOptions,
-    times: Times,
+    state: &mut DriveState,
+    setup: DriveSetup,
     alloc: Global,
     line: &[u8],
     text: &mut String,
 ) -> Result<(), LineError>
-    requires times { IsTimes times }
+    requires times { IsTimes setup.times }
     requires empty { string_bytes text.old ≡ [] }
-    ensures gives { Gives (λ _. placed (progress_of S.world stage.new) (own_view own.new) (string_bytes text.new))
-        result (run_begun options times (own_view own.old) (progress_of S.world stage.old) line.now) }
+    ensures gives { Gives (λ _. placed (progress_of S.world stage.new) (state_view state.new) (string_bytes text.new))
+        result (run_begun setup (state_view state.old) (progress_of S.world stage.old) line.now) }
     ensures kept { result ≡ Err LineError.Fault → progress_of S.world stage.new ≡ progress_of S.world stage.old }
-    ensures own { result ≡ Err LineError.Fault → own_view own.new ≡ own_view own.old }
-    ensures record { OnOk result (record_view own.new ≡ run_recorded (record_view own.old) options times
-        (own_view own.old) (progress_of S.world stage.old) line.now) }
+    ensures state { result ≡ Err LineError.Fault → state_view state.new ≡ state_view state.old }
+    ensures record { OnOk result (record_view state.new ≡ run_recorded (record_view state.old) setup
+        (state_view state.old) (progress_of S.world stage.old) line.now) }
 {
     let Stage::Links(lines) = stage else {
         return Err(LineError::Fault);
     };
-    let running = begin(alloc, options, times, lines, own, line, text)?;
+    let running = begin(alloc, setup, lines, state, line, text)?;
     *stage = Stage::Runs(running);
     Ok(())
 }
@@ -118,42 +114,41 @@ fn begin_run<S: Driven>(
 #[tactic(auto, unfolding(crate::specs::DriveText::place_reply, crate::specs::Recording::place_recorded))]
 fn take_line<S: Driven>(
     stage: &mut Stage<S>,
-    own: &mut Own,
-    options: WorldOptions,
-    times: Times,
+    state: &mut DriveState,
+    setup: DriveSetup,
     alloc: Global,
     line: &[u8],
     text: &mut String,
 ) -> Result<(), LineError>
-    requires times { IsTimes times }
+    requires times { IsTimes setup.times }
     requires empty { string_bytes text.old ≡ [] }
-    ensures gives { Gives (λ _. placed (progress_of S.world stage.new) (own_view own.new) (string_bytes text.new))
-        result (place_reply options times (own_view own.old) (progress_of S.world stage.old) line.now) }
+    ensures gives { Gives (λ _. placed (progress_of S.world stage.new) (state_view state.new) (string_bytes text.new))
+        result (place_reply setup (state_view state.old) (progress_of S.world stage.old) line.now) }
     ensures kept { result ≡ Err LineError.Fault → progress_of S.world stage.new ≡ progress_of S.world stage.old }
-    ensures own { result ≡ Err LineError.Fault → own_view own.new ≡ own_view own.old }
-    ensures record { OnOk result (record_view own.new ≡ place_recorded (record_view own.old) options times
-        (own_view own.old) (progress_of S.world stage.old) line.now) }
+    ensures state { result ≡ Err LineError.Fault → state_view state.new ≡ state_view state.old }
+    ensures record { OnOk result (record_view state.new ≡ place_recorded (record_view state.old) setup
+        (state_view state.old) (progress_of S.world stage.old) line.now) }
 {
     match stage {
         Stage::First => {
             begin_links(stage, alloc, line)?;
-            take_in(own, line, text)?;
+            take_in(state, line, text)?;
             Ok(())
         }
         Stage::Links(lines) => {
             if let Some(link) = link(line) {
                 take_link(lines, link)?;
-                take_in(own, line, text)?;
+                take_in(state, line, text)?;
                 return Ok(());
             }
             if let Some(mark) = mark(line) {
-                take_mark(options.limits, lines, mark)?;
-                take_in(own, line, text)?;
+                take_mark(setup.options.limits, lines, mark)?;
+                take_in(state, line, text)?;
                 return Ok(());
             }
-            begin_run(stage, own, options, times, alloc, line, text)
+            begin_run(stage, state, setup, alloc, line, text)
         }
-        Stage::Runs(running) => answer(alloc, running, own, line, text),
+        Stage::Runs(running) => answer(alloc, running, state, line, text),
     }
 }
 
@@ -163,36 +158,27 @@ impl<S: Driven> Drive<S> {
     pub fn reply(&mut self, alloc: Global, line: &[u8], text: &mut String) -> Result<(), AllocError>
         requires { string_bytes text.old ≡ [] }
         ensures answer { OnOk result ((view_of S.world self.new, string_bytes text.new)
-            ≡ drive_reply self.old.options self.old.times (view_of S.world self.old) line.now) }
-        ensures record { OnOk result (record_view self.new.own ≡ drive_recorded (record_view self.old.own)
-            self.old.options self.old.times (view_of S.world self.old) line.now) }
-        ensures options { self.new.options ≡ self.old.options }
-        ensures times { self.new.times ≡ self.old.times }
+            ≡ drive_reply self.old.setup (view_of S.world self.old) line.now) }
+        ensures record { OnOk result (record_view self.new.state ≡ drive_recorded (record_view self.old.state)
+            self.old.setup (view_of S.world self.old) line.now) }
+        ensures setup { self.new.setup ≡ self.old.setup }
     {
         let Some(number) = self.lines.checked_add(1) else {
             return Err(AllocError);
         };
-        let (options, times) = (self.options, self.times);
-        let is_recorded = self.own.recorded.is_some();
-        self.own.clear_record();
-        let taken = take_line(
-            &mut self.stage,
-            &mut self.own,
-            options,
-            times,
-            alloc,
-            line,
-            text,
-        );
+        let setup = self.setup;
+        let is_recorded = self.state.recorded.is_some();
+        self.state.clear_record();
+        let taken = take_line(&mut self.stage, &mut self.state, setup, alloc, line, text);
         self.lines = number;
         match taken {
             Ok(()) => Ok(()),
             Err(error) => match error {
                 LineError::Memory => Err(AllocError),
                 LineError::Fault => {
-                    self.own.renew_record(alloc, is_recorded);
+                    self.state.renew_record(alloc, is_recorded);
                     text.clear();
-                    let cause = fault_cause(options.limits, &self.stage, line);
+                    let cause = fault_cause(setup.options.limits, &self.stage, line);
                     write_fault(text, number, cause)?;
                     Ok(())
                 }
@@ -205,8 +191,7 @@ impl<S: Driven> Drive<S> {
         requires { string_bytes text.old ≡ [] }
         ensures answer { OnOk result ((view_of S.world self.new, string_bytes text.new)
             ≡ unrecorded (view_of S.world self.old)) }
-        ensures options { self.new.options ≡ self.old.options }
-        ensures times { self.new.times ≡ self.old.times }
+        ensures setup { self.new.setup ≡ self.old.setup }
     {
         let Some(number) = self.lines.checked_add(1) else {
             return Err(AllocError);

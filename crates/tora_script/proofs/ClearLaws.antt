@@ -8,7 +8,7 @@ use Rattle.tora_script.specs.Channel.{copies_of}
 use Rattle.tora_script.specs.Table.{clear, channel_on, copies_on}
 use Rattle.tora_world.specs.declared.event.Event.TheVariants.{Deliver}
 use Rattle.tora_world.specs.World.{World, datagram}
-use Rattle.tora_script.specs.Air.{MomentView, copies_in, at_once, later_copies, put_off_of, put_off}
+use Rattle.tora_script.specs.InFlight.{MomentView, copies_in, at_once, later_copies, put_off_of, put_off}
 use Rattle.tora_script.specs.Rounds.{is_parted, repeats, arrival_of, delivery_of, delivery}
 
 -- a datagram arrives once, without delay
@@ -21,8 +21,8 @@ unfolding channel_on
 on_clear p = refl
 
 module _ (copies : (p : Place) → copies_of Base.clear p ≡ one_now) (parted : List (ℕ × ℕ)) (m : MomentView) (e : m.channel ≡ clear) (w : World) where
-  copies_are : (i : ℕ) (way : ℕ × ℕ) → copies_in m i way w ≡ one_now
-  copies_are i way = rw e (on_clear _ ∙ copies _)
+  copies_are : (i : ℕ) (direction : ℕ × ℕ) → copies_in m i direction w ≡ one_now
+  copies_are i direction = rw e (on_clear _ ∙ copies _)
 
   delivers_of : (i : ℕ) (o : Option FrameParts) → delivery_of parted m i o w ≡ arrival_of parted i o w
   delivers_of i None = refl

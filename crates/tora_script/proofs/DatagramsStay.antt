@@ -6,10 +6,10 @@ use Rattle.tora_world.specs.declared.event.Event.{Event}
 use Rattle.tora_world.specs.declared.event.Event.TheVariants.{Deliver}
 use Rattle.tora_world.specs.World.{World, Choice, datagram, refusal_of, refusal_by, own_choice, after_receiving, effect_by, world_by, world_after, world_after_all}
 use Rattle.tora_script.specs.Parted.{is_parted}
-use Rattle.tora_script.specs.Air.{MomentView, gone, goes, copies_in, at_once}
+use Rattle.tora_script.specs.InFlight.{MomentView, gone, goes, copies_in, at_once}
 use Rattle.tora_script.specs.Rounds.{repeats, delivery_of, delivery}
-use Rattle.tora_script.specs.declared.ways.Ways.{Ways}
-use Rattle.tora_script.specs.Ways.{AreCounted}
+use Rattle.tora_script.specs.declared.direction_counts.DirectionCounts.{DirectionCounts}
+use Rattle.tora_script.specs.DirectionCounts.{AreCounted}
 
 module _ (c : Choice) (w : World) where
   receiving_keeps : (o : Option FrameParts) → (after_receiving w c o).datagrams ≡ w.datagrams
@@ -41,13 +41,13 @@ same_datagram : (v w : World) → v.datagrams ≡ w.datagrams → (i : ℕ) → 
 same_datagram v w e zero = refl
 same_datagram v w e (suc place) = ap (λ (ds : List FrameParts). slice_get ds place) e
 
-same_gone : (v w : World) (way : ℕ × ℕ) (first count : ℕ) → v.datagrams ≡ w.datagrams → gone v way first count ≡ gone w way first count
+same_gone : (v w : World) (direction : ℕ × ℕ) (first count : ℕ) → v.datagrams ≡ w.datagrams → gone v direction first count ≡ gone w direction first count
 unfolding gone
-same_gone v w way first zero e = refl
-same_gone v w way first (suc count) e = ap₂ (λ (a b : ℕ). a + b) (same_gone v w way first count e) (ap (goes way) (same_datagram v w e (first + count + 1)))
+same_gone v w direction first zero e = refl
+same_gone v w direction first (suc count) e = ap₂ (λ (a b : ℕ). a + b) (same_gone v w direction first count e) (ap (goes direction) (same_datagram v w e (first + count + 1)))
 
 -- the counts that held before a delivery hold after it
-pub still_counted : (parted : List (ℕ × ℕ)) (m : MomentView) (i : ℕ) (w v : World) (ways : Ways) (first count : ℕ) → v ≡ world_after_all w (delivery parted m i w) → AreCounted w ways first count → AreCounted v ways first count
-still_counted parted m i w v ways first count after h way =
+pub still_counted : (parted : List (ℕ × ℕ)) (m : MomentView) (i : ℕ) (w v : World) (counts : DirectionCounts) (first count : ℕ) → v ≡ world_after_all w (delivery parted m i w) → AreCounted w counts first count → AreCounted v counts first count
+still_counted parted m i w v counts first count after h direction =
     let stay : v.datagrams ≡ w.datagrams = ap (λ (x : World). x.datagrams) after ∙ delivery_keeps parted m i w (datagram w i) in
-    h way ∙ sym (same_gone v w way first count stay)
+    h direction ∙ sym (same_gone v w direction first count stay)

@@ -81,7 +81,7 @@ known_then known ends {w} {next} {events} {some} h o = still_known known ends w 
 
 pub round_keeps : (known : Bool) (nodes : List ℕ) (ends parted : List (ℕ × ℕ)) (channel : Channels) (now next : Sky) → AreKnown known ends now.world → next ≡ after_round nodes ends parted channel now → AreKnown known ends next.world
 unfolding after_round
-round_keeps known nodes ends parted channel now next h e = still_known known ends now.world next.world (round nodes ends parted (moment_of channel now) now.air.later now.world) h (ap (λ (s : Sky). s.world) e)
+round_keeps known nodes ends parted channel now next h e = still_known known ends now.world next.world (round nodes ends parted (moment_of channel now) now.in_flight.later now.world) h (ap (λ (s : Sky). s.world) e)
 
 -- ---- skipped ends
 

@@ -1,4 +1,4 @@
-pub mod AirLaws
+pub mod InFlightLaws
 pub mod ClearLaws
 pub mod DatagramsStay
 pub mod KnownTopology
@@ -13,5 +13,12 @@ pub mod SimulationFound
 pub mod SimulationHere
 pub mod SimulationLaws
 pub mod Starting
-pub mod WayCounts
+pub mod DirectionCountLaws
 mod TableReading
+mod TraceRefusals
+mod RisingNames
+mod CopyOwners
+mod EndsByNode
+pub mod ReplayHeaderLaws
+pub mod ReplayLineLaws
+pub mod ReplayLaws

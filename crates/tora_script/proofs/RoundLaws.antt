@@ -11,8 +11,8 @@ use Rattle.tora_world.specs.World.{World, is_empty, refusal_of, world_by, world_
 use Rattle.tora_script.specs.declared.channel.channel.Copies.{Copies}
 use Rattle.tora_script.specs.Table.{Channels}
 use Rattle.tora_script.specs.Parted.{is_parted}
-use Rattle.tora_script.specs.Air.{MomentView, copies_in, at_once}
-use Rattle.tora_script.specs.Ways.{way_in}
+use Rattle.tora_script.specs.InFlight.{MomentView, copies_in, at_once}
+use Rattle.tora_script.specs.DirectionCounts.{direction_in}
 use Rattle.tora_sim.specs.Quiet.{IsQuiet}
 use Rattle.tora_script.specs.declared.turns.EndTurn.{EndTurn}
 use Rattle.tora_script.specs.declared.turns.EndTurn.TheVariants as turn
@@ -183,25 +183,25 @@ all_delivered parted m i end w events now some above o =
     ends w events now some (rw k at o)
 
 -- the number is not that of a datagram, so nothing is delivered
-pub no_delivery : (parted : List (ℕ × ℕ)) (m : MomentView) (i : ℕ) (w : World) (o : Option FrameParts) → way_in o ≡ None → Happened w (delivery_of parted m i o w) w false
+pub no_delivery : (parted : List (ℕ × ℕ)) (m : MomentView) (i : ℕ) (w : World) (o : Option FrameParts) → direction_in o ≡ None → Happened w (delivery_of parted m i o w) w false
 no_delivery parted m i w None there = record { after_is = refl; some_is = refl }
 no_delivery parted m i w (Some f) there = absurd (none-some (f.header.sender, f.header.receiver) (sym there))
 
 -- the nodes of the datagram are parted, so it is not delivered
-pub parted_delivery : (parted : List (ℕ × ℕ)) (m : MomentView) (i : ℕ) (w : World) (o : Option FrameParts) (way : ℕ × ℕ) → way_in o ≡ Some way → is_parted parted way.0 way.1 ≡ true → Happened w (delivery_of parted m i o w) w false
-parted_delivery parted m i w None way there is = absurd (none-some way there)
-parted_delivery parted m i w (Some f) way there is =
-    let same : (f.header.sender, f.header.receiver) ≡ way = same_Some (f.header.sender, f.header.receiver) way there in
+pub parted_delivery : (parted : List (ℕ × ℕ)) (m : MomentView) (i : ℕ) (w : World) (o : Option FrameParts) (direction : ℕ × ℕ) → direction_in o ≡ Some direction → is_parted parted direction.0 direction.1 ≡ true → Happened w (delivery_of parted m i o w) w false
+parted_delivery parted m i w None direction there is = absurd (none-some direction there)
+parted_delivery parted m i w (Some f) direction there is =
+    let same : (f.header.sender, f.header.receiver) ≡ direction = same_Some (f.header.sender, f.header.receiver) direction there in
     let none : delivery_of parted m i (Some f) w ≡ [] =
     cond-true (is_parted parted f.header.sender f.header.receiver) [] (repeats (at_once (copies_in m i (f.header.sender, f.header.receiver) w)) (Deliver i) w) (ap (λ (p : ℕ × ℕ). is_parted parted p.0 p.1) same ∙ is) in
     subst (λ (events : List Event). Happened w events w false) (sym none) (record { after_is = refl; some_is = refl })
 
 -- the datagram is delivered as often as the channel says
-pub whole_delivery : (parted : List (ℕ × ℕ)) (m : MomentView) (i : ℕ) (w next : World) (some : Bool) (o : Option FrameParts) (way : ℕ × ℕ) (copies : Copies) → way_in o ≡ Some way → is_parted parted way.0 way.1 ≡ false → copies ≡ copies_in m i way w
+pub whole_delivery : (parted : List (ℕ × ℕ)) (m : MomentView) (i : ℕ) (w next : World) (some : Bool) (o : Option FrameParts) (direction : ℕ × ℕ) (copies : Copies) → direction_in o ≡ Some direction → is_parted parted direction.0 direction.1 ≡ false → copies ≡ copies_in m i direction w
     → Happened w (repeats (at_once copies) (Deliver i) w) next some → Happened w (delivery_of parted m i o w) next some
-whole_delivery parted m i w next some None way copies there is value h = absurd (none-some way there)
-whole_delivery parted m i w next some (Some f) way copies there is value h =
-    let same : (f.header.sender, f.header.receiver) ≡ way = same_Some (f.header.sender, f.header.receiver) way there in
+whole_delivery parted m i w next some None direction copies there is value h = absurd (none-some direction there)
+whole_delivery parted m i w next some (Some f) direction copies there is value h =
+    let same : (f.header.sender, f.header.receiver) ≡ direction = same_Some (f.header.sender, f.header.receiver) direction there in
     let plan : delivery_of parted m i (Some f) w ≡ repeats (at_once (copies_in m i (f.header.sender, f.header.receiver) w)) (Deliver i) w =
     cond-false (is_parted parted f.header.sender f.header.receiver) [] (repeats (at_once (copies_in m i (f.header.sender, f.header.receiver) w)) (Deliver i) w) (ap (λ (p : ℕ × ℕ). is_parted parted p.0 p.1) same ∙ is) in
     let here : repeats (at_once copies) (Deliver i) w ≡ delivery_of parted m i (Some f) w =

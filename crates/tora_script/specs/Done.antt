@@ -8,4 +8,4 @@ use Rattle.tora_script.specs.SimulationText.{is_done}
 abbrev pub is_done_at : {S : Type 0} → Option ℕ → Stage S → Bool
 is_done_at until At.First = is_done until 0
 is_done_at until (At.Links lines) = is_done until 0
-is_done_at until (At.Runs s) = is_done until s.air.round
+is_done_at until (At.Runs s) = is_done until s.in_flight.round

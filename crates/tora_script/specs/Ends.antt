@@ -4,7 +4,7 @@ use Rattle.std.specs.Fmt.{decimal}
 use Rattle.tora_core.specs.declared.erasure.Erasure.{Erasure}
 use Rattle.tora_core.specs.declared.erasure.Erasure.TheVariants.{Plain, Remembered}
 use Rattle.tora_script.specs.declared.setup.Setup.{Setup}
-use Rattle.tora_trace.specs.Records.{line_end}
+use Rattle.tora_script.specs.TraceRecords.{line_end}
 
 -- a blank and a number
 abbrev pub field : ℕ → List ℕ

@@ -1,4 +1,4 @@
-pub mod Air
+pub mod InFlight
 pub mod Done
 pub mod KnownLimits
 pub mod Marks
@@ -15,7 +15,7 @@ pub mod SimulationText
 pub mod SimulationView
 pub mod Simulator
 pub mod ToldView
-pub mod Ways
+pub mod DirectionCounts
 pub mod Ends
 pub mod TraceOuts
 pub mod Tracing
@@ -25,3 +25,12 @@ pub mod Parts
 pub mod Table
 pub mod TableOrder
 pub mod TableText
+pub mod TraceRecords
+pub mod CoreCopies
+pub mod Trace
+pub mod NodeEnds
+pub mod ReplayLines
+pub mod ReplayGrammar
+pub mod ReplayAnswers
+pub mod ReplayText
+pub mod ReplayView

@@ -10,8 +10,8 @@ use Rattle.tora_world.specs.World.{World, datagram, is_empty, world_after_all}
 use Rattle.tora_script.specs.Table.{Channels}
 use Rattle.tora_sim.specs.Readers.{ends_in}
 use Rattle.tora_script.specs.declared.rounds.TheConstants.{MOST_PASSES}
-use Rattle.tora_script.specs.Air.{MomentView, AirView, air_view, copies_in, at_once, after_air}
-use Rattle.tora_script.specs.declared.air.Air.{Air}
+use Rattle.tora_script.specs.InFlight.{MomentView, InFlightView, in_flight_view, copies_in, at_once, in_flight_after}
+use Rattle.tora_script.specs.declared.in_flight.InFlight.{InFlight}
 use Rattle.tora_script.specs.declared.turns.EndTurn.{EndTurn}
 use Rattle.tora_script.specs.declared.turns.EndTurn.TheVariants as turn
 
@@ -112,25 +112,25 @@ round nodes ends parted m later = plan_then (once Tick) (plan_then (each_end_onc
 -- a world, with the number of rounds so far and the delayed copies of datagrams
 pub record Sky : Type 0 where
   pub world : World
-  pub air : AirView
+  pub in_flight : InFlightView
 
 -- the world of a simulator, with the number of rounds so far and the delayed copies
-abbrev pub sky_of : {S : Type 0} → (S → World) → S → Air → Sky
-sky_of world sim air = record { world = world sim; air = air_view air }
+abbrev pub sky_of : {S : Type 0} → (S → World) → S → InFlight → Sky
+sky_of world sim in_flight = record { world = world sim; in_flight = in_flight_view in_flight }
 
 -- the moment at which a round begins: how many rounds and datagrams there were before it
 abbrev pub moment_of : Channels → Sky → MomentView
-moment_of channel s = record { channel = channel; round = s.air.round; start = length s.world.datagrams }
+moment_of channel s = record { channel = channel; round = s.in_flight.round; start = length s.world.datagrams }
 
 -- the state after a round that led to this world
-abbrev pub sky_behind : List (ℕ × ℕ) → MomentView → AirView → World → Sky
-sky_behind parted m air w = record { world = w; air = after_air parted m air w }
+abbrev pub sky_behind : List (ℕ × ℕ) → MomentView → InFlightView → World → Sky
+sky_behind parted m in_flight w = record { world = w; in_flight = in_flight_after parted m in_flight w }
 
 -- the state after one round
 unfoldable pub after_round : List ℕ → List (ℕ × ℕ) → List (ℕ × ℕ) → Channels → Sky → Sky
 after_round nodes ends parted channel s =
-    sky_behind parted (moment_of channel s) s.air (world_after_all s.world
-    (round nodes ends parted (moment_of channel s) s.air.later s.world))
+    sky_behind parted (moment_of channel s) s.in_flight (world_after_all s.world
+    (round nodes ends parted (moment_of channel s) s.in_flight.later s.world))
 
 unfoldable pub rounds : ℕ → List ℕ → List (ℕ × ℕ) → List (ℕ × ℕ) → Channels → Sky → Sky
 rounds zero nodes ends parted channel s = s

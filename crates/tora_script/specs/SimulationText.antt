@@ -15,7 +15,7 @@ use Rattle.tora_lines.specs.LineText.{Rules, numbered, whole_text, fault_of, IsF
 use Rattle.tora_lines.specs.Engine.{IsWholeText, IsFrontOfText}
 use Rattle.tora_script.specs.SimulationLines.{dests_of, link_of, mark_of, simulation_line_of}
 use Rattle.tora_script.specs.Rounds.{Sky, is_same_pair, is_parted, rounds}
-use Rattle.tora_script.specs.Air.{AirView, first_air}
+use Rattle.tora_script.specs.InFlight.{InFlightView, first_in_flight}
 use Rattle.tora_script.specs.declared.channel.channel.Channel.{Channel}
 use Rattle.tora_script.specs.declared.channel.line.ChannelLine.{ChannelLine}
 use Rattle.tora_script.specs.Table.{Channels, alone}
@@ -42,7 +42,7 @@ pub record RunningView : Type 0 where
   pub ends : List (ℕ × ℕ)  -- the link ends, by ascending node and then neighbour
   pub parted : List (ℕ × ℕ)  -- the pairs of nodes between which rounds deliver nothing
   pub channel : Channel  -- the channel of the rounds
-  pub air : AirView  -- the number of rounds so far, and the delayed copies
+  pub in_flight : InFlightView  -- the number of rounds so far, and the delayed copies
   pub has_notice : Bool  -- whether both ends of a parted link cut its session at once
   pub world : World
 
@@ -59,7 +59,7 @@ begun_in dests setup w = record {
   ends = ends_in w.topology;
   parted = [];
   channel = setup.channel;
-  air = first_air;
+  in_flight = first_in_flight;
   has_notice = setup.has_notice;
   world = w;
 }
@@ -78,12 +78,12 @@ abbrev pub event_reply : RunningView → Event → Reply
 event_reply s event = (record s { world = world_after s.world event }, refusal_text (refusal_of s.world event))
 
 abbrev pub with_sky : RunningView → Sky → RunningView
-with_sky s sky = record s { world = sky.world; air = sky.air }
+with_sky s sky = record s { world = sky.world; in_flight = sky.in_flight }
 
 -- the simulation after this many rounds over a channel
 abbrev pub after_rounds_on : Channels → ℕ → RunningView → RunningView
 after_rounds_on channel r s =
-    with_sky s (rounds r s.nodes s.ends s.parted channel (record { world = s.world; air = s.air }))
+    with_sky s (rounds r s.nodes s.ends s.parted channel (record { world = s.world; in_flight = s.in_flight }))
 
 abbrev pub after_rounds : ℕ → RunningView → RunningView
 after_rounds r s = after_rounds_on (alone s.channel) r s
@@ -200,7 +200,7 @@ rounds_left (Some until) round r = min r (until - round)
 unfoldable pub script_reply : Option ℕ → List ChannelLine → RunningView → SimulationLine → Option Reply
 script_reply until table s (Rounds r) = Some (
   after_rounds_on (record { base = s.channel; lines = table })
-      (rounds_left until s.air.round r) s,
+      (rounds_left until s.in_flight.round r) s,
   [],
 )
 script_reply until table s (Happens event) = running_reply s (Happens event)
@@ -215,7 +215,7 @@ script_reply until table s Rest = running_reply s Rest
 
 -- the reply to a line; after the last round every line is accepted, whatever it says, and prints nothing
 abbrev pub script_line_reply : Option ℕ → List ChannelLine → RunningView → List ℕ → Option Reply
-script_line_reply until table s line = if is_done until s.air.round then Some (s, [])
+script_line_reply until table s line = if is_done until s.in_flight.round then Some (s, [])
     else option_and_then (script_reply until table s) (simulation_line_of line)
 
 -- ---- a line before the simulation runs

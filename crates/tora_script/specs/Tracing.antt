@@ -9,9 +9,9 @@ use Rattle.tora_world.specs.declared.event.Event.{Event}
 use Rattle.tora_world.specs.declared.event.Event.TheVariants.{Need, Tick, Open, Pull, Transmit, Deliver, Pump, CoreTurn, Arm, Restart}
 use Rattle.tora_world.specs.declared.sim_error.SimError.{SimError}
 use Rattle.tora_world.specs.World.{World, datagram}
-use Rattle.tora_trace.specs.Records.{need_record, part_record, mend_record}
-use Rattle.tora_trace.specs.Copies.{after_inputs}
-use Rattle.tora_trace.specs.Trace.{TraceState, Tells as TellsOf, with_text, with_frame, after_frames, after_restart}
+use Rattle.tora_script.specs.TraceRecords.{need_record, part_record, mend_record}
+use Rattle.tora_script.specs.CoreCopies.{after_inputs}
+use Rattle.tora_script.specs.Trace.{TraceState, Tells as TellsOf, with_text, with_frame, after_frames, after_restart}
 use Rattle.tora_script.specs.Rounds.{is_parted}
 use Rattle.tora_script.specs.SimulationText.{with_parted, without_parted}
 use Rattle.tora_script.specs.declared.script_line.SimulationLine.{SimulationLine}

@@ -2,7 +2,7 @@
 ghost use Rattle.std.specs.Prelude.{◌≡◌, ℕ, List, []};
 ghost use Rattle.tora_script.specs.Table.{clear};
 ghost use Rattle.tora_world.specs.World.{World, datagram};
-ghost use Rattle.tora_script.specs.Air.{put_off, MomentView as AnyMoment};
+ghost use Rattle.tora_script.specs.InFlight.{put_off, MomentView as AnyMoment};
 ghost use Rattle.tora_script.specs.Rounds.{arrival_of, delivery};
 
 use crate::channel::Channel;

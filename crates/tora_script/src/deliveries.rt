@@ -1,14 +1,14 @@
 //! The deliveries of a pass.
 ghost use Rattle.std.specs.Prelude.{◌≡◌, ◌<◌, ◌≤◌, ◌-◌, true, IfOk, OnOk};
 ghost use Rattle.tora_world.specs.World.{datagram};
-ghost use Rattle.tora_script.specs.Air.{moment_view, IsClear};
+ghost use Rattle.tora_script.specs.InFlight.{moment_view, IsClear};
 ghost use Rattle.tora_script.specs.Rounds.{Happened, delivery, new_deliveries};
-ghost use Rattle.tora_script.specs.Ways.{AreCounted};
+ghost use Rattle.tora_script.specs.DirectionCounts.{AreCounted};
 
-use crate::air::{Moment, at_once, copies, counted_copies};
+use crate::direction_counts::DirectionCounts;
+use crate::in_flight::{Moment, at_once, copies, counted_copies};
 use crate::simulator::Simulator;
 use crate::turns::either;
-use crate::ways::Ways;
 use std::alloc::{AllocError, Global};
 
 /// Delivers the datagrams numbered above `first`.
@@ -51,10 +51,10 @@ fn deliver_once<S: Simulator>(sim: &mut S, moment: &Moment<'_>, i: u64) -> Resul
     ensures { IfOk result (λ some. Happened (S.world sim.old) (delivery moment.now.network.parted.now
         (moment_view moment.now) i (S.world sim.old)) (S.world sim.new) some) }
 {
-    let Some(way) = sim.datagram(i) else {
+    let Some(direction) = sim.datagram(i) else {
         return Ok(false);
     };
-    if moment.is_parted(way.0, way.1) {
+    if moment.is_parted(direction.0, direction.1) {
         return Ok(false);
     }
     let some = sim.deliver(i, 1)?;
@@ -118,19 +118,19 @@ fn deliver_next<S: Simulator>(
     sim: &mut S,
     moment: &Moment<'_>,
     i: u64,
-    ways: &mut Ways,
+    counts: &mut DirectionCounts,
 ) -> Result<bool, AllocError>
     requires behind { moment.now.start < i }
-    requires counted { AreCounted (S.world sim.old) ways.old moment.now.start (i - 1 - moment.now.start) }
+    requires counted { AreCounted (S.world sim.old) counts.old moment.now.start (i - 1 - moment.now.start) }
     ensures happened { IfOk result (λ some. Happened (S.world sim.old)
         (delivery moment.now.network.parted.now (moment_view moment.now) i (S.world sim.old)) (S.world sim.new) some) }
-    ensures counted { OnOk result (AreCounted (S.world sim.old) ways.new moment.now.start (i - moment.now.start)) }
+    ensures counted { OnOk result (AreCounted (S.world sim.old) counts.new moment.now.start (i - moment.now.start)) }
 {
-    let Some(way) = sim.datagram(i) else {
+    let Some(direction) = sim.datagram(i) else {
         return Ok(false);
     };
-    let copies = counted_copies(sim, moment, i, way, ways)?;
-    if moment.is_parted(way.0, way.1) {
+    let copies = counted_copies(sim, moment, i, direction, counts)?;
+    if moment.is_parted(direction.0, direction.1) {
         return Ok(false);
     }
     let some = sim.deliver(i, at_once(copies))?;
@@ -143,26 +143,31 @@ fn count_gone<S: Simulator>(
     alloc: Global,
     first: u64,
     end: u64,
-) -> Result<Ways, AllocError>
-    ensures { IfOk result (λ ways. AreCounted (S.world sim.now) ways first (end - first)) }
+) -> Result<DirectionCounts, AllocError>
+    ensures { IfOk result (λ counts. AreCounted (S.world sim.now) counts first (end - first)) }
 {
-    let mut ways = Ways::new(alloc);
+    let mut counts = DirectionCounts::new(alloc);
     for i in first..end {
-        count_one(sim, first, i + 1, &mut ways)?;
+        count_one(sim, first, i + 1, &mut counts)?;
     }
-    Ok(ways)
+    Ok(counts)
 }
 
 /// Counts datagram `i`. Those from `first` + 1 to `i` - 1 are counted already.
-fn count_one<S: Simulator>(sim: &S, first: u64, i: u64, ways: &mut Ways) -> Result<(), AllocError>
+fn count_one<S: Simulator>(
+    sim: &S,
+    first: u64,
+    i: u64,
+    counts: &mut DirectionCounts,
+) -> Result<(), AllocError>
     requires behind { first < i }
-    requires counted { AreCounted (S.world sim.now) ways.old first (i - 1 - first) }
-    ensures { OnOk result (AreCounted (S.world sim.now) ways.new first (i - first)) }
+    requires counted { AreCounted (S.world sim.now) counts.old first (i - 1 - first) }
+    ensures { OnOk result (AreCounted (S.world sim.now) counts.new first (i - first)) }
 {
-    let Some(way) = sim.datagram(i) else {
+    let Some(direction) = sim.datagram(i) else {
         return Ok(());
     };
-    ways.count(way)?;
+    counts.count(direction)?;
     Ok(())
 }
 
@@ -176,10 +181,10 @@ fn deliver_counted<S: Simulator>(
     ensures { IfOk result (λ some. Happened (S.world sim.old) (new_deliveries moment.now.network.parted.now
         (moment_view moment.now) first (S.world sim.old)) (S.world sim.new) some) }
 {
-    let mut ways = count_gone(sim, moment.alloc, moment.start, first)?;
+    let mut counts = count_gone(sim, moment.alloc, moment.start, first)?;
     let mut some = false;
     for i in first..sim.datagrams() {
-        let any = deliver_next(sim, moment, i + 1, &mut ways)?;
+        let any = deliver_next(sim, moment, i + 1, &mut counts)?;
         some = either(some, any);
     }
     Ok(some)

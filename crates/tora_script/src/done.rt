@@ -25,7 +25,7 @@ impl<S: Simulator> Simulation<S> {
         match &self.stage {
             Stage::First => is_done(self.setup.until, 0),
             Stage::Links(_) => is_done(self.setup.until, 0),
-            Stage::Runs(running) => is_done(self.setup.until, running.air.round),
+            Stage::Runs(running) => is_done(self.setup.until, running.in_flight.round),
         }
     }
 }

@@ -1,6 +1,7 @@
-//! The simulation of a file of lines: its lines, its rounds, the printed text, and the causes of faults.
+//! Files of lines: the simulation of a world, with its rounds, its trace and the causes of faults; and the replay of
+//! the inputs of one node (`replay`).
 //!
-//! The engine runs over any simulator (`Simulator`), such as `tora_sim::Sim`. Another simulator may wrap that one and
+//! A simulation runs over any simulator (`Simulator`), such as `tora_sim::Sim`. Another simulator may wrap that one and
 //! watch its events.
 //!
 //! ```rust
@@ -8,12 +9,13 @@
 //! ```
 #![tactic(auto)]
 
-mod air;
 mod causes;
 mod channel;
 mod clear;
 mod deliveries;
+mod direction_counts;
 mod done;
+mod in_flight;
 mod limit_values;
 mod link_lines;
 mod network;
@@ -22,6 +24,7 @@ mod pair_bits;
 mod pair_record;
 mod parse;
 mod parted;
+mod replays;
 mod rounds;
 mod running_simulation;
 mod script_line;
@@ -31,18 +34,18 @@ mod simulation_file;
 mod simulator;
 mod taking;
 mod told_simulation;
+mod trace;
 mod traced;
 mod turns;
-mod ways;
 mod world_simulator;
 
-pub use air::Air;
 pub use causes::{SimulationCause, simulation_cause, simulation_cause_within};
 pub use channel::{
     Channel, ChannelLine, ChannelTable, Copies, LineCause, Parts, Place, TableError, channel_line,
     channel_parts, channel_table,
 };
 pub use clear::clear_channel_delivers_at_once;
+pub use in_flight::InFlight;
 pub use limit_values::limits_have_their_values;
 pub use link_lines::LinkLines;
 pub use network::Network;
@@ -51,6 +54,10 @@ pub use parse::{
     erasure_word, is_word, link, mark, pair, simulation_line, simulation_lines_are_read_as_written,
 };
 pub use parted::{Parted, is_parted};
+pub use replays::{
+    ReplayCause, ReplayFile, replay, replay_cause, replay_fault_is_the_first,
+    replay_first_lines_are_read_as_written, replay_lines_are_read_as_written, replay_with,
+};
 pub use rounds::{MOST_PASSES, make_rounds};
 pub use running_simulation::{Running, has_end};
 pub use script_line::SimulationLine;
@@ -61,8 +68,9 @@ pub use simulation_file::{
 };
 pub use simulator::Simulator;
 pub use told_simulation::{
-    Told, simulate_telling, simulate_telling_last, simulate_told, tell_cause,
+    Reports, Told, simulate_telling, simulate_telling_last, simulate_told, tell_cause,
 };
+pub use trace::{HeightText, HopText, Trace};
 pub use traced::{TraceOut, Traced, Tracing, Watched, simulate_traced};
 pub use turns::{
     EndTurn, MOST_TIMES, are_known, either, next_place, repeat, turn_cores, turn_end,

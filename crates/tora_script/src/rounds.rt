@@ -2,12 +2,12 @@
 ghost use Rattle.std.specs.Prelude.{◌≡◌, IfOk};
 ghost use Rattle.tora_world.specs.World.{datagram, world_after_all};
 ghost use Rattle.tora_script.specs.Table.{over};
-ghost use Rattle.tora_script.specs.Air.{moment_view};
+ghost use Rattle.tora_script.specs.InFlight.{moment_view};
 ghost use Rattle.tora_script.specs.Rounds.{arrival_of, arrival, arrivals, pass, passes, round, after_round, rounds};
 ghost use Rattle.tora_script.specs.Rounds.{sky_of, Happened, AreKnown};
 
-use crate::air::{Air, Moment};
 use crate::deliveries::deliver_new;
+use crate::in_flight::{InFlight, Moment};
 use crate::network::Network;
 use crate::simulator::Simulator;
 use crate::turns::{EndTurn, MOST_TIMES, either, repeat, turn_cores, turn_known_ends};
@@ -129,24 +129,24 @@ fn make_round<S: Simulator>(
     sim: &mut S,
     is_known: bool,
     network: &Network<'_>,
-    air: &mut Air,
+    in_flight: &mut InFlight,
 ) -> Result<(), AllocError>
     requires { AreKnown is_known network.now.ends.now (S.world sim.old) }
-    ensures { IfOk result (λ _. sky_of S.world sim.new air.new
+    ensures { IfOk result (λ _. sky_of S.world sim.new in_flight.new
         ≡ after_round network.now.nodes.now network.now.ends.now network.now.parted.now
         (over network.now.table.now network.now.channel)
-        (sky_of S.world sim.old air.old)) }
+        (sky_of S.world sim.old in_flight.old)) }
 {
-    let alloc = *air.later.allocator();
+    let alloc = *in_flight.later.allocator();
     let moment = Moment {
         network: *network,
         is_known,
-        round: air.round,
+        round: in_flight.round,
         start: sim.datagrams(),
         alloc,
     };
-    round(sim, &moment, &air.later)?;
-    air.go_on(sim, &moment)
+    round(sim, &moment, &in_flight.later)?;
+    in_flight.go_on(sim, &moment)
 }
 
 /// Makes rounds.
@@ -157,16 +157,16 @@ pub fn make_rounds<S: Simulator>(
     sim: &mut S,
     count: u64,
     network: &Network<'_>,
-    air: &mut Air,
+    in_flight: &mut InFlight,
 ) -> Result<(), AllocError>
-    ensures { IfOk result (λ _. sky_of S.world sim.new air.new
+    ensures { IfOk result (λ _. sky_of S.world sim.new in_flight.new
         ≡ rounds count network.now.nodes.now network.now.ends.now network.now.parted.now
         (over network.now.table.now network.now.channel)
-        (sky_of S.world sim.old air.old)) }
+        (sky_of S.world sim.old in_flight.old)) }
 {
     let is_known = sim.has_ends(network.ends);
     for _ in 0..count {
-        make_round(sim, is_known, network, air)?;
+        make_round(sim, is_known, network, in_flight)?;
     }
     Ok(())
 }

@@ -13,20 +13,20 @@ ghost use Rattle.tora_script.specs.SimulationText.{heights_reply, count_text, ex
 ghost use Rattle.tora_script.specs.SimulationText.{walk_text, walk_reply, at_rest_text, at_rest_reply, running_reply};
 ghost use Rattle.tora_script.specs.SimulationText.{event_reply, after_rounds, part_of, where_linked, known_height};
 
-use crate::air::Air;
 use crate::channel::{Channel, ChannelTable};
+use crate::in_flight::InFlight;
 use crate::node_marks::Mark;
 use crate::parted::Parted;
 use crate::script_line::SimulationLine;
 use crate::setup::{Setup, WorldOptions};
 use crate::simulator::Simulator;
+use crate::trace::{HeightText, HopText};
 use std::alloc::{AllocError, Global};
 use tora_arq::{Life, Times};
 use tora_core::CoreError;
 use tora_height::{Entry, Id};
 use tora_lines::numbered;
 use tora_lines::words::LineError;
-use tora_trace::{HeightText, HopText};
 use tora_world::{Event, SimError};
 
 /// A simulation after its links: its destinations, nodes and link ends, the parted pairs of nodes, the channel with the
@@ -38,7 +38,7 @@ pub struct Running<S> {
     pub ends: Vec<(Id, Id)>,
     pub parted: Parted,
     pub channel: Channel,
-    pub air: Air,
+    pub in_flight: InFlight,
     /// Whether both ends of a link cut its session at once when the link is parted.
     pub has_notice: bool,
     /// Why the event of the last line was refused, if it was.
@@ -211,7 +211,7 @@ impl<S: Simulator> Running<S> {
             ends,
             parted: Parted::new(alloc),
             channel: setup.channel,
-            air: Air::new(alloc),
+            in_flight: InFlight::new(alloc),
             has_notice: setup.has_notice,
             refused: None,
             sim,

@@ -19,11 +19,11 @@ use tora_lines::words::LineError;
 impl<S: Simulator> Running<S> {
     /// How many of `count` rounds `--until` still allows.
     fn rounds_left(&self, until: Option<u64>, count: u64) -> u64
-        ensures { result ≡ rounds_left until self.now.air.round count }
+        ensures { result ≡ rounds_left until self.now.in_flight.round count }
     {
         match until {
             None => count,
-            Some(until) => count.min(until.saturating_sub(self.air.round)),
+            Some(until) => count.min(until.saturating_sub(self.in_flight.round)),
         }
     }
 
@@ -39,7 +39,7 @@ impl<S: Simulator> Running<S> {
             channel: self.channel,
             table,
         };
-        make_rounds(&mut self.sim, count, &network, &mut self.air)
+        make_rounds(&mut self.sim, count, &network, &mut self.in_flight)
     }
 
     /// Carries out a line as `answer` does, except that rounds end at the last round of `--until`, and that a table may
@@ -80,7 +80,7 @@ impl<S: Simulator> Running<S> {
             (script_line_reply until (lines_of table.now) (running_view S.world self.old) line.now) }
     {
         self.refused = None;
-        if is_done(until, self.air.round) {
+        if is_done(until, self.in_flight.round) {
             return Ok(());
         }
         let Some(line) = simulation_line(line) else {

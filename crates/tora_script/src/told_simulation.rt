@@ -24,11 +24,17 @@ use tora_lines::words::LineError;
 use tora_lines::{Ended, FileKind, Input, Output, ReplayError, read_last_lines, read_lines};
 use tora_world::Event;
 
-/// A simulation file, and where to report why a line is a fault and, if `is_verbose`, why an event is refused.
+/// Where a simulation reports why a line is a fault and, if `is_verbose`, why an event is refused.
 #[derive(Drop)]
-pub struct Told<'a, S, T> {
+pub struct Reports<'a, T> {
     pub rt: &'a T,
     pub is_verbose: bool,
+}
+
+/// A simulation file, and where to report its fault and its refusals.
+#[derive(Drop)]
+pub struct Told<'a, S, T> {
+    pub reports: Reports<'a, T>,
     /// The number of the last line.
     pub number: u64,
     pub state: Simulation<S>,
@@ -68,17 +74,17 @@ impl<S: Simulator, T: Eprint> FileKind for Told<'_, S, T> {
 
     fn take(&mut self, alloc: Global, line: &[u8], text: &mut String) -> Result<(), LineError> {
         self.number = self.number.saturating_add(1);
-        let tells = self.is_verbose && !self.state.is_done();
+        let tells = self.reports.is_verbose && !self.state.is_done();
         let taken = self.state.take(alloc, line, text);
         match taken {
             Ok(()) if tells => {
-                tell_refusal(self.rt, self.number, &self.state.stage, line);
+                tell_refusal(self.reports.rt, self.number, &self.state.stage, line);
             }
             Ok(()) => {}
             Err(LineError::Fault) => {
                 let limits = self.state.setup.options.limits;
                 let cause = simulation_cause_within(limits, &self.state.stage, line);
-                tell_cause(self.rt, self.number, cause);
+                tell_cause(self.reports.rt, self.number, cause);
             }
             Err(LineError::Memory) => {}
         }
@@ -90,7 +96,7 @@ impl<S: Simulator, T: Eprint> FileKind for Told<'_, S, T> {
         match fault {
             Some(line) => {
                 let cause = end_cause(self.state.setup.options.limits, &self.state.stage);
-                tell_cause(self.rt, line, cause);
+                tell_cause(self.reports.rt, line, cause);
             }
             None => {}
         }
@@ -98,17 +104,16 @@ impl<S: Simulator, T: Eprint> FileKind for Told<'_, S, T> {
     }
 }
 
-/// Simulates with these settings, over a channel that the table changes by round. Reports on standard error why a line
-/// is a fault, unless it is too long, and, if `is_verbose`, why an event is refused.
+/// Simulates with these settings, over a channel that the table changes by round. Reports why a line is a fault, unless
+/// it is too long, and, if asked to, why an event is refused.
 #[tactic(auto, unfolding(tora_lines::specs::Engine::text_of))]
 pub fn simulate_telling<S: Simulator, T: Eprint, R: Input, W: Output>(
-    rt: &T,
+    reports: Reports<'_, T>,
     alloc: Global,
     setup: Setup,
     table: ChannelTable,
     reader: &mut R,
     writer: &mut W,
-    is_verbose: bool,
 ) -> Result<Ended, ReplayError>
     requires { IsTimes setup.times }
     ensures whole { IfOk result (λ ended. IfSome (R.remaining reader.old) (λ input.
@@ -123,8 +128,7 @@ pub fn simulate_telling<S: Simulator, T: Eprint, R: Input, W: Output>(
     ensures failed { IfErr result (λ e. e ≡ ReplayError.Write → IsUnwritten W.did_write writer.new) }
 {
     let state: Told<'_, S, T> = Told {
-        rt,
-        is_verbose,
+        reports,
         number: 0,
         state: Simulation::with_table(setup, table),
     };
@@ -135,13 +139,12 @@ pub fn simulate_telling<S: Simulator, T: Eprint, R: Input, W: Output>(
 /// of the time for a world of a thousand nodes.
 #[tactic(auto, unfolding(tora_lines::specs::Engine::text_of))]
 pub fn simulate_telling_last<S: Simulator, T: Eprint, R: Input, W: Output>(
-    rt: &T,
+    reports: Reports<'_, T>,
     alloc: Global,
     setup: Setup,
     table: ChannelTable,
     reader: &mut R,
     writer: &mut W,
-    is_verbose: bool,
 ) -> Result<Ended, ReplayError>
     requires { IsTimes setup.times }
     ensures whole { IfOk result (λ ended. IfSome (R.remaining reader.old) (λ input.
@@ -156,8 +159,7 @@ pub fn simulate_telling_last<S: Simulator, T: Eprint, R: Input, W: Output>(
     ensures failed { IfErr result (λ e. e ≡ ReplayError.Write → IsUnwritten W.did_write writer.new) }
 {
     let state: Told<'_, S, T> = Told {
-        rt,
-        is_verbose,
+        reports,
         number: 0,
         state: Simulation::with_table(setup, table),
     };
@@ -186,5 +188,9 @@ pub fn simulate_told<S: Simulator, T: Eprint, R: Input, W: Output>(
     ensures failed { IfErr result (λ e. e ≡ ReplayError.Write → IsUnwritten W.did_write writer.new) }
 {
     let (setup, table) = (Setup::plain(times), ChannelTable::none());
-    simulate_telling::<S, T, R, W>(rt, alloc, setup, table, reader, writer, true)
+    let reports = Reports {
+        rt,
+        is_verbose: true,
+    };
+    simulate_telling::<S, T, R, W>(reports, alloc, setup, table, reader, writer)
 }

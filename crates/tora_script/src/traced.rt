@@ -1,6 +1,6 @@
 //! A simulation that writes a trace: a simulator whose events are recorded, and the simulation of a file in it.
 //!
-//! `tora_trace` has the records, and the copies of cores from which they are computed.
+//! The module `trace` has the records, and the copies of cores from which they are computed.
 mod ends;
 mod trace_out;
 mod traced_simulation;

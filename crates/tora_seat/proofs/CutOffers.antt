@@ -9,8 +9,8 @@ use Rattle.tora_arq.specs.declared.life.Life.{Life}
 use Rattle.tora_core.specs.Numbers.{has_number, has_repeat}
 use Rattle.tora_seat.specs.declared.cargo.Cargo.{Cargo}
 use Rattle.tora_seat.specs.declared.cargo.Cargo.TheVariants as Gives
-use Rattle.tora_seat.specs.Serving.{Offer, Answers, Serving, put_one, offered, with_pending, after_cut_asked, after_down, after_life_cut}
-use Rattle.tora_seat.specs.Offers.{place_of, Follows}
+use Rattle.tora_seat.specs.Serving.{Offer, Serving, put_one, offered, with_pending, after_cut_asked, after_down, after_life_cut}
+use Rattle.tora_seat.specs.Offers.{place_of}
 use Rattle.tora_seat.specs.Rows.{SeatView, current_of, serving_at}
 use Rattle.tora_seat.specs.Bodies.{SeatGoes}
 use Rattle.tora_seat.proofs.Places.{turned}

@@ -115,20 +115,10 @@ impl BareSeat {
     }
 
     /// Notes a packet that is passed to the core.
-    pub(crate) fn note_stepped(&mut self, k: Id, life: &Life, packet: &Packet)
-        ensures { self.new ≡ record self.old {
-          stepped = Some (record {
-            from = k;
-            life = life.now;
-            packet = packet.now;
-          });
-        } }
+    pub(crate) fn note_stepped(&mut self, stepped: &Stepped)
+        ensures { self.new ≡ record self.old { stepped = Some stepped.now } }
     {
-        self.stepped = Some(Stepped {
-            from: k,
-            life: *life,
-            packet: *packet,
-        });
+        self.stepped = Some(*stepped);
     }
 
     /// The place of a neighbour, counted from 0 in ascending order, if there is such a neighbour.

@@ -10,11 +10,17 @@ ghost use Rattle.tora_seat.specs.Serving.{is_current};
 ghost use Rattle.tora_seat.specs.Bodies.{IsSettled, SeatGoes, StepsQuietly};
 
 use crate::rows::{broadcast_all, is_current, left_pending, try_cuts};
-use crate::{Answer, BareSeat, Cargo, Item, OutLanes, What};
+use crate::{Answer, BareSeat, Cargo, Item, OutLanes, Stepped, What};
 use tora_arq::Life;
 use tora_core::{Input, Sends};
 use tora_height::Id;
-use tora_packet::Packet;
+
+/// A configured neighbour: its place among the neighbours, and its number.
+#[derive(Clone, Copy)]
+struct Neighbour {
+    place: usize,
+    id: Id,
+}
 
 impl BareSeat {
     /// Steps the core with an input, and sends the packets of the step. Returns whether the core accepted the input and
@@ -119,160 +125,147 @@ impl BareSeat {
         self.take_in(input, now, is_settled, sends, outs);
     }
 
-    /// Ends the current session of the neighbour at a place.
-    fn on_end<O: OutLanes>(
-        &mut self,
-        place: usize,
-        k: Id,
-        now: u64,
-        sends: &mut Sends,
-        outs: &mut O,
-    )
-        requires place { slice_get self.old.core.neighbours place ≡ Some k }
+    /// Ends the current session of a neighbour.
+    fn on_end<O: OutLanes>(&mut self, peer: Neighbour, now: u64, sends: &mut Sends, outs: &mut O)
+        requires place { slice_get self.old.core.neighbours peer.place ≡ Some peer.id }
         requires lanes { length self.old.core.neighbours ≤ O.count outs.old }
         requires room { length self.old.inputs ≤ length self.old.core.neighbours + 1 }
         ensures count { O.count outs.new ≡ O.count outs.old }
         ensures stepped { length self.new.inputs ≤ length self.old.inputs + length self.old.core.neighbours + 1 }
-        ensures goes { SeatGoes O.did_offer (λ answers ks. after_down answers ks k now)
+        ensures goes { SeatGoes O.did_offer (λ answers ks. after_down answers ks peer.id now)
             now self.old outs.old self.new outs.new }
     {
         let is_settled = self.is_settled();
-        self.set_current(place, k, None);
-        self.take_in(&Input::LinkDown(k), now, is_settled, sends, outs);
+        self.set_current(peer.place, peer.id, None);
+        self.take_in(&Input::LinkDown(peer.id), now, is_settled, sends, outs);
     }
 
-    /// Ends the current session of the neighbour at a place, if there is one.
+    /// Ends the current session of a neighbour, if there is one.
     fn on_old_end<O: OutLanes>(
         &mut self,
-        place: usize,
-        k: Id,
+        peer: Neighbour,
         now: u64,
         sends: &mut Sends,
         outs: &mut O,
     )
-        requires place { slice_get self.old.core.neighbours place ≡ Some k }
+        requires place { slice_get self.old.core.neighbours peer.place ≡ Some peer.id }
         requires lanes { length self.old.core.neighbours ≤ O.count outs.old }
         requires room { length self.old.inputs ≤ 0 }
         ensures count { O.count outs.new ≡ O.count outs.old }
         ensures stepped { length self.new.inputs ≤ length self.old.core.neighbours + 1 }
         ensures goes { SeatGoes O.did_offer
-            (λ answers ks v. after_old_down answers ks k now v (v.seat.current k))
+            (λ answers ks v. after_old_down answers ks peer.id now v (v.seat.current peer.id))
             now self.old outs.old self.new outs.new }
     {
-        if self.current(place).is_some() {
-            self.on_end(place, k, now, sends, outs);
+        if self.current(peer.place).is_some() {
+            self.on_end(peer, now, sends, outs);
         }
     }
 
-    /// Begins a session of the neighbour at a place.
+    /// Begins a session of a neighbour.
     fn on_up<O: OutLanes>(
         &mut self,
-        place: usize,
-        k: Id,
+        peer: Neighbour,
         life: Life,
         now: u64,
         sends: &mut Sends,
         outs: &mut O,
     )
-        requires place { slice_get self.old.core.neighbours place ≡ Some k }
+        requires place { slice_get self.old.core.neighbours peer.place ≡ Some peer.id }
         requires lanes { length self.old.core.neighbours ≤ O.count outs.old }
         requires room { length self.old.inputs ≤ 0 }
         ensures count { O.count outs.new ≡ O.count outs.old }
-        ensures goes { SeatGoes O.did_offer (λ answers ks v. after_up answers ks k life now
-            (after_old_down answers ks k now v (v.seat.current k))) now self.old outs.old self.new outs.new }
+        ensures goes { SeatGoes O.did_offer (λ answers ks v. after_up answers ks peer.id life now
+            (after_old_down answers ks peer.id now v (v.seat.current peer.id))) now self.old outs.old self.new outs.new }
     {
-        self.on_old_end(place, k, now, sends, outs);
+        self.on_old_end(peer, now, sends, outs);
         let is_settled = self.is_settled();
-        self.set_current(place, k, Some(life));
-        self.take_in(&Input::LinkUp(k), now, is_settled, sends, outs);
+        self.set_current(peer.place, peer.id, Some(life));
+        self.take_in(&Input::LinkUp(peer.id), now, is_settled, sends, outs);
     }
 
-    /// Passes a packet of the neighbour at a place to the core, if its session is current.
+    /// Passes a packet to the core if its session is the current one of its sender, the neighbour at a place.
     fn on_packet<O: OutLanes>(
         &mut self,
         place: usize,
-        k: Id,
-        life: &Life,
-        packet: &Packet,
+        stepped: &Stepped,
         now: u64,
         sends: &mut Sends,
         outs: &mut O,
     )
-        requires place { slice_get self.old.core.neighbours place ≡ Some k }
+        requires place { slice_get self.old.core.neighbours place ≡ Some stepped.now.from }
         requires lanes { length self.old.core.neighbours ≤ O.count outs.old }
         requires room { length self.old.inputs ≤ 0 }
         requires first { self.old.stepped ≡ None }
         ensures count { O.count outs.new ≡ O.count outs.old }
-        ensures goes { SeatGoes O.did_offer (λ answers ks v. if is_current life.now (v.seat.current k)
-            then after_packet answers ks k life.now packet.now now v else v)
+        ensures goes { SeatGoes O.did_offer
+            (λ answers ks v. if is_current stepped.now.life (v.seat.current stepped.now.from)
+            then after_packet answers ks stepped.now.from stepped.now.life stepped.now.packet now v else v)
             now self.old outs.old self.new outs.new }
     {
-        if is_current(life, &self.current(place)) {
-            self.note_stepped(k, life, packet);
-            self.take_in_calm(&Input::Packet(k, *packet), now, sends, outs);
+        if is_current(&stepped.life, &self.current(place)) {
+            self.note_stepped(stepped);
+            self.take_in_calm(
+                &Input::Packet(stepped.from, stepped.packet),
+                now,
+                sends,
+                outs,
+            );
         }
     }
 
-    /// Handles the end of a session of the neighbour at a place.
+    /// Handles the end of a session of a neighbour.
     fn on_down<O: OutLanes>(
         &mut self,
-        place: usize,
-        k: Id,
+        peer: Neighbour,
         life: &Life,
         now: u64,
         sends: &mut Sends,
         outs: &mut O,
     )
-        requires place { slice_get self.old.core.neighbours place ≡ Some k }
+        requires place { slice_get self.old.core.neighbours peer.place ≡ Some peer.id }
         requires lanes { length self.old.core.neighbours ≤ O.count outs.old }
         requires room { length self.old.inputs ≤ 0 }
         ensures count { O.count outs.new ≡ O.count outs.old }
-        ensures goes { SeatGoes O.did_offer (λ answers ks v. if is_current life.now (v.seat.current k)
-            then after_down answers ks k now v else if is_current life.now (v.seat.pending k)
-            then with_pending v k None else v) now self.old outs.old self.new outs.new }
+        ensures goes { SeatGoes O.did_offer (λ answers ks v. if is_current life.now (v.seat.current peer.id)
+            then after_down answers ks peer.id now v else if is_current life.now (v.seat.pending peer.id)
+            then with_pending v peer.id None else v) now self.old outs.old self.new outs.new }
     {
-        if is_current(life, &self.current(place)) {
-            self.on_end(place, k, now, sends, outs);
-        } else if is_current(life, &self.pending(place)) {
-            self.set_pending(place, k, None);
+        if is_current(life, &self.current(peer.place)) {
+            self.on_end(peer, now, sends, outs);
+        } else if is_current(life, &self.pending(peer.place)) {
+            self.set_pending(peer.place, peer.id, None);
         }
     }
 
-    /// Offers the cut of a session to the queue of the neighbour at a place. If the queue returns the cut, it is
+    /// Offers the cut of a session to the queue of a neighbour. If the queue returns the cut, it is
     /// pending.
-    fn ask_cut<O: OutLanes>(&mut self, place: usize, k: Id, life: Life, now: u64, outs: &mut O)
-        requires place { slice_get self.old.core.neighbours place ≡ Some k }
+    fn ask_cut<O: OutLanes>(&mut self, peer: Neighbour, life: Life, now: u64, outs: &mut O)
+        requires place { slice_get self.old.core.neighbours peer.place ≡ Some peer.id }
         requires lanes { length self.old.core.neighbours ≤ O.count outs.old }
         ensures count { O.count outs.new ≡ O.count outs.old }
         ensures rest { self.new ≡ record self.old { rows = self.new.rows } }
-        ensures goes { SeatGoes O.did_offer (λ answers ks v. after_cut_asked answers v k life)
+        ensures goes { SeatGoes O.did_offer (λ answers ks v. after_cut_asked answers v peer.id life)
             now self.old outs.old self.new outs.new }
     {
         let _me = self.core().me();
-        let is_put = outs.offer(place, Cargo::Cut(life));
-        self.set_pending(place, k, left_pending(is_put, life));
+        let is_put = outs.offer(peer.place, Cargo::Cut(life));
+        self.set_pending(peer.place, peer.id, left_pending(is_put, life));
     }
 
-    /// Cuts the current session of the neighbour at a place, if there is one.
-    fn on_cut_at<O: OutLanes>(
-        &mut self,
-        place: usize,
-        k: Id,
-        now: u64,
-        sends: &mut Sends,
-        outs: &mut O,
-    )
-        requires place { slice_get self.old.core.neighbours place ≡ Some k }
+    /// Cuts the current session of a neighbour, if there is one.
+    fn on_cut_at<O: OutLanes>(&mut self, peer: Neighbour, now: u64, sends: &mut Sends, outs: &mut O)
+        requires place { slice_get self.old.core.neighbours peer.place ≡ Some peer.id }
         requires lanes { length self.old.core.neighbours ≤ O.count outs.old }
         requires room { length self.old.inputs ≤ 0 }
         ensures count { O.count outs.new ≡ O.count outs.old }
         ensures goes { SeatGoes O.did_offer
-            (λ answers ks v. after_life_cut answers ks k now v (v.seat.current k))
+            (λ answers ks v. after_life_cut answers ks peer.id now v (v.seat.current peer.id))
             now self.old outs.old self.new outs.new }
     {
-        if let Some(life) = self.current(place) {
-            self.ask_cut(place, k, life, now, outs);
-            self.on_end(place, k, now, sends, outs);
+        if let Some(life) = self.current(peer.place) {
+            self.ask_cut(peer, life, now, outs);
+            self.on_end(peer, now, sends, outs);
         }
     }
 
@@ -286,32 +279,38 @@ impl BareSeat {
             now self.old outs.old self.new outs.new }
     {
         if let Some(place) = self.place(k) {
-            self.on_cut_at(place, k, now, sends, outs);
+            self.on_cut_at(Neighbour { place, id: k }, now, sends, outs);
         }
     }
 
     /// Handles an item of the link to the neighbour at a place.
     fn on_link_item<O: OutLanes>(
         &mut self,
-        place: usize,
-        k: Id,
+        peer: Neighbour,
         what: &What,
         now: u64,
         sends: &mut Sends,
         outs: &mut O,
     )
-        requires place { slice_get self.old.core.neighbours place ≡ Some k }
+        requires place { slice_get self.old.core.neighbours peer.place ≡ Some peer.id }
         requires lanes { length self.old.core.neighbours ≤ O.count outs.old }
         requires room { length self.old.inputs ≤ 0 }
         requires first { self.old.stepped ≡ None }
         ensures count { O.count outs.new ≡ O.count outs.old }
         ensures goes { SeatGoes O.did_offer
-            (λ answers ks. after_link_item answers ks k now what.now) now self.old outs.old self.new outs.new }
+            (λ answers ks. after_link_item answers ks peer.id now what.now) now self.old outs.old self.new outs.new }
     {
         match what {
-            What::Up(life) => self.on_up(place, k, *life, now, sends, outs),
-            What::Packet(life, packet) => self.on_packet(place, k, life, packet, now, sends, outs),
-            What::Down(life, _) => self.on_down(place, k, life, now, sends, outs),
+            What::Up(life) => self.on_up(peer, *life, now, sends, outs),
+            What::Packet(life, packet) => {
+                let stepped = Stepped {
+                    from: peer.id,
+                    life: *life,
+                    packet: *packet,
+                };
+                self.on_packet(peer.place, &stepped, now, sends, outs)
+            }
+            What::Down(life, _) => self.on_down(peer, life, now, sends, outs),
             What::Need(d) => self.take_in_calm(&Input::Need(*d), now, sends, outs),
             What::Cut(_) => {}
             What::Beat => {}
@@ -366,7 +365,13 @@ impl BareSeat {
             item.entry.now.now item.entry.now.what) item.entry.now.now self.old outs.old self.new outs.new }
     {
         match self.neighbour(item.seat) {
-            Some(k) => self.on_link_item(item.seat, k, &item.what, item.now, sends, outs),
+            Some(k) => {
+                let peer = Neighbour {
+                    place: item.seat,
+                    id: k,
+                };
+                self.on_link_item(peer, &item.what, item.now, sends, outs)
+            }
             None => self.on_other_item(&item.what, item.now, sends, outs),
         }
     }

@@ -1,31 +1,24 @@
 -- Which ends of a node are ready, as its core takes items.
-use Rattle.std.proofs.Common.{◌≡◌, ℕ, zero, suc, ◌+◌, ◌-◌, ◌<◌, ◌≤◌, ◌⊎◌, inl, inr, Bool, true, false, true≢false, List, [], ◌∷◌, ◌++◌, length, set, slice_get, get_or, Option, Some, None, Result, Ok, Err, MatchOption, MatchResult, OnOk, is_err, refl, sym, ap, ◌∙◌, subst, arith}
-use Rattle.std.specs.Prelude.{⊤, replicate, slice_index, slice_index_or}
+use Rattle.std.proofs.Common.{◌≡◌, ℕ, ◌+◌, ◌-◌, ◌<◌, ◌≤◌, ◌⊎◌, inl, inr, Bool, true, false, true≢false, List, [], ◌∷◌, ◌++◌, length, set, slice_get, Option, Some, None, Result, Ok, Err, MatchOption, refl, sym, ap, ◌∙◌, subst, arith}
+use Rattle.std.specs.Prelude.{⊤, slice_index}
 use Rattle.std.proofs.lemmas.Bool.{cases_eq}
-use Rattle.std.proofs.lemmas.List.{length-replicate, length-set}
-use Rattle.std.proofs.lemmas.Option.{same_Some, none-some, get_or_from_slice_get, slice_get_read, slice_get_within}
-use Rattle.tora_frame.specs.FrameParts.{FrameParts}
-use Rattle.tora_arq.specs.declared.times.Times.{Times}
+use Rattle.std.proofs.lemmas.List.{length-set}
+use Rattle.std.proofs.lemmas.Option.{same_Some}
 use Rattle.tora_seat.specs.declared.item.Item.{Item}
 use Rattle.tora_seat.specs.declared.stepped.Stepped.{Stepped}
-use Rattle.tora_seat.specs.declared.what.What.{What}
 use Rattle.tora_seat.specs.Offers.{AreOffered, place_of}
 use Rattle.tora_seat.specs.Serving.{Offer}
-use Rattle.tora_world.specs.Topology.{Topology, neighbours_of}
 use Rattle.tora_world.specs.declared.sim_error.SimError.{SimError}
-use Rattle.tora_world.specs.declared.sim_error.SimError.TheVariants as Refused
 use Rattle.tora_sim.specs.declared.unready.Unready.{Unready}
 use Rattle.tora_sim.specs.Lanes.{LanesView, lanes_of, DidOffer, HasRoom, HaveRoom, HaveRoomBut, IsReady, AreReadyEach, AreReadyOutside, AreReady, AreOthersKept, after_offer_at}
 use Rattle.tora_sim.specs.Links.{LinkView}
-use Rattle.tora_sim.specs.Nodes.{NodeView, after_item}
+use Rattle.tora_sim.specs.Nodes.{NodeView}
 use Rattle.tora_sim.specs.Possible.{has_cargo}
 use Rattle.tora_sim.specs.Quiet.{AreForgottenWhere}
-use Rattle.tora_sim.specs.Store.{IsStore, state_of}
 use Rattle.tora_sim.specs.Turns.{IsServed, IsNoted, Turns}
 use Rattle.tora_sim.specs.Unready.{IsOutside, IsRemarked, AreRemarked}
 use Rattle.tora_sim.proofs.EachItem.{set_same, set_other}
-use Rattle.tora_sim.proofs.FreshEnds.{item_at, below_next}
-use Rattle.tora_sim.proofs.ReadyEnds.{room_of, mark_there}
+use Rattle.tora_sim.proofs.FreshEnds.{below_next}
 use Rattle.tora_sim.proofs.Served.{lanes_stay}
 use Rattle.tora_sim.proofs.EachItem.{before_or_not}
 use Rattle.tora_sim.proofs.Stores.{set_read}
@@ -74,10 +67,6 @@ turned_place x y links after (Ok u) d = (ap (λ (z : NodeView). z.first) d.serve
 turned_place x y links after (Err e) d = same_place x y x d.1 (refl, refl)
 
 -- ---- ends of a node, before its turn
-
-pub ok_room : {P : Type 0} → (r : Result (Unit {0}) SimError) → is_err r ≡ false → OnOk r P → P
-ok_room (Ok u) e h = h
-ok_room (Err r) e h = absurd (true≢false e)
 
 -- there is room at each end of the node, and the ends outside the range are ready
 pub before_turn : (marks : List Bool) (links : List LinkView) (left : Unready) (first count f n : ℕ) → first ≡ f → count ≡ n → f + n ≤ length links → ((place : ℕ) → place < count → IsOutside left place → slice_get marks (first + place) ≡ Some true)

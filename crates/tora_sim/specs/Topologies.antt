@@ -1,10 +1,10 @@
 -- The given links and destinations.
-use Rattle.std.specs.Prelude.{◌≡◌, ℕ, ◌+◌, ◌==◌, ◌<◌, ◌≤◌, ◌||◌, Bool, false, List, [], ◌∷◌, ◌++◌, length, map, None, if◌then◌else◌}
+use Rattle.std.specs.Prelude.{◌≡◌, ℕ, ◌+◌, ◌==◌, ◌<◌, ◌≤◌, ◌||◌, Bool, List, [], ◌∷◌, ◌++◌, length, map, None, if◌then◌else◌}
 use Rattle.std.specs.List.{All, list_any}
 use Rattle.tora_core.specs.declared.erasure.Erasure.{Erasure}
 use Rattle.tora_core.specs.declared.erasure.Erasure.TheVariants.{Plain}
-use Rattle.tora_core.specs.Numbers.{has_number, has_repeat}
-use Rattle.tora_world.specs.Topology.{Topology, Link, topology_fault_within, greatest_limits, nodes_in, other_ends, with_node}
+use Rattle.tora_core.specs.Numbers.{has_number}
+use Rattle.tora_world.specs.Topology.{Topology, Link, topology_fault_within, greatest_limits, nodes_in, with_node}
 use Rattle.tora_world.specs.declared.limits.TheConstants.{GREATEST_NODES}
 
 abbrev pub link_in : ℕ × ℕ → Link

@@ -1,17 +1,18 @@
 //! The lanes from a node's core to its neighbours.
 ghost use Rattle.std.specs.Prelude.{◌≡◌, ◌+◌, ◌<◌, ◌≤◌, ◌++◌, ◌∷◌, [], ⊤, Some, length, slice_get, slice_set, OnOk};
-ghost use Rattle.std.specs.Prelude.{IfErr, MatchOption};
+ghost use Rattle.std.specs.Prelude.{IfErr, IfOk, MatchOption, ℕ, true};
 ghost use Rattle.tora_sim.specs.Lane.{AreWhole};
 ghost use Rattle.tora_sim.specs.Lanes.{lanes_of, bare_between, AreReady, AreReadyEach, AreReadyOutside, AreAlike};
 ghost use Rattle.tora_sim.specs.Lanes.{AreOthersSame, HasRoomAt, HaveRoom, HaveRoomBut};
 ghost use Rattle.tora_sim.specs.Links.{LinkView};
 ghost use Rattle.tora_sim.specs.Turns.{IsNoted};
+ghost use Rattle.tora_sim.specs.Unready.{IsOutside};
 
 use crate::SimError;
 use crate::link_slot::LinkSlot;
 use crate::ready::{is_ready, set_ready};
 use crate::store::Pool;
-use crate::unready::Unready;
+use crate::unready::{Lacking, Unready, unready_range};
 use std::marker::Model;
 use tora_seat::{Cargo, OutLanes, Stepped};
 
@@ -123,7 +124,7 @@ fn note(links: &mut Vec<LinkSlot>, at: usize, step: &Stepped)
 }
 
 /// Allocates memory for all that one item can put at the `count` ends from the index `first` on: at the ends that are
-/// not marked as ready, and in as many lists of the pool.
+/// not marked as ready, and in as many lists of the pool. Returns what may be lacking afterwards.
 ///
 /// # Errors
 /// `Memory`. The ends do not change.
@@ -133,11 +134,14 @@ pub fn make_room(
     pool: &mut Pool,
     first: usize,
     count: usize,
-) -> Result<(), SimError>
+) -> Result<Lacking, SimError>
     requires within { first + count ≤ length links.old.items }
     requires marks { AreReadyEach ready.old.items links.old.items }
     ensures same { AreAlike links.old.items links.new.items }
     ensures room { OnOk result (HaveRoom links.new.items first count) }
+    ensures range { IfOk result (λ lacking. (place : ℕ) → place < count → IsOutside lacking.unready place
+        → slice_get ready.new.items (first + place) ≡ Some true) }
+    ensures seat { IfOk result (λ lacking. lacking.seat ≡ count) }
     ensures marks { AreReadyEach ready.new.items links.new.items }
     ensures whole { OnOk result (AreWhole pool.new count) }
     ensures memory { IfErr result (λ e. e ≡ SimError.Memory) }
@@ -149,7 +153,10 @@ pub fn make_room(
         let at = first + place;
         make_room_at(links, ready, at)?;
     }
-    Ok(())
+    Ok(Lacking {
+        unready: unready_range(ready, first, count),
+        seat: count,
+    })
 }
 
 /// `make_room` at the end with one index.

@@ -1,5 +1,5 @@
 //! The turns of a node's core, one after another.
-ghost use Rattle.std.specs.Prelude.{MatchResult};
+ghost use Rattle.std.specs.Prelude.{◌<◌, MatchResult};
 ghost use Rattle.tora_sim.specs.Keyed.{IsFirst};
 ghost use Rattle.tora_sim.specs.Nodes.{is_of};
 ghost use Rattle.tora_sim.specs.Steps.{Repeats};
@@ -9,7 +9,6 @@ use crate::lanes::make_room;
 use crate::nodes::node_near;
 use crate::sim::Sim;
 use crate::turns::{forget_waiting, take_items};
-use crate::unready::unready_range;
 use std::alloc::AllocError;
 use tora_height::Id;
 
@@ -27,48 +26,44 @@ impl Sim {
         let Some(home) = node_near(&self.nodes, place, n) else {
             return Ok(false);
         };
-        self.turn_from(n, home, most)
-    }
-
-    /// `turn_all` for the node at the index `home`.
-    #[inline(never)]
-    pub(crate) fn turn_from(&mut self, _n: Id, home: usize, most: u64) -> Result<bool, AllocError>
-        requires { IsFirst (is_of _n) self.old.nodes home }
-        ensures { Repeats self.old most (CoreTurn _n) result self.new }
-    {
         if most == 0 {
             return Ok(false);
         }
+        self.turn_from(n, home, most)
+    }
+
+    /// `turn_all` for the node at the index `home`, at least once.
+    #[inline(never)]
+    pub(crate) fn turn_from(&mut self, _n: Id, home: usize, most: u64) -> Result<bool, AllocError>
+        requires first { IsFirst (is_of _n) self.old.nodes home }
+        requires some { 0 < most }
+        ensures { Repeats self.old most (CoreTurn _n) result self.new }
+    {
         if self.nodes[home].waiting() == 0 {
             return Ok(false);
         }
         let first = self.nodes[home].first();
         let count = self.nodes[home].count();
-        if make_room(
+        let Ok(before) = make_room(
             &mut self.links,
             &mut self.ready,
             &mut self.pool,
             first,
             count,
-        )
-        .is_err()
-        {
+        ) else {
             return Err(AllocError);
-        }
-        let before = unready_range(&self.ready, first, count);
-        let mut unready = before;
-        let mut seat = count;
+        };
+        let mut lacking = before;
         let taken = take_items(
             &mut self.nodes[home],
             &mut self.links,
-            &mut unready,
-            &mut seat,
+            &mut lacking,
             &mut self.pool,
             &mut self.buffers.sends,
             most,
         );
         // the ends that the items may have changed, or that were not ready before
-        let after = unready.joined(before).within(count);
+        let after = lacking.unready.joined(before.unready).within(count);
         let start = first + after.from;
         forget_waiting(
             &self.links,
@@ -76,10 +71,10 @@ impl Sim {
             &mut self.deadlines,
             start,
             after.behind - after.from,
-            first.saturating_add(seat),
+            first.saturating_add(lacking.seat),
         );
         self.shorten_lanes(home, start, after.behind - after.from);
-        self.make_seat_ready(first, count, seat);
+        self.make_seat_ready(first, count, lacking.seat);
         match taken {
             Ok(some) => Ok(some),
             Err(_) => Err(AllocError),

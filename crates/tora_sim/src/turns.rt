@@ -15,49 +15,48 @@ use crate::link_slot::LinkSlot;
 use crate::nodes::NodeSlot;
 use crate::ready::set_ready;
 use crate::store::Pool;
-use crate::unready::Unready;
+use crate::unready::{Lacking, Unready};
 use std::mem;
 use tora_core::Sends;
 use tora_seat::offers_are_their_own_answers;
 
 /// Serves the first item of a node's queue. The node's link ends must have memory for all that it can put; those
-/// outside `unready` are ready, before and after. Afterwards all ends but the one at `seat` have memory for another
-/// item.
+/// outside `lacking.unready` are ready, before and after. Afterwards all ends but the one at `lacking.seat` have memory
+/// for another item.
 ///
 /// # Errors
-/// `Memory`, which changes only `unready` and `seat`.
+/// `Memory`, which changes only `lacking`.
 pub fn turn(
     node: &mut NodeSlot,
     links: &mut Vec<LinkSlot>,
-    unready: &mut Unready,
-    seat: &mut usize,
+    lacking: &mut Lacking,
     pool: &mut Pool,
     sends: &mut Sends,
 ) -> Result<(), SimError>
     requires whole { AreWhole pool.old node.old.count }
-    requires room { AreReady (lanes_of links.old.items node.old.first node.old.count) unready.old }
+    requires room { AreReady (lanes_of links.old.items node.old.first node.old.count) lacking.old.unready }
     requires waits { 0 < length node.old.items }
     requires neighbours { length node.old.seat.core.neighbours ≡ node.old.count }
     ensures turned { Turns node.old (bare_between node.old.first node.old.count links.old.items) result node.new
         (bare_between node.old.first node.old.count links.new.items) }
-    ensures ready { AreReadyOutside links.new.items node.old.first node.old.count unready.new }
+    ensures ready { AreReadyOutside links.new.items node.old.first node.old.count lacking.new.unready }
     ensures others { AreOthersKept links.old.items links.new.items node.old.first node.old.count }
-    ensures room { HaveRoomBut links.new.items node.old.first node.old.count seat.new }
+    ensures room { HaveRoomBut links.new.items node.old.first node.old.count lacking.new.seat }
 {
     let alloc = *links.allocator();
     let ends = mem::replace(links, Vec::new(alloc));
     let lists = mem::replace(pool, Pool::new(alloc));
-    let mut lanes = NodeLanes::new(ends, node.first(), node.count(), *unready, lists);
+    let mut lanes = NodeLanes::new(ends, node.first(), node.count(), lacking.unready, lists);
     match node.serve(sends, &mut lanes) {
         Ok(item) => {
             offers_are_their_own_answers();
-            *seat = item.seat;
-            *links = lanes.into_links(item.seat, node.stepped(), unready, pool);
+            lacking.seat = item.seat;
+            *links = lanes.into_links(item.seat, node.stepped(), &mut lacking.unready, pool);
             Ok(())
         }
         Err(error) => {
-            *seat = 0;
-            *links = lanes.into_links(0, None, unready, pool);
+            lacking.seat = 0;
+            *links = lanes.into_links(0, None, &mut lacking.unready, pool);
             Err(error)
         }
     }
@@ -101,23 +100,22 @@ fn make_room_again(
     Ok(())
 }
 
-/// Serves the items of a node's queue until none waits, at most `most`, and returns whether any was served. `unready`
-/// and `seat` are those of `turn`. Between two items, only the end at `seat` is checked for memory.
+/// Serves the items of a node's queue until none waits, at most `most`, and returns whether any was served. `lacking`
+/// is that of `turn`. Between two items, only the end at its `seat` is checked for memory.
 ///
 /// # Errors
 /// `Memory`. The earlier items were served.
 pub fn take_items(
     node: &mut NodeSlot,
     links: &mut Vec<LinkSlot>,
-    unready: &mut Unready,
-    seat: &mut usize,
+    lacking: &mut Lacking,
     pool: &mut Pool,
     sends: &mut Sends,
     most: u64,
 ) -> Result<bool, SimError>
-    requires room { AreReady (lanes_of links.old.items node.old.first node.old.count) unready.old }
+    requires room { AreReady (lanes_of links.old.items node.old.first node.old.count) lacking.old.unready }
     requires neighbours { length node.old.seat.core.neighbours ≡ node.old.count }
-    ensures taken { AreTaken node.old links.old.items node.new links.new.items unready.new seat.new }
+    ensures taken { AreTaken node.old links.old.items node.new links.new.items lacking.new.unready lacking.new.seat }
     ensures items { TakesItems most node.old links.old.items result node.new links.new.items }
 {
     let mut some = false;
@@ -126,11 +124,11 @@ pub fn take_items(
             return Ok(some);
         }
         let (first, count) = (node.first(), node.count());
-        match make_room_again(links, pool, first, count, *unready, *seat) {
+        match make_room_again(links, pool, first, count, lacking.unready, lacking.seat) {
             Ok(()) => {}
             Err(error) => return Err(error),
         }
-        match turn(node, links, unready, seat, pool, sends) {
+        match turn(node, links, lacking, pool, sends) {
             Ok(()) => some = true,
             Err(error) => return Err(error),
         }

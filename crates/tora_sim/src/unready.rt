@@ -13,6 +13,15 @@ pub struct Unready {
     pub behind: usize,
 }
 
+/// The link ends of a node that may lack memory for one more item.
+#[derive(Clone, Copy, Debug)]
+pub struct Lacking {
+    /// Those that may not be ready.
+    pub unready: Unready,
+    /// The only one that may lack room in its queue, by its index among the node's ends.
+    pub seat: usize,
+}
+
 impl Unready {
     /// The empty range.
     pub const NONE: Unready = Unready {

@@ -11,18 +11,19 @@ ghost use Rattle.tora_simulate.specs.Flushing.{IsFlushed, FailedWriting};
 use std::alloc::Global;
 use std::io;
 use tora_lines::{Ended, Input, Output, ReplayError, flushed};
-use tora_script::{ChannelTable, Setup, Simulator, simulate_telling, simulate_telling_last};
+use tora_script::{
+    ChannelTable, Reports, Setup, Simulator, simulate_telling, simulate_telling_last,
+};
 
 /// Simulates with this setup, over the channel that the table gives, then flushes the writer. It reports the cause of a
-/// fault on standard error, and refused events if `is_verbose`. The error is `Write` if only the flush fails.
+/// fault and, if asked to, refused events. The error is `Write` if only the flush fails.
 pub fn simulate_telling_and_flush<S: Simulator, T: Eprint, R: Input, W: Output>(
-    rt: &T,
+    reports: Reports<'_, T>,
     alloc: Global,
     setup: Setup,
     table: ChannelTable,
     reader: &mut R,
     writer: &mut W,
-    is_verbose: bool,
 ) -> Result<Ended, ReplayError>
     requires { IsTimes setup.times }
     ensures whole { IfOk result (λ ended. IfSome (R.remaining reader.old) (λ input.
@@ -36,20 +37,19 @@ pub fn simulate_telling_and_flush<S: Simulator, T: Eprint, R: Input, W: Output>(
     ensures reads { IsReadSo R.did_read reader.old reader.new result }
     ensures flushed { IsFlushed W.did_write W.did_flush result writer.new }
 {
-    let ended = simulate_telling::<S, T, R, W>(rt, alloc, setup, table, reader, writer, is_verbose);
+    let ended = simulate_telling::<S, T, R, W>(reports, alloc, setup, table, reader, writer);
     flushed(writer, ended)
 }
 
 /// As `simulate_telling_and_flush`, for a program that ends afterwards: the memory of the world is not freed
 /// (`simulate_telling_last`).
 pub fn simulate_last_and_flush<S: Simulator, T: Eprint, R: Input, W: Output>(
-    rt: &T,
+    reports: Reports<'_, T>,
     alloc: Global,
     setup: Setup,
     table: ChannelTable,
     reader: &mut R,
     writer: &mut W,
-    is_verbose: bool,
 ) -> Result<Ended, ReplayError>
     requires { IsTimes setup.times }
     ensures whole { IfOk result (λ ended. IfSome (R.remaining reader.old) (λ input.
@@ -63,9 +63,7 @@ pub fn simulate_last_and_flush<S: Simulator, T: Eprint, R: Input, W: Output>(
     ensures reads { IsReadSo R.did_read reader.old reader.new result }
     ensures flushed { IsFlushed W.did_write W.did_flush result writer.new }
 {
-    let ended = simulate_telling_last::<S, T, R, W>(
-        rt, alloc, setup, table, reader, writer, is_verbose,
-    );
+    let ended = simulate_telling_last::<S, T, R, W>(reports, alloc, setup, table, reader, writer);
     flushed(writer, ended)
 }
 

@@ -16,7 +16,7 @@ use std::io;
 use std::io::ErrorKind;
 use std::process::ExitCode;
 use tora_lines::{Ended, Input, LONGEST_LINE, Output, ReplayError};
-use tora_script::{ChannelTable, Setup, SimulationCause, Simulator, tell_cause};
+use tora_script::{ChannelTable, Reports, Setup, SimulationCause, Simulator, tell_cause};
 
 /// Reports why a file is not available, and returns the status of the cause. It reports the cause without `-v`, too.
 pub fn refuse<R: Eprint>(rt: &R, path: &str, error: &io::Error) -> ExitCode
@@ -46,30 +46,29 @@ pub fn tell<T: Eprint, R: Input>(rt: &T, reader: &Recent<R>, ended: Result<Ended
 
 /// Simulates the lines of a reader with these settings, over a channel that the table changes by round, and returns a
 /// status: 0 at the end of the input, 1 if a line is a fault or reading or writing failed, 5 if memory ran out. Reports
-/// why a line is a fault and what failed, and, if `is_verbose`, why events are refused. The program ends afterwards, so
-/// the memory of the world is not freed.
+/// why a line is a fault and what failed, and, if asked to, why events are refused. The program ends afterwards, so the
+/// memory of the world is not freed.
 pub fn run_over<S: Simulator, T: AllocGlobal + Eprint, R: Input + Drop, W: Output>(
-    rt: &T,
+    reports: Reports<'_, T>,
     setup: Setup,
     table: ChannelTable,
     reader: R,
-    is_verbose: bool,
     writer: &mut W,
 ) -> ExitCode
     requires { IsTimes setup.times }
     ensures { EndsBy (rules_with setup (lines_of table)) R.remaining R.did_read W.contents W.did_write W.did_flush
         reader writer.old writer.new false (exit_status result) }
 {
+    let rt = reports.rt;
     let alloc = rt.alloc();
     let mut reader = Recent::new(alloc, reader);
     let result = simulate_last_and_flush::<S, T, Recent<R>, W>(
-        rt,
+        reports,
         alloc,
         setup,
         table,
         &mut reader,
         writer,
-        is_verbose,
     );
     tell(rt, &reader, result);
     status(rt, result)
@@ -91,11 +90,10 @@ pub fn run<S: Simulator, T: Paths + AllocGlobal + Eprint, W: Output>(
 {
     match rt.open_path(path) {
         Ok(file) => run_over::<S, T, Opened<'_, T>, W>(
-            rt,
+            Reports { rt, is_verbose },
             setup,
             table,
             Opened::new(rt, file),
-            is_verbose,
             writer,
         ),
         Err(error) => refuse(rt, path, &error),

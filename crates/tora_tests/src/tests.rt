@@ -1,7 +1,6 @@
 //! The tests, a module for each subject, and what they share.
 mod batches;
 mod carried;
-mod configurations;
 mod cores;
 mod frames;
 mod heights;
@@ -19,4 +18,3 @@ mod seats;
 mod sees;
 mod shuffled_frames;
 mod simulations;
-mod ways;

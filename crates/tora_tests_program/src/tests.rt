@@ -2,8 +2,10 @@
 mod channel_files;
 mod channel_tables;
 mod commands;
+mod configurations;
 mod drives;
 mod each_call;
+mod endpoints;
 mod erasures;
 mod expected;
 mod failing_streams;

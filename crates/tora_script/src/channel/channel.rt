@@ -48,10 +48,10 @@ pub struct Copies {
 fn generator(seed: u64, place: Place) -> ChaCha8Rng
     ensures { result ≡ generator_at seed place }
 {
-    let way = u64::from(place.sender) * 0x1_0000_0000 + u64::from(place.receiver);
+    let direction = u64::from(place.sender) * 0x1_0000_0000 + u64::from(place.receiver);
     let block = u128::from(place.round) * 1024 + u128::from(place.before);
     let mut words = ChaCha8Rng::seed_from_u64(seed);
-    words.set_stream(way);
+    words.set_stream(direction);
     words.set_word_pos(block * 16);
     words
 }

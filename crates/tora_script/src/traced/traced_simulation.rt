@@ -18,13 +18,12 @@ use crate::channel::ChannelTable;
 use crate::traced::trace_out::TraceOut;
 use crate::traced::traced_simulator::Traced;
 use crate::traced::watched::Watched;
-use crate::{Running, Setup, Simulation, SimulationLine, Stage, Told, simulation_line};
+use crate::{Reports, Running, Setup, Simulation, SimulationLine, Stage, Told, simulation_line};
 use std::alloc::{AllocError, Global};
 use tora_lines::words::LineError;
 use tora_lines::{Ended, FileKind, Input, Output, ReplayError, read_lines};
 
-/// A simulation file whose trace is written line by line. It reports why a line is a fault and, if `is_verbose`, why an
-/// event is refused.
+/// A simulation file whose trace is written line by line. It reports its fault and its refusals.
 #[derive(Drop)]
 pub struct Tracing<'a, S, T, W> {
     told: Told<'a, Traced<S>, T>,
@@ -117,20 +116,17 @@ impl<S: Watched, T: Eprint, W: Output> FileKind for Tracing<'_, S, T, W> {
 }
 
 /// Simulates with these settings, over a channel that the table changes by round, and writes the trace of what happened
-/// in each line. Reports on standard error why a line is a fault, unless it is too long, and, if `is_verbose`, why an
-/// event is refused.
+/// in each line. Reports why a line is a fault, unless it is too long, and, if asked to, why an event is refused.
 ///
 /// The simulation goes on if the trace cannot be written; `out` then has the error.
 #[tactic(auto, unfolding(tora_lines::specs::Engine::text_of))]
-pub fn simulate_traced<S: Watched, T: Eprint, R: Input, W: Output, V: Output>(
-    rt: &T,
-    alloc: Global,
+pub fn simulate_traced<S: Watched, T: AllocGlobal + Eprint, R: Input, W: Output, V: Output>(
+    reports: Reports<'_, T>,
     setup: Setup,
     table: ChannelTable,
     reader: &mut R,
     writer: &mut W,
     out: &mut TraceOut<V>,
-    is_verbose: bool,
 ) -> Result<Ended, ReplayError>
     requires { IsTimes setup.times }
     ensures whole { IfOk result (λ ended. IfSome (R.remaining reader.old) (λ input.
@@ -144,10 +140,10 @@ pub fn simulate_traced<S: Watched, T: Eprint, R: Input, W: Output, V: Output>(
     ensures reads { IsReadSo R.did_read reader.old reader.new result }
     ensures failed { IfErr result (λ e. e ≡ ReplayError.Write → IsUnwritten W.did_write writer.new) }
 {
+    let alloc = reports.rt.alloc();
     let state: Tracing<'_, S, T, V> = Tracing {
         told: Told {
-            rt,
-            is_verbose,
+            reports,
             number: 0,
             state: Simulation::with_table(setup, table),
         },

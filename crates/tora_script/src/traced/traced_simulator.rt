@@ -2,7 +2,7 @@
 ghost use Rattle.std.specs.Prelude.{◌≡◌, [], drop, IfOk, OnOk};
 ghost use Rattle.tora_world.specs.World.{refusal_of, world_after};
 ghost use Rattle.tora_sim.specs.Steps.{repeats, Happened};
-ghost use Rattle.tora_trace.specs.Trace.{first_trace};
+ghost use Rattle.tora_script.specs.Trace.{first_trace};
 ghost use Rattle.tora_sim.specs.Readers.{ends_in};
 ghost use Rattle.tora_script.specs.Marks.{choices_in};
 ghost use Rattle.tora_script.specs.Simulator.{nodes_of};
@@ -10,14 +10,13 @@ ghost use Rattle.tora_script.specs.Tracing.{life_of_what, life_told, before_of, 
 ghost use Rattle.tora_script.specs.Tracing.{after_sent};
 
 use crate::traced::watched::Watched;
-use crate::{Mark, Parted, Simulator, WorldOptions, choices};
+use crate::{Mark, Parted, Simulator, Trace, WorldOptions, choices};
 use std::alloc::{AllocError, Global};
 use tora_arq::{Life, Times};
 use tora_core::{CoreError, Erasure, Input};
 use tora_frame::Frame;
 use tora_height::{Entry, Id};
 use tora_seat::{Item, What};
-use tora_trace::Trace;
 use tora_world::{Event, SimError};
 
 /// A simulator, and the trace of its events.

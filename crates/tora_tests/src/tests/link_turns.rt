@@ -90,23 +90,26 @@ fn hears(rt: &impl Abort, end: &mut LinkEnd, course: &Course, frame: &Frame, ver
     same_at(rt, &heard, &verdict, "the verdict", &course.row);
 }
 
-/// Passes a frame of version 1 with these nodes and session numbers to an end, and checks the verdict.
-fn hears_made(
-    rt: &impl Abort,
-    end: &mut LinkEnd,
-    course: &Course,
-    (sender, receiver): (Id, Id),
-    (life, heard): (u64, u64),
-    carried: Carried,
-    verdict: Verdict,
-) {
-    let header = Header {
+/// The header of a frame of version 1 with these nodes and session numbers.
+fn header_of((sender, receiver): (Id, Id), (life, heard): (u64, u64)) -> Header {
+    Header {
         version: Version::One,
         sender,
         receiver,
         life,
         heard,
-    };
+    }
+}
+
+/// Passes a frame with this header to an end, and checks the verdict.
+fn hears_made(
+    rt: &impl Abort,
+    end: &mut LinkEnd,
+    course: &Course,
+    header: Header,
+    carried: Carried,
+    verdict: Verdict,
+) {
     let frame = frame_of(rt, header, carried);
     hears(rt, end, course, &frame, verdict);
 }
@@ -120,16 +123,9 @@ fn hears_each(
     last: u64,
     verdict: Verdict,
 ) {
+    let header = header_of((2, 1), (9, 5));
     for number in first..=last {
-        hears_made(
-            rt,
-            end,
-            course,
-            (2, 1),
-            (9, 5),
-            Carried::Query(number),
-            verdict,
-        );
+        hears_made(rt, end, course, header, Carried::Query(number), verdict);
     }
 }
 
@@ -271,12 +267,13 @@ fn turn(rt: &impl Abort, end: &mut LinkEnd, course: &mut Course, step: &Step) {
         }
         Step::Rests(last) => rests(rt, end, course, last),
         Step::Hears(life, heard, carried, verdict) => {
-            hears_made(rt, end, course, (2, 1), (life, heard), carried, verdict);
+            let header = header_of((2, 1), (life, heard));
+            hears_made(rt, end, course, header, carried, verdict);
         }
         Step::HearsEach(first, last, verdict) => hears_each(rt, end, course, first, last, verdict),
         Step::IsForeign(sender, receiver) => {
-            let (between, verdict) = ((sender, receiver), Verdict::Foreign);
-            hears_made(rt, end, course, between, (9, 5), Carried::Hello, verdict);
+            let header = header_of((sender, receiver), (9, 5));
+            hears_made(rt, end, course, header, Carried::Hello, Verdict::Foreign);
         }
         Step::Gets(place, verdict) => hears(rt, end, course, course.frame(rt, place), verdict),
         Step::GetsBytes(place, len, verdict) => gets_bytes(rt, end, course, place, len, verdict),

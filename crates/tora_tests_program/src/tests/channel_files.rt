@@ -7,7 +7,7 @@ use std::io::Read;
 use std::process::{Abort, ExitCode};
 use std::test::Fail;
 use std::time::Clock;
-use tora_commands::{INPUT, MEMORY, SetupWords, USAGE, simulate_file};
+use tora_commands::{INPUT, MEMORY, SetupWords, Shown, USAGE, simulate_file};
 
 const FOLDER: &str = "tora_channel_file_test";
 
@@ -103,7 +103,11 @@ fn simulated_once<T: Files + AllocGlobal + Eprint + Clock>(
         erasure: None,
         channel_file,
     };
-    simulate_file(rt, words, FILE, trace, (false, has_bar), writer)
+    let shown = Shown {
+        is_verbose: false,
+        has_bar,
+    };
+    simulate_file(rt, words, FILE, trace, shown, writer)
 }
 
 /// Simulates the file, and checks the status and the output. If memory runs out, it simulates once more.

@@ -5,7 +5,9 @@ use std::alloc::Global;
 use std::process::{Abort, ExitCode};
 use tora_arq::Times;
 use tora_commands::{MEMORY, sim_command};
-use tora_script::{Channel, ChannelTable, LineCause, Place, Setup, TableError, channel_table};
+use tora_script::{
+    Channel, ChannelTable, LineCause, Place, Reports, Setup, TableError, channel_table,
+};
 use tora_sim::Sim;
 
 /// Lines of three links, in no order; the last one has no LF.
@@ -138,7 +140,14 @@ fn simulated<T: AllocGlobal + Eprint>(
     };
     let reader = LinesReader::new((lines, "", 0, ""));
     sim_command::run_over::<Sim, T, LinesReader<'_>, ArrayWriter>(
-        rt, setup, table, reader, false, writer,
+        Reports {
+            rt,
+            is_verbose: false,
+        },
+        setup,
+        table,
+        reader,
+        writer,
     )
 }
 

@@ -11,12 +11,22 @@ use std::process::{Abort, ExitCode};
 use std::test::Fail;
 use std::time::Clock;
 use tora_arq::Times;
+use tora_commands::drive_command::DriveWords;
 use tora_commands::{
-    ChannelFile, INPUT, MEMORY, SetupWords, USAGE, drive_command, replay_command, sim_command,
-    simulate_file, traced_command, usage,
+    AskedSimulation, ChannelFile, INPUT, MEMORY, SetupWords, Shown, USAGE, drive_command,
+    replay_command, sim_command, simulate_file, traced_command, usage,
 };
-use tora_script::{ChannelTable, Setup, TraceOut};
+use tora_script::{ChannelTable, Reports, Setup, TraceOut};
 use tora_sim::Sim;
+
+/// No options of `tora drive`.
+fn no_words() -> DriveWords<'static> {
+    DriveWords {
+        times: None,
+        erasure: None,
+        is_large: false,
+    }
+}
 
 /// A command that runs a file of lines; `Traced` also writes a trace.
 #[derive(Clone, Copy)]
@@ -40,22 +50,22 @@ impl Run {
         let reader = LinesReader::new((lines, "", 0, ""));
         match self {
             Run::Replay => replay_command::run(rt, None, reader, is_verbose, writer),
-            Run::Drive => drive_command::run(rt, None, None, false, reader, writer),
+            Run::Drive => drive_command::run(rt, no_words(), reader, writer),
             Run::Simulation => sim_command::run_over::<Sim, T, LinesReader<'_>, ArrayWriter>(
-                rt,
+                Reports { rt, is_verbose },
                 Setup::plain(Times::STANDARD),
                 ChannelTable::none(),
                 reader,
-                is_verbose,
                 writer,
             ),
             Run::Traced => {
                 traced_command::run_over::<Sim, T, LinesReader<'_>, ArrayWriter, ArrayWriter>(
-                    rt,
-                    Setup::plain(Times::STANDARD),
-                    ChannelFile::none(),
+                    Reports { rt, is_verbose },
+                    AskedSimulation {
+                        setup: Setup::plain(Times::STANDARD),
+                        file: ChannelFile::none(),
+                    },
                     reader,
-                    is_verbose,
                     writer,
                     "trace",
                     out,
@@ -246,7 +256,11 @@ fn simulated_once<T: Files + AllocGlobal + Eprint + Clock>(
         erasure: None,
         channel_file: None,
     };
-    simulate_file(rt, words, path, trace, (false, false), writer)
+    let shown = Shown {
+        is_verbose: false,
+        has_bar: false,
+    };
+    simulate_file(rt, words, path, trace, shown, writer)
 }
 
 /// Simulates a file, and checks the status and the output. If memory runs out, it simulates once more.

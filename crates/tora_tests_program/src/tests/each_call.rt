@@ -6,7 +6,7 @@ use tora_arq::{Life, Times};
 use tora_core::CoreError;
 use tora_height::{Entry, Height, Id};
 use tora_script::{
-    Air, Channel, ChannelTable, Mark, Network, Parted, Simulator, WorldOptions, make_rounds,
+    Channel, ChannelTable, InFlight, Mark, Network, Parted, Simulator, WorldOptions, make_rounds,
 };
 use tora_sim::{Sim, Topology};
 use tora_world::{Call, Event, Limits, SimError};
@@ -156,9 +156,9 @@ fn rounds_over<S: Simulator>(
     sim: &mut S,
     count: u64,
     channel: Channel,
-    air: &mut Air,
+    in_flight: &mut InFlight,
 ) -> Result<(), AllocError> {
-    let parted = Parted::new(*air.later.allocator());
+    let parted = Parted::new(*in_flight.later.allocator());
     let network = Network {
         nodes: &NODES,
         ends: &ENDS,
@@ -166,13 +166,13 @@ fn rounds_over<S: Simulator>(
         channel,
         table: &ChannelTable::none(),
     };
-    make_rounds(sim, count, &network, air)
+    make_rounds(sim, count, &network, in_flight)
 }
 
 /// Makes rounds over a channel that delivers every datagram at once.
 fn clear_rounds<S: Simulator>(sim: &mut S, alloc: Global, count: u64) -> Result<(), AllocError> {
-    let mut air = Air::new(alloc);
-    rounds_over(sim, count, Channel::CLEAR, &mut air)
+    let mut in_flight = InFlight::new(alloc);
+    rounds_over(sim, count, Channel::CLEAR, &mut in_flight)
 }
 
 /// The events of a need of node 1 and three rounds, after which the route is found.
@@ -244,14 +244,14 @@ fn each_call(rt: HostRuntime) {
 }
 
 /// A simulator after a need of node 1 and sixty rounds over a channel, and the datagrams that are still delayed.
-fn over_channel(rt: &impl Abort, alloc: Global, channel: Channel) -> (Sim, Air) {
+fn over_channel(rt: &impl Abort, alloc: Global, channel: Channel) -> (Sim, InFlight) {
     let topology = Topology::new(alloc, &LINKS, &[4]).expect(rt, "a topology");
     let mut sim = Sim::new(alloc, &topology).expect(rt, "a simulator");
     sees(rt, sim.step(&Event::Need(1, 4)).is_ok(), "the need happens");
-    let mut air = Air::new(alloc);
-    let made = rounds_over(&mut sim, 60, channel, &mut air);
+    let mut in_flight = InFlight::new(alloc);
+    let made = rounds_over(&mut sim, 60, channel, &mut in_flight);
     sees(rt, made.is_ok(), "sixty rounds over a channel");
-    (sim, air)
+    (sim, in_flight)
 }
 
 /// If every datagram arrives twice, one or two rounds later, the route is found. If every one is lost, it is not.
@@ -263,14 +263,18 @@ fn routes_over_channels(rt: HostRuntime) {
         most: 2,
         ..Channel::CLEAR
     };
-    let (sim, air) = over_channel(&rt, rt.alloc(), late);
+    let (sim, in_flight) = over_channel(&rt, rt.alloc(), late);
     sees(&rt, has_routes(&sim), "the route is found late");
-    sees(&rt, air.round == 60, "sixty rounds were made");
+    sees(&rt, in_flight.round == 60, "sixty rounds were made");
     let lost = Channel {
         loss: 1_000_000,
         ..Channel::CLEAR
     };
-    let (sim, air) = over_channel(&rt, rt.alloc(), lost);
+    let (sim, in_flight) = over_channel(&rt, rt.alloc(), lost);
     sees(&rt, !has_routes(&sim), "no route is found");
-    sees(&rt, air.later.is_empty(), "nothing is in the air");
+    sees(
+        &rt,
+        in_flight.later.is_empty(),
+        "nothing is in the in_flight",
+    );
 }

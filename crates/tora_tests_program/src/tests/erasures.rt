@@ -8,7 +8,7 @@ use std::io::Read;
 use std::process::{Abort, ExitCode};
 use std::test::Fail;
 use std::time::Clock;
-use tora_commands::{MEMORY, SetupWords, USAGE, simulate_file};
+use tora_commands::{MEMORY, SetupWords, Shown, USAGE, simulate_file};
 use tora_lines::Ended;
 
 const FOLDER: &str = "tora_erasure_test";
@@ -70,7 +70,11 @@ fn simulated_once<T: Files + AllocGlobal + Eprint + Clock>(
         erasure,
         channel_file: None,
     };
-    simulate_file(rt, words, FILE, Some(TRACE), (false, false), writer)
+    let shown = Shown {
+        is_verbose: false,
+        has_bar: false,
+    };
+    simulate_file(rt, words, FILE, Some(TRACE), shown, writer)
 }
 
 /// Simulates the file, and checks the status and the output. If memory runs out, it simulates once more.

@@ -3,7 +3,7 @@ use super::sees::sees;
 use std::alloc::Global;
 use std::process::Abort;
 use tora_height::Id;
-use tora_script::{Air, Channel, ChannelTable, Network, Parted, make_rounds};
+use tora_script::{Channel, ChannelTable, InFlight, Network, Parted, make_rounds};
 use tora_sim::{Sim, Topology};
 use tora_world::Event;
 
@@ -58,7 +58,7 @@ fn needing(rt: &impl Abort, alloc: Global) -> Sim {
 
 /// Makes sixty rounds, and returns the next hop of node 1.
 fn hop_behind(rt: &impl Abort, alloc: Global, sim: &mut Sim, parted: &[(Id, Id)]) -> Option<Id> {
-    let mut air = Air::new(alloc);
+    let mut in_flight = InFlight::new(alloc);
     let parted = Parted::of(alloc, parted).expect(rt, "the parted pairs");
     let network = Network {
         nodes: &NODES,
@@ -67,7 +67,7 @@ fn hop_behind(rt: &impl Abort, alloc: Global, sim: &mut Sim, parted: &[(Id, Id)]
         channel: Channel::CLEAR,
         table: &ChannelTable::none(),
     };
-    let made = make_rounds(sim, 60, &network, &mut air);
+    let made = make_rounds(sim, 60, &network, &mut in_flight);
     sees(rt, made.is_ok(), "sixty rounds are made");
     sim.next_hop(1, 3)
 }

@@ -1,4 +1,6 @@
 //! Drives whose lines are recorded: the record, and the simulation of it.
+ghost use Rattle.tora_arq.specs.Settings.{IsTimes};
+
 use super::expected::{expect_ended, expect_written, is_memory};
 use super::failing_streams::{ArrayWriter, Fails, LinesReader};
 use super::runs::{Way, expect_run};
@@ -8,8 +10,9 @@ use std::io::Read;
 use std::process::{Abort, ExitCode};
 use std::test::Fail;
 use tora_arq::Times;
+use tora_commands::drive_command::DriveWords;
 use tora_commands::{INPUT, MEMORY, USAGE, record_command};
-use tora_drive::drive_recorded;
+use tora_drive::{DriveSetup, drive_recorded};
 use tora_lines::{Ended, ReplayError};
 use tora_script::{TraceOut, WorldOptions};
 use tora_sim::{Limits, Sim};
@@ -72,6 +75,16 @@ type Left = (
     TraceOut<ArrayWriter>,
 );
 
+/// The standard limits and times.
+fn standard_setup() -> DriveSetup
+    ensures { IsTimes result.times }
+{
+    DriveSetup {
+        options: WorldOptions::within(Limits::STANDARD),
+        times: Times::STANDARD,
+    }
+}
+
 /// Drives once, with a writer of the record that fails in this way, and flushes the record.
 fn recorded_once<T: AllocGlobal>(rt: &T, lines: &str, fails: Fails) -> Left {
     let mut reader = LinesReader::new((lines, "", 0, ""));
@@ -79,8 +92,7 @@ fn recorded_once<T: AllocGlobal>(rt: &T, lines: &str, fails: Fails) -> Left {
     let mut out = TraceOut::new(ArrayWriter::new(fails));
     let found = drive_recorded::<Sim, LinesReader<'_>, ArrayWriter, ArrayWriter>(
         rt.alloc(),
-        WorldOptions::within(Limits::STANDARD),
-        Times::STANDARD,
+        standard_setup(),
         &mut reader,
         &mut writer,
         &mut out,
@@ -174,7 +186,12 @@ fn command_once<T: Files + AllocGlobal + Eprint>(
 ) -> (ExitCode, ArrayWriter) {
     let mut writer = ArrayWriter::new(Fails::Never);
     let reader = LinesReader::new((STEPPED.0, "", 0, ""));
-    let status = record_command::run(rt, times, None, false, path, reader, &mut writer);
+    let words = DriveWords {
+        times,
+        erasure: None,
+        is_large: false,
+    };
+    let status = record_command::run(rt, words, path, reader, &mut writer);
     (status, writer)
 }
 
@@ -233,8 +250,7 @@ fn failed_status<T: AllocGlobal + Eprint>(rt: &T, fails: Fails) -> ExitCode {
     let mut out = TraceOut::new(ArrayWriter::new(fails));
     record_command::run_over(
         rt,
-        WorldOptions::within(Limits::STANDARD),
-        Times::STANDARD,
+        standard_setup(),
         LinesReader::new((STEPPED.0, "", 0, "")),
         &mut writer,
         "record",

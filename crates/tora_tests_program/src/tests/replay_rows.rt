@@ -2,7 +2,7 @@
 use super::runs::{Files, NOTHING, Row};
 use tora_core::CoreError;
 use tora_lines::Ended;
-use tora_replay::Cause;
+use tora_script::ReplayCause;
 
 pub const ROUTE: &str = "node 3 links 2,4 dests 4\n1 up 2\n1 up 4\n2 from 2 0101000000000004\n\
     3 from 2 0102000000000004000000000000000000000000000000000000000200000002\n";
@@ -231,40 +231,40 @@ pub const LONGEST_LINES: &[Files] = &[
 ];
 
 /// Lines after the first line, and why they are faults.
-pub const CAUSES: &[(Option<&str>, Cause)] = &[
-    (Some(""), Cause::Empty),
-    (Some("1 show\r"), Cause::CarriageReturn),
-    (Some("1 show "), Cause::TrailingBlank),
-    (Some("show"), Cause::Time),
-    (Some("01 show"), Cause::Time),
-    (Some("18446744073709551616 show"), Cause::Time),
-    (Some("1"), Cause::NoOrder),
-    (Some("1 open 2"), Cause::Word),
-    (Some("1 up 0"), Cause::Id),
-    (Some("1 down"), Cause::Id),
-    (Some("1 need 4294967296"), Cause::Id),
-    (Some("1 from 2"), Cause::From),
-    (Some("1 from 0 -"), Cause::From),
-    (Some("1 from 2 0g"), Cause::Digits),
-    (Some("1 from 2 010"), Cause::Digits),
-    (Some("1 show 4"), Cause::Show),
+pub const CAUSES: &[(Option<&str>, ReplayCause)] = &[
+    (Some(""), ReplayCause::Empty),
+    (Some("1 show\r"), ReplayCause::CarriageReturn),
+    (Some("1 show "), ReplayCause::TrailingBlank),
+    (Some("show"), ReplayCause::Time),
+    (Some("01 show"), ReplayCause::Time),
+    (Some("18446744073709551616 show"), ReplayCause::Time),
+    (Some("1"), ReplayCause::NoOrder),
+    (Some("1 open 2"), ReplayCause::Word),
+    (Some("1 up 0"), ReplayCause::Id),
+    (Some("1 down"), ReplayCause::Id),
+    (Some("1 need 4294967296"), ReplayCause::Id),
+    (Some("1 from 2"), ReplayCause::From),
+    (Some("1 from 0 -"), ReplayCause::From),
+    (Some("1 from 2 0g"), ReplayCause::Digits),
+    (Some("1 from 2 010"), ReplayCause::Digits),
+    (Some("1 show 4"), ReplayCause::Show),
 ];
 
 /// First lines, and why they are faults.
-pub const FIRST_CAUSES: &[(Option<&str>, Cause)] = &[
-    (None, Cause::Missing),
-    (Some("1 show"), Cause::Header),
-    (Some("node 3 links 2 dests 4 5"), Cause::Header),
-    (Some("node 3 links 2  dests 4"), Cause::Header),
-    (Some("node 0 links 2 dests 4"), Cause::HeaderNumber),
-    (Some("node 3 links 2, dests 4"), Cause::HeaderNumber),
+pub const FIRST_CAUSES: &[(Option<&str>, ReplayCause)] = &[
+    (None, ReplayCause::Missing),
+    (Some("1 show"), ReplayCause::Header),
+    (Some("node 3 links 2 dests 4 5"), ReplayCause::Header),
+    (Some("node 3 links 2  dests 4"), ReplayCause::Header),
+    (Some("node 0 links 2 dests 4"), ReplayCause::HeaderNumber),
+    (Some("node 3 links 2, dests 4"), ReplayCause::HeaderNumber),
     (
         Some("node 3 links 2,2 dests 4"),
-        Cause::Refused(CoreError::Repeated),
+        ReplayCause::Refused(CoreError::Repeated),
     ),
     (
         Some("node 3 links 3 dests 4"),
-        Cause::Refused(CoreError::OwnId),
+        ReplayCause::Refused(CoreError::OwnId),
     ),
     (
         Some(
@@ -272,6 +272,6 @@ pub const FIRST_CAUSES: &[(Option<&str>, Cause)] = &[
     17,18,19,20,21,22,23,24,25,26,27,28,29,30,31,32,\
     33 dests 4",
         ),
-        Cause::Refused(CoreError::TooMany),
+        ReplayCause::Refused(CoreError::TooMany),
     ),
 ];

@@ -4,7 +4,7 @@ use super::runs::{Way, expect_files, expect_lines, expect_rows};
 use super::sees::same_at;
 use std::alloc::Global;
 use std::process::Abort;
-use tora_replay::{Cause, cause_of};
+use tora_script::{ReplayCause, replay_cause};
 
 #[test]
 fn query_is_answered_by_the_destinations_neighbour(rt: HostRuntime) {
@@ -69,20 +69,31 @@ fn longest_line(rt: HostRuntime) {
 
 /// Checks that the line with this number is a fault for this cause. If another cause is found, it checks once more,
 /// since memory may have run out.
-fn expect_cause(rt: &impl Abort, alloc: Global, number: u64, line: Option<&str>, cause: Cause) {
+fn expect_cause(
+    rt: &impl Abort,
+    alloc: Global,
+    number: u64,
+    line: Option<&str>,
+    cause: ReplayCause,
+) {
     let bytes = match line {
         Some(line) => Some(line.as_bytes()),
         None => None,
     };
-    let mut found = cause_of(alloc, number, bytes);
+    let mut found = replay_cause(alloc, number, bytes);
     if found != cause {
-        found = cause_of(alloc, number, bytes);
+        found = replay_cause(alloc, number, bytes);
     }
     same_at(rt, &found, &cause, &line);
 }
 
 /// Checks that each line, with this number, is a fault for its cause.
-fn expect_causes(rt: &impl Abort, alloc: Global, number: u64, rows: &[(Option<&str>, Cause)]) {
+fn expect_causes(
+    rt: &impl Abort,
+    alloc: Global,
+    number: u64,
+    rows: &[(Option<&str>, ReplayCause)],
+) {
     for (line, cause) in rows {
         expect_cause(rt, alloc, number, *line, *cause);
     }
@@ -92,8 +103,13 @@ fn expect_causes(rt: &impl Abort, alloc: Global, number: u64, rows: &[(Option<&s
 #[test]
 fn causes_of_faults(rt: HostRuntime) {
     expect_causes(&rt, rt.alloc(), 2, CAUSES);
-    let long = cause_of(rt.alloc(), 2, Some(&TOO_LONG));
-    same_at(&rt, &long, &Cause::TooLong, &"a line that is too long");
+    let long = replay_cause(rt.alloc(), 2, Some(&TOO_LONG));
+    same_at(
+        &rt,
+        &long,
+        &ReplayCause::TooLong,
+        &"a line that is too long",
+    );
 }
 
 const TOO_LONG: [u8; 4097] = [b' '; 4097];

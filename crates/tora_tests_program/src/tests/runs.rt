@@ -6,10 +6,9 @@ use std::process::Abort;
 use tora_arq::Times;
 use tora_commands::{replay_and_flush, simulate_and_flush, simulate_told_and_flush};
 use tora_core::Erasure;
-use tora_drive::drive_in;
+use tora_drive::{DriveSetup, drive_in};
 use tora_lines::{Ended, ReplayError};
-use tora_replay::{replay, replay_with};
-use tora_script::{ChannelTable, Setup, WorldOptions};
+use tora_script::{ChannelTable, Reports, Setup, WorldOptions, replay, replay_with};
 use tora_sim::{Limits, Sim};
 use tora_simulate::{simulate, simulate_telling_and_flush, simulate_with};
 
@@ -53,8 +52,36 @@ fn driven(
     reader: &mut LinesReader<'_>,
     writer: &mut ArrayWriter,
 ) -> Result<Ended, ReplayError> {
-    let (options, times) = (WorldOptions::within(limits), Times::STANDARD);
-    drive_in::<Sim, LinesReader<'_>, ArrayWriter>(alloc, options, times, reader, writer)
+    let setup = DriveSetup {
+        options: WorldOptions::within(limits),
+        times: Times::STANDARD,
+    };
+    drive_in::<Sim, LinesReader<'_>, ArrayWriter>(alloc, setup, reader, writer)
+}
+
+/// Simulates within the greatest limits, and flushes the output.
+fn simulated_large<T: AllocGlobal + Eprint>(
+    rt: &T,
+    reader: &mut LinesReader<'_>,
+    writer: &mut ArrayWriter,
+) -> Result<Ended, ReplayError> {
+    let reports = Reports {
+        rt,
+        is_verbose: false,
+    };
+    let setup = Setup {
+        options: WorldOptions::within(Limits::GREATEST),
+        ..Setup::plain(Times::STANDARD)
+    };
+    let table = ChannelTable::none();
+    simulate_telling_and_flush::<Sim, T, LinesReader<'_>, ArrayWriter>(
+        reports,
+        rt.alloc(),
+        setup,
+        table,
+        reader,
+        writer,
+    )
 }
 
 impl Way {
@@ -87,20 +114,7 @@ impl Way {
             ),
             Way::StandardTimes => simulate_with(alloc, Times::STANDARD, reader, writer),
             Way::ShortSilence => simulate_with(alloc, SHORT_SILENCE, reader, writer),
-            Way::LargeSimulation => {
-                simulate_telling_and_flush::<Sim, T, LinesReader<'_>, ArrayWriter>(
-                    rt,
-                    alloc,
-                    Setup {
-                        options: WorldOptions::within(Limits::GREATEST),
-                        ..Setup::plain(Times::STANDARD)
-                    },
-                    ChannelTable::none(),
-                    reader,
-                    writer,
-                    false,
-                )
-            }
+            Way::LargeSimulation => simulated_large(rt, reader, writer),
             Way::Drive => driven(alloc, Limits::STANDARD, reader, writer),
             Way::LargeDrive => driven(alloc, Limits::GREATEST, reader, writer),
         }

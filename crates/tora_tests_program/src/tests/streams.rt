@@ -9,7 +9,7 @@ use std::alloc::Global;
 use std::io::ErrorKind as IoErrorKind;
 use std::process::Abort;
 use tora_lines::{Ended, ReplayError};
-use tora_replay::replay;
+use tora_script::replay;
 use tora_simulate::Recent;
 
 /// How lines are run, the lines, their output, and a number.

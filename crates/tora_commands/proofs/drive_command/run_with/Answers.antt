@@ -16,7 +16,7 @@ returns g c =
       greeted = c.greet.new.writer;
       greets = c.in-Ok.ensures.greets;
       ends =
-          ends_with (shortened_text (drive_rules c.args.options c.args.times)) g.R.Input.remaining g.R.Input.did_read
+          ends_with (shortened_text (drive_rules c.args.setup)) g.R.Input.remaining g.R.Input.did_read
           g.W.Write.contents g.W.Output.did_write g.W.Output.did_flush
           c.args.reader c.new-reader.result.reader c.drive_and_flush-result.new.reader.reader
           c.greet.new.writer c.drive_and_flush-result.new.writer c.drive_and_flush-result.result false _

@@ -1,6 +1,6 @@
 use Rattle.std.proofs.Common.{false}
 use Rattle.tora_lines.proofs.ReadLaws.{read_so_within}
-use Rattle.tora_replay.specs.ReplayText.{replay_rules_of}
+use Rattle.tora_script.specs.ReplayText.{replay_rules_of}
 use Rattle.tora_simulate.proofs.EndingLaws.{ends_from}
 use Rattle.tora_commands.proofs.replay_command.run_with.Goals as goal
 

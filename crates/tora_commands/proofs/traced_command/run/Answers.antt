@@ -15,7 +15,8 @@ returns-then-has_bar-2-clause-ends g c =
       is_some c.run_over.new.out.failure,
       c.in-Ok.ensures,
       made.1,
-      ends_within (λ paced. paced.reader.file) (whole_text (rules_with c.args.setup (lines_of c.args.file.table)))
+      ends_within (λ paced. paced.reader.file)
+          (whole_text (rules_with c.args.asked.setup (lines_of c.args.asked.file.table)))
           g.T.File.Read.remaining g.T.Paths.did_get
           g.W.Write.contents g.W.Output.did_write g.W.Output.did_flush c.new-paced.result c.in-Ok.reader
           c.args.writer.now c.run_over.new.writer
@@ -32,7 +33,8 @@ returns-clause-ends g c =
       is_some c.run_over-2.new.out.failure,
       c.in-Ok.ensures,
       made.1,
-      ends_within (λ opened. opened.file) (whole_text (rules_with c.args.setup (lines_of c.args.file.table)))
+      ends_within (λ opened. opened.file)
+          (whole_text (rules_with c.args.asked.setup (lines_of c.args.asked.file.table)))
           g.T.File.Read.remaining g.T.Paths.did_get
           g.W.Write.contents g.W.Output.did_write g.W.Output.did_flush c.new-opened.result c.in-Ok.reader
           c.args.writer.now c.run_over-2.new.writer

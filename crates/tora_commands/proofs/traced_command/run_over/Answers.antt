@@ -11,7 +11,7 @@ returns-clause-ends g c =
     let reads = read_so_within g.R.Input.did_read (λ hashing. hashing.reader.reader) c.new-reader.result
     c.simulate_and_flush-result.new.reader
     c.simulate_and_flush-result.result c.simulate_and_flush-result.ensures.reads in
-    ends_from (rules_with c.args.setup (lines_of c.args.file.table)) g.R.Input.remaining g.R.Input.did_read
+    ends_from (rules_with c.args.asked.setup (lines_of c.args.asked.file.table)) g.R.Input.remaining g.R.Input.did_read
     g.W.Write.contents g.W.Output.did_write g.W.Output.did_flush
     c.args.reader c.new-reader.result.reader.reader c.simulate_and_flush-result.new.reader.reader.reader
     c.args.writer.now

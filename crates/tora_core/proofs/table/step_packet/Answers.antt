@@ -1,4 +1,4 @@
-use Rattle.std.proofs.Common.{◌≡◌, ◌∙◌, sym, ap, subst, arith, length, ◌<◌, ℕ, ◌==◌, true, List, [], ◌++◌, Option, Some}
+use Rattle.std.proofs.Common.{◌≡◌, ◌∙◌, sym, ap, subst, arith, length, ◌<◌, ℕ, ◌==◌, true, List, [], Option, Some}
 use Rattle.tora_packet.specs.declared.Packet.{Packet}
 use Rattle.std.specs.Prelude.{map, slice_index_or, slice_set}
 use Rattle.std.specs.List.{cons_option, position}
@@ -17,8 +17,8 @@ returns-in_default-clause-views c =
     let none = none-passes (is_of c.destination-d.result) (views_in c.args.views.now) (sym (names-views c.destination-d.result (views_in c.args.views.now)) ∙ sym (ap (λ (ns : List ℕ). position (λ n. n == c.destination-d.result) ns) c.requires.names) ∙ sym c.place_near.ensures ∙ c.in_default.is) in
     table-none (In.Packet c.args.k c.args.packet.now) c.args.now c.args.views.now (views-none (In.Packet c.args.k c.args.packet.now) c.args.now c.destination-d.result (ap Some (sym c.destination-d.ensures.value)) (views_in c.args.views.now) none)
 
-pub returns-in_default-clause-sends : goal.returns-in_default-clause-sends
-returns-in_default-clause-sends c =
+pub returns-in_default-clause-packet : goal.returns-in_default-clause-packet
+returns-in_default-clause-packet c =
     let none = none-passes (is_of c.destination-d.result) (views_in c.args.views.now) (sym (names-views c.destination-d.result (views_in c.args.views.now)) ∙ sym (ap (λ (ns : List ℕ). position (λ n. n == c.destination-d.result) ns) c.requires.names) ∙ sym c.place_near.ensures ∙ c.in_default.is) in
     let sends = sends-none (In.Packet c.args.k c.args.packet.now) c.args.now c.destination-d.result (ap Some (sym c.destination-d.ensures.value)) (views_in c.args.views.now) none in
     cc
@@ -59,8 +59,8 @@ returns-clause-views c =
     let whole = same-in c.packet.new.self (record t { view = next_view (In.Packet c.args.k c.args.packet.now) c.args.now x }) new (c.packet.ensures.neighbours ∙ ap (λ (u : TableView). u.neighbours) (sym c.index-views-place.is)) in
     rw whole (sym made)
 
-pub returns-clause-sends : goal.returns-clause-sends
-returns-clause-sends c =
+pub returns-clause-packet : goal.returns-clause-packet
+returns-clause-packet c =
     let table = c.args.views.now in
     let views = views_in table in
     let t = c.index-views-place.result in
@@ -72,7 +72,6 @@ returns-clause-sends c =
     let read = subst P place.1 (read-in table c.in-Some.place t lt c.index-views-place.is) in
     let at = sends-at (In.Packet c.args.k c.args.packet.now) c.args.now c.destination-d.result (ap Some (sym c.destination-d.ensures.value)) views x (subst IsAscending c.requires.names c.requires.ascending) place.0 read in
     let own = concerned (In.Packet c.args.k c.args.packet.now) c.args.now c.destination-d.result (ap Some (sym c.destination-d.ensures.value)) x (found (In.Packet c.args.k c.args.packet.now) c.args.now c.destination-d.result (ap Some (sym c.destination-d.ensures.value)) views x place.0 read) in
-    let from : c.args.sends.now.items ≡ [] = c.requires.empty in
     let sent : c.packet.result ≡ next_packet (In.Packet c.args.k c.args.packet.now) c.args.now x =
     c.packet.ensures.packet ∙ ap (λ (u : TableView). packet_sent u.view (In.Packet c.args.k c.args.packet.now) c.args.now) (sym c.index-views-place.is) ∙ sym (packet-taken (In.Packet c.args.k c.args.packet.now) c.args.now x own) in
-    c.list.ensures ∙ ap (λ (xs : List Packet). xs ++ cons_option c.packet.result []) from ∙ ap (λ (o : Option Packet). cons_option o []) sent ∙ sym at
+    ap (λ (o : Option Packet). cons_option o []) sent ∙ sym at

@@ -1,11 +1,13 @@
-use Rattle.std.proofs.Common.{◌≡◌, ◌-◌}
-use Rattle.tora_world.specs.World.{world_after_all}
+use Rattle.std.proofs.Common.{◌-◌}
 use Rattle.tora_script.specs.declared.rounds.TheConstants.{MOST_PASSES}
 use Rattle.tora_script.specs.Rounds.{AreKnown}
 use Rattle.tora_drive.specs.Steps.{step_passes}
+use Rattle.tora_drive.specs.Recording.{text_record}
+use Rattle.tora_drive.proofs.TellLaws.{PassesLeft}
 use Rattle.tora_drive.proofs.stepping.make_passes.Given as goal
 
 abbrev pub invariant-loop : goal.invariant-loop
 invariant-loop g l =
-    (world_after_all (g.S.Simulator.world l.sim) (step_passes (MOST_PASSES - l.counter) l.nodes l.ends l.far (g.S.Simulator.world l.sim)) ≡ world_after_all (g.S.Simulator.world l.initial.sim) (step_passes MOST_PASSES l.nodes l.ends l.far (g.S.Simulator.world l.initial.sim)))
-    × AreKnown l.known l.ends (g.S.Simulator.world l.sim)
+    PassesLeft (g.S.Simulator.world l.initial.sim) (step_passes MOST_PASSES l.visited.nodes.now l.visited.ends.now l.visited.silent.now (g.S.Simulator.world l.initial.sim)) (g.S.Simulator.world l.sim)
+    (step_passes (MOST_PASSES - l.counter) l.visited.nodes.now l.visited.ends.now l.visited.silent.now (g.S.Simulator.world l.sim)) (text_record l.initial.text) (text_record l.text)
+    × AreKnown l.visited.are_known l.visited.ends.now (g.S.Simulator.world l.sim)

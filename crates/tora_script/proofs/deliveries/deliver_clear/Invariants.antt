@@ -1,6 +1,6 @@
 use Rattle.std.proofs.Common.{◌-◌}
 use Rattle.tora_script.specs.Rounds.{deliveries, new_deliveries}
-use Rattle.tora_script.specs.Air.{moment_view}
+use Rattle.tora_script.specs.InFlight.{moment_view}
 use Rattle.tora_script.proofs.RoundLaws.{Onward}
 use Rattle.tora_script.proofs.deliveries.deliver_clear.Given as goal
 

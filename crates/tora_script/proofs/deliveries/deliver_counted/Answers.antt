@@ -1,7 +1,7 @@
 use Rattle.std.proofs.Common.{◌≡◌, ℕ, ◌+◌, ◌-◌, false, sym, subst, arith}
 use Rattle.tora_script.specs.Rounds.{deliveries, new_deliveries}
-use Rattle.tora_script.specs.Air.{moment_view}
-use Rattle.tora_script.specs.Ways.{AreCounted}
+use Rattle.tora_script.specs.InFlight.{moment_view}
+use Rattle.tora_script.specs.DirectionCounts.{AreCounted}
 use Rattle.tora_script.proofs.RoundLaws.{Onward, delivered, all_delivered, begins}
 use Rattle.tora_script.proofs.DatagramsStay.{still_counted}
 use Rattle.tora_script.proofs.deliveries.deliver_counted.Goals as goal
@@ -12,7 +12,7 @@ deliver_next-requires-clause-behind g c = omega (arith, c.requires, c.loop-i.aut
 pub deliver_next-requires-clause-counted : goal.deliver_next-requires-clause-counted
 deliver_next-requires-clause-counted g c =
     let same : c.loop-i.i - c.args.moment.now.start ≡ c.loop-i.i + 1 - 1 - c.args.moment.now.start = omega arith in
-    subst (λ (n : ℕ). AreCounted (g.S.Simulator.world c.loop-i.sim) c.loop-i.ways c.args.moment.now.start n) same c.loop-i.invariant.counted
+    subst (λ (n : ℕ). AreCounted (g.S.Simulator.world c.loop-i.sim) c.loop-i.counts c.args.moment.now.start n) same c.loop-i.invariant.counted
 
 pub loop-i-preserved : goal.loop-i-preserved
 loop-i-preserved g c =
@@ -22,7 +22,7 @@ loop-i-preserved g c =
     record {
       onward = rw c.either-some.ensures (delivered c.args.moment.now.network.parted.now m c.loop-i.i c.datagrams-i-end.result (g.S.Simulator.world c.args.sim.now) (new_deliveries c.args.moment.now.network.parted.now m c.args.first (g.S.Simulator.world c.args.sim.now))
           w v c.loop-i.some c.in_ok-any.any c.loop-i-test.true c.loop-i.invariant.onward c.in_ok-any.ensures.happened);
-      counted = still_counted c.args.moment.now.network.parted.now m (c.loop-i.i + 1) w v c.deliver_next.new.ways c.args.moment.now.start (c.loop-i.i + 1 - c.args.moment.now.start) c.in_ok-any.ensures.happened.after_is c.in_ok-any.ensures.counted;
+      counted = still_counted c.args.moment.now.network.parted.now m (c.loop-i.i + 1) w v c.deliver_next.new.counts c.args.moment.now.start (c.loop-i.i + 1 - c.args.moment.now.start) c.in_ok-any.ensures.happened.after_is c.in_ok-any.ensures.counted;
     }
 
 pub returns : goal.returns
@@ -36,5 +36,5 @@ loop-i-init g c =
     let w = g.S.Simulator.world c.args.sim.now in
     record {
       onward = subst (λ (n : ℕ). Onward w (new_deliveries c.args.moment.now.network.parted.now m c.args.first w) w false (deliveries c.args.moment.now.network.parted.now m c.args.first (n - c.args.first) w)) (sym c.datagrams-i-end.ensures) (begins w (new_deliveries c.args.moment.now.network.parted.now m c.args.first w));
-      counted = c.in_ok-ways.ensures;
+      counted = c.in_ok-counts.ensures;
     }

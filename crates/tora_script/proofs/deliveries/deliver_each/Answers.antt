@@ -1,6 +1,6 @@
 use Rattle.std.proofs.Common.{arith}
 use Rattle.tora_script.specs.Rounds.{new_deliveries}
-use Rattle.tora_script.specs.Air.{moment_view}
+use Rattle.tora_script.specs.InFlight.{moment_view}
 use Rattle.tora_script.proofs.RoundLaws.{delivered, all_delivered}
 use Rattle.tora_script.proofs.deliveries.deliver_each.Goals as goal
 

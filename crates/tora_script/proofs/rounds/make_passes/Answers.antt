@@ -2,7 +2,7 @@ use Rattle.std.proofs.Common.{◌≡◌, ◌∙◌, sym, suc, ◌+◌, ◌-◌, 
 use Rattle.tora_world.specs.World.{world_after_all}
 use Rattle.tora_script.specs.declared.rounds.TheConstants.{MOST_PASSES}
 use Rattle.tora_script.specs.Rounds.{passes}
-use Rattle.tora_script.specs.Air.{moment_view}
+use Rattle.tora_script.specs.InFlight.{moment_view}
 use Rattle.tora_script.proofs.RoundLaws.{passes_on, passes_stop, no_passes}
 use Rattle.tora_script.proofs.KnownEnds.{known_then}
 use Rattle.tora_script.proofs.rounds.make_passes.Goals as goal

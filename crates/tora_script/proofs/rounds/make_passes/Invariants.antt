@@ -2,7 +2,7 @@ use Rattle.std.proofs.Common.{◌≡◌, ◌-◌}
 use Rattle.tora_world.specs.World.{world_after_all}
 use Rattle.tora_script.specs.declared.rounds.TheConstants.{MOST_PASSES}
 use Rattle.tora_script.specs.Rounds.{passes, AreKnown}
-use Rattle.tora_script.specs.Air.{moment_view}
+use Rattle.tora_script.specs.InFlight.{moment_view}
 use Rattle.tora_script.proofs.rounds.make_passes.Given as goal
 
 abbrev pub invariant-loop : goal.invariant-loop

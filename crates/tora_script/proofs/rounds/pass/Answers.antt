@@ -1,7 +1,7 @@
 use Rattle.std.proofs.Common.{length}
 use Rattle.tora_script.specs.declared.turns.EndTurn.TheVariants as turn
 use Rattle.tora_script.specs.Rounds.{plan_then, each_core, each_end, new_deliveries, pass}
-use Rattle.tora_script.specs.Air.{moment_view}
+use Rattle.tora_script.specs.InFlight.{moment_view}
 use Rattle.tora_script.proofs.RoundLaws.{Happened-then}
 use Rattle.tora_script.proofs.KnownEnds.{known_then}
 use Rattle.tora_script.proofs.rounds.pass.Goals as goal

@@ -2,7 +2,7 @@ use Rattle.tora_world.specs.declared.event.Event.TheVariants.{Tick}
 use Rattle.tora_script.specs.declared.rounds.TheConstants.{MOST_PASSES}
 use Rattle.tora_script.specs.declared.turns.EndTurn.TheVariants as turn
 use Rattle.tora_script.specs.Rounds.{once, plan_then, each_end_once, arrivals, passes, round}
-use Rattle.tora_script.specs.Air.{moment_view}
+use Rattle.tora_script.specs.InFlight.{moment_view}
 use Rattle.tora_script.proofs.RoundLaws.{after_then}
 use Rattle.tora_script.proofs.KnownEnds.{known_then}
 use Rattle.tora_script.proofs.rounds.round.Goals as goal

@@ -40,3 +40,10 @@ returns-clause-room c =
 
 pub returns-clause-marks : goal.returns-clause-marks
 returns-clause-marks c = c.loop-place.invariant.marks
+
+pub unready_range-requires : goal.unready_range-requires
+unready_range-requires c =
+    let l = c.loop-place in
+    let many = same_length c.args.links.now.items l.links.items l.invariant.made.same in
+    let marks = l.invariant.marks.as_many in
+    omega (arith, c.requires.within, many, marks)

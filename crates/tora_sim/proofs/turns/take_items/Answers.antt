@@ -10,7 +10,7 @@ use Rattle.tora_sim.proofs.turns.take_items.Goals as goal
 
 pub loop-init : goal.loop-init
 loop-init c = record {
-  taken = none_taken c.args.node.now c.args.links.now.items c.args.unready.now c.args.seat.now c.requires.neighbours c.requires.room;
+  taken = none_taken c.args.node.now c.args.links.now.items c.args.lacking.now.unready c.args.lacking.now.seat c.requires.neighbours c.requires.room;
   goes = λ t times clock nodes ds n home h first read.
       let all : c.args.most ≡ c.args.most - 0 = omega arith in
       subst (λ (m : ℕ). Goes t times clock nodes c.args.links.now.items ds n home c.args.most c.args.node.now c.args.links.now.items false m) all (none_gone t times clock nodes c.args.links.now.items ds n home c.args.most c.args.node.now h first read);
@@ -25,12 +25,12 @@ returns-then-waiting-eq0-clause-items c = λ t times clock nodes ds n home h fir
 pub make_room_again-requires-clause-ready : goal.make_room_again-requires-clause-ready
 make_room_again-requires-clause-ready c =
     let h = c.loop.invariant.taken in
-    placed (λ f n. AreReadyOutside c.loop.links.items f n c.loop.unready) c.first-first.result c.count-count.result c.args.node.now.first c.args.node.now.count (c.first-first.ensures ∙ h.first) (c.count-count.ensures ∙ h.count) h.ready
+    placed (λ f n. AreReadyOutside c.loop.links.items f n c.loop.lacking.unready) c.first-first.result c.count-count.result c.args.node.now.first c.args.node.now.count (c.first-first.ensures ∙ h.first) (c.count-count.ensures ∙ h.count) h.ready
 
 pub make_room_again-requires-clause-room : goal.make_room_again-requires-clause-room
 make_room_again-requires-clause-room c =
     let h = c.loop.invariant.taken in
-    placed (λ f n. HaveRoomBut c.loop.links.items f n c.loop.seat) c.first-first.result c.count-count.result c.args.node.now.first c.args.node.now.count (c.first-first.ensures ∙ h.first) (c.count-count.ensures ∙ h.count) h.room
+    placed (λ f n. HaveRoomBut c.loop.links.items f n c.loop.lacking.seat) c.first-first.result c.count-count.result c.args.node.now.first c.args.node.now.count (c.first-first.ensures ∙ h.first) (c.count-count.ensures ∙ h.count) h.room
 
 pub returns-in-Err-clause-taken : goal.returns-in-Err-clause-taken
 returns-in-Err-clause-taken c =
@@ -40,10 +40,10 @@ returns-in-Err-clause-taken c =
     let new = c.make_room_again.new.links.items in
     let f = c.first-first.result in
     let n = c.count-count.result in
-    roomed c.args.node.now x c.args.links.now.items old new c.loop.unready c.loop.seat c.loop.invariant.taken e.same
+    roomed c.args.node.now x c.args.links.now.items old new c.loop.lacking.unready c.loop.lacking.seat c.loop.invariant.taken e.same
     (placed (λ a b. AreOthersKept old new a b) x.first x.count f n (sym c.first-first.ensures) (sym c.count-count.ensures) e.others)
-    (placed (λ a b. AreReadyOutside new a b c.loop.unready) x.first x.count f n (sym c.first-first.ensures) (sym c.count-count.ensures) e.ready)
-    (placed (λ a b. HaveRoomBut new a b c.loop.seat) x.first x.count f n (sym c.first-first.ensures) (sym c.count-count.ensures) e.but)
+    (placed (λ a b. AreReadyOutside new a b c.loop.lacking.unready) x.first x.count f n (sym c.first-first.ensures) (sym c.count-count.ensures) e.ready)
+    (placed (λ a b. HaveRoomBut new a b c.loop.lacking.seat) x.first x.count f n (sym c.first-first.ensures) (sym c.count-count.ensures) e.but)
 
 pub returns-in-Err-clause-items : goal.returns-in-Err-clause-items
 returns-in-Err-clause-items c = λ t times clock nodes ds n home h first read.
@@ -71,7 +71,7 @@ turn-requires-clause-room c =
     record {
       within = omega (arith, c.requires.room.within, first, count, many, same);
       room = placed (λ a b. HaveRoom new a b) x.first x.count f n (sym c.first-first.ensures) (sym c.count-count.ensures) e.room;
-      ready = placed (λ a b. AreReadyOutside new a b c.loop.unready) x.first x.count f n (sym c.first-first.ensures) (sym c.count-count.ensures) e.ready;
+      ready = placed (λ a b. AreReadyOutside new a b c.loop.lacking.unready) x.first x.count f n (sym c.first-first.ensures) (sym c.count-count.ensures) e.ready;
     }
 
 pub returns-in-Err-turn-clause-taken : goal.returns-in-Err-turn-clause-taken
@@ -80,9 +80,9 @@ returns-in-Err-turn-clause-taken c =
     let x = c.loop.node in
     let old = c.loop.links.items in
     let new = c.make_room_again.new.links.items in
-    taken_on c.args.node.now x c.args.links.now.items old new c.loop.unready c.loop.seat c.loop.invariant.taken e.same
+    taken_on c.args.node.now x c.args.links.now.items old new c.loop.lacking.unready c.loop.lacking.seat c.loop.invariant.taken e.same
     (placed (λ a b. AreOthersKept old new a b) x.first x.count c.first-first.result c.count-count.result (sym c.first-first.ensures) (sym c.count-count.ensures) e.others)
-    c.turn.new.node c.turn.new.links.items c.turn.result c.turn.ensures.turned c.turn.new.unready c.turn.new.seat c.turn.ensures.ready c.turn.ensures.room c.turn.ensures.others
+    c.turn.new.node c.turn.new.links.items c.turn.result c.turn.ensures.turned c.turn.new.lacking.unready c.turn.new.lacking.seat c.turn.ensures.ready c.turn.ensures.room c.turn.ensures.others
 
 pub returns-in-Err-turn-clause-items : goal.returns-in-Err-turn-clause-items
 returns-in-Err-turn-clause-items c = λ t times clock nodes ds n home h first read.
@@ -103,9 +103,9 @@ loop-preserved c =
     let old = c.loop.links.items in
     let new = c.make_room_again.new.links.items in
     record {
-      taken = taken_on c.args.node.now x c.args.links.now.items old new c.loop.unready c.loop.seat c.loop.invariant.taken e.same
+      taken = taken_on c.args.node.now x c.args.links.now.items old new c.loop.lacking.unready c.loop.lacking.seat c.loop.invariant.taken e.same
           (placed (λ a b. AreOthersKept old new a b) x.first x.count c.first-first.result c.count-count.result (sym c.first-first.ensures) (sym c.count-count.ensures) e.others)
-          c.turn.new.node c.turn.new.links.items c.turn.result c.turn.ensures.turned c.turn.new.unready c.turn.new.seat c.turn.ensures.ready c.turn.ensures.room c.turn.ensures.others;
+          c.turn.new.node c.turn.new.links.items c.turn.result c.turn.ensures.turned c.turn.new.lacking.unready c.turn.new.lacking.seat c.turn.ensures.ready c.turn.ensures.room c.turn.ensures.others;
       goes = λ t times clock nodes ds n home h first read.
           let left : c.args.most - c.loop.counter ≡ suc (c.args.most - (c.loop.counter + 1)) = omega (arith, c.loop-test.true) in
           let g = subst (λ (m : ℕ). Goes t times clock nodes c.args.links.now.items ds n home c.args.most x old c.loop.some m) left (c.loop.invariant.goes t times clock nodes ds n home h first read) in

@@ -80,18 +80,24 @@ fn same_sends(rt: &impl Abort, sends: &Sends, told: &[Told], input: &Input) {
     }
 }
 
+/// Both implementations, after the same inputs.
+#[derive(Drop)]
+struct Both {
+    core: Core,
+    plain: Plain,
+}
+
 /// Steps an input in both implementations, and checks that the results are the same.
 fn same_step(
     rt: &impl Abort,
     alloc: Global,
-    core: &mut Core,
-    plain: &mut Plain,
+    both: &mut Both,
     input: &Input,
     now: u64,
     sends: &mut Sends,
 ) {
-    let answer = core.step_into(input, now, sends);
-    match plain.step(alloc, input, now).expect(rt, "memory") {
+    let answer = both.core.step_into(input, now, sends);
+    match both.plain.step(alloc, input, now).expect(rt, "memory") {
         Err(error) => {
             same_at(rt, &answer.err(), &Some(error), "the refusal", input);
             same_sends(rt, sends, &[], input);
@@ -104,9 +110,9 @@ fn same_step(
 }
 
 /// Checks that both implementations print the same table.
-fn same_tables(rt: &impl Abort, alloc: Global, core: &Core, plain: &Plain, turn: u32) {
-    let shown = core.show(alloc).expect(rt, "memory");
-    let other = plain.show(alloc).expect(rt, "memory");
+fn same_tables(rt: &impl Abort, alloc: Global, both: &Both, turn: u32) {
+    let shown = both.core.show(alloc).expect(rt, "memory");
+    let other = both.plain.show(alloc).expect(rt, "memory");
     same_at(rt, &shown.as_str(), &other.as_str(), "the tables", &turn);
 }
 
@@ -115,18 +121,12 @@ fn answer_alike(rt: &impl Abort, alloc: Global, erasure: Erasure) {
     let neighbours = [1, 2, 3, 4, 5, 6, 7, 8];
     let destinations = [5, 6, 7, 8, 9, 10, 11, 12, 13, 14, 15, 16, 17, 18, 19, 100];
     let limits = CoreLimits::STANDARD;
-    let mut core = Core::with_erasure(
-        alloc,
-        erasure,
-        limits,
-        100,
-        &neighbours,
-        &destinations,
-    ).expect(rt, "a core");
-    let remembers = erasure == Erasure::Remembered;
-    let mut plain = Plain::new(alloc, remembers, 100, &neighbours, &destinations).expect(
-        rt, "memory",
+    let core = Core::with_erasure(alloc, erasure, limits, 100, &neighbours, &destinations).expect(
+        rt, "a core",
     );
+    let remembers = erasure == Erasure::Remembered;
+    let plain = Plain::new(alloc, remembers, 100, &neighbours, &destinations).expect(rt, "memory");
+    let mut both = Both { core, plain };
     let mut random = Random {
         state: 88172645463325252,
     };
@@ -135,10 +135,10 @@ fn answer_alike(rt: &impl Abort, alloc: Global, erasure: Erasure) {
     for turn in 0..10_000 {
         now = now.saturating_add(u64::from(random.up_to(2)));
         if let Some(input) = any_input(&mut random, now) {
-            same_step(rt, alloc, &mut core, &mut plain, &input, now, &mut sends);
+            same_step(rt, alloc, &mut both, &input, now, &mut sends);
         }
         if turn % 100 == 99 {
-            same_tables(rt, alloc, &core, &plain, turn);
+            same_tables(rt, alloc, &both, turn);
         }
     }
 }

@@ -61,22 +61,25 @@ pub fn input_of(rt: &impl Abort, given: Given) -> Input {
     }
 }
 
-/// Steps an input at a core, and checks the number of its refusal, or the packets that are sent.
+/// Steps an input at a core, and checks the packets that are sent, or the number of its refusal.
 fn steps(
     rt: &impl Abort,
     core: &mut Core,
     now: u64,
     given: Given,
-    refusal: Option<u8>,
-    wanted: &[Sent],
+    wanted: Result<&[Sent], u8>,
     row: &Step,
 ) {
+    let (refusal, packets) = match wanted {
+        Ok(packets) => (None, packets),
+        Err(number) => (Some(number), [].as_slice()),
+    };
     let mut sends = Sends::new();
     let answer = core.step_into(&input_of(rt, given), now, &mut sends);
     let number = answer.err().map(|error| error.number());
     same_at(rt, &number, &refusal, "the refusal", row);
-    same_at(rt, &sends.len(), &wanted.len(), "how many packets", row);
-    for (packet, sent) in sends.iter().zip(wanted.iter()) {
+    same_at(rt, &sends.len(), &packets.len(), "how many packets", row);
+    for (packet, sent) in sends.iter().zip(packets.iter()) {
         same_at(rt, packet, &packet_of(rt, *sent), "the packet", row);
     }
 }
@@ -91,18 +94,10 @@ fn core_in<'a>(rt: &impl Abort, cores: &'a mut [Core], node: Id) -> &'a mut Core
 fn does(rt: &impl Abort, alloc: Global, cores: &mut [Core], row: &Step) {
     match *row {
         Step::Takes(node, now, given, sent) => {
-            steps(rt, core_in(rt, cores, node), now, given, None, sent, row);
+            steps(rt, core_in(rt, cores, node), now, given, Ok(sent), row);
         }
         Step::Refuses(node, now, given, number) => {
-            steps(
-                rt,
-                core_in(rt, cores, node),
-                now,
-                given,
-                Some(number),
-                &[],
-                row,
-            );
+            steps(rt, core_in(rt, cores, node), now, given, Err(number), row);
         }
         Step::Has(node, parts) => {
             let wanted = Some(entry_of(rt, parts));

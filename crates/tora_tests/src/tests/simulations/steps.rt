@@ -74,17 +74,13 @@ fn are_updates(rt: &impl Abort, packets: &[Packet], heights: &[Parts], row: &Ste
     }
 }
 
-/// Checks the walk of a node to a destination.
-fn walks(
-    rt: &impl Abort,
-    alloc: Global,
-    sim: &Sim,
-    n: Id,
-    d: Id,
-    nodes: Option<&[Id]>,
-    row: &Step,
-) {
-    let walk = sim.walk(alloc, n, d).expect(rt, "an answer");
+/// Checks a count of packets.
+fn are_as_many(rt: &impl Abort, count: usize, heights: &[Parts], row: &Step) {
+    same_at(rt, &count, &heights.len(), "the count of packets", row);
+}
+
+/// Checks that a walk of a node to a destination visits these nodes.
+fn visits(rt: &impl Abort, walk: Option<Vec<Id>>, nodes: Option<&[Id]>, row: &Step) {
     match walk {
         Some(walk) => same_at(rt, &Some(walk.as_slice()), &nodes, "the walk", row),
         None => same_at(rt, &None, &nodes, "the walk", row),
@@ -95,13 +91,8 @@ fn walks(
 fn reads(rt: &impl Abort, alloc: Global, sim: &Sim, row: &Step) {
     match *row {
         Step::MayHappen(place, event, may) => {
-            same_at(
-                rt,
-                &sim.may_happen(place, &event),
-                &may,
-                "whether it may happen",
-                row,
-            );
+            let found = sim.may_happen(place, &event);
+            same_at(rt, &found, &may, "whether it may happen", row);
         }
         Step::Clock(clock) => same_at(rt, &sim.clock(), &clock, "the clock", row),
         Step::Datagrams(count) => same_at(rt, &sim.datagrams(), &count, "how many", row),
@@ -114,17 +105,18 @@ fn reads(rt: &impl Abort, alloc: Global, sim: &Sim, row: &Step) {
         Step::Sent(a, b, life, heights) => {
             let sent = sim.sent(alloc, a, b, life).expect(rt, "memory");
             are_updates(rt, sent.as_slice(), heights, row);
-            let count = sim.sent_count(a, b, life);
-            same_at(rt, &count, &heights.len(), "how many are sent", row);
+            are_as_many(rt, sim.sent_count(a, b, life), heights, row);
         }
         Step::Taken(b, a, life, heights) => {
             let taken = sim.taken(alloc, b, a, life).expect(rt, "memory");
             are_updates(rt, taken.as_slice(), heights, row);
-            let count = sim.taken_count(b, a, life);
-            same_at(rt, &count, &heights.len(), "how many are taken", row);
+            are_as_many(rt, sim.taken_count(b, a, life), heights, row);
         }
         Step::Exact(d, is_exact) => same_at(rt, &sim.exact(d), &is_exact, "exact entries", row),
-        Step::Walk(n, d, nodes) => walks(rt, alloc, sim, n, d, nodes, row),
+        Step::Walk(n, d, nodes) => {
+            let walk = sim.walk(alloc, n, d).expect(rt, "an answer");
+            visits(rt, walk, nodes, row);
+        }
         Step::NoNode(n, d) => {
             let error = sim.walk(alloc, n, d).err();
             same_at(rt, &error, &Some(SimError::NoNode), "the error", row);

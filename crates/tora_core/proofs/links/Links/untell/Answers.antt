@@ -1,4 +1,4 @@
-use Rattle.std.proofs.Common.{◌≡◌, ◌∙◌, refl, sym, ap, subst, arith}
+use Rattle.std.proofs.Common.{◌≡◌, ◌∙◌, sym, ap, subst, arith}
 use Rattle.std.specs.List.{refill}
 use Rattle.tora_core.specs.Links.{LinkTable, rows_up}
 use Rattle.tora_core.specs.Numbers.{IsAscending}

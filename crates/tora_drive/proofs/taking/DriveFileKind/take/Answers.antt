@@ -8,4 +8,4 @@ returns g c =
     let world = g.S.Simulator.world in
     let d = c.args.self.now in
     let e = c.reply.new.self in
-    goes d.options e.options d.times e.times (view_of world d) (view_of world e) c.args.line.now (string_bytes c.reply.new.text) c.requires.short c.reply.ensures.options c.reply.ensures.times c.in_ok-reply.ensures.answer
+    goes d.setup e.setup (view_of world d) (view_of world e) c.args.line.now (string_bytes c.reply.new.text) c.requires.short c.reply.ensures.setup c.in_ok-reply.ensures.answer

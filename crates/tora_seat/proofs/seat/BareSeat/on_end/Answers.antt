@@ -8,11 +8,11 @@ use Rattle.tora_seat.proofs.seat.BareSeat.on_end.Goals as goal
 
 pub take_in-requires-clause-settled : goal.take_in-requires-clause-settled
 take_in-requires-clause-settled g c = λ e.
-    settled_down c.args.self.now c.set_current.new.self c.args.k c.set_current.ensures.rest (ap (λ (v : Serving). v.seat.current) (c.set_current.ensures.set c.args.now [])) (c.is_settled-is_settled.ensures e)
+    settled_down c.args.self.now c.set_current.new.self c.args.peer.id c.set_current.ensures.rest (ap (λ (v : Serving). v.seat.current) (c.set_current.ensures.set c.args.now [])) (c.is_settled-is_settled.ensures e)
 
 pub returns-clause-goes : goal.returns-clause-goes
 returns-clause-goes g c =
-    let k = c.args.k in
+    let k = c.args.peer.id in
     let now = c.args.now in
     seat_then g.O.OutLanes.did_offer (λ answers ks v. with_current v k None) (λ answers ks. after_input answers ks (In.LinkDown k) now) now c.args.self.now c.args.outs.now c.set_current.new.self c.args.outs.now c.take_in.new.self c.take_in.new.outs
     (seat_still g.O.OutLanes.did_offer (λ answers ks v. with_current v k None) now c.args.self.now c.args.outs.now c.set_current.new.self (ap (λ (x : SeatView). x.core.neighbours) c.set_current.ensures.rest) (λ answers before. c.set_current.ensures.set now before))

@@ -8,11 +8,11 @@ use Rattle.tora_seat.proofs.seat.BareSeat.on_up.Goals as goal
 
 pub take_in-requires-clause-settled : goal.take_in-requires-clause-settled
 take_in-requires-clause-settled g c = λ e.
-    settled_up c.on_old_end.new.self c.set_current.new.self c.args.k c.args.life c.set_current.ensures.rest (ap (λ (v : Serving). v.seat.current) (c.set_current.ensures.set c.args.now [])) (c.is_settled-is_settled.ensures e)
+    settled_up c.on_old_end.new.self c.set_current.new.self c.args.peer.id c.args.life c.set_current.ensures.rest (ap (λ (v : Serving). v.seat.current) (c.set_current.ensures.set c.args.now [])) (c.is_settled-is_settled.ensures e)
 
 pub returns-clause-goes : goal.returns-clause-goes
 returns-clause-goes g c =
-    let k = c.args.k in
+    let k = c.args.peer.id in
     let life = c.args.life in
     let now = c.args.now in
     let d = g.O.OutLanes.did_offer in

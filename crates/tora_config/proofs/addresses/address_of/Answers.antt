@@ -1,6 +1,0 @@
-use Rattle.std.proofs.Common.{◌∙◌}
-use Rattle.tora_config.proofs.Texts.{parsed}
-use Rattle.tora_config.proofs.addresses.address_of.Goals as goal
-
-pub returns : goal.returns
-returns c = c.ok.ensures.value ∙ parsed c.args.text.now c.parse.result c.parse.ensures.value

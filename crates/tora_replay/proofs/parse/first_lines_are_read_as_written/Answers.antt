@@ -1,8 +1,0 @@
-use Rattle.tora_replay.proofs.HeaderLaws.{header_found, header_here}
-use Rattle.tora_replay.proofs.parse.first_lines_are_read_as_written.Goals as goal
-
-pub returns-clause-found : goal.returns-clause-found
-returns-clause-found c = header_found
-
-pub returns-clause-only : goal.returns-clause-only
-returns-clause-only c = header_here

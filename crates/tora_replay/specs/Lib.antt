@@ -1,5 +1,0 @@
-pub mod Answers
-pub mod LineGrammar
-pub mod Lines
-pub mod ReplayText
-pub mod ReplayView

@@ -1,8 +1,0 @@
-use Rattle.std.proofs.Common.{◌≡◌, ◌∙◌, ◌-◌, ap, arith, ℕ}
-use Rattle.tora_script.specs.Air.{gone}
-use Rattle.tora_script.proofs.air.gone.Goals as goal
-
-pub returns : goal.returns
-returns g c =
-    let k : c.loop-i.i - c.args.first ≡ c.args.end - c.args.first = omega (arith, c.loop-i.invariant.within, c.loop-i-test.false) in
-    c.loop-i.invariant.value ∙ ap (λ (n : ℕ). gone (g.S.Simulator.world c.args.sim.now) c.args.way c.args.first n) k

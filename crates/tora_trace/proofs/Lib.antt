@@ -1,4 +1,0 @@
-mod Refusals
-mod Rising
-mod Owners
-mod EndsByNode

@@ -1,6 +1,0 @@
-use Rattle.std.proofs.Common.{◌≡◌, ◌++◌, string_bytes, take}
-use Rattle.tora_trace.specs.Copies.{route_changes}
-use Rattle.tora_trace.proofs.route.write_routes.Given as goal
-
-abbrev pub invariant-loop-told : goal.invariant-loop-told
-invariant-loop-told l = string_bytes l.out ≡ string_bytes l.initial.out ++ route_changes l.now l.core (take l.told-index l.routes)

@@ -1,4 +1,0 @@
-pub mod Records
-pub mod Copies
-pub mod Trace
-pub mod NodeEnds
