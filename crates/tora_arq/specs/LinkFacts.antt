@@ -1,5 +1,6 @@
 -- What holds for every call of a link end.
-use Rattle.std.specs.Prelude.{◌≡◌, ◌≢◌, ℕ, suc, ◌+◌, ◌<◌, ◌≤◌, ◌⊎◌, if◌then◌else◌, List, [], ◌∷◌, ◌++◌, map, length, drop, slice_get, Option, Some, None, Result, Ok, Err}
+use Rattle.std.specs.Prelude.{◌≡◌, ◌≢◌, ℕ, suc, ◌+◌, ◌<◌, ◌≤◌, ◌⊎◌, if◌then◌else◌, List, [], ◌∷◌, ◌++◌, map, length}
+use Rattle.std.specs.Prelude.{drop, slice_get, Option, Some, None, Result, Ok, Err}
 use Rattle.tora_packet.specs.declared.Packet.{Packet}
 use Rattle.tora_frame.specs.declared.parts.Body.{Body}
 use Rattle.tora_frame.specs.declared.parts.Body.TheVariants.{Hello, Data, Ack}
@@ -14,7 +15,8 @@ use Rattle.tora_arq.specs.declared.phase.Phase.TheVariants.{Closed, Unbound, Bou
 use Rattle.tora_arq.specs.Lives.{is_same_life}
 use Rattle.tora_arq.specs.Settings.{Settings}
 use Rattle.tora_arq.specs.SendQueue.{packets_in}
-use Rattle.tora_arq.specs.LinkEnd.{EndState, count_of, after_open, after_frame, after_tick, submit_answer, after_submit, after_cut, first_event, after_poll_event, frame_sent, frame_due, after_transmit}
+use Rattle.tora_arq.specs.LinkEnd.{EndState, count_of, after_open, after_frame, after_tick, submit_answer, after_submit}
+use Rattle.tora_arq.specs.LinkEnd.{after_cut, first_event, after_poll_event, frame_sent, frame_due, after_transmit}
 
 -- ---- calls
 

@@ -1,5 +1,6 @@
 -- What holds for every run of a link end: a list of calls from the first state on.
-use Rattle.std.specs.Prelude.{◌≡◌, ℕ, suc, ◌+◌, ◌<◌, ◌≤◌, ◌==◌, if◌then◌else◌, List, [], ◌∷◌, ◌++◌, map, length, Option, Some, None, Contains}
+use Rattle.std.specs.Prelude.{◌≡◌, ℕ, suc, ◌+◌, ◌<◌, ◌≤◌, ◌==◌, if◌then◌else◌, List, [], ◌∷◌, ◌++◌, map, length, Option}
+use Rattle.std.specs.Prelude.{Some, None, Contains}
 use Rattle.tora_packet.specs.declared.Packet.{Packet}
 use Rattle.tora_frame.specs.declared.parts.Body.{Body}
 use Rattle.tora_frame.specs.declared.parts.Body.TheVariants.{Hello, Data, Ack}
@@ -12,7 +13,9 @@ use Rattle.tora_arq.specs.declared.phase.Phase.TheVariants.{Closed, Unbound, Bou
 use Rattle.tora_arq.specs.Lives.{life_of, is_same_life}
 use Rattle.tora_arq.specs.Settings.{Settings}
 use Rattle.tora_arq.specs.LinkEnd.{EndState, first_end, count_of}
-use Rattle.tora_arq.specs.LinkFacts.{LinkCall, after_call, IsPossible, frame_sent_by, event_given_by, events_queued, packet_submitted, IsFrameOf, AreFrom, IsPacketAt, HasNumber, Carries, packets_delivered, list_of}
+use Rattle.tora_arq.specs.LinkFacts.{LinkCall, after_call, IsPossible, frame_sent_by, event_given_by, events_queued}
+use Rattle.tora_arq.specs.LinkFacts.{packet_submitted, IsFrameOf, AreFrom, IsPacketAt, HasNumber, Carries}
+use Rattle.tora_arq.specs.LinkFacts.{packets_delivered, list_of}
 use Rattle.tora_arq.specs.LinkFacts.LinkCall.{Frame, Submit}
 
 -- ---- runs

@@ -1,5 +1,6 @@
 -- The end of a neighbour link as a table: state, input, condition, and result. Each case of a `data` is a row.
-use Rattle.std.specs.Prelude.{◌≡◌, ◌≢◌, ◌⊎◌, ℕ, suc, ◌+◌, ◌-◌, ◌<◌, ◌≤◌, max, true, false, ◌||◌, List, [], ◌∷◌, ◌++◌, map, take, length, slice_get, Option, Some, None, Result, Ok, Err, Contains, drop}
+use Rattle.std.specs.Prelude.{◌≡◌, ◌≢◌, ◌⊎◌, ℕ, suc, ◌+◌, ◌-◌, ◌<◌, ◌≤◌, max, true, false, ◌||◌, List, [], ◌∷◌, ◌++◌}
+use Rattle.std.specs.Prelude.{map, take, length, slice_get, Option, Some, None, Result, Ok, Err, Contains, drop}
 use Rattle.std.specs.List.{AllByRecursion}
 use Rattle.tora_packet.specs.PacketParts.{UpdateParts}
 use Rattle.tora_packet.specs.declared.Packet.{Packet}

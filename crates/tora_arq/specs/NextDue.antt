@@ -1,11 +1,13 @@
 -- When something is next due at a link end, if there is no other call.
-use Rattle.std.specs.Prelude.{◌≡◌, ℕ, ◌^◌, ◌<◌, ◌≤◌, Bool, true, false, not, nat_le, ◌||◌, ◌&&◌, Option, Some, None, is_some}
+use Rattle.std.specs.Prelude.{◌≡◌, ℕ, ◌^◌, ◌<◌, ◌≤◌, Bool, true, false, not, nat_le, ◌||◌, ◌&&◌, Option, Some, None}
+use Rattle.std.specs.Prelude.{is_some}
 use Rattle.tora_arq.specs.declared.life.Life.{Life}
 use Rattle.tora_arq.specs.declared.times.Times.{Times}
 use Rattle.tora_arq.specs.declared.queued_packet.QueuedPacket.{QueuedPacket}
 use Rattle.tora_arq.specs.Settings.{Settings}
 use Rattle.tora_arq.specs.SendQueue.{is_ready, is_given_up}
-use Rattle.tora_arq.specs.LinkEnd.{EndState, is_closed, is_silent, is_hello_due, is_old_hello_due, due_of, on_transmit_due, frame_due, after_tick}
+use Rattle.tora_arq.specs.LinkEnd.{EndState, is_closed, is_silent, is_hello_due, is_old_hello_due, due_of}
+use Rattle.tora_arq.specs.LinkEnd.{on_transmit_due, frame_due, after_tick}
 
 -- at this tick a frame is due, or the session times out
 abbrev pub is_any_due : Settings → EndState → ℕ → Bool

@@ -57,7 +57,8 @@ impl Model for LinkEnd {
 
     ghost view = { λ e. link_end_of (settings_in e.settings) (state_in e.state) };
 
-    ghost invariant = { λ e. IsEndState (settings_in e.settings) (state_in e.state) × (rooms_in e.state ≡ whole_rooms) };
+    ghost invariant = { λ e. IsEndState (settings_in e.settings) (state_in e.state)
+        × (rooms_in e.state ≡ whole_rooms) };
 }
 
 impl LinkEnd {

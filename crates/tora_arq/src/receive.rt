@@ -85,7 +85,8 @@ impl State {
     /// Receives a packet of the bound session. `furthest` is the last number of the window.
     #[tactic(auto, using(crate::proofs::ReceiveLemmas::passed_over, crate::proofs::ReceiveLemmas::dropped))]
     fn on_packet(&mut self, life: Life, furthest: u64, number: u64, packet: Packet)
-        requires room { HasRoomFor self.old.events.capacity self.old.held.capacity furthest number 1 (state_in self.old) }
+        requires room { HasRoomFor self.old.events.capacity self.old.held.capacity furthest number 1
+            (state_in self.old) }
         requires accepted { self.old.accepted ≤ 2 ^ 63 }
         ensures state { state_in self.new ≡ after_packet life furthest (state_in self.old) number packet }
         ensures rooms { rooms_in self.new ≡ rooms_in self.old }
@@ -179,9 +180,11 @@ impl State {
     #[tactic(auto, unfolding(crate::specs::LinkEnd::on_frame_in))]
     fn on_unbound_frame(&mut self, own: u64, frame: &BorrowedFrame<'_>, now: u64) -> Verdict
         requires place { length self.old.events.items < self.old.events.capacity }
-        requires room { HasFirstRoom self.old.events.capacity self.old.held.capacity frame.now.body (state_in self.old) }
+        requires room { HasFirstRoom self.old.events.capacity self.old.held.capacity frame.now.body
+            (state_in self.old) }
         ensures verdict { result ≡ (on_frame_in WINDOW (state_in self.old) frame.now now (Phase.Unbound own)).0 }
-        ensures state { state_in self.new ≡ (on_frame_in WINDOW (state_in self.old) frame.now now (Phase.Unbound own)).1 }
+        ensures state { state_in self.new
+            ≡ (on_frame_in WINDOW (state_in self.old) frame.now now (Phase.Unbound own)).1 }
         ensures rooms { rooms_in self.new ≡ rooms_in self.old }
     {
         let (header, body) = (frame.header(), frame.body());
@@ -209,7 +212,8 @@ impl State {
         requires room { HasBodyRoom self.old.events.capacity self.old.held.capacity frame.now.body (state_in self.old) }
         requires accepted { self.old.accepted ≤ GREATEST_NUMBER }
         ensures verdict { result ≡ (on_frame_in WINDOW (state_in self.old) frame.now now (Phase.Bound life)).0 }
-        ensures state { state_in self.new ≡ (on_frame_in WINDOW (state_in self.old) frame.now now (Phase.Bound life)).1 }
+        ensures state { state_in self.new
+            ≡ (on_frame_in WINDOW (state_in self.old) frame.now now (Phase.Bound life)).1 }
         ensures rooms { rooms_in self.new ≡ rooms_in self.old }
     {
         let (header, body) = (frame.header(), frame.body());

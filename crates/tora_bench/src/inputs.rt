@@ -169,7 +169,8 @@ pub fn quiet_update(size: Size, i: u32) -> Option<Input> {
     update(k, d, Height::new(0, 0, 0, delta, k).ok())
 }
 
-/// The bytes of updates that leave the height of a small core as it is, with their neighbours: each `quiet_update` once.
+/// The bytes of updates that leave the height of a small core as it is, with their neighbours: each `quiet_update`
+/// once.
 pub fn quiet_bytes(alloc: Global) -> Option<Vec<(Id, ArrayVec<u8, LONGEST_PACKET>)>> {
     let mut found = Vec::new(alloc);
     for i in 0..QUIET_UPDATES {

@@ -13,7 +13,8 @@ use Rattle.tora_router.specs.declared.intake.Intake.{Intake}
 use Rattle.tora_router.specs.declared.intake.Intake.TheVariants.{NoNeighbour, Bad, Seen}
 use Rattle.tora_router.specs.declared.router_error.RouterError.{RouterError}
 use Rattle.tora_router.specs.declared.router_error.RouterError.TheVariants as Fault
-use Rattle.tora_c.specs.declared.codes.TheConstants.{OK, MEMORY, TOO_MANY, REPEATED, OWN_ID, ZERO, LIFE, REFUSED, NO_PACKET, NO_FRAME, NO_NEIGHBOUR}
+use Rattle.tora_c.specs.declared.codes.TheConstants.{OK, MEMORY, TOO_MANY, REPEATED, OWN_ID, ZERO, LIFE, REFUSED}
+use Rattle.tora_c.specs.declared.codes.TheConstants.{NO_PACKET, NO_FRAME, NO_NEIGHBOUR}
 
 abbrev pub core_code : CoreError → ℕ
 core_code e = core_error_number e

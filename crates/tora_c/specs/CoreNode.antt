@@ -1,5 +1,6 @@
 -- A core with the packets that its last accepted step broadcast, as a handle holds it, and the effect of each call.
-use Rattle.std.specs.Prelude.{ℕ, ◌==◌, ◌||◌, Bool, is_some, is_none, if◌then◌else◌, List, [], Option, None, Some, option_map, Result, Ok, Err}
+use Rattle.std.specs.Prelude.{ℕ, ◌==◌, ◌||◌, Bool, is_some, is_none, if◌then◌else◌, List, [], Option, None, Some}
+use Rattle.std.specs.Prelude.{option_map, Result, Ok, Err}
 use Rattle.std.specs.Option.{option_map_or}
 use Rattle.tora_packet.specs.declared.Packet.{Packet}
 use Rattle.tora_packet.specs.declared.PacketError.{PacketError}

@@ -1,5 +1,6 @@
 -- The codes that the readers return, and the values that they write.
-use Rattle.std.specs.Prelude.{ℕ, Bool, true, false, nat_lt, if◌then◌else◌, List, ◌++◌, drop, length, Option, None, Some, slice_get}
+use Rattle.std.specs.Prelude.{ℕ, Bool, true, false, nat_lt, if◌then◌else◌, List, ◌++◌, drop, length, Option, None, Some}
+use Rattle.std.specs.Prelude.{slice_get}
 use Rattle.std.specs.Option.{option_map_or}
 use Rattle.tora_height.specs.Height.{Quintuple}
 use Rattle.tora_packet.specs.declared.Packet.{Packet}

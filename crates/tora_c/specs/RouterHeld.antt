@@ -1,5 +1,6 @@
 -- A router that a handle holds: its state after each call, and what the call returns and writes.
-use Rattle.std.specs.Prelude.{ℕ, ◌++◌, drop, length, nat_lt, is_some, Bool, if◌then◌else◌, List, Option, Some, is_none, option_map, Result, Ok, Err}
+use Rattle.std.specs.Prelude.{ℕ, ◌++◌, drop, length, nat_lt, is_some, Bool, if◌then◌else◌, List, Option, Some, is_none}
+use Rattle.std.specs.Prelude.{option_map, Result, Ok, Err}
 use Rattle.std.specs.Option.{option_map_or}
 use Rattle.tora_frame.specs.declared.encoding.TheConstants.{LONGEST_FRAME}
 use Rattle.tora_frame.specs.FrameGrammar.{frame_reading, frame_spelling}
@@ -10,7 +11,8 @@ use Rattle.tora_core.specs.Limits.{greatest_core_limits}
 use Rattle.tora_router.specs.declared.config.Config.{Config}
 use Rattle.tora_router.specs.Links.{first_in, peer_at, tally_of, to_peer}
 use Rattle.tora_router.specs.Refusals.{router_refusal}
-use Rattle.tora_router.specs.Router.{RouterState, RouterView, after_poll_datagram, change_in, frame_in, intake_from, need_result, router_of}
+use Rattle.tora_router.specs.Router.{RouterState, RouterView, after_poll_datagram, change_in, frame_in, intake_from}
+use Rattle.tora_router.specs.Router.{need_result, router_of}
 use Rattle.tora_c.specs.declared.codes.TheConstants.{OK, ABSENT, CHOICE, ROOM, UNKNOWN_NEIGHBOUR}
 use Rattle.tora_c.specs.declared.router_parts.ChangeParts.{ChangeParts}
 use Rattle.tora_c.specs.declared.router_parts.TallyParts.{TallyParts}

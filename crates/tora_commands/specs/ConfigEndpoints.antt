@@ -1,5 +1,6 @@
 -- The addresses and key files of links in a text.
-use Rattle.std.specs.Prelude.{codes, string_bytes, ℕ, ◌&&◌, Bool, List, [], ◌+◌, length, not, Option, Some, None, option_map, Result, Ok, Err}
+use Rattle.std.specs.Prelude.{codes, string_bytes, ℕ, ◌&&◌, Bool, List, [], ◌+◌, length, not, Option, Some, None}
+use Rattle.std.specs.Prelude.{option_map, Result, Ok, Err}
 use Rattle.std.specs.Option.{is_some}
 use Rattle.std.specs.declared.net.socket_addr.SocketAddr.{SocketAddr}
 use Rattle.toml.specs.Data.{Data, Members, as_table, as_str, get_member}

@@ -1,5 +1,6 @@
 -- The result of reading a table: a configuration, or its first fault.
-use Rattle.std.specs.Prelude.{codes, string_bytes, bytes_eq, ◌≡◌, ◌==◌, ◌+◌, ℕ, Bool, List, [], ◌∷◌, ◌++◌, length, if◌then◌else◌, Option, Some, None, Result, Ok, Err, IsPermutation}
+use Rattle.std.specs.Prelude.{codes, string_bytes, bytes_eq, ◌≡◌, ◌==◌, ◌+◌, ℕ, Bool, List, [], ◌∷◌, ◌++◌, length}
+use Rattle.std.specs.Prelude.{if◌then◌else◌, Option, Some, None, Result, Ok, Err, IsPermutation}
 use Rattle.std.specs.List.{list_any}
 use Rattle.toml.specs.Data.{Data, Items, no_items, item, Members, no_members, member, as_table, as_integer, get_member}
 use Rattle.tora_core.specs.declared.erasure.Erasure.{Erasure}
@@ -14,7 +15,8 @@ use Rattle.tora_commands.specs.declared.configuration.fault.Place.TheVariants as
 use Rattle.tora_commands.specs.declared.configuration.reason.Reason.TheVariants as Is
 use Rattle.tora_commands.specs.NodeConfig.{peers_of}
 use Rattle.tora_commands.specs.ConfigNumbers.{id_in}
-use Rattle.tora_commands.specs.ConfigRefusal.{Fault, unknown_key, unknown_link_key, refused, no_core, id_at, port_at, text_at, list_at, erasure_at, ok_or, at_place}
+use Rattle.tora_commands.specs.ConfigRefusal.{Fault, unknown_key, unknown_link_key, refused, no_core, id_at, port_at}
+use Rattle.tora_commands.specs.ConfigRefusal.{text_at, list_at, erasure_at, ok_or, at_place}
 
 -- one step after another, up to the first fault
 infixl 10 ◌>>=◌

@@ -1,5 +1,6 @@
 -- What holds for each configuration that is read.
-use Rattle.std.specs.Prelude.{codes, string_bytes, ◌≡◌, ℕ, ◌+◌, ◌<◌, ℤ, pos, List, map, length, slice_index, All, Option, Some, None, option_and_then, IsPermutation}
+use Rattle.std.specs.Prelude.{codes, string_bytes, ◌≡◌, ℕ, ◌+◌, ◌<◌, ℤ, pos, List, map, length, slice_index, All}
+use Rattle.std.specs.Prelude.{Option, Some, None, option_and_then, IsPermutation}
 use Rattle.toml.specs.Data.{Data, Members, as_integer, as_str, as_array, get, get_member}
 use Rattle.toml.specs.View.{items_of}
 use Rattle.std.specs.Result.{result_ok}

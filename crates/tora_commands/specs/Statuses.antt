@@ -1,5 +1,6 @@
 -- The exit statuses of a node, and how it ends.
-use Rattle.std.specs.Prelude.{◌≡◌, ◌≢◌, ◌⊎◌, ℕ, Bool, true, false, List, length, replicate, Option, Some, None, Result, Ok, Err}
+use Rattle.std.specs.Prelude.{◌≡◌, ◌≢◌, ◌⊎◌, ℕ, Bool, true, false, List, length, replicate, Option, Some, None, Result}
+use Rattle.std.specs.Prelude.{Ok, Err}
 use Rattle.std.specs.declared.io.Error.{Error}
 use Rattle.toml.specs.Data.{Members}
 use Rattle.toml.specs.Parse.{parse_document}
@@ -18,7 +19,8 @@ use Rattle.tora_node.specs.NodeRuns.{EndedView}
 use Rattle.tora_node.specs.WholeRuns.{NodeAnswers}
 use Rattle.tora_simulate.specs.Paths.{IsRead, IsUnread, IsFailed}
 use Rattle.tora_commands.specs.declared.node_command.Fault.{Fault as NodeFault}
-use Rattle.tora_commands.specs.declared.node_command.Fault.TheVariants.{Memory as NoMemory, Config as NoConfig, Socket as NoSocket, Life as NoLife}
+use Rattle.tora_commands.specs.declared.node_command.Fault.TheVariants.{Memory as NoMemory, Config as NoConfig}
+use Rattle.tora_commands.specs.declared.node_command.Fault.TheVariants.{Socket as NoSocket, Life as NoLife}
 use Rattle.tora_node.specs.declared.fault.NodeError.{NodeError}
 use Rattle.tora_node.specs.declared.fault.NodeError.TheVariants as Node
 

@@ -11,7 +11,7 @@ use crate::sim_command::{refuse, run_over};
 use std::process::ExitCode;
 use std::time::Clock;
 use tora_lines::Output;
-use tora_script::{ChannelTable, Reports, Setup, Simulator};
+use tora_script::{ChannelTable, FaultReports, Setup, Simulator};
 use tora_simulate::{Opened, Paths};
 
 /// Simulates the lines of the file at a path as `sim_command::run` does, and draws the progress on standard error.
@@ -32,7 +32,7 @@ pub fn run<S: Simulator, T: Paths + AllocGlobal + Eprint + Clock, W: Output>(
         Ok(file) => {
             let reader = Paced::new(rt, total, setup.until, Opened::new(rt, file));
             let wiping = Wiping::new(rt);
-            let reports = Reports {
+            let reports = FaultReports {
                 rt: &wiping,
                 is_verbose,
             };

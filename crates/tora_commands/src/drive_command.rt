@@ -12,7 +12,7 @@ ghost use Rattle.tora_commands.specs.SetupWords.{asked_options};
 ghost use Rattle.tora_commands.specs.TimesWord.{asked_times};
 
 use crate::setup_words::asked_options;
-use crate::sim_command::tell;
+use crate::sim_command::report_end;
 use crate::{INPUT, SetupFault, USAGE, asked_times, status, stop};
 use std::alloc::Global;
 use std::io;
@@ -79,7 +79,7 @@ fn run_with<T: AllocGlobal + Eprint, R: Input + Drop, W: Output>(
     let alloc = rt.alloc();
     let mut reader = Recent::new(alloc, reader);
     let result = drive_and_flush::<Sim, Recent<R>, W>(alloc, setup, &mut reader, writer);
-    tell(rt, &reader, result);
+    report_end(rt, &reader, result);
     status(rt, result)
 }
 

@@ -13,7 +13,7 @@ use std::alloc::Global;
 use tora_arq::Times;
 use tora_core::Erasure;
 use tora_lines::{Ended, Input, Output, ReplayError, flushed};
-use tora_script::{Simulator, replay_with, simulate_in, simulate_told};
+use tora_script::{Simulator, replay_with, simulate_in, simulate_with_reports};
 
 /// Replays for a node with this choice of erasure, then flushes the writer. The error is `Write` if only the flush
 /// fails.
@@ -62,7 +62,7 @@ pub fn simulate_and_flush<S: Simulator, R: Input, W: Output>(
 }
 
 /// Simulates as `simulate_and_flush` does, and reports refused events on standard error.
-pub fn simulate_told_and_flush<S: Simulator, T: Eprint, R: Input, W: Output>(
+pub fn simulate_with_reports_and_flush<S: Simulator, T: Eprint, R: Input, W: Output>(
     rt: &T,
     alloc: Global,
     times: Times,
@@ -81,6 +81,6 @@ pub fn simulate_told_and_flush<S: Simulator, T: Eprint, R: Input, W: Output>(
     ensures reads { IsReadSo R.did_read reader.old reader.new result }
     ensures flushed { IsFlushed W.did_write W.did_flush result writer.new }
 {
-    let result = simulate_told::<S, T, R, W>(rt, alloc, times, reader, writer);
+    let result = simulate_with_reports::<S, T, R, W>(rt, alloc, times, reader, writer);
     flushed(writer, result)
 }

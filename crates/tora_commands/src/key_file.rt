@@ -10,7 +10,7 @@ use std::io::Read;
 use std::os::unix::fs::PermissionsExt;
 use std::rt::Files;
 use tora_keyed::{Key, LONGEST_KEY_FILE, key_in, overwrite};
-use tora_simulate::{Paths, tell_at};
+use tora_simulate::{Paths, report_at};
 
 /// The permissions by which the group or others may read a file.
 const READ_BY_OTHERS: u32 = 0o044;
@@ -40,7 +40,7 @@ fn warn_of_readers(rt: &impl Eprint, file: &File, path: &str) {
         return;
     };
     if about.permissions().mode() & READ_BY_OTHERS != 0 {
-        tell_at(rt, "warning: ", path, &"others can read this key file");
+        report_at(rt, "warning: ", path, &"others can read this key file");
     }
 }
 
@@ -68,24 +68,24 @@ fn read_key<R: Paths + Files<File = File> + Eprint>(
 {
     let mut file = match rt.open_path(path) {
         Ok(file) => file,
-        Err(error) => return Err(tell_fault(rt, path, &error)),
+        Err(error) => return Err(report_key_fault(rt, path, &error)),
     };
     warn_of_readers(rt, &file, path);
     let count = match read_front(&mut file, room) {
         Ok(count) => count,
-        Err(error) => return Err(tell_fault(rt, path, &error)),
+        Err(error) => return Err(report_key_fault(rt, path, &error)),
     };
     match key_in(&room[..count.min(room.len())]) {
         Some(key) => Ok(key),
-        None => Err(tell_fault(rt, path, &NO_KEY)),
+        None => Err(report_key_fault(rt, path, &NO_KEY)),
     }
 }
 
 /// Reports on standard error what is wrong with the file at a path.
-fn tell_fault<D: Display>(rt: &impl Eprint, path: &str, cause: &D) -> Fault
+fn report_key_fault<D: Display>(rt: &impl Eprint, path: &str, cause: &D) -> Fault
     ensures { result ≡ Fault.Config }
 {
     let fault = say(rt, Fault::Config);
-    tell_at(rt, "input: ", path, cause);
+    report_at(rt, "input: ", path, cause);
     fault
 }

@@ -15,7 +15,6 @@ ghost use Rattle.tora_script.specs.Table.{lines_of};
 ghost use Rattle.tora_commands.specs.ChannelFiles.{IsTableFile, IsNoTable, IsTracePlace, EndsFiled};
 ghost use Rattle.tora_simulate.specs.Endings.{EndsSimulated};
 
-mod asked;
 mod bar;
 mod bar_command;
 mod channel_file;
@@ -35,27 +34,28 @@ mod progress;
 pub mod record_command;
 pub mod replay_command;
 mod setup_words;
+mod simulation_options;
 mod times_word;
 pub mod traced_command;
 
-pub use asked::{AskedSimulation, Shown};
 pub use bar::{Paced, Wiping};
 pub use channel_file::ChannelFile;
 use clap::error::ErrorKind;
 pub use command_line::command;
-pub use flushing::{replay_and_flush, simulate_and_flush, simulate_told_and_flush};
+pub use flushing::{replay_and_flush, simulate_and_flush, simulate_with_reports_and_flush};
 pub use log_lines::LogLines;
 pub use progress::{Progress, RoundCount};
 pub use setup_words::{SetupFault, SetupWords, asked_setup};
+pub use simulation_options::{Shown, SimulationOptions};
 use std::process::ExitCode;
 use std::time::Clock;
 pub use times_word::asked_times;
 use tora_lines::Output;
 use tora_sim::Sim;
 pub use tora_simulate::{
-    INPUT, LIFE, MEMORY, SOCKET, USAGE, sim_command, simulate_telling_and_flush, status, stop,
+    INPUT, LIFE, MEMORY, SOCKET, USAGE, sim_command, simulate_report_and_flush, status, stop,
 };
-use tora_simulate::{Paths, tell, tell_at};
+use tora_simulate::{Paths, report, report_at};
 
 /// Reports which words of the command line are not a setup, and why.
 fn refuse_setup<T: Eprint>(rt: &T, fault: SetupFault<'_>) -> ExitCode
@@ -64,9 +64,9 @@ fn refuse_setup<T: Eprint>(rt: &T, fault: SetupFault<'_>) -> ExitCode
     match fault {
         SetupFault::Part(part) => {
             let part = str::from_utf8(part).unwrap_or("-");
-            tell_at(rt, "`--channel`: ", part, &fault.cause());
+            report_at(rt, "`--channel`: ", part, &fault.cause());
         }
-        _ => tell(rt, &fault.cause()),
+        _ => report(rt, &fault.cause()),
     }
     ExitCode::from(USAGE)
 }
@@ -76,7 +76,7 @@ fn refuse_place<T: Eprint>(rt: &T, path: &str) -> ExitCode
     ensures { exit_status result ≡ 1 }
 {
     let code = stop(rt, INPUT, "input");
-    tell_at(rt, "", path, &"the trace would overwrite this file");
+    report_at(rt, "", path, &"the trace would overwrite this file");
     code
 }
 
@@ -107,7 +107,7 @@ fn asked_file<T: Paths + AllocGlobal + Eprint>(
 /// bar.
 fn simulate_over<T: Paths + AllocGlobal + Eprint + Clock, W: Output>(
     rt: &T,
-    asked: AskedSimulation,
+    asked: SimulationOptions,
     path: &str,
     trace: Option<&str>,
     shown: Shown,
@@ -122,7 +122,7 @@ fn simulate_over<T: Paths + AllocGlobal + Eprint + Clock, W: Output>(
     match trace {
         Some(trace) => traced_command::run::<Sim, T, W>(rt, asked, path, trace, shown, writer),
         None => {
-            let AskedSimulation { setup, file } = asked;
+            let SimulationOptions { setup, file } = asked;
             if has_bar {
                 bar_command::run::<Sim, T, W>(rt, setup, file.table, path, is_verbose, writer)
             } else {
@@ -158,7 +158,7 @@ pub fn simulate_file<T: Paths + AllocGlobal + Eprint + Clock, W: Output>(
     };
     match asked_file(rt, words.channel_file, trace) {
         Ok(file) => {
-            let asked = AskedSimulation { setup, file };
+            let asked = SimulationOptions { setup, file };
             simulate_over(rt, asked, path, trace, shown, writer)
         }
         Err(code) => code,

@@ -11,14 +11,14 @@ use std::rt::Files;
 use std::{fs, io};
 use tora_height::Id;
 use tora_life::{Disk, FileDisk, LifeError, Owner, Tag};
-use tora_simulate::tell_at;
+use tora_simulate::report_at;
 
 /// Reports on standard error why a life file cannot be opened.
-fn tell_file(rt: &impl Eprint, path: &str, error: &io::Error) {
+fn report_file(rt: &impl Eprint, path: &str, error: &io::Error) {
     if error.kind() == ErrorKind::WouldBlock {
-        tell_at(rt, "life: ", path, &"a running node uses this file");
+        report_at(rt, "life: ", path, &"a running node uses this file");
     } else {
-        tell_at(rt, "life: ", path, error);
+        report_at(rt, "life: ", path, error);
     }
 }
 
@@ -52,7 +52,7 @@ pub(crate) fn open<R: Files<File = File> + Eprint>(
             }
             Err(error) => {
                 let fault = say(rt, Fault::Life);
-                tell_file(rt, path.as_str(), &error);
+                report_file(rt, path.as_str(), &error);
                 return Err(fault);
             }
         }
@@ -76,7 +76,7 @@ fn owner_in<R: Files<File = File>>(rt: &R, path: &str) -> Option<Owner> {
 }
 
 /// Reports on standard error to which node and peer a life file belongs.
-fn tell_owner(rt: &impl Eprint, path: &str, owner: Owner) {
+fn report_owner(rt: &impl Eprint, path: &str, owner: Owner) {
     let (node, peer) = (owner.node, owner.peer);
     let _ = rt.eprintln(format_args!(
         "tora: {path}: it is the file of node {node} for its link to {peer}"
@@ -85,7 +85,7 @@ fn tell_owner(rt: &impl Eprint, path: &str, owner: Owner) {
 
 /// Reports on standard error what is wrong with the life file of the link to `peer`. If `is_verbose` and the file
 /// belongs to another node or peer, it also reports which.
-pub(crate) fn tell_life<R: Files<File = File> + AllocGlobal + Eprint>(
+pub(crate) fn report_life_file<R: Files<File = File> + AllocGlobal + Eprint>(
     rt: &R,
     folder: &str,
     peer: Id,
@@ -95,11 +95,11 @@ pub(crate) fn tell_life<R: Files<File = File> + AllocGlobal + Eprint>(
     let Ok(path) = life_path(rt.alloc(), folder, peer) else {
         return;
     };
-    tell_at(rt, "life: ", path.as_str(), &error);
+    report_at(rt, "life: ", path.as_str(), &error);
     if error != LifeError::Foreign || !is_verbose {
         return;
     }
     if let Some(owner) = owner_in(rt, path.as_str()) {
-        tell_owner(rt, path.as_str(), owner);
+        report_owner(rt, path.as_str(), owner);
     }
 }

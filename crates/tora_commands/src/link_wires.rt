@@ -17,7 +17,7 @@ use std::rt::Files;
 use std::time::Clock;
 use tora_keyed::{Key, LinkWire};
 use tora_neighbour::{NodeClock, SocketWaker, UnixClock, WakingWire};
-use tora_simulate::{Paths, tell_at};
+use tora_simulate::{Paths, report_at};
 
 /// The addresses of a link, and its key: it has one exactly if it has a key file.
 #[derive(Drop)]
@@ -66,7 +66,7 @@ pub(crate) fn endpoints_in<R: Paths + Files<File = File> + AllocGlobal + Eprint>
         Err(ConfigError::Memory) => return Err(say(rt, Fault::Memory)),
         Err(error) => {
             let fault = say(rt, Fault::Config);
-            tell_at(rt, "input: ", path, &error);
+            report_at(rt, "input: ", path, &error);
             return Err(fault);
         }
     };
@@ -97,7 +97,7 @@ fn with_keys<R: Paths + Files<File = File> + AllocGlobal + Eprint>(
 }
 
 /// Reports on standard error why the socket of a link cannot be bound.
-fn tell_socket(rt: &impl Eprint, endpoint: &LinkEndpoint, error: &impl Display) {
+fn report_socket(rt: &impl Eprint, endpoint: &LinkEndpoint, error: &impl Display) {
     let (peer, port) = (endpoint.peer, endpoint.local.port());
     let _ = rt.eprintln(format_args!("tora: socket: port {port} of the link to {peer}: {error}"));
 }
@@ -126,7 +126,7 @@ fn wire_of<'a, R: Net + Eprint + Clock, L: Log>(
         Err(error) if error.kind() == ErrorKind::OutOfMemory => Err(say(rt, Fault::Memory)),
         Err(error) => {
             let fault = say(rt, Fault::Socket);
-            tell_socket(rt, &endpoint, &error);
+            report_socket(rt, &endpoint, &error);
             Err(fault)
         }
     }

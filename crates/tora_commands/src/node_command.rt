@@ -8,7 +8,7 @@ ghost use Rattle.tora_node.specs.NewLinks.{IsOpened};
 ghost use Rattle.tora_node.specs.WholeRuns.{NodeAnswers};
 
 use crate::configuration::NodeConfig;
-use crate::life_files::{open, tell_life};
+use crate::life_files::{open, report_life_file};
 use crate::link_wires::{ProgramWaker, ProgramWire, bind, close, lend};
 use crate::node_configuration::{praise, read};
 use crate::{INPUT, LIFE, MEMORY, SOCKET, stop};
@@ -27,7 +27,7 @@ use tora_height::Id;
 use tora_life::{Disk, FileDisk};
 use tora_neighbour::{NodeClock, Wake, Wire};
 use tora_node::{Config, Ended, NodeError, run_node};
-use tora_simulate::{Paths, tell};
+use tora_simulate::{Paths, report};
 
 /// Why a node is not started.
 #[derive(Clone, Copy, Debug, PartialEq, Eq)]
@@ -52,7 +52,7 @@ pub(crate) fn say(rt: &impl Eprint, fault: Fault) -> Fault
         Fault::Socket => "socket",
         Fault::Life => "life",
     };
-    tell(rt, &word);
+    report(rt, &word);
     fault
 }
 
@@ -85,21 +85,21 @@ fn status(rt: &impl Eprint, ended: Result<Ended, NodeError>) -> ExitCode
 }
 
 /// Reports on standard error that the socket of the link to `peer` failed.
-fn tell_failing(rt: &impl Eprint, peer: Id) {
+fn report_failing_wire(rt: &impl Eprint, peer: Id) {
     let _ = rt.eprintln(format_args!("tora: socket: the calls of the link to {peer} keep failing"));
 }
 
 /// Reports on standard error why a node that ran has ended.
-fn tell_ended<R: Files<File = File> + AllocGlobal + Eprint>(
+fn report_cause_of_end<R: Files<File = File> + AllocGlobal + Eprint>(
     rt: &R,
     folder: &str,
     error: NodeError,
     is_verbose: bool,
 ) {
     match error {
-        NodeError::Life(peer, error) => tell_life(rt, folder, peer, error, is_verbose),
-        NodeError::Wire(peer) => tell_failing(rt, peer),
-        NodeError::Output => tell(rt, &"input: standard output cannot be written"),
+        NodeError::Life(peer, error) => report_life_file(rt, folder, peer, error, is_verbose),
+        NodeError::Wire(peer) => report_failing_wire(rt, peer),
+        NodeError::Output => report(rt, &"input: standard output cannot be written"),
         NodeError::Memory | NodeError::Lane => {}
     }
 }
@@ -120,7 +120,7 @@ fn finish<R: Files<File = File> + AllocGlobal + Eprint>(
     };
     let code = status(rt, ended);
     if let Some(error) = cause {
-        tell_ended(rt, folder, error, is_verbose);
+        report_cause_of_end(rt, folder, error, is_verbose);
     }
     code
 }

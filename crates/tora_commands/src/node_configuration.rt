@@ -9,7 +9,7 @@ use crate::node_command::{Fault, say};
 use std::fs::File;
 use std::io::{ErrorKind, Read};
 use std::rt::Files;
-use tora_simulate::{Paths, tell_at, text_at};
+use tora_simulate::{Paths, report_at, text_at};
 
 /// The text at a path. Reports on standard error why it cannot be read.
 fn text_of<R: Paths + AllocGlobal + Eprint>(rt: &R, path: &str) -> Result<String, Fault>
@@ -25,7 +25,7 @@ fn text_of<R: Paths + AllocGlobal + Eprint>(rt: &R, path: &str) -> Result<String
                 return Err(say(rt, Fault::Memory));
             }
             let fault = say(rt, Fault::Config);
-            tell_at(rt, "input: ", path, &error);
+            report_at(rt, "input: ", path, &error);
             Err(fault)
         }
     }
@@ -42,7 +42,7 @@ fn config_of<R: AllocGlobal + Eprint>(rt: &R, path: &str, text: &str) -> Result<
         Err(ConfigError::Memory) => Err(say(rt, Fault::Memory)),
         Err(error) => {
             let fault = say(rt, Fault::Config);
-            tell_at(rt, "input: ", path, &error);
+            report_at(rt, "input: ", path, &error);
             Err(fault)
         }
     }

@@ -14,7 +14,7 @@ ghost use Rattle.tora_commands.specs.TimesWord.{asked_times};
 
 use crate::drive_command::{DriveWords, greet};
 use crate::setup_words::asked_options;
-use crate::sim_command::tell;
+use crate::sim_command::report_end;
 use crate::traced_command::{refuse_trace, traced_status};
 use crate::{INPUT, MEMORY, SetupFault, USAGE, asked_times, stop};
 use std::alloc::Global;
@@ -68,7 +68,7 @@ pub fn run_over<T: AllocGlobal + Eprint, R: Input + Drop, W: Output, V: Output>(
     let alloc = rt.alloc();
     let mut reader = Recent::new(alloc, reader);
     let result = drive_and_flush::<Sim, Recent<R>, W, V>(alloc, setup, &mut reader, writer, out);
-    tell(rt, &reader, result);
+    report_end(rt, &reader, result);
     out.flush();
     traced_status(rt, result, out, path)
 }

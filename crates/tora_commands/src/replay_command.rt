@@ -13,20 +13,20 @@ use std::process::ExitCode;
 use tora_core::Erasure;
 use tora_lines::{Ended, Input, Output, ReplayError};
 use tora_script::replay_cause;
-use tora_simulate::{Recent, tell as tell_error};
+use tora_simulate::{Recent, report as report_error};
 
 /// Reports why a line is a fault.
-fn tell_line(rt: &impl Eprint, number: u64, cause: &impl Display) {
+fn report_line(rt: &impl Eprint, number: u64, cause: &impl Display) {
     let _ = rt.eprintln(format_args!("tora: line {number}: {cause}"));
 }
 
 /// Reports that the line at fault was not stored, because memory ran out.
-fn tell_lost_line(rt: &impl Eprint, number: u64) {
+fn report_lost_line(rt: &impl Eprint, number: u64) {
     let _ = rt.eprintln(format_args!("tora: line {number}: no memory was left to keep the line"));
 }
 
 /// Reports why a line is a fault, or what failed.
-fn tell<T: AllocGlobal + Eprint, R: Input>(
+fn report_end<T: AllocGlobal + Eprint, R: Input>(
     rt: &T,
     reader: &Recent<R>,
     ended: Result<Ended, ReplayError>,
@@ -34,13 +34,13 @@ fn tell<T: AllocGlobal + Eprint, R: Input>(
     match ended {
         Ok(Ended::Whole) => {}
         Ok(Ended::Fault(number)) if reader.is_lossy() => {
-            tell_lost_line(rt, number);
+            report_lost_line(rt, number);
         }
         Ok(Ended::Fault(number)) => {
             let cause = replay_cause(rt.alloc(), number, reader.line(number));
-            tell_line(rt, number, &cause);
+            report_line(rt, number, &cause);
         }
-        Err(error) => tell_error(rt, &error),
+        Err(error) => report_error(rt, &error),
     }
 }
 
@@ -58,7 +58,7 @@ fn run_with<T: AllocGlobal + Eprint, R: Input + Drop, W: Output>(
     let mut reader = Recent::new(alloc, reader);
     let result = replay_and_flush(alloc, erasure, &mut reader, writer);
     let code = status(rt, result);
-    tell(rt, &reader, result);
+    report_end(rt, &reader, result);
     code
 }
 

@@ -16,16 +16,16 @@ use crate::bar::{Paced, Wiping};
 use crate::channel_file::ChannelFile;
 use crate::hashing::Hashing;
 use crate::progress::rounds_of;
-use crate::sim_command::{refuse, tell};
-use crate::{AskedSimulation, INPUT, MEMORY, Shown, status, stop};
+use crate::sim_command::{refuse, report_end};
+use crate::{INPUT, MEMORY, Shown, SimulationOptions, status, stop};
 use std::alloc::Global;
 use std::io;
 use std::io::{BufWriter, ErrorKind};
 use std::process::ExitCode;
 use std::time::Clock;
 use tora_lines::{Ended, Input, Output, ReplayError, flushed};
-use tora_script::{ChannelTable, Reports, Setup, TraceOut, Watched, simulate_traced};
-use tora_simulate::{Opened, Paths, Recent, tell_at};
+use tora_script::{ChannelTable, FaultReports, Setup, TraceOut, Watched, simulate_traced};
+use tora_simulate::{Opened, Paths, Recent, report_at};
 
 /// Reports which path cannot be that of the trace or the record, and why, and returns the status of the cause.
 pub fn refuse_trace<T: Eprint>(rt: &T, path: &str, error: &io::Error) -> ExitCode
@@ -35,7 +35,7 @@ pub fn refuse_trace<T: Eprint>(rt: &T, path: &str, error: &io::Error) -> ExitCod
         return stop(rt, MEMORY, "memory");
     }
     let code = stop(rt, INPUT, "input");
-    tell_at(rt, "", path, error);
+    report_at(rt, "", path, error);
     code
 }
 
@@ -58,14 +58,14 @@ pub fn traced_status<T: Eprint, V: Output>(
         Err(ReplayError::Read) => stop(rt, INPUT, "input"),
         Err(ReplayError::Write) => stop(rt, INPUT, "input"),
     };
-    tell_at(rt, "", path, error);
+    report_at(rt, "", path, error);
     code
 }
 
 /// Simulates with these settings, over a channel that the table changes by round, writes the trace, and flushes the
 /// writer. The error is `Write` if only the flush fails.
 fn simulate_and_flush<S: Watched, T: AllocGlobal + Eprint, R: Input, W: Output, V: Output>(
-    reports: Reports<'_, T>,
+    reports: FaultReports<'_, T>,
     setup: Setup,
     table: ChannelTable,
     reader: &mut R,
@@ -104,8 +104,8 @@ fn finish<R: Input + Drop, V: Output>(
 
 /// Simulates the lines of a reader as asked, writes the trace to the file at a path, and flushes both.
 pub fn run_over<S: Watched, T: AllocGlobal + Eprint, R: Input + Drop, W: Output, V: Output>(
-    reports: Reports<'_, T>,
-    asked: AskedSimulation,
+    reports: FaultReports<'_, T>,
+    asked: SimulationOptions,
     reader: R,
     writer: &mut W,
     path: &str,
@@ -119,7 +119,7 @@ pub fn run_over<S: Watched, T: AllocGlobal + Eprint, R: Input + Drop, W: Output,
     let rt = reports.rt;
     let alloc = rt.alloc();
     let mut reader = Hashing::new(Recent::new(alloc, reader));
-    let AskedSimulation { setup, file } = asked;
+    let SimulationOptions { setup, file } = asked;
     let ChannelFile { table, digest } = file;
     match &digest {
         None => out.begin(alloc, setup, None),
@@ -133,7 +133,7 @@ pub fn run_over<S: Watched, T: AllocGlobal + Eprint, R: Input + Drop, W: Output,
         writer,
         out,
     );
-    tell(rt, &reader.reader, result);
+    report_end(rt, &reader.reader, result);
     finish(alloc, reader, result, out);
     out.flush();
     traced_status(rt, result, out, path)
@@ -166,7 +166,7 @@ fn make_trace<T: Paths + AllocGlobal + Eprint>(
 /// memory ran out.
 pub fn run<S: Watched, T: Paths + AllocGlobal + Eprint + Clock, W: Output>(
     rt: &T,
-    asked: AskedSimulation,
+    asked: SimulationOptions,
     path: &str,
     trace: &str,
     shown: Shown,
@@ -181,7 +181,7 @@ pub fn run<S: Watched, T: Paths + AllocGlobal + Eprint + Clock, W: Output>(
     let (is_verbose, has_bar) = (shown.is_verbose, shown.has_bar);
     if path == trace {
         let code = stop(rt, INPUT, "input");
-        tell_at(rt, "", path, &"the trace would overwrite this file");
+        report_at(rt, "", path, &"the trace would overwrite this file");
         return code;
     }
     let total = if has_bar { rounds_of(rt, path) } else { None };
@@ -196,7 +196,7 @@ pub fn run<S: Watched, T: Paths + AllocGlobal + Eprint + Clock, W: Output>(
     if has_bar {
         let paced = Paced::new(rt, total, asked.setup.until, opened);
         let wiping = Wiping::new(rt);
-        let reports = Reports {
+        let reports = FaultReports {
             rt: &wiping,
             is_verbose,
         };
@@ -204,7 +204,7 @@ pub fn run<S: Watched, T: Paths + AllocGlobal + Eprint + Clock, W: Output>(
             reports, asked, paced, writer, trace, &mut out,
         );
     }
-    let reports = Reports { rt, is_verbose };
+    let reports = FaultReports { rt, is_verbose };
     run_over::<S, T, Opened<'_, T>, W, BufWriter<T::File>>(
         reports, asked, opened, writer, trace, &mut out,
     )

@@ -3,7 +3,8 @@ use Rattle.std.specs.Prelude.{ℕ, codes, List}
 use Rattle.tora_core.specs.declared.errors.CoreError.{CoreError}
 use Rattle.tora_core.specs.declared.errors.CoreError.TheVariants.{Memory, TooMany, Repeated, OwnId}
 use Rattle.tora_core.specs.declared.errors.StepError.{StepError}
-use Rattle.tora_core.specs.declared.errors.StepError.TheVariants.{UnknownNeighbour, AlreadyUp, NotUp, WrongSender, UnknownDestination}
+use Rattle.tora_core.specs.declared.errors.StepError.TheVariants.{UnknownNeighbour, AlreadyUp, NotUp, WrongSender}
+use Rattle.tora_core.specs.declared.errors.StepError.TheVariants.{UnknownDestination}
 
 abbrev pub core_error_number : CoreError → ℕ
 core_error_number Memory = 1

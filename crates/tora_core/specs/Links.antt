@@ -1,6 +1,7 @@
 -- The values that are stored for the rows of one destination: a place for each neighbour, the directions of the links,
 -- the count of downstream links, and the row with the least height.
-use Rattle.std.specs.Prelude.{◌≡◌, ◌≢◌, ℕ, zero, suc, Bool, true, false, List, [], ◌∷◌, length, map, filter, Option, None, Some}
+use Rattle.std.specs.Prelude.{◌≡◌, ◌≢◌, ℕ, zero, suc, Bool, true, false, List, [], ◌∷◌, length, map, filter, Option}
+use Rattle.std.specs.Prelude.{None, Some}
 use Rattle.std.specs.List.{AllByRecursion, items_where_true}
 use Rattle.std.specs.Ordering.{is_lt}
 use Rattle.tora_height.specs.declared.direction.Direction.{Direction}

@@ -1,6 +1,7 @@
 -- TORA's rules for one destination as a relation: the effect of an input on a view, with one case for each line of the
 -- rules.
-use Rattle.std.specs.Prelude.{◌≡◌, ◌≢◌, ◌⊎◌, ℕ, ◌<◌, ◌≤◌, ℤ, pos, ◌+ℤ◌, ◌-ℤ◌, ◌≤ℤ◌, true, false, Option, None, Some, IsSome, IfSome, Contains}
+use Rattle.std.specs.Prelude.{◌≡◌, ◌≢◌, ◌⊎◌, ℕ, ◌<◌, ◌≤◌, ℤ, pos, ◌+ℤ◌, ◌-ℤ◌, ◌≤ℤ◌, true, false, Option, None, Some}
+use Rattle.std.specs.Prelude.{IsSome, IfSome, Contains}
 use Rattle.tora_height.specs.declared.level.Level.{Level}
 use Rattle.tora_height.specs.Height.{Quintuple, quintuple, destination_height, level_of, IsHeight}
 use Rattle.tora_height.specs.HeightOrder.{IsLower, IsLowerLevel}
@@ -13,7 +14,8 @@ use Rattle.tora_core.specs.declared.Input.TheVariants as In
 use Rattle.tora_core.specs.declared.rows.Row.{Row}
 use Rattle.tora_core.specs.declared.destination.Broadcast.{Broadcast}
 use Rattle.tora_core.specs.declared.destination.Broadcast.TheVariants as Tell
-use Rattle.tora_core.specs.View.{View, with_row, without_row, with_entry, without_entry, without_told, all_told, all_erased, all_cleared}
+use Rattle.tora_core.specs.View.{View, with_row, without_row, with_entry, without_entry, without_told, all_told}
+use Rattle.tora_core.specs.View.{all_erased, all_cleared}
 use Rattle.tora_core.specs.Rules.{link_row, cleared_level}
 
 -- ---- up neighbours and their entries

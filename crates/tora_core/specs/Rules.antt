@@ -1,5 +1,6 @@
 -- TORA's rules for one destination: the effect of an input on a view, and the broadcast.
-use Rattle.std.specs.Prelude.{ℕ, ◌==◌, Bool, true, false, List, not, ◌&&◌, if◌then◌else◌, Option, None, Some, is_none, option_map, ℤ, pos, ◌+ℤ◌, ◌-ℤ◌}
+use Rattle.std.specs.Prelude.{ℕ, ◌==◌, Bool, true, false, List, not, ◌&&◌, if◌then◌else◌, Option, None, Some, is_none}
+use Rattle.std.specs.Prelude.{option_map, ℤ, pos, ◌+ℤ◌, ◌-ℤ◌}
 use Rattle.std.specs.List.{list_all}
 use Rattle.tora_height.specs.declared.level.Level.{Level}
 use Rattle.tora_height.specs.Height.{Quintuple, quintuple, destination_height}
@@ -13,7 +14,9 @@ use Rattle.tora_core.specs.declared.Input.TheVariants as In
 use Rattle.tora_core.specs.declared.rows.Row.{Row}
 use Rattle.tora_core.specs.declared.destination.Broadcast.{Broadcast}
 use Rattle.tora_core.specs.declared.destination.Broadcast.TheVariants as Tell
-use Rattle.tora_core.specs.View.{View, known_heights, are_null, with_row, without_row, with_entry, without_entry, without_told, all_told, is_told, all_erased, is_entry_at, all_cleared, has_downstream, lacks_downstream, is_at, least_height, greatest_level, least_delta}
+use Rattle.tora_core.specs.View.{View, known_heights, are_null, with_row, without_row, with_entry, without_entry}
+use Rattle.tora_core.specs.View.{without_told, all_told, is_told, all_erased, is_entry_at, all_cleared, has_downstream}
+use Rattle.tora_core.specs.View.{lacks_downstream, is_at, least_height, greatest_level, least_delta}
 use Rattle.tora_core.specs.Heights.{fresh_time, fitted_height}
 
 -- the result of an input: the next view, and the broadcast

@@ -1,5 +1,6 @@
 -- The view that a node has of one destination, and the terms of TORA's rules about it.
-use Rattle.std.specs.Prelude.{ℕ, ◌==◌, Bool, true, false, not, ◌&&◌, nat_lt, if◌then◌else◌, List, [], ◌∷◌, length, map, filter, filter_map, fold, Option, None, Some, is_some, is_none, option_map, ℤ, int_lt}
+use Rattle.std.specs.Prelude.{ℕ, ◌==◌, Bool, true, false, not, ◌&&◌, nat_lt, if◌then◌else◌, List, [], ◌∷◌, length, map}
+use Rattle.std.specs.Prelude.{filter, filter_map, fold, Option, None, Some, is_some, is_none, option_map, ℤ, int_lt}
 use Rattle.std.specs.List.{list_any, list_all}
 use Rattle.std.specs.Ordering.{is_lt, is_eq}
 use Rattle.tora_height.specs.declared.level.Level.{Level}

@@ -1,5 +1,6 @@
 -- Examples of the rules, computed: the packets and the text of one core, and the packets between four cores in a line.
-use Rattle.std.specs.Prelude.{◌≡◌, ℕ, zero, suc, ◌==◌, ℤ, pos, negsuc, if◌then◌else◌, codes, List, [], ◌∷◌, ◌++◌, map, Option, None, Some, option_map}
+use Rattle.std.specs.Prelude.{◌≡◌, ℕ, zero, suc, ◌==◌, ℤ, pos, negsuc, if◌then◌else◌, codes, List, [], ◌∷◌, ◌++◌, map}
+use Rattle.std.specs.Prelude.{Option, None, Some, option_map}
 use Rattle.std.specs.List.{flat_map}
 use Rattle.tora_height.specs.Height.{Quintuple, quintuple}
 use Rattle.tora_packet.specs.declared.Packet.{Packet}
@@ -7,7 +8,8 @@ use Rattle.tora_packet.specs.declared.Packet.TheVariants.{Qry, Upd, Clr}
 use Rattle.tora_packet.specs.PacketParts.{update_of, clear_of}
 use Rattle.tora_core.specs.declared.Input.{Input}
 use Rattle.tora_core.specs.declared.Input.TheVariants.{LinkUp, LinkDown, Packet as From, Need}
-use Rattle.tora_core.specs.CoreRun.{CoreView, first_core, refusal_of, core_after, core_after_all, sends_of, height_of, hop_of}
+use Rattle.tora_core.specs.CoreRun.{CoreView, first_core, refusal_of, core_after, core_after_all, sends_of, height_of}
+use Rattle.tora_core.specs.CoreRun.{hop_of}
 use Rattle.tora_core.specs.Errors.{step_error_number}
 use Rattle.tora_core.specs.ShowText.{line_end, show_text}
 

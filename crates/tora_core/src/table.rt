@@ -125,8 +125,8 @@ fn link_down(views: &mut [Destination], k: Id, place: usize, now: u64, sends: &m
     }
 }
 
-/// Passes a need to the view of its destination only, and returns the packet to broadcast. The result does not depend on
-/// the tick `now`.
+/// Passes a need to the view of its destination only, and returns the packet to broadcast. The result does not depend
+/// on the tick `now`.
 fn step_need(d: Id, views: &mut [Destination], names: TableNames<'_>, now: u64) -> Option<Packet>
     requires may { All (λ t. CanTake (Input.Need d) t.view) views.old }
     requires ascending { IsAscending names.destinations.now }

@@ -1,5 +1,6 @@
 -- The answers of a drive to its lines.
-use Rattle.std.specs.Prelude.{ℕ, ◌+◌, Bool, true, false, not, nat_le, max, is_some, if◌then◌else◌, codes, List, [], ◌∷◌, ◌++◌, length, filter, map, Option, Some, None, option_map}
+use Rattle.std.specs.Prelude.{ℕ, ◌+◌, Bool, true, false, not, nat_le, max, is_some, if◌then◌else◌, codes, List, [], ◌∷◌}
+use Rattle.std.specs.Prelude.{◌++◌, length, filter, map, Option, Some, None, option_map}
 use Rattle.std.specs.List.{flat_map}
 use Rattle.std.specs.Option.{option_map_or, option_and_then}
 use Rattle.std.specs.Fmt.{decimal}
@@ -19,13 +20,15 @@ use Rattle.tora_world.specs.World.{World, datagram, refusal_of, world_after_all}
 use Rattle.tora_sim.specs.Cuts.{after_cut_at}
 use Rattle.tora_sim.specs.Readers.{flag_at}
 use Rattle.tora_script.specs.declared.script_line.SimulationLine.{SimulationLine}
-use Rattle.tora_script.specs.declared.script_line.SimulationLine.TheVariants.{Happens, Rounds, Part, Mend, Heights, Sent, Taken, Exact, Walk, Rest}
+use Rattle.tora_script.specs.declared.script_line.SimulationLine.TheVariants.{Happens, Rounds, Part, Mend, Heights}
+use Rattle.tora_script.specs.declared.script_line.SimulationLine.TheVariants.{Sent, Taken, Exact, Walk, Rest}
 use Rattle.tora_world.specs.declared.limits.Limits.{Limits}
 use Rattle.tora_script.specs.declared.node_marks.Mark.{Mark}
 use Rattle.tora_script.specs.Simulator.{has_topology, started}
 use Rattle.tora_script.specs.Setup.{plain}
 use Rattle.tora_script.specs.SimulationLines.{link_of, mark_of}
-use Rattle.tora_script.specs.SimulationText.{RunningView, Progress, Reply, begun_in, has_end, refusal_text, event_reply, running_reply, first_progress, with_link, with_mark_line}
+use Rattle.tora_script.specs.SimulationText.{RunningView, Progress, Reply, begun_in, has_end, refusal_text, event_reply}
+use Rattle.tora_script.specs.SimulationText.{running_reply, first_progress, with_link, with_mark_line}
 use Rattle.tora_drive.specs.declared.setup.DriveSetup.{DriveSetup}
 use Rattle.tora_drive.specs.declared.cause.Cause.{Cause}
 use Rattle.tora_drive.specs.declared.cause.Cause.TheVariants.{Dests, NoLink, Topology, Name, Word, Recorded}

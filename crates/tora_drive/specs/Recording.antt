@@ -1,5 +1,6 @@
 -- The record of a drive: lines of a simulation file with the same effect.
-use Rattle.std.specs.Prelude.{◌≡◌, ℕ, ◌+◌, Bool, true, false, if◌then◌else◌, codes, List, [], ◌∷◌, ◌++◌, Option, Some, None, option_map, String, string_bytes}
+use Rattle.std.specs.Prelude.{◌≡◌, ℕ, ◌+◌, Bool, true, false, if◌then◌else◌, codes, List, [], ◌∷◌, ◌++◌, Option, Some}
+use Rattle.std.specs.Prelude.{None, option_map, String, string_bytes}
 use Rattle.std.specs.declared.alloc.Global.{Global}
 use Rattle.std.specs.List.{flat_map}
 use Rattle.std.specs.Option.{option_map_or}
@@ -12,7 +13,8 @@ use Rattle.tora_world.specs.declared.event.Event.{Event}
 use Rattle.tora_world.specs.declared.event.Event.TheVariants as Happen
 use Rattle.tora_script.specs.declared.node_marks.Mark.{Mark}
 use Rattle.tora_world.specs.World.{World, world_after_all}
-use Rattle.tora_script.specs.declared.script_line.SimulationLine.TheVariants.{Happens, Rounds, Part, Mend, Heights, Sent, Taken, Exact, Walk, Rest}
+use Rattle.tora_script.specs.declared.script_line.SimulationLine.TheVariants.{Happens, Rounds, Part, Mend, Heights}
+use Rattle.tora_script.specs.declared.script_line.SimulationLine.TheVariants.{Sent, Taken, Exact, Walk, Rest}
 use Rattle.tora_script.specs.Rounds.{Happened}
 use Rattle.tora_script.specs.Setup.{plain}
 use Rattle.tora_script.specs.Simulator.{started}
@@ -24,7 +26,8 @@ use Rattle.tora_drive.specs.declared.cause.Cause.TheVariants.{Recorded}
 use Rattle.tora_drive.specs.declared.line.DriveLine.{DriveLine}
 use Rattle.tora_drive.specs.declared.line.DriveLine.TheVariants.{Script, Step, Needs, Near, Far, Notice, Bytes, Forget}
 use Rattle.tora_drive.specs.DriveLines.{drive_line_of}
-use Rattle.tora_drive.specs.DriveText.{StateView, outcome_of, place_reply, DriveView, drive_reply, drive_rules, fault_line, shortened_text}
+use Rattle.tora_drive.specs.DriveText.{StateView, outcome_of, place_reply, DriveView, drive_reply, drive_rules}
+use Rattle.tora_drive.specs.DriveText.{fault_line, shortened_text}
 use Rattle.tora_drive.specs.Steps.{step}
 use Rattle.tora_drive.specs.Taking.{line_in}
 

@@ -7,7 +7,8 @@ use Rattle.tora_script.specs.declared.rounds.TheConstants.{MOST_PASSES}
 use Rattle.tora_script.specs.declared.turns.TheConstants.{MOST_TIMES}
 use Rattle.tora_script.specs.declared.turns.EndTurn.{EndTurn}
 use Rattle.tora_script.specs.declared.turns.EndTurn.TheVariants as turn
-use Rattle.tora_script.specs.Rounds.{Plan, end_event, repeats, once, while_possible, plan_then, each, each_core, each_end_once, each_end}
+use Rattle.tora_script.specs.Rounds.{Plan, end_event, repeats, once, while_possible, plan_then, each, each_core}
+use Rattle.tora_script.specs.Rounds.{each_end_once, each_end}
 
 -- ---- silent ends
 

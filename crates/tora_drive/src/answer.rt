@@ -53,7 +53,7 @@ fn record_line(
 }
 
 /// Appends `ok` to a text, unless the line was refused.
-fn close(out: &mut String, is_refused: bool) -> Result<(), AllocError>
+fn append_ok(out: &mut String, is_refused: bool) -> Result<(), AllocError>
     ensures { OnOk result (string_bytes out.new ≡ string_bytes out.old ++ closing is_refused) }
 {
     if is_refused {
@@ -133,7 +133,7 @@ fn answer_step<S: Driven>(
     tick(&mut running.sim, &mut events)?;
     finish(alloc, running, &state.silent, &mut events, out)?;
     state.put_text(&events)?;
-    close(out, false)
+    append_ok(out, false)
 }
 
 /// Carries out a line other than `step`, given with its text. Writes the answer to an empty text, and appends the lines
@@ -165,7 +165,7 @@ fn answer_line<S: Driven>(
     record_line(alloc, state, &line, text, is_refused)?;
     write_sent(out, &running.sim, first)?;
     write_hops(out, &running.sim, &before)?;
-    close(out, is_refused)?;
+    append_ok(out, is_refused)?;
     Ok(())
 }
 

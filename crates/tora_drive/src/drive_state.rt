@@ -4,7 +4,7 @@ ghost use Rattle.tora_drive.specs.DriveText.{first_state, with_silent, without_s
 ghost use Rattle.tora_drive.specs.DriveView.{state_view, record_view};
 ghost use Rattle.tora_drive.specs.Recording.{event_line, text_record, with_record, with_text, with_line, cleared};
 
-use crate::event_lines::tell_event;
+use crate::event_lines::write_event_line;
 use crate::stepping::is_silent;
 use std::alloc::{AllocError, Global};
 use tora_height::Id;
@@ -123,7 +123,7 @@ impl DriveState {
     {
         if let Some(recorded) = &mut self.recorded {
             let mut line = String::new(alloc);
-            tell_event(&mut line, event)?;
+            write_event_line(&mut line, event)?;
             recorded.extend_from_slice(line.as_bytes())?;
         }
         Ok(())

@@ -90,7 +90,7 @@ fn write_event(out: &mut String, event: &Event) -> Result<(), AllocError>
 }
 
 /// Appends the line of an event to a text.
-pub fn tell_event(out: &mut String, event: &Event) -> Result<(), AllocError>
+pub fn write_event_line(out: &mut String, event: &Event) -> Result<(), AllocError>
     ensures { OnOk result (string_bytes out.new ≡ string_bytes out.old ++ event_line event.now) }
 {
     write_event(out, event)?;

@@ -9,7 +9,7 @@ ghost use Rattle.tora_script.specs.Rounds.{AreKnown};
 ghost use Rattle.tora_drive.specs.Steps.{is_silent, most_of, is_silenced, turn_of, step_pass, step_passes};
 ghost use Rattle.tora_drive.specs.Recording.{text_record, with_record, event_line, HappenedTold, Told};
 
-use crate::event_lines::tell_event;
+use crate::event_lines::write_event_line;
 use std::alloc::AllocError;
 use tora_height::Id;
 use tora_script::{
@@ -77,7 +77,7 @@ fn repeat_told<S: Simulator>(
         let refused = sim.happen_at(place, event)?;
         match refused {
             None => {
-                tell_event(text, event)?;
+                write_event_line(text, event)?;
                 some = true;
             }
             Some(_) => return Ok(some),
@@ -229,7 +229,7 @@ pub fn tick<S: Simulator>(sim: &mut S, text: &mut Option<String>) -> Result<(), 
     sim.happen(&Event::Tick)?;
     match text {
         None => Ok(()),
-        Some(text) => tell_event(text, &Event::Tick),
+        Some(text) => write_event_line(text, &Event::Tick),
     }
 }
 

@@ -1,12 +1,15 @@
 -- The bytes of frames: the only encoding of each, and why other bytes are not a frame. The two versions differ only in
 -- the payload of a DATA frame: its lengths, encoding, faults and decoding.
-use Rattle.std.specs.Prelude.{◌≡◌, ℕ, zero, suc, ◌+◌, ◌-◌, Bool, nat_lt, nat_le, ◌==◌, ◌||◌, ◌&&◌, if◌then◌else◌, not, List, [], ◌∷◌, ◌++◌, length, drop, slice_index, slice_range, Option, Some, None, Result, Ok, Err}
+use Rattle.std.specs.Prelude.{◌≡◌, ℕ, zero, suc, ◌+◌, ◌-◌, Bool, nat_lt, nat_le, ◌==◌, ◌||◌, ◌&&◌, if◌then◌else◌, not}
+use Rattle.std.specs.Prelude.{List, [], ◌∷◌, ◌++◌, length, drop, slice_index, slice_range, Option, Some, None, Result}
+use Rattle.std.specs.Prelude.{Ok, Err}
 use Rattle.std.specs.List.{sum_by, flat_map}
 use Rattle.std.specs.Int.{w16, w32, w64, to_be_bytes, from_be_bytes}
 use Rattle.tora_packet.specs.declared.PacketError.{PacketError}
 use Rattle.tora_packet.specs.declared.PacketError.TheVariants.{Long}
 use Rattle.tora_packet.specs.declared.Packet.{Packet}
-use Rattle.tora_packet.specs.PacketGrammar.{packet_spelling, packet_length, is_packet_length, packet_fault, packet_at, first_packet, behind_first, is_zero_at, u32_at, u64_at}
+use Rattle.tora_packet.specs.PacketGrammar.{packet_spelling, packet_length, is_packet_length, packet_fault, packet_at}
+use Rattle.tora_packet.specs.PacketGrammar.{first_packet, behind_first, is_zero_at, u32_at, u64_at}
 use Rattle.tora_frame.specs.declared.parts.TheConstants.{GREATEST_NUMBER, MOST_PACKETS}
 use Rattle.tora_frame.specs.declared.FrameError.{FrameError}
 use Rattle.tora_frame.specs.declared.FrameError.TheVariants as Fault

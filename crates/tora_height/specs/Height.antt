@@ -1,5 +1,6 @@
 -- Heights: five parts, and their ranges.
-use Rattle.std.specs.Prelude.{◌≡◌, ◌≢◌, ℕ, ℤ, pos, neg_ℤ, ◌≤ℤ◌, ◌<◌, ◌≤◌, ◌^◌, ◌==◌, ◌&&◌, not, Bool, nat_lt, int_lt, if◌then◌else◌, Option, None, Some}
+use Rattle.std.specs.Prelude.{◌≡◌, ◌≢◌, ℕ, ℤ, pos, neg_ℤ, ◌≤ℤ◌, ◌<◌, ◌≤◌, ◌^◌, ◌==◌, ◌&&◌, not, Bool, nat_lt, int_lt}
+use Rattle.std.specs.Prelude.{if◌then◌else◌, Option, None, Some}
 use Rattle.tora_height.specs.declared.level.Level.{Level}
 use Rattle.tora_height.specs.declared.height_error.HeightError.{HeightError}
 use Rattle.tora_height.specs.declared.height_error.HeightError.TheVariants as Fault

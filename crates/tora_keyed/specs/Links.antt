@@ -1,5 +1,6 @@
 -- What contracts see of the wire of a link, with a key or without one. With a key, each datagram has a tag.
-use Rattle.std.specs.Prelude.{◌≡◌, ℕ, ◌+◌, ◌-◌, ◌^◌, min, Bool, true, false, ◌&&◌, MatchBool, List, length, take, replicate, filter_map, Option, Some, None, Result, Ok, Err, IsErr, nat_lt, if◌then◌else◌}
+use Rattle.std.specs.Prelude.{◌≡◌, ℕ, ◌+◌, ◌-◌, ◌^◌, min, Bool, true, false, ◌&&◌, MatchBool, List, length, take}
+use Rattle.std.specs.Prelude.{replicate, filter_map, Option, Some, None, Result, Ok, Err, IsErr, nat_lt, if◌then◌else◌}
 use Rattle.tora_frame.specs.declared.encoding.TheConstants.{LONGEST_FRAME}
 use Rattle.tora_neighbour.specs.declared.wire.WireError.{WireError}
 use Rattle.tora_neighbour.specs.Datagrams.{failures_after, IsCut}

@@ -6,7 +6,6 @@ use crate::ports::{CorePort, InPort};
 ///
 /// The queue into the core has a port for each seat and the core's port. Each link has its own queue from the core: the
 /// core's end is in `outs`, the link's end beside the link's port in `links`, at the same place.
-/// core's end is in `outs`, the link's end beside the link's port in `links`, at the same place.
 #[derive(Drop)]
 pub struct Lanes {
     /// The core's port of the queue into the core.

@@ -48,7 +48,12 @@ impl Model for InPort {
 
     ghost Value = { InEnd };
 
-    ghost view = { λ p. record { lane = lane_of p.pass; seat = p.seat; put = own_of (lane_view p.pass); gone = p.gone } };
+    ghost view = { λ p. record {
+      lane = lane_of p.pass;
+      seat = p.seat;
+      put = own_of (lane_view p.pass);
+      gone = p.gone;
+    } };
 
     ghost invariant = { λ p. IsSeatAt (sends_on p.sender) p.pass
         × (lane_view p.pass ≡ Seat p.seat (own_of (lane_view p.pass))) × (p.count ≡ length (own_of (lane_view p.pass)))

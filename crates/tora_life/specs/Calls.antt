@@ -1,5 +1,6 @@
 -- The calls of the disk that a life file makes, in their order.
-use Rattle.std.specs.Prelude.{◌≡◌, ℕ, Bool, if◌then◌else◌, Result, Ok, Err, is_ok, List, [], take, replicate, MatchResult}
+use Rattle.std.specs.Prelude.{◌≡◌, ℕ, Bool, if◌then◌else◌, Result, Ok, Err, is_ok, List, [], take, replicate}
+use Rattle.std.specs.Prelude.{MatchResult}
 use Rattle.tora_life.specs.declared.lengths.TheConstants.{SLOT_LENGTH, FIRST_READ}
 use Rattle.tora_life.specs.declared.disk.DiskError.{DiskError}
 use Rattle.tora_life.specs.declared.migration.Version.{Version}

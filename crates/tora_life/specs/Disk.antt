@@ -1,5 +1,6 @@
 -- What the calls of a disk do to its bytes, and what a crash may leave of them.
-use Rattle.std.specs.Prelude.{◌≡◌, ◌⊎◌, ℕ, ◌+◌, ◌-◌, ◌^◌, ◌<◌, ◌≤◌, min, max, List, ◌++◌, length, take, drop, Result, is_err, if◌then◌else◌}
+use Rattle.std.specs.Prelude.{◌≡◌, ◌⊎◌, ℕ, ◌+◌, ◌-◌, ◌^◌, ◌<◌, ◌≤◌, min, max, List, ◌++◌, length, take, drop, Result}
+use Rattle.std.specs.Prelude.{is_err, if◌then◌else◌}
 use Rattle.tora_life.specs.declared.disk.DiskError.{DiskError}
 
 -- the new bytes are the old ones with these written over them at this offset

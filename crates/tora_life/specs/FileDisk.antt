@@ -1,5 +1,6 @@
 -- What contracts see of a disk over a file of the system, and the system calls that each call of the disk makes.
-use Rattle.std.specs.Prelude.{◌≡◌, ◌==◌, ℕ, List, length, Option, Some, None, Result, Ok, Err, IsErr, MatchResult, if◌then◌else◌, codes}
+use Rattle.std.specs.Prelude.{◌≡◌, ◌==◌, ℕ, List, length, Option, Some, None, Result, Ok, Err, IsErr, MatchResult}
+use Rattle.std.specs.Prelude.{if◌then◌else◌, codes}
 use Rattle.std.specs.Path.{path_parent}
 use Rattle.std.specs.declared.io.Error.{Error}
 use Rattle.tora_life.specs.declared.disk.DiskError.{DiskError}

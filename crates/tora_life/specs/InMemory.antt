@@ -15,7 +15,8 @@ use Rattle.tora_life.specs.declared.tags.Owner.{Owner}
 use Rattle.tora_life.specs.Migration.{migration_place, migration_bytes}
 use Rattle.tora_life.specs.Numbers.{value_of, lesser_slot, numbers_of, IsKept}
 use Rattle.tora_life.specs.Calls.{place_of, file_read, version_read}
-use Rattle.tora_life.specs.State.{read_answer, bytes_read, after_read, write_answer, after_write, sync_answer, after_sync, seen_of, MayLeave}
+use Rattle.tora_life.specs.State.{read_answer, bytes_read, after_read, write_answer, after_write, sync_answer}
+use Rattle.tora_life.specs.State.{after_sync, seen_of, MayLeave}
 
 -- the first value if the call of the disk succeeded, the second if it failed
 abbrev pub by_result : {A T : Type 0} → Result T DiskError → A → A → A

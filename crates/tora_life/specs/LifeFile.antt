@@ -1,5 +1,6 @@
 -- The meaning of the bytes of a life file.
-use Rattle.std.specs.Prelude.{◌≡◌, ℕ, ◌+◌, ◌-◌, ◌^◌, ◌≤◌, zero, suc, max, List, ◌++◌, length, take, drop, if◌then◌else◌, ◌&&◌, ◌==◌, nat_le}
+use Rattle.std.specs.Prelude.{◌≡◌, ℕ, ◌+◌, ◌-◌, ◌^◌, ◌≤◌, zero, suc, max, List, ◌++◌, length, take, drop, if◌then◌else◌}
+use Rattle.std.specs.Prelude.{◌&&◌, ◌==◌, nat_le}
 use Rattle.std.specs.Int.{w64, from_be_bytes, to_be_bytes}
 use Rattle.tora_life.specs.declared.lengths.TheConstants.{SLOT_LENGTH, SLOTS_LENGTH}
 use Rattle.tora_life.specs.declared.tags.Owner.{Owner}

@@ -1,5 +1,6 @@
 -- The numbers of an open life file, and the effect of a draw.
-use Rattle.std.specs.Prelude.{◌≡◌, ℕ, ◌+◌, ◌<◌, ◌≤◌, max, Bool, true, false, if◌then◌else◌, ◌==◌, nat_le, Result, Ok, Err, IsTrue, IsFalse, List}
+use Rattle.std.specs.Prelude.{◌≡◌, ℕ, ◌+◌, ◌<◌, ◌≤◌, max, Bool, true, false, if◌then◌else◌, ◌==◌, nat_le, Result, Ok}
+use Rattle.std.specs.Prelude.{Err, IsTrue, IsFalse, List}
 use Rattle.tora_life.specs.declared.numbers.TheConstants.{LAST_NUMBER, RESERVED}
 use Rattle.tora_life.specs.declared.numbers.Numbers.{Numbers}
 use Rattle.tora_life.specs.declared.numbers.LifeError.{LifeError}

@@ -1,5 +1,7 @@
 -- A disk in memory: what a crash may leave, and the results and effects of its calls.
-use Rattle.std.specs.Prelude.{◌≡◌, ◌⊎◌, ℕ, ◌+◌, ◌-◌, ◌^◌, ◌≤◌, min, max, Bool, true, false, List, [], ◌∷◌, ◌++◌, length, take, drop, replicate, Result, Ok, Err, if◌then◌else◌, nat_lt, IsFalse, ◌||◌, Option, Some, None}
+use Rattle.std.specs.Prelude.{◌≡◌, ◌⊎◌, ℕ, ◌+◌, ◌-◌, ◌^◌, ◌≤◌, min, max, Bool, true, false, List, [], ◌∷◌, ◌++◌, length}
+use Rattle.std.specs.Prelude.{take, drop, replicate, Result, Ok, Err, if◌then◌else◌, nat_lt, IsFalse, ◌||◌, Option}
+use Rattle.std.specs.Prelude.{Some, None}
 use Rattle.tora_life.specs.declared.lengths.TheConstants.{DISK_LENGTH}
 use Rattle.tora_life.specs.TornBytes.{torn_over}
 use Rattle.tora_life.specs.declared.state.State.{State}

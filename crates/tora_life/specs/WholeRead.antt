@@ -1,5 +1,6 @@
 -- Repeated reads, up to the end of the file or until the buffer is full.
-use Rattle.std.specs.Prelude.{◌≡◌, ◌≢◌, ◌⊎◌, ℕ, zero, suc, ◌+◌, ◌-◌, ◌^◌, ◌==◌, min, List, ◌++◌, take, drop, Result, Ok, Err, IsErr, MatchResult, MatchBool}
+use Rattle.std.specs.Prelude.{◌≡◌, ◌≢◌, ◌⊎◌, ℕ, zero, suc, ◌+◌, ◌-◌, ◌^◌, ◌==◌, min, List, ◌++◌, take, drop, Result, Ok}
+use Rattle.std.specs.Prelude.{Err, IsErr, MatchResult, MatchBool}
 use Rattle.std.specs.declared.io.Error.{Error}
 use Rattle.std.specs.declared.io.ErrorKind.TheVariants.{Interrupted}
 use Rattle.std.specs.IoError.{error_kind}

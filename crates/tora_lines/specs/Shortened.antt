@@ -1,5 +1,6 @@
 -- Lines of any length: one of more than 4,096 bytes is processed as an empty line.
-use Rattle.std.specs.Prelude.{◌≡◌, ◌⊎◌, ℕ, nat_lt, ◌<◌, ◌≤◌, if◌then◌else◌, Bool, true, false, List, [], ◌++◌, length, map, Option, Result, Ok, Err}
+use Rattle.std.specs.Prelude.{◌≡◌, ◌⊎◌, ℕ, nat_lt, ◌<◌, ◌≤◌, if◌then◌else◌, Bool, true, false, List, [], ◌++◌, length}
+use Rattle.std.specs.Prelude.{map, Option, Result, Ok, Err}
 use Rattle.std.specs.Io.KnownBytes.{Appends, Consumes}
 use Rattle.tora_lines.specs.declared.session.TheConstants.{LONGEST_LINE}
 use Rattle.tora_lines.specs.Pieces.{pieces_of}

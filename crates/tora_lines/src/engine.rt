@@ -188,7 +188,8 @@ pub fn close<K: FileKind, W: Output>(
     number: u64,
     writer: &mut W,
 ) -> Result<Ended, ReplayError>
-    ensures text { Ends (K.kind.text session.now.state number []) (W.contents writer.old) (W.contents writer.new) result }
+    ensures text { Ends (K.kind.text session.now.state number [])
+        (W.contents writer.old) (W.contents writer.new) result }
     ensures failed { IfErr result (λ e. e ≡ ReplayError.Write → IsUnwritten W.did_write writer.new) }
 {
     match session.state.end(alloc, number) {

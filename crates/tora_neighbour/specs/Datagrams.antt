@@ -1,5 +1,6 @@
 -- Datagrams, and the failures of a wire.
-use Rattle.std.specs.Prelude.{◌≡◌, ℕ, ◌+◌, ◌-◌, ◌^◌, ◌≤◌, min, List, ◌∷◌, length, take, Option, Some, None, Result, Ok, Err, is_err, if◌then◌else◌}
+use Rattle.std.specs.Prelude.{◌≡◌, ℕ, ◌+◌, ◌-◌, ◌^◌, ◌≤◌, min, List, ◌∷◌, length, take, Option, Some, None, Result, Ok}
+use Rattle.std.specs.Prelude.{Err, is_err, if◌then◌else◌}
 use Rattle.tora_neighbour.specs.declared.wire.WireError.{WireError}
 
 -- the count of failures rises by 1 if the call failed; it stops at 2^64 - 1

@@ -1,8 +1,10 @@
 -- What contracts see of a waking wire, and which calls of its socket each of its calls makes.
-use Rattle.std.specs.Prelude.{◌≡◌, ◌≢◌, ◌⊎◌, ℕ, Bool, true, false, List, length, Option, Some, None, Result, Ok, Err, IsErr, MatchResult, MatchBool}
+use Rattle.std.specs.Prelude.{◌≡◌, ◌≢◌, ◌⊎◌, ℕ, Bool, true, false, List, length, Option, Some, None, Result, Ok, Err}
+use Rattle.std.specs.Prelude.{IsErr, MatchResult, MatchBool}
 use Rattle.std.specs.declared.io.Error.{Error}
 use Rattle.std.specs.declared.io.ErrorKind.{ErrorKind}
-use Rattle.std.specs.declared.io.ErrorKind.TheVariants.{WouldBlock, Interrupted, HostUnreachable, NetworkUnreachable, NetworkDown}
+use Rattle.std.specs.declared.io.ErrorKind.TheVariants.{WouldBlock, Interrupted, HostUnreachable, NetworkUnreachable}
+use Rattle.std.specs.declared.io.ErrorKind.TheVariants.{NetworkDown}
 use Rattle.std.specs.declared.net.SocketAddr.{SocketAddr}
 use Rattle.std.specs.IoError.{error_kind}
 use Rattle.tora_neighbour.specs.declared.wire.WireError.{WireError}

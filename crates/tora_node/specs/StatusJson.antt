@@ -53,7 +53,8 @@ unfoldable pub via_json : CoreView → ℕ → ℕ → List ℕ
 via_json core d k =
     codes "{\"node\":" ++ decimal k
     ++ codes ",\"height\":" ++ height_json (entry_height core d k)
-    ++ codes ",\"direction\":\"" ++ direction_text (link_status (own_height core d) (entry_height core d k)) ++ codes "\"}"
+    ++ codes ",\"direction\":\"" ++ direction_text (link_status (own_height core d) (entry_height core d k))
+    ++ codes "\"}"
 
 -- a destination, and the node's height
 unfoldable pub own_json : CoreView → ℕ → List ℕ

@@ -1,5 +1,6 @@
 -- The output of `watch`: a line for each height and each next hop, and later one for each that has changed.
-use Rattle.std.specs.Prelude.{ℕ, ◌==◌, Bool, true, false, codes, if◌then◌else◌, List, [], ◌∷◌, ◌++◌, map, Option, None, Some, option_map}
+use Rattle.std.specs.Prelude.{ℕ, ◌==◌, Bool, true, false, codes, if◌then◌else◌, List, [], ◌∷◌, ◌++◌, map, Option, None}
+use Rattle.std.specs.Prelude.{Some, option_map}
 use Rattle.std.specs.List.{flat_map}
 use Rattle.std.specs.Ordering.{is_eq}
 use Rattle.std.specs.declared.vec.Vec.{Vec}

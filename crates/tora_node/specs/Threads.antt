@@ -24,7 +24,8 @@ use Rattle.tora_node.specs.declared.link_task.Outcome.{Outcome}
 use Rattle.tora_node.specs.declared.start.NewLink.{NewLink}
 use Rattle.tora_node.specs.declared.start.Start.{Start}
 use Rattle.tora_node.specs.declared.task.Does.{Does}
-use Rattle.tora_node.specs.CoreRuns.{ServedItem, AreServed, items_served, offers_made, inputs_stepped, text_served, EndsSo}
+use Rattle.tora_node.specs.CoreRuns.{ServedItem, AreServed, items_served, offers_made, inputs_stepped, text_served}
+use Rattle.tora_node.specs.CoreRuns.{EndsSo}
 use Rattle.tora_node.specs.LinkRuns.{LinkName, IsLinkRun, link_made}
 use Rattle.tora_node.specs.NodeRuns.{IsCoreFault}
 use Rattle.tora_node.specs.WireCalls.{HasCalled}

@@ -1,5 +1,6 @@
 -- What a node did from its start until all its threads had ended.
-use Rattle.std.specs.Prelude.{◌≡◌, ◌⊎◌, ◌<◌, ◌≤◌, ℕ, Bool, List, [], ◌∷◌, ◌++◌, length, map, slice_get, Option, None, Some, Result, Ok, IfOk, IfErr}
+use Rattle.std.specs.Prelude.{◌≡◌, ◌⊎◌, ◌<◌, ◌≤◌, ℕ, Bool, List, [], ◌∷◌, ◌++◌, length, map, slice_get, Option, None}
+use Rattle.std.specs.Prelude.{Some, Result, Ok, IfOk, IfErr}
 use Rattle.std.specs.Io.KnownBytes.{Appends, Consumes}
 use Rattle.tora_core.specs.CoreRun.{CoreView, core_after_all}
 use Rattle.tora_lane.specs.LaneRule.{items_of}
@@ -19,7 +20,8 @@ use Rattle.tora_seat.specs.declared.item.Item.{Item}
 use Rattle.tora_node.specs.declared.commands.CommandsEnd.{CommandsEnd}
 use Rattle.tora_node.specs.declared.link_task.Outcome.{Outcome}
 use Rattle.tora_node.specs.CommandRuns.{EndsAt, ticks_put}
-use Rattle.tora_node.specs.CoreRuns.{ServedItem, AreServed, items_served, offers_made, inputs_stepped, text_served, EndsSo}
+use Rattle.tora_node.specs.CoreRuns.{ServedItem, AreServed, items_served, offers_made, inputs_stepped, text_served}
+use Rattle.tora_node.specs.CoreRuns.{EndsSo}
 use Rattle.tora_node.specs.LinkRuns.{IsLinkRun, FailsToStart, AreFaultless, IsCause, links_of}
 use Rattle.tora_node.specs.NodeRuns.{EndedView, IsNodeFault, IsRunOf, first_fault}
 use Rattle.tora_node.specs.WireCalls.{HasCalled}
@@ -83,7 +85,8 @@ pub record NodeRan {W D C : Type 0} (send : W → List ℕ → Result (Unit {0})
     pub count : length outcomes ≡ length first.neighbours
     pub links : (place peer : ℕ) (wire : W) (disk : D) (own : C) (outcome : Outcome)
         → slice_get first.neighbours place ≡ Some peer → slice_get wires place ≡ Some wire
-        → slice_get disks place ≡ Some disk → slice_get clocks place ≡ Some own → slice_get outcomes place ≡ Some outcome
+        → slice_get disks place ≡ Some disk → slice_get clocks place ≡ Some own
+        → slice_get outcomes place ≡ Some outcome
         → LinkRan send receive tell (opened first.me peer disk) first.me xs place peer wire own outcome
     pub commands : CommandsRan tell clock input (length first.neighbours) taken
     pub answer_is : first_fault fault first.neighbours outcomes ≡ answer

@@ -141,7 +141,7 @@ impl Line {
     fn tell<R: Log>(&self, rt: &R) {
         let line = self.bytes.as_slice();
         if self.is_too_long {
-            tell_unknown(
+            log_unknown(
                 rt,
                 format_args!("a line of more than {LONGEST_COMMAND} bytes"),
             );
@@ -149,8 +149,8 @@ impl Line {
             info!(rt; "{COMMANDS}");
         } else if command_of(line) == Command::Unknown {
             match str::from_utf8(line) {
-                Ok(text) => tell_unknown(rt, format_args!("{text:?}")),
-                Err(_) => tell_unknown(rt, "a line that is no text"),
+                Ok(text) => log_unknown(rt, format_args!("{text:?}")),
+                Err(_) => log_unknown(rt, "a line that is no text"),
             }
         }
     }
@@ -172,7 +172,7 @@ impl Line {
 }
 
 /// Logs that this is not a command, and which the commands are.
-fn tell_unknown<R: Log, D: Display + Drop>(rt: &R, what: D) {
+fn log_unknown<R: Log, D: Display + Drop>(rt: &R, what: D) {
     warn!(rt; "{what} is no command; {COMMANDS}");
 }
 

@@ -90,7 +90,8 @@ impl Packet {
     /// # Errors
     /// `Height` if `destination` is 0.
     pub fn qry(destination: Id) -> Result<Packet, PacketError>
-        ensures { MatchBool (destination == 0) (result ≡ Err PacketError.Height) (result ≡ Ok (Packet.Qry destination)) }
+        ensures { MatchBool (destination == 0)
+            (result ≡ Err PacketError.Height) (result ≡ Ok (Packet.Qry destination)) }
     {
         match Query::new(destination) {
             Ok(query) => Ok(Packet::Qry(query)),

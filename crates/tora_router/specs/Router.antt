@@ -1,5 +1,7 @@
 -- A router, and the effect of each call.
-use Rattle.std.specs.Prelude.{◌≡◌, ℕ, zero, suc, ◌+◌, ◌*◌, ◌==◌, ◌^◌, not, Bool, true, false, nat_lt, nat_le, ◌<◌, if◌then◌else◌, List, [], ◌∷◌, map, length, slice_get, Option, Some, None, option_map, Result, Ok, Err}
+use Rattle.std.specs.Prelude.{◌≡◌, ℕ, zero, suc, ◌+◌, ◌*◌, ◌==◌, ◌^◌, not, Bool, true, false, nat_lt, nat_le, ◌<◌}
+use Rattle.std.specs.Prelude.{if◌then◌else◌, List, [], ◌∷◌, map, length, slice_get, Option, Some, None, option_map}
+use Rattle.std.specs.Prelude.{Result, Ok, Err}
 use Rattle.std.specs.List.{list_any}
 use Rattle.tora_frame.specs.declared.FrameError.{FrameError}
 use Rattle.tora_frame.specs.FrameGrammar.{frame_spelling}
@@ -33,7 +35,9 @@ use Rattle.tora_router.specs.declared.hop.Hop.{Hop}
 use Rattle.tora_router.specs.declared.intake.Intake.{Intake}
 use Rattle.tora_router.specs.declared.intake.Intake.TheVariants.{NoNeighbour}
 use Rattle.tora_router.specs.declared.link.Link.{Link}
-use Rattle.tora_router.specs.Links.{first_tally, given, polled, ticked, intake_at, heard, frame_of_link, sent, cut, told, at_place, first_in, to_peer, event_of, link_change, is_link_due, opens_at, peer_at, waiting}
+use Rattle.tora_router.specs.Links.{first_tally, given, polled, ticked, intake_at, heard, frame_of_link, sent, cut}
+use Rattle.tora_router.specs.Links.{told, at_place, first_in, to_peer, event_of, link_change, is_link_due, opens_at}
+use Rattle.tora_router.specs.Links.{peer_at, waiting}
 
 -- a router as its calls see it
 pub record RouterView : Type 0 where

@@ -205,7 +205,8 @@ impl Router {
     /// neighbour changes nothing.
     pub fn on_datagram(&mut self, peer: Id, datagram: &[u8], now: u64) -> Intake
         ensures intake { result ≡ intake_from peer now (frame_reading datagram.now) (router_of self.old) }
-        ensures router { router_of self.new ≡ after_datagram peer now (frame_reading datagram.now) (router_of self.old) }
+        ensures router { router_of self.new
+            ≡ after_datagram peer now (frame_reading datagram.now) (router_of self.old) }
         ensures settled { first_in event_of self.old.links ≡ None → first_in event_of self.new.links ≡ None }
     {
         let Some(place) = self.links.place(peer) else {

@@ -7,7 +7,8 @@ use Rattle.tora_seat.specs.declared.what.What.TheVariants as Told
 use Rattle.tora_neighbour.specs.declared.hub.Put.{Put}
 use Rattle.tora_neighbour.specs.Puts.{put_of}
 use Rattle.tora_neighbour.specs.Intake.{Reading}
-use Rattle.tora_neighbour.specs.Traffic.{entry_of, numbers_opened, cargoes_taken, frames_sent, readings_come, entries_put}
+use Rattle.tora_neighbour.specs.Traffic.{entry_of, numbers_opened, cargoes_taken, frames_sent, readings_come}
+use Rattle.tora_neighbour.specs.Traffic.{entries_put}
 use Rattle.tora_neighbour.specs.Turns.{Turn}
 use Rattle.tora_running.specs.Parts.{LinkPart}
 use Rattle.tora_running.specs.Parts.LinkPart.{Opens, Ticks, Takes, Sends, Hears, Tells, Beats, Breaks}

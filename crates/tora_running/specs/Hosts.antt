@@ -1,5 +1,6 @@
 -- Programs that embed routers: the calls of their hosts at the routers of all nodes, in one order.
-use Rattle.std.specs.Prelude.{◌≡◌, ◌⊎◌, ℕ, zero, suc, ◌≤◌, IsTrue, List, [], ◌∷◌, ◌++◌, length, Option, Some, None, Result, Ok, Err}
+use Rattle.std.specs.Prelude.{◌≡◌, ◌⊎◌, ℕ, zero, suc, ◌≤◌, IsTrue, List, [], ◌∷◌, ◌++◌, length, Option, Some, None}
+use Rattle.std.specs.Prelude.{Result, Ok, Err}
 use Rattle.tora_frame.specs.declared.FrameError.{FrameError}
 use Rattle.tora_frame.specs.FrameParts.{FrameParts}
 use Rattle.tora_arq.specs.declared.link_event.LinkEvent.{LinkEvent}
@@ -13,7 +14,9 @@ use Rattle.tora_router.specs.declared.config.Config.{Config}
 use Rattle.tora_router.specs.declared.intake.Intake.{Intake}
 use Rattle.tora_router.specs.declared.intake.Intake.TheVariants.{NoNeighbour, Bad, Seen}
 use Rattle.tora_router.specs.Links.{at_place, cut, event_of, first_in, heard, peer_at, polled, to_peer, waiting}
-use Rattle.tora_router.specs.Router.{RouterState, first_router, router_with, serving, item_at, after_item, after_events, ticked_before, after_tick, at_link, intake_from, after_datagram, need_item, after_need, after_cut, frame_in, after_poll_datagram, after_poll_change}
+use Rattle.tora_router.specs.Router.{RouterState, first_router, router_with, serving, item_at, after_item, after_events}
+use Rattle.tora_router.specs.Router.{ticked_before, after_tick, at_link, intake_from, after_datagram, need_item}
+use Rattle.tora_router.specs.Router.{after_need, after_cut, frame_in, after_poll_datagram, after_poll_change}
 use Rattle.tora_world.specs.Topology.{Topology, new_core, is_node}
 use Rattle.tora_world.specs.Lists.{IsIn}
 use Rattle.tora_running.specs.Network.{IsRefusal}

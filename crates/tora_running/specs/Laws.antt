@@ -16,7 +16,8 @@ use Rattle.tora_world.specs.Gaps.{broadcast_from}
 use Rattle.tora_world.specs.Refusals.{OnlyNeedsAreRefused}
 use Rattle.tora_world.specs.Rest.{IsAtRest, EntriesAreHeights, LacksHeight, IsReached}
 use Rattle.tora_world.specs.Walks.{height_at, IsExact, Arrives, AreIds}
-use Rattle.tora_running.specs.Network.{Network, Part, first_network, after_part, after_parts, IsRun, packets_sent, packets_taken}
+use Rattle.tora_running.specs.Network.{Network, Part, first_network, after_part, after_parts, IsRun, packets_sent}
+use Rattle.tora_running.specs.Network.{packets_taken}
 
 -- a statement holds for the network after any run of parts, over any topology and with any times of the link ends
 abbrev pub EveryNetwork : (Topology → Times → Network → Type 0) → Type 0

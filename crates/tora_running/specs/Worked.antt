@@ -19,7 +19,8 @@ use Rattle.tora_world.specs.World.{Sending}
 use Rattle.tora_world.specs.World.Sending.{Goes, IsLost, IsGone}
 use Rattle.tora_world.specs.Worked.{pair, times, life, update}
 use Rattle.tora_running.specs.Parts.LinkPart.{Opens, Ticks, Takes, Sends, Hears, Tells, Beats, Breaks}
-use Rattle.tora_running.specs.Network.{Network, Part, first_network, settings_at, neighbours_at, after_part, after_parts, packets_sent, packets_taken}
+use Rattle.tora_running.specs.Network.{Network, Part, first_network, settings_at, neighbours_at, after_part}
+use Rattle.tora_running.specs.Network.{after_parts, packets_sent, packets_taken}
 use Rattle.tora_running.specs.Network.Part.{Starts, OfLink, Serves, Asks}
 
 -- ---- parts that depend on the network before them; a part without its subject is replaced by a beat

@@ -1,5 +1,6 @@
 -- A copy of a node's core, which is stepped with the inputs that the core accepted, and the records of them.
-use Rattle.std.specs.Prelude.{◌≡◌, ℕ, nat_lt, ◌==◌, ◌&&◌, Bool, true, false, not, if◌then◌else◌, List, [], ◌∷◌, ◌++◌, length, map, filter, find, fold, Option, Some, None, option_map}
+use Rattle.std.specs.Prelude.{◌≡◌, ℕ, nat_lt, ◌==◌, ◌&&◌, Bool, true, false, not, if◌then◌else◌, List, [], ◌∷◌, ◌++◌}
+use Rattle.std.specs.Prelude.{length, map, filter, find, fold, Option, Some, None, option_map}
 use Rattle.std.specs.List.{flat_map, list_all}
 use Rattle.std.specs.declared.cmp.Ordering.{Ordering}
 use Rattle.std.specs.declared.cmp.Ordering.TheVariants.{Less, Equal, Greater}
@@ -13,7 +14,8 @@ use Rattle.tora_core.specs.Kept.{destinations_of}
 use Rattle.tora_core.specs.declared.TheConstants.{GREATEST_NEIGHBOURS, MOST_DESTINATIONS}
 use Rattle.tora_core.specs.declared.errors.CoreError.{CoreError}
 use Rattle.tora_core.specs.declared.errors.CoreError.TheVariants.{OwnId}
-use Rattle.tora_core.specs.CoreRun.{CoreView, core_refusal_within, first_core_of, core_after, sends_of, height_of, hop_of}
+use Rattle.tora_core.specs.CoreRun.{CoreView, core_refusal_within, first_core_of, core_after, sends_of, height_of}
+use Rattle.tora_core.specs.CoreRun.{hop_of}
 use Rattle.tora_script.specs.declared.trace.route.Route.{Route}
 use Rattle.tora_script.specs.TraceRecords.{up_record, down_record, packet_record, route_record}
 

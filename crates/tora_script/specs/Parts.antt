@@ -1,5 +1,7 @@
 -- A channel as a word of the command line.
-use Rattle.std.specs.Prelude.{ℕ, zero, suc, ◌+◌, ◌-◌, ◌*◌, ◌==◌, ◌&&◌, ◌||◌, Bool, false, nat_lt, is_some, if◌then◌else◌, codes, List, length, get_or, Option, Some, None, unwrap_or, option_map, bytes_eq}
+use Rattle.std.specs.Prelude.{ℕ, zero, suc, ◌+◌, ◌-◌, ◌*◌, ◌==◌, ◌&&◌, ◌||◌, Bool, false, nat_lt, is_some}
+use Rattle.std.specs.Prelude.{if◌then◌else◌, codes, List, length, get_or, Option, Some, None, unwrap_or, option_map}
+use Rattle.std.specs.Prelude.{bytes_eq}
 use Rattle.std.specs.List.{list_all}
 use Rattle.std.specs.Char.{is_ascii_digit}
 use Rattle.tora_lines.specs.Words.{cut, number_of}

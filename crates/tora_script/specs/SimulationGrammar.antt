@@ -6,7 +6,8 @@ use Rattle.tora_packet.specs.PacketParts.{IsId}
 use Rattle.tora_frame.specs.declared.parts.TheConstants.{GREATEST_NUMBER}
 use Rattle.tora_arq.specs.declared.life.Life.{Life}
 use Rattle.tora_world.specs.declared.event.Event.{Event}
-use Rattle.tora_world.specs.declared.event.Event.TheVariants.{Need, Tick, Open, Pull, Transmit, Deliver, Pump, CoreTurn, Arm, Restart}
+use Rattle.tora_world.specs.declared.event.Event.TheVariants.{Need, Tick, Open, Pull, Transmit, Deliver, Pump, CoreTurn}
+use Rattle.tora_world.specs.declared.event.Event.TheVariants.{Arm, Restart}
 use Rattle.tora_world.specs.declared.call.Call.{Call}
 use Rattle.tora_world.specs.declared.call.Call.TheVariants as Fails
 use Rattle.tora_core.specs.declared.erasure.Erasure.{Erasure}
@@ -15,7 +16,8 @@ use Rattle.tora_script.specs.declared.parse.TheConstants.{MOST_ROUNDS}
 use Rattle.tora_script.specs.declared.node_marks.Mark.{Mark}
 use Rattle.tora_script.specs.declared.node_marks.Mark.TheVariants.{Old, Erases}
 use Rattle.tora_script.specs.declared.script_line.SimulationLine.{SimulationLine}
-use Rattle.tora_script.specs.declared.script_line.SimulationLine.TheVariants.{Happens, Rounds, Part, Mend, Heights, Sent, Taken, Exact, Walk, Rest}
+use Rattle.tora_script.specs.declared.script_line.SimulationLine.TheVariants.{Happens, Rounds, Part, Mend, Heights}
+use Rattle.tora_script.specs.declared.script_line.SimulationLine.TheVariants.{Sent, Taken, Exact, Walk, Rest}
 use Rattle.tora_lines.specs.WordGrammar.{SpellsId, list_text}
 
 -- a word and the numbers of two nodes

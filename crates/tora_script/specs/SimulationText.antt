@@ -1,5 +1,6 @@
 -- The output of a simulation for an input, and how the input ends.
-use Rattle.std.specs.Prelude.{ℕ, ◌-◌, min, nat_le, false, ◌==◌, ◌&&◌, ◌||◌, Bool, not, if◌then◌else◌, codes, List, [], ◌∷◌, ◌++◌, length, filter, Option, Some, None, option_map, unwrap_or}
+use Rattle.std.specs.Prelude.{ℕ, ◌-◌, min, nat_le, false, ◌==◌, ◌&&◌, ◌||◌, Bool, not, if◌then◌else◌, codes, List, []}
+use Rattle.std.specs.Prelude.{◌∷◌, ◌++◌, length, filter, Option, Some, None, option_map, unwrap_or}
 use Rattle.std.specs.List.{flat_map, list_any}
 use Rattle.std.specs.Option.{option_and_then}
 use Rattle.std.specs.Fmt.{decimal}
@@ -31,7 +32,8 @@ use Rattle.tora_script.specs.Marks.{marked}
 use Rattle.tora_script.specs.Simulator.{has_topology, started, nodes_of}
 use Rattle.tora_lines.specs.declared.ended.Ended.{Ended}
 use Rattle.tora_script.specs.declared.script_line.SimulationLine.{SimulationLine}
-use Rattle.tora_script.specs.declared.script_line.SimulationLine.TheVariants.{Happens, Rounds, Part, Mend, Heights, Sent, Taken, Exact, Walk, Rest}
+use Rattle.tora_script.specs.declared.script_line.SimulationLine.TheVariants.{Happens, Rounds, Part, Mend, Heights}
+use Rattle.tora_script.specs.declared.script_line.SimulationLine.TheVariants.{Sent, Taken, Exact, Walk, Rest}
 
 -- ---- the state between two lines
 
@@ -48,7 +50,8 @@ pub record RunningView : Type 0 where
 
 pub data Progress : Type 0 where
   First : Progress  -- before the first line
-  Links : (dests : List ℕ) (links : List (ℕ × ℕ)) (marks : List Mark) → Progress  -- the destinations, and the lines so far about links and about single nodes
+  -- the destinations, and the lines so far about links and about single nodes
+  Links : (dests : List ℕ) (links : List (ℕ × ℕ)) (marks : List Mark) → Progress
   Runs : RunningView → Progress
 
 -- a simulation with these destinations and settings that begins in a world

@@ -1,5 +1,6 @@
 -- The channel of a link in a round, by the table of a channel file.
-use Rattle.std.specs.Prelude.{ℕ, zero, suc, ◌==◌, ◌&&◌, nat_le, min, max, if◌then◌else◌, List, [], Option, Some, None, slice_get}
+use Rattle.std.specs.Prelude.{ℕ, zero, suc, ◌==◌, ◌&&◌, nat_le, min, max, if◌then◌else◌, List, [], Option, Some, None}
+use Rattle.std.specs.Prelude.{slice_get}
 use Rattle.std.specs.List.{prefix_len}
 use Rattle.tora_script.specs.declared.channel.channel.Channel.{Channel}
 use Rattle.tora_script.specs.declared.channel.channel.Copies.{Copies}

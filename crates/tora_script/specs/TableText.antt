@@ -1,5 +1,6 @@
 -- The lines of a channel file.
-use Rattle.std.specs.Prelude.{◌≡◌, ℕ, ◌+◌, ◌==◌, min, max, if◌then◌else◌, List, [], ◌∷◌, Option, Some, None, Result, Ok, Err, Vec}
+use Rattle.std.specs.Prelude.{◌≡◌, ℕ, ◌+◌, ◌==◌, min, max, if◌then◌else◌, List, [], ◌∷◌, Option, Some, None, Result, Ok}
+use Rattle.std.specs.Prelude.{Err, Vec}
 use Rattle.tora_lines.specs.Words.{cut, split, number_of, id_of}
 use Rattle.tora_lines.specs.Fronts.{◌>>=◌}
 use Rattle.tora_script.specs.declared.channel.parts.Parts.{Parts}

@@ -1,6 +1,6 @@
 -- A simulation that reports its refusals, as a kind of file.
 use Rattle.tora_world.specs.World.{World}
-use Rattle.tora_script.specs.declared.told_simulation.Told.{Told}
+use Rattle.tora_script.specs.declared.reported_simulation.Told.{Told}
 use Rattle.tora_lines.specs.LineText.{text_from}
 use Rattle.tora_lines.specs.Engine.{Kind}
 use Rattle.tora_lines.specs.Kinds.{long_lines_are_faults}

@@ -6,7 +6,8 @@ use Rattle.tora_seat.specs.declared.item.Item.{Item}
 use Rattle.tora_seat.specs.declared.what.What.{What}
 use Rattle.tora_seat.specs.declared.what.What.TheVariants as Tells
 use Rattle.tora_world.specs.declared.event.Event.{Event}
-use Rattle.tora_world.specs.declared.event.Event.TheVariants.{Need, Tick, Open, Pull, Transmit, Deliver, Pump, CoreTurn, Arm, Restart}
+use Rattle.tora_world.specs.declared.event.Event.TheVariants.{Need, Tick, Open, Pull, Transmit, Deliver, Pump, CoreTurn}
+use Rattle.tora_world.specs.declared.event.Event.TheVariants.{Arm, Restart}
 use Rattle.tora_world.specs.declared.sim_error.SimError.{SimError}
 use Rattle.tora_world.specs.World.{World, datagram}
 use Rattle.tora_script.specs.TraceRecords.{need_record, part_record, mend_record}
@@ -15,7 +16,8 @@ use Rattle.tora_script.specs.Trace.{TraceState, Tells as TellsOf, with_text, wit
 use Rattle.tora_script.specs.Rounds.{is_parted}
 use Rattle.tora_script.specs.SimulationText.{with_parted, without_parted}
 use Rattle.tora_script.specs.declared.script_line.SimulationLine.{SimulationLine}
-use Rattle.tora_script.specs.declared.script_line.SimulationLine.TheVariants.{Happens, Rounds, Part, Mend, Heights, Sent, Taken, Exact, Walk, Rest}
+use Rattle.tora_script.specs.declared.script_line.SimulationLine.TheVariants.{Happens, Rounds, Part, Mend, Heights}
+use Rattle.tora_script.specs.declared.script_line.SimulationLine.TheVariants.{Sent, Taken, Exact, Walk, Rest}
 use Rattle.tora_script.specs.declared.traced.traced_simulator.Before.{Before}
 
 -- the session that an item reports as up

@@ -25,6 +25,7 @@ mod pair_record;
 mod parse;
 mod parted;
 mod replays;
+mod reported_simulation;
 mod rounds;
 mod running_simulation;
 mod script_line;
@@ -33,7 +34,6 @@ mod simulation;
 mod simulation_file;
 mod simulator;
 mod taking;
-mod told_simulation;
 mod trace;
 mod traced;
 mod turns;
@@ -58,6 +58,10 @@ pub use replays::{
     ReplayCause, ReplayFile, replay, replay_cause, replay_fault_is_the_first,
     replay_first_lines_are_read_as_written, replay_lines_are_read_as_written, replay_with,
 };
+pub use reported_simulation::{
+    FaultReports, Told, report_cause, simulate_and_report, simulate_last_and_report,
+    simulate_with_reports,
+};
 pub use rounds::{MOST_PASSES, make_rounds};
 pub use running_simulation::{Running, has_end};
 pub use script_line::SimulationLine;
@@ -67,9 +71,6 @@ pub use simulation_file::{
     first_line, simulate_in, simulation_fault_is_the_first, take_link, take_mark,
 };
 pub use simulator::Simulator;
-pub use told_simulation::{
-    Reports, Told, simulate_telling, simulate_telling_last, simulate_told, tell_cause,
-};
 pub use trace::{HeightText, HopText, Trace};
 pub use traced::{TraceOut, Traced, Tracing, Watched, simulate_traced};
 pub use turns::{

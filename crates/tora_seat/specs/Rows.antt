@@ -1,5 +1,6 @@
 -- The state of a seat: the core, a row for each neighbour, and the results of the last item.
-use Rattle.std.specs.Prelude.{ℕ, ◌==◌, ◌+◌, Bool, false, if◌then◌else◌, List, [], ◌∷◌, map, find, option_map, is_some, is_none, ◌&&◌, ◌||◌, Option, None, Some}
+use Rattle.std.specs.Prelude.{ℕ, ◌==◌, ◌+◌, Bool, false, if◌then◌else◌, List, [], ◌∷◌, map, find, option_map, is_some}
+use Rattle.std.specs.Prelude.{is_none, ◌&&◌, ◌||◌, Option, None, Some}
 use Rattle.tora_arq.specs.declared.life.Life.{Life}
 use Rattle.tora_core.specs.declared.Input.{Input}
 use Rattle.tora_core.specs.CoreRun.{CoreView}

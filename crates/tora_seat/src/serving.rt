@@ -176,7 +176,8 @@ impl BareSeat {
         requires room { length self.old.inputs ≤ 0 }
         ensures count { O.count outs.new ≡ O.count outs.old }
         ensures goes { SeatGoes O.did_offer (λ answers ks v. after_up answers ks peer.id life now
-            (after_old_down answers ks peer.id now v (v.seat.current peer.id))) now self.old outs.old self.new outs.new }
+            (after_old_down answers ks peer.id now v (v.seat.current peer.id)))
+            now self.old outs.old self.new outs.new }
     {
         self.on_old_end(peer, now, sends, outs);
         let is_settled = self.is_settled();

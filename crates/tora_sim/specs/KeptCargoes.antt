@@ -1,6 +1,7 @@
 -- Compressed cargoes: their origins (session, and node of the height) are in one list, and cargoes with large numbers
 -- are in another, uncompressed.
-use Rattle.std.specs.Prelude.{◌≡◌, ℕ, suc, ◌+◌, ◌*◌, ◌<◌, Bool, List, Option, None, Some, length, slice_get, if◌then◌else◌}
+use Rattle.std.specs.Prelude.{◌≡◌, ℕ, suc, ◌+◌, ◌*◌, ◌<◌, Bool, List, Option, None, Some, length, slice_get}
+use Rattle.std.specs.Prelude.{if◌then◌else◌}
 use Rattle.tora_height.specs.Height.{quintuple}
 use Rattle.tora_packet.specs.PacketParts.{IsId, IsUpdate, update_of}
 use Rattle.tora_packet.specs.declared.Packet.TheVariants.{Qry, Upd, Clr}

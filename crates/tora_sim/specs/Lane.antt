@@ -1,5 +1,6 @@
 -- The queue (lane) from a core to a link end.
-use Rattle.std.specs.Prelude.{◌≡◌, ◌==◌, ◌<◌, ◌≤◌, ◌⊎◌, ℕ, ◌+◌, List, ◌++◌, length, nat_lt, Bool, drop, take, slice_index, if◌then◌else◌}
+use Rattle.std.specs.Prelude.{◌≡◌, ◌==◌, ◌<◌, ◌≤◌, ◌⊎◌, ℕ, ◌+◌, List, ◌++◌, length, nat_lt, Bool, drop, take}
+use Rattle.std.specs.Prelude.{slice_index, if◌then◌else◌}
 use Rattle.tora_seat.specs.declared.cargo.Cargo.{Cargo}
 use Rattle.tora_seat.specs.declared.TheConstants.{MOST_CARGOES}
 use Rattle.tora_sim.specs.declared.store.inline_cargoes.TheConstants.{INLINE_CARGOES}

@@ -1,5 +1,6 @@
 -- A stored link end.
-use Rattle.std.specs.Prelude.{ℕ, ◌==◌, ◌&&◌, ◌<◌, ◌+◌, ◌≡◌, ◌⊎◌, suc, Bool, List, Option, None, Some, drop, length, slice_get, if◌then◌else◌}
+use Rattle.std.specs.Prelude.{ℕ, ◌==◌, ◌&&◌, ◌<◌, ◌+◌, ◌≡◌, ◌⊎◌, suc, Bool, List, Option, None, Some, drop, length}
+use Rattle.std.specs.Prelude.{slice_get, if◌then◌else◌}
 use Rattle.tora_sim.specs.Keyed.{IsOrdered}
 use Rattle.std.specs.Ordering.{nat_cmp, ordering_then}
 use Rattle.std.specs.declared.cmp.Ordering.{Ordering}

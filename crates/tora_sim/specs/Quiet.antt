@@ -1,5 +1,6 @@
 -- Worlds in which nothing is to be done, and the deadlines of link ends.
-use Rattle.std.specs.Prelude.{◌≡◌, ℕ, ◌+◌, ◌<◌, ◌≤◌, ◌⊎◌, ◌==◌, Bool, true, false, is_some, List, length, slice_get, slice_index, slice_set, Some}
+use Rattle.std.specs.Prelude.{◌≡◌, ℕ, ◌+◌, ◌<◌, ◌≤◌, ◌⊎◌, ◌==◌, Bool, true, false, is_some, List, length, slice_get}
+use Rattle.std.specs.Prelude.{slice_index, slice_set, Some}
 use Rattle.tora_arq.specs.Settings.{Settings}
 use Rattle.tora_arq.specs.LinkEnd.{EndState, is_closed, first_event, frame_due, after_tick}
 use Rattle.tora_world.specs.declared.event.Event.TheVariants.{Open, Pull, Transmit, Pump, CoreTurn}

@@ -1,5 +1,6 @@
 -- Datagrams as places of stored frames: HELLOs are in a list of their own, each once for both versions.
-use Rattle.std.specs.Prelude.{ℕ, ◌-◌, nat_lt, if◌then◌else◌, min, List, Vec, length, slice_get, vec_capacity, Option, None, IsSome, option_map}
+use Rattle.std.specs.Prelude.{ℕ, ◌-◌, nat_lt, if◌then◌else◌, min, List, Vec, length, slice_get, vec_capacity, Option}
+use Rattle.std.specs.Prelude.{None, IsSome, option_map}
 use Rattle.std.specs.List.{AllByRecursion, filter_map}
 use Rattle.tora_frame.specs.declared.parts.Header.{Header}
 use Rattle.tora_frame.specs.declared.parts.Version.{Version}
@@ -11,13 +12,20 @@ use Rattle.tora_sim.specs.Datagrams.{DatagramList}
 
 -- a header in another version
 abbrev pub in_version : Version → Header → Header
-in_version version h = record { version = version; sender = h.sender; receiver = h.receiver; life = h.life; heard = h.heard }
+in_version version h = record {
+  version = version;
+  sender = h.sender;
+  receiver = h.receiver;
+  life = h.life;
+  heard = h.heard;
+}
 
 -- the header of the HELLO at this place: those of version 1 come first, then those of version 2
 abbrev pub hello_at : List Header → ℕ → Option Header
 hello_at kept place =
     if nat_lt place FIRST_HELLO then None
-    else (if nat_lt (place - FIRST_HELLO) MOST_HELLOS then option_map (in_version One) (slice_get kept (place - FIRST_HELLO))
+    else (if nat_lt (place - FIRST_HELLO) MOST_HELLOS
+    then option_map (in_version One) (slice_get kept (place - FIRST_HELLO))
     else option_map (in_version Two) (slice_get kept ((place - FIRST_HELLO) - MOST_HELLOS)))
 
 -- the frame at this place

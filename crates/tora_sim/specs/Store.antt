@@ -1,5 +1,6 @@
 -- The data that the simulator stores, and the world that it represents.
-use Rattle.std.specs.Prelude.{◌≡◌, ℕ, zero, suc, ◌≤◌, ◌+◌, true, false, is_some, List, [], length, slice_get, slice_index, map, Option, Some, None, find}
+use Rattle.std.specs.Prelude.{◌≡◌, ℕ, zero, suc, ◌≤◌, ◌+◌, true, false, is_some, List, [], length, slice_get}
+use Rattle.std.specs.Prelude.{slice_index, map, Option, Some, None, find}
 use Rattle.tora_frame.specs.FrameParts.{FrameParts}
 use Rattle.tora_arq.specs.declared.times.Times.{Times}
 use Rattle.tora_arq.specs.Settings.{settings_of}

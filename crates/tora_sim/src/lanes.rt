@@ -12,7 +12,7 @@ use crate::SimError;
 use crate::link_slot::LinkSlot;
 use crate::ready::{is_ready, set_ready};
 use crate::store::Pool;
-use crate::unready::{Lacking, Unready, unready_range};
+use crate::unready::{EndsWithoutRoom, Unready, unready_range};
 use std::marker::Model;
 use tora_seat::{Cargo, OutLanes, Stepped};
 
@@ -134,7 +134,7 @@ pub fn make_room(
     pool: &mut Pool,
     first: usize,
     count: usize,
-) -> Result<Lacking, SimError>
+) -> Result<EndsWithoutRoom, SimError>
     requires within { first + count ≤ length links.old.items }
     requires marks { AreReadyEach ready.old.items links.old.items }
     ensures same { AreAlike links.old.items links.new.items }
@@ -153,7 +153,7 @@ pub fn make_room(
         let at = first + place;
         make_room_at(links, ready, at)?;
     }
-    Ok(Lacking {
+    Ok(EndsWithoutRoom {
         unready: unready_range(ready, first, count),
         seat: count,
     })

@@ -173,7 +173,9 @@ impl LinkSlot {
     /// Records a packet that the node's core took from the peer, with its session.
     pub fn note_step(&mut self, life: Life, packet: Packet)
         requires { length self.old.steps < self.old.step_room }
-        ensures { self.new ≡ record self.old { steps = self.old.steps ++ record { life = life; packet = packet } ∷ [] } }
+        ensures { self.new ≡ record self.old {
+          steps = self.old.steps ++ record { life = life; packet = packet } ∷ [];
+        } }
     {
         self.parts.note_step(life, packet);
     }

@@ -316,7 +316,9 @@ impl LinkParts {
     /// Records a packet of the peer that the node's core stepped, with its session.
     pub fn note_step(&mut self, life: Life, packet: Packet)
         requires { length self.old.steps < self.old.step_room }
-        ensures { self.new ≡ record self.old { steps = self.old.steps ++ record { life = life; packet = packet } ∷ [] } }
+        ensures { self.new ≡ record self.old {
+          steps = self.old.steps ++ record { life = life; packet = packet } ∷ [];
+        } }
     {
         self.steps.push(&Cargo::Packet(life, packet));
     }

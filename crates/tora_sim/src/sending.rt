@@ -213,7 +213,8 @@ pub fn note_sent(
 )
     requires { HasRoom datagrams.old }
     ensures node { node.new ≡ record node.old { sending = Sending.Goes } }
-    ensures datagrams { datagrams.new.items ≡ with_datagram (sending_of node.old.sending) datagrams.old.items frame.now }
+    ensures datagrams { datagrams.new.items
+        ≡ with_datagram (sending_of node.old.sending) datagrams.old.items frame.now }
 {
     match node.sending() {
         Sending::Goes => datagrams.push(end, far_end, frame),

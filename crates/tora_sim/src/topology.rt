@@ -90,7 +90,8 @@ impl Topology {
     ) -> Result<Topology, CoreError>
         requires { AreNumbers (topology_of links.now destinations.now) }
         ensures made { IfOk result (λ t. t ≡ topology_of links.now destinations.now) }
-        ensures sound { IfOk result (λ _. topology_fault_within limits (topology_of links.now destinations.now) ≡ None) }
+        ensures sound { IfOk result (λ _.
+            topology_fault_within limits (topology_of links.now destinations.now) ≡ None) }
         ensures fault { IfErr result (λ e. ((e ≡ CoreError.Memory)
             × (topology_fault_within limits (topology_of links.now destinations.now) ≡ None))
             ⊎ (topology_fault_within limits (topology_of links.now destinations.now) ≡ Some e)) }

@@ -15,7 +15,7 @@ use crate::link_slot::LinkSlot;
 use crate::nodes::NodeSlot;
 use crate::ready::set_ready;
 use crate::store::Pool;
-use crate::unready::{Lacking, Unready};
+use crate::unready::{EndsWithoutRoom, Unready};
 use std::mem;
 use tora_core::Sends;
 use tora_seat::offers_are_their_own_answers;
@@ -29,7 +29,7 @@ use tora_seat::offers_are_their_own_answers;
 pub fn turn(
     node: &mut NodeSlot,
     links: &mut Vec<LinkSlot>,
-    lacking: &mut Lacking,
+    lacking: &mut EndsWithoutRoom,
     pool: &mut Pool,
     sends: &mut Sends,
 ) -> Result<(), SimError>
@@ -108,7 +108,7 @@ fn make_room_again(
 pub fn take_items(
     node: &mut NodeSlot,
     links: &mut Vec<LinkSlot>,
-    lacking: &mut Lacking,
+    lacking: &mut EndsWithoutRoom,
     pool: &mut Pool,
     sends: &mut Sends,
     most: u64,

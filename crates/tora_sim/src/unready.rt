@@ -15,7 +15,7 @@ pub struct Unready {
 
 /// The link ends of a node that may lack memory for one more item.
 #[derive(Clone, Copy, Debug)]
-pub struct Lacking {
+pub struct EndsWithoutRoom {
     /// Those that may not be ready.
     pub unready: Unready,
     /// The only one that may lack room in its queue, by its index among the node's ends.

@@ -1,5 +1,6 @@
 -- The status and the output of a run over a file of lines.
-use Rattle.std.specs.Prelude.{◌≡◌, ◌≢◌, ◌⊎◌, ℕ, Bool, false, List, Option, Some, None, Result, Ok, Err, IfOk, IfErr, IfSome}
+use Rattle.std.specs.Prelude.{◌≡◌, ◌≢◌, ◌⊎◌, ℕ, Bool, false, List, Option, Some, None, Result, Ok, Err, IfOk, IfErr}
+use Rattle.std.specs.Prelude.{IfSome}
 use Rattle.std.specs.declared.io.Error.{Error}
 use Rattle.std.specs.Io.KnownBytes.{IsAtEnd}
 use Rattle.tora_lines.specs.Reads.{Given, IsReadSo}
@@ -14,8 +15,8 @@ use Rattle.tora_lines.specs.declared.ended.ReplayError.TheVariants.{Write}
 use Rattle.tora_simulate.specs.Flushing.{IsFlushed}
 
 -- The status is that of an end of the engine over this reader: the whole text of its input was written, or a front of
--- it if memory ran out or a read failed, and then the writer was flushed. If the end says that a read or a write failed,
--- one did. If a trace is lost, the status is not 0.
+-- it if memory ran out or a read failed, and then the writer was flushed. If the end says that a read or a write
+-- failed, one did. If a trace is lost, the status is not 0.
 pub record EndsWith {R W : Type 0} (text : List ℕ → Text) (remaining : R → Option (List ℕ))
     (did_read : R → Given → R → Type 0)
     (contents : W → Option (List ℕ)) (did_write : W → List ℕ → Bool → W → Type 0) (did_flush : W → Bool → W → Type 0)

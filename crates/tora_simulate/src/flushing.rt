@@ -12,13 +12,13 @@ use std::alloc::Global;
 use std::io;
 use tora_lines::{Ended, Input, Output, ReplayError, flushed};
 use tora_script::{
-    ChannelTable, Reports, Setup, Simulator, simulate_telling, simulate_telling_last,
+    ChannelTable, FaultReports, Setup, Simulator, simulate_and_report, simulate_last_and_report,
 };
 
 /// Simulates with this setup, over the channel that the table gives, then flushes the writer. It reports the cause of a
 /// fault and, if asked to, refused events. The error is `Write` if only the flush fails.
-pub fn simulate_telling_and_flush<S: Simulator, T: Eprint, R: Input, W: Output>(
-    reports: Reports<'_, T>,
+pub fn simulate_report_and_flush<S: Simulator, T: Eprint, R: Input, W: Output>(
+    reports: FaultReports<'_, T>,
     alloc: Global,
     setup: Setup,
     table: ChannelTable,
@@ -37,14 +37,14 @@ pub fn simulate_telling_and_flush<S: Simulator, T: Eprint, R: Input, W: Output>(
     ensures reads { IsReadSo R.did_read reader.old reader.new result }
     ensures flushed { IsFlushed W.did_write W.did_flush result writer.new }
 {
-    let ended = simulate_telling::<S, T, R, W>(reports, alloc, setup, table, reader, writer);
+    let ended = simulate_and_report::<S, T, R, W>(reports, alloc, setup, table, reader, writer);
     flushed(writer, ended)
 }
 
-/// As `simulate_telling_and_flush`, for a program that ends afterwards: the memory of the world is not freed
-/// (`simulate_telling_last`).
+/// As `simulate_report_and_flush`, for a program that ends afterwards: the memory of the world is not freed
+/// (`simulate_last_and_report`).
 pub fn simulate_last_and_flush<S: Simulator, T: Eprint, R: Input, W: Output>(
-    reports: Reports<'_, T>,
+    reports: FaultReports<'_, T>,
     alloc: Global,
     setup: Setup,
     table: ChannelTable,
@@ -63,7 +63,9 @@ pub fn simulate_last_and_flush<S: Simulator, T: Eprint, R: Input, W: Output>(
     ensures reads { IsReadSo R.did_read reader.old reader.new result }
     ensures flushed { IsFlushed W.did_write W.did_flush result writer.new }
 {
-    let ended = simulate_telling_last::<S, T, R, W>(reports, alloc, setup, table, reader, writer);
+    let ended = simulate_last_and_report::<S, T, R, W>(
+        reports, alloc, setup, table, reader, writer,
+    );
     flushed(writer, ended)
 }
 

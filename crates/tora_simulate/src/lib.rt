@@ -9,14 +9,14 @@
 mod flushing;
 mod paths;
 mod recent;
+mod reporting;
 pub mod sim_command;
 mod simulated;
 mod statuses;
-mod telling;
 
-pub use flushing::{simulate_last_and_flush, simulate_telling_and_flush, write_through};
+pub use flushing::{simulate_last_and_flush, simulate_report_and_flush, write_through};
 pub use paths::{Opened, Paths, bytes_at, text_at};
 pub use recent::Recent;
+pub use reporting::{report, report_at};
 pub use simulated::{simulate, simulate_with};
 pub use statuses::{INPUT, LIFE, MEMORY, SOCKET, USAGE, status, stop};
-pub use telling::{tell, tell_at};

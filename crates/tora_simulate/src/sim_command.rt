@@ -10,13 +10,13 @@ ghost use Rattle.tora_script.specs.SimulationText.{rules_with};
 use crate::flushing::simulate_last_and_flush;
 use crate::paths::{Opened, Paths};
 use crate::recent::Recent;
+use crate::reporting::{report as report_error, report_at};
 use crate::statuses::{INPUT, MEMORY, status, stop};
-use crate::telling::{tell as tell_error, tell_at};
 use std::io;
 use std::io::ErrorKind;
 use std::process::ExitCode;
 use tora_lines::{Ended, Input, LONGEST_LINE, Output, ReplayError};
-use tora_script::{ChannelTable, Reports, Setup, SimulationCause, Simulator, tell_cause};
+use tora_script::{ChannelTable, FaultReports, Setup, SimulationCause, Simulator, report_cause};
 
 /// Reports why a file is not available, and returns the status of the cause. It reports the cause without `-v`, too.
 pub fn refuse<R: Eprint>(rt: &R, path: &str, error: &io::Error) -> ExitCode
@@ -26,21 +26,25 @@ pub fn refuse<R: Eprint>(rt: &R, path: &str, error: &io::Error) -> ExitCode
         return stop(rt, MEMORY, "memory");
     }
     let code = stop(rt, INPUT, "input");
-    tell_at(rt, "input: ", path, error);
+    report_at(rt, "input: ", path, error);
     code
 }
 
 /// Reports that a line is too long, or what failed. All other faults were reported when they came.
-pub fn tell<T: Eprint, R: Input>(rt: &T, reader: &Recent<R>, ended: Result<Ended, ReplayError>) {
+pub fn report_end<T: Eprint, R: Input>(
+    rt: &T,
+    reader: &Recent<R>,
+    ended: Result<Ended, ReplayError>,
+) {
     match ended {
         Ok(Ended::Whole) => {}
         Ok(Ended::Fault(number)) => {
             let len = reader.line(number).map_or(0, |line| line.len());
             if len > LONGEST_LINE {
-                tell_cause(rt, number, SimulationCause::TooLong);
+                report_cause(rt, number, SimulationCause::TooLong);
             }
         }
-        Err(error) => tell_error(rt, &error),
+        Err(error) => report_error(rt, &error),
     }
 }
 
@@ -49,7 +53,7 @@ pub fn tell<T: Eprint, R: Input>(rt: &T, reader: &Recent<R>, ended: Result<Ended
 /// why a line is a fault and what failed, and, if asked to, why events are refused. The program ends afterwards, so the
 /// memory of the world is not freed.
 pub fn run_over<S: Simulator, T: AllocGlobal + Eprint, R: Input + Drop, W: Output>(
-    reports: Reports<'_, T>,
+    reports: FaultReports<'_, T>,
     setup: Setup,
     table: ChannelTable,
     reader: R,
@@ -70,7 +74,7 @@ pub fn run_over<S: Simulator, T: AllocGlobal + Eprint, R: Input + Drop, W: Outpu
         &mut reader,
         writer,
     );
-    tell(rt, &reader, result);
+    report_end(rt, &reader, result);
     status(rt, result)
 }
 
@@ -90,7 +94,7 @@ pub fn run<S: Simulator, T: Paths + AllocGlobal + Eprint, W: Output>(
 {
     match rt.open_path(path) {
         Ok(file) => run_over::<S, T, Opened<'_, T>, W>(
-            Reports { rt, is_verbose },
+            FaultReports { rt, is_verbose },
             setup,
             table,
             Opened::new(rt, file),

@@ -3,7 +3,7 @@ ghost use Rattle.std.specs.Prelude.{◌≡◌};
 ghost use Rattle.std.specs.Process.{exit_status};
 ghost use Rattle.tora_simulate.specs.Statuses.{status_of};
 
-use crate::telling::tell;
+use crate::reporting::report;
 use std::process::ExitCode;
 use tora_lines::{Ended, ReplayError};
 
@@ -27,7 +27,7 @@ pub const MEMORY: u8 = 5;
 pub fn stop(rt: &impl Eprint, status: u8, cause: &str) -> ExitCode
     ensures { exit_status result ≡ status }
 {
-    tell(rt, &cause);
+    report(rt, &cause);
     ExitCode::from(status)
 }
 

@@ -10,7 +10,8 @@ use Rattle.tora_world.specs.declared.event.Event.{Event}
 use Rattle.tora_world.specs.declared.event.Event.TheVariants.{Restart}
 use Rattle.tora_world.specs.Topology.{is_link}
 use Rattle.tora_world.specs.LinkMachine.{put_at}
-use Rattle.tora_world.specs.World.{World, Choice, settings, with_end, with_item, after_pump, world_by, own_choice, world_after}
+use Rattle.tora_world.specs.World.{World, Choice, settings, with_end, with_item, after_pump, world_by, own_choice}
+use Rattle.tora_world.specs.World.{world_after}
 
 -- ---- the events
 

@@ -1,5 +1,6 @@
 -- What a core broadcasts to a neighbour, compared with what was sent.
-use Rattle.std.specs.Prelude.{◌≡◌, ℕ, ◌==◌, ◌⊎◌, Bool, true, false, is_some, if◌then◌else◌, List, [], ◌∷◌, ◌++◌, slice_get, Option, Some, None}
+use Rattle.std.specs.Prelude.{◌≡◌, ℕ, ◌==◌, ◌⊎◌, Bool, true, false, is_some, if◌then◌else◌, List, [], ◌∷◌, ◌++◌}
+use Rattle.std.specs.Prelude.{slice_get, Option, Some, None}
 use Rattle.tora_packet.specs.declared.Packet.{Packet}
 use Rattle.tora_arq.specs.declared.life.Life.{Life}
 use Rattle.tora_arq.specs.declared.times.Times.{Times}
@@ -11,7 +12,8 @@ use Rattle.tora_seat.specs.declared.what.What.{What}
 use Rattle.tora_seat.specs.declared.what.What.TheVariants as Tells
 use Rattle.tora_seat.specs.declared.item.Item.{Item}
 use Rattle.tora_world.specs.declared.event.Event.{Event}
-use Rattle.tora_world.specs.declared.event.Event.TheVariants.{Need, Tick, Open, Pull, Transmit, Deliver, Pump, CoreTurn, Arm, Restart}
+use Rattle.tora_world.specs.declared.event.Event.TheVariants.{Need, Tick, Open, Pull, Transmit, Deliver, Pump, CoreTurn}
+use Rattle.tora_world.specs.declared.event.Event.TheVariants.{Arm, Restart}
 use Rattle.tora_world.specs.Topology.{Topology, IsWithinLimits, new_core, is_link}
 use Rattle.tora_world.specs.Lists.{Begins}
 use Rattle.tora_world.specs.World.{World, Choice, first_world, neighbours, refusal_by, sent_packets}

@@ -11,7 +11,8 @@ use Rattle.tora_seat.specs.declared.item.Item.{Item}
 use Rattle.tora_seat.specs.declared.answer.Answer.TheVariants as Says
 use Rattle.tora_seat.specs.Serving.{Parcel, Answers, serving_of}
 use Rattle.tora_world.specs.declared.event.Event.{Event}
-use Rattle.tora_world.specs.declared.event.Event.TheVariants.{Need, Tick, Open, Pull, Transmit, Deliver, Pump, CoreTurn, Arm, Restart}
+use Rattle.tora_world.specs.declared.event.Event.TheVariants.{Need, Tick, Open, Pull, Transmit, Deliver, Pump, CoreTurn}
+use Rattle.tora_world.specs.declared.event.Event.TheVariants.{Arm, Restart}
 use Rattle.tora_world.specs.World.{World, Choice, neighbours, refusal_by}
 use Rattle.tora_world.specs.FreeWorld.{FreeEvent, if_happens, free_by, Schedule}
 

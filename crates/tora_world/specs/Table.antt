@@ -1,6 +1,7 @@
 -- The table of docs/simulation.md as a relation: a case for each event and each outcome, with the changes, and with
 -- everything else unchanged.
-use Rattle.std.specs.Prelude.{◌≡◌, ◌≢◌, ◌↔◌, ◌⊎◌, ℕ, suc, ◌+◌, ◌<◌, ◌≤◌, Bool, true, false, List, [], ◌∷◌, ◌++◌, length, Option, Some, None}
+use Rattle.std.specs.Prelude.{◌≡◌, ◌≢◌, ◌↔◌, ◌⊎◌, ℕ, suc, ◌+◌, ◌<◌, ◌≤◌, Bool, true, false, List, [], ◌∷◌, ◌++◌, length}
+use Rattle.std.specs.Prelude.{Option, Some, None}
 use Rattle.tora_packet.specs.declared.Packet.{Packet}
 use Rattle.tora_frame.specs.FrameParts.{FrameParts}
 use Rattle.tora_arq.specs.declared.life.Life.{Life}
@@ -8,7 +9,8 @@ use Rattle.tora_arq.specs.declared.reason.Reason.{Reason}
 use Rattle.tora_arq.specs.declared.link_event.LinkEvent.{LinkEvent}
 use Rattle.tora_arq.specs.declared.link_event.LinkEvent.TheVariants as Link
 use Rattle.tora_arq.specs.declared.phase.Phase.TheVariants.{Closed}
-use Rattle.tora_arq.specs.LinkEnd.{first_end, after_open, after_frame, after_tick, after_submit, after_cut, first_event, after_poll_event, frame_due, after_transmit}
+use Rattle.tora_arq.specs.LinkEnd.{first_end, after_open, after_frame, after_tick, after_submit, after_cut, first_event}
+use Rattle.tora_arq.specs.LinkEnd.{after_poll_event, frame_due, after_transmit}
 use Rattle.tora_core.specs.Numbers.{has_number}
 use Rattle.tora_life.specs.declared.state.DiskCall.TheVariants as Disk
 use Rattle.tora_life.specs.State.{after_crash}
@@ -22,13 +24,15 @@ use Rattle.tora_seat.specs.declared.cargo.Cargo.TheVariants as Gives
 use Rattle.tora_seat.specs.Serving.{Offer, serving_of, put_to}
 use Rattle.tora_seat.specs.declared.TheConstants.{MOST_ITEMS, MOST_CARGOES}
 use Rattle.tora_world.specs.declared.event.Event.{Event}
-use Rattle.tora_world.specs.declared.event.Event.TheVariants.{Need, Tick, Open, Pull, Transmit, Deliver, Pump, CoreTurn, Arm, Restart}
+use Rattle.tora_world.specs.declared.event.Event.TheVariants.{Need, Tick, Open, Pull, Transmit, Deliver, Pump, CoreTurn}
+use Rattle.tora_world.specs.declared.event.Event.TheVariants.{Arm, Restart}
 use Rattle.tora_world.specs.declared.call.Call.TheVariants as Fails
 use Rattle.tora_world.specs.declared.sim_error.SimError.{SimError}
 use Rattle.tora_world.specs.declared.sim_error.SimError.TheVariants as Refused
 use Rattle.tora_world.specs.Topology.{is_node, is_link}
 use Rattle.tora_world.specs.World.{World, Choice, Goes, IsLost, IsGone, first_seat, settings, neighbours, command_seat}
-use Rattle.tora_world.specs.Frames.{Clock, Seats, Ends, Files, Items, Counts, Cargoes, Armed, Datagrams, Put, Inputs, Steps, AllElse, ChangesAt, ChangesAtEnd, ChangesFiles, PutsItem, LeavesServed}
+use Rattle.tora_world.specs.Frames.{Clock, Seats, Ends, Files, Items, Counts, Cargoes, Armed, Datagrams, Put, Inputs}
+use Rattle.tora_world.specs.Frames.{Steps, AllElse, ChangesAt, ChangesAtEnd, ChangesFiles, PutsItem, LeavesServed}
 
 -- ---- terms of the rows
 

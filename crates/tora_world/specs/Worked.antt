@@ -6,7 +6,8 @@ use Rattle.tora_arq.specs.declared.life.Life.{Life}
 use Rattle.tora_arq.specs.declared.times.Times.{Times}
 use Rattle.tora_core.specs.declared.erasure.Erasure.TheVariants.{Plain}
 use Rattle.tora_world.specs.declared.event.Event.{Event}
-use Rattle.tora_world.specs.declared.event.Event.TheVariants.{Need, Open, Pull, Transmit, Deliver, Pump, CoreTurn, Restart}
+use Rattle.tora_world.specs.declared.event.Event.TheVariants.{Need, Open, Pull, Transmit, Deliver, Pump, CoreTurn}
+use Rattle.tora_world.specs.declared.event.Event.TheVariants.{Restart}
 use Rattle.tora_world.specs.Topology.{Topology}
 use Rattle.tora_world.specs.LinkMachine.{MachineStep}
 use Rattle.tora_world.specs.LinkMachine.MachineStep.{Draw, Bind, Send, Take, Close}

@@ -6,10 +6,12 @@ use Rattle.tora_seat.specs.declared.item.Item.{Item}
 use Rattle.tora_seat.specs.declared.cargo.Cargo.TheVariants as Gives
 use Rattle.tora_seat.specs.declared.what.What.TheVariants as Tells
 use Rattle.tora_world.specs.declared.event.Event.{Event}
-use Rattle.tora_world.specs.declared.event.Event.TheVariants.{Need, Tick, Open, Pull, Transmit, Deliver, Pump, CoreTurn, Arm, Restart}
+use Rattle.tora_world.specs.declared.event.Event.TheVariants.{Need, Tick, Open, Pull, Transmit, Deliver, Pump, CoreTurn}
+use Rattle.tora_world.specs.declared.event.Event.TheVariants.{Arm, Restart}
 use Rattle.tora_world.specs.declared.call.Call.TheVariants as Fails
 use Rattle.tora_world.specs.declared.sim_error.SimError.TheVariants as Refused
-use Rattle.tora_world.specs.World.{World, Goes, first_seat, sent_packets, taken_packets, own_answers, refusal_of, world_after_all}
+use Rattle.tora_world.specs.World.{World, Goes, first_seat, sent_packets, taken_packets, own_answers, refusal_of}
+use Rattle.tora_world.specs.World.{world_after_all}
 use Rattle.tora_world.specs.Worked.{pair, start, life, update, binding, meeting}
 
 abbrev pub copies : {A : Type 0} → ℕ → A → List A

@@ -1,5 +1,6 @@
 -- Examples of the events that only threads make, computed on two nodes: each has an effect.
-use Rattle.std.specs.Prelude.{◌≡◌, ℕ, ◌≤◌, ◌++◌, max, refl, true, false, if◌then◌else◌, List, [], ◌∷◌, length, Some, None}
+use Rattle.std.specs.Prelude.{◌≡◌, ℕ, ◌≤◌, ◌++◌, max, refl, true, false, if◌then◌else◌, List, [], ◌∷◌, length, Some}
+use Rattle.std.specs.Prelude.{None}
 use Rattle.std.proofs.Common.{arith, ap, ap₂, sym, ◌∙◌, subst}
 use Rattle.std.proofs.lemmas.Bool.{cond_both}
 use Rattle.tora_arq.specs.declared.link_event.LinkEvent.TheVariants.{Down}

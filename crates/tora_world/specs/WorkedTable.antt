@@ -9,7 +9,8 @@ use Rattle.tora_seat.specs.declared.cargo.Cargo.TheVariants as Gives
 use Rattle.tora_seat.specs.declared.what.What.TheVariants as Tells
 use Rattle.tora_core.specs.declared.erasure.Erasure.TheVariants.{Plain}
 use Rattle.tora_world.specs.declared.event.Event.{Event}
-use Rattle.tora_world.specs.declared.event.Event.TheVariants.{Need, Tick, Open, Pull, Transmit, Deliver, Pump, CoreTurn, Arm, Restart}
+use Rattle.tora_world.specs.declared.event.Event.TheVariants.{Need, Tick, Open, Pull, Transmit, Deliver, Pump, CoreTurn}
+use Rattle.tora_world.specs.declared.event.Event.TheVariants.{Arm, Restart}
 use Rattle.tora_world.specs.declared.call.Call.TheVariants as Fails
 use Rattle.tora_world.specs.declared.sim_error.SimError.TheVariants as Refused
 use Rattle.tora_world.specs.Topology.{Topology}

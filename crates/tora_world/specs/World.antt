@@ -1,12 +1,14 @@
 -- The simulated world: all nodes, their links and all datagrams, and the effect of each event.
-use Rattle.std.specs.Prelude.{ℕ, zero, suc, ◌==◌, ◌&&◌, Bool, true, false, not, is_some, nat_lt, if◌then◌else◌, List, [], ◌∷◌, ◌++◌, length, slice_get, Option, Some, None}
+use Rattle.std.specs.Prelude.{ℕ, zero, suc, ◌==◌, ◌&&◌, Bool, true, false, not, is_some, nat_lt, if◌then◌else◌, List}
+use Rattle.std.specs.Prelude.{[], ◌∷◌, ◌++◌, length, slice_get, Option, Some, None}
 use Rattle.tora_packet.specs.declared.Packet.{Packet}
 use Rattle.tora_frame.specs.FrameParts.{FrameParts}
 use Rattle.tora_arq.specs.declared.life.Life.{Life}
 use Rattle.tora_arq.specs.declared.times.Times.{Times}
 use Rattle.tora_arq.specs.declared.link_event.LinkEvent.{LinkEvent}
 use Rattle.tora_arq.specs.Settings.{Settings, settings_of}
-use Rattle.tora_arq.specs.LinkEnd.{EndState, first_end, is_closed, after_open, after_frame, after_tick, first_event, after_poll_event, frame_due, after_transmit}
+use Rattle.tora_arq.specs.LinkEnd.{EndState, first_end, is_closed, after_open, after_frame, after_tick, first_event}
+use Rattle.tora_arq.specs.LinkEnd.{after_poll_event, frame_due, after_transmit}
 use Rattle.tora_core.specs.declared.Input.{Input}
 use Rattle.tora_life.specs.declared.state.DiskCall.TheVariants as Disk
 use Rattle.tora_life.specs.declared.state.DiskCall.{DiskCall}
@@ -22,7 +24,8 @@ use Rattle.tora_seat.specs.declared.cargo.Cargo.{Cargo}
 use Rattle.tora_seat.specs.Serving.{SeatState, Parcel, Answers, Serving, put_one, serving_of, put_to, stepped_from}
 use Rattle.tora_seat.specs.declared.TheConstants.{MOST_ITEMS, MOST_CARGOES}
 use Rattle.tora_world.specs.declared.event.Event.{Event}
-use Rattle.tora_world.specs.declared.event.Event.TheVariants.{Need, Tick, Open, Pull, Transmit, Deliver, Pump, CoreTurn, Arm, Restart}
+use Rattle.tora_world.specs.declared.event.Event.TheVariants.{Need, Tick, Open, Pull, Transmit, Deliver, Pump, CoreTurn}
+use Rattle.tora_world.specs.declared.event.Event.TheVariants.{Arm, Restart}
 use Rattle.tora_world.specs.declared.call.Call.{Call}
 use Rattle.tora_world.specs.declared.call.Call.TheVariants as Fails
 use Rattle.tora_world.specs.declared.sim_error.SimError.{SimError}

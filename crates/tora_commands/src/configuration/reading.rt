@@ -7,11 +7,14 @@ ghost use Rattle.toml.specs.Data.{Data, Members, as_integer};
 ghost use Rattle.toml.specs.Parse.{parse_document};
 ghost use Rattle.toml.specs.View.{view, table_view};
 ghost use Rattle.tora_core.specs.CoreRun.{core_refusal};
-ghost use Rattle.tora_commands.specs.NodeConfig.{IsLinkConfig, IsNodeConfig, IsAscending, peers_of, IsListAt, AreLinksOf};
+ghost use Rattle.tora_commands.specs.NodeConfig.{IsLinkConfig, IsNodeConfig, IsAscending, peers_of, IsListAt};
+ghost use Rattle.tora_commands.specs.NodeConfig.{AreLinksOf};
 ghost use Rattle.tora_commands.specs.NodeConfig.{says_of_link, said_link, IsWritten};
 ghost use Rattle.tora_commands.specs.ConfigRefusal.{unknown_key, unknown_link_key};
-ghost use Rattle.tora_commands.specs.ConfigReading.{Gives, has_core, Reads, IsNoToml, has_peer, has_local, dest_in, dests_in};
-ghost use Rattle.tora_commands.specs.ConfigReading.{link_in, link_beside, listed_links, links_in, configuration_in, keys_in};
+ghost use Rattle.tora_commands.specs.ConfigReading.{Gives, has_core, Reads, IsNoToml, has_peer, has_local, dest_in};
+ghost use Rattle.tora_commands.specs.ConfigReading.{dests_in};
+ghost use Rattle.tora_commands.specs.ConfigReading.{link_in, link_beside, listed_links, links_in, configuration_in};
+ghost use Rattle.tora_commands.specs.ConfigReading.{keys_in};
 ghost use Rattle.tora_commands.specs.ConfigReading.{only_known, keys_of_configuration, keys_of_link};
 
 use crate::configuration::fault::{ConfigError, Place};

@@ -145,7 +145,8 @@ pub fn replay<R: Input, W: Output>(
     ensures whole { IfOk result (λ ended. IfSome (R.remaining reader.old) (λ input.
         Replays input (W.contents writer.old) (W.contents writer.new) ended)) }
     ensures at_end { result ≡ Ok Ended.Whole → IsAtEnd (R.remaining reader.new) }
-    ensures fault { IfOk result (λ ended. IfSome (R.remaining reader.old) (λ input. fault_of ended ≡ first_fault input)) }
+    ensures fault { IfOk result (λ ended.
+        IfSome (R.remaining reader.old) (λ input. fault_of ended ≡ first_fault input)) }
     // The written text is a prefix of the output of the lines that were read.
     ensures begun { IfErr result (λ e. e ≢ ReplayError.Write →
         IsBegun (R.remaining reader.old) (R.remaining reader.new) (W.contents writer.old) (W.contents writer.new)) }

@@ -18,7 +18,9 @@ use crate::channel::ChannelTable;
 use crate::traced::trace_out::TraceOut;
 use crate::traced::traced_simulator::Traced;
 use crate::traced::watched::Watched;
-use crate::{Reports, Running, Setup, Simulation, SimulationLine, Stage, Told, simulation_line};
+use crate::{
+    FaultReports, Running, Setup, Simulation, SimulationLine, Stage, Told, simulation_line,
+};
 use std::alloc::{AllocError, Global};
 use tora_lines::words::LineError;
 use tora_lines::{Ended, FileKind, Input, Output, ReplayError, read_lines};
@@ -68,7 +70,7 @@ fn hand_on<S: Watched, W: Output>(stage: &mut Stage<Traced<S>>, out: &mut TraceO
 }
 
 /// Records what an accepted line did, and writes the records that were not written yet.
-fn tell<S: Watched, W: Output>(
+fn write_record_of_line<S: Watched, W: Output>(
     stage: &mut Stage<Traced<S>>,
     line: &[u8],
     out: &mut TraceOut<W>,
@@ -99,7 +101,7 @@ impl<S: Watched, T: Eprint, W: Output> FileKind for Tracing<'_, S, T, W> {
             }
             Ok(()) => {
                 let state = &mut self.told.state;
-                tell(&mut state.stage, line, self.out)?;
+                write_record_of_line(&mut state.stage, line, self.out)?;
                 Ok(())
             }
             Err(error) => {
@@ -121,7 +123,7 @@ impl<S: Watched, T: Eprint, W: Output> FileKind for Tracing<'_, S, T, W> {
 /// The simulation goes on if the trace cannot be written; `out` then has the error.
 #[tactic(auto, unfolding(tora_lines::specs::Engine::text_of))]
 pub fn simulate_traced<S: Watched, T: AllocGlobal + Eprint, R: Input, W: Output, V: Output>(
-    reports: Reports<'_, T>,
+    reports: FaultReports<'_, T>,
     setup: Setup,
     table: ChannelTable,
     reader: &mut R,

@@ -126,7 +126,7 @@ impl<S: Watched> Traced<S> {
     }
 
     /// Records the datagram that was sent, if there are now more than `count` datagrams.
-    fn tell_sent(&mut self, count: u64) -> Result<(), AllocError>
+    fn write_sent_records(&mut self, count: u64) -> Result<(), AllocError>
         ensures kept { self.new ≡ record self.old { trace = self.new.trace } }
         ensures told { OnOk result (self.new.trace ≡ after_sent self.old.parted count (S.world self.old.sim)
             self.old.trace) }
@@ -146,7 +146,7 @@ impl<S: Watched> Traced<S> {
     }
 
     /// Records what an accepted event did.
-    fn tell(&mut self, event: &Event, before: Before) -> Result<(), AllocError>
+    fn write_records_of(&mut self, event: &Event, before: Before) -> Result<(), AllocError>
         ensures kept { self.new ≡ record self.old { trace = self.new.trace } }
         ensures told { OnOk result (HasRecords self.old.parted before event.now (S.world self.old.sim) self.old.trace
             self.new.trace) }
@@ -154,7 +154,7 @@ impl<S: Watched> Traced<S> {
         match event {
             Event::Need(n, d) => self.trace.need(before.clock, *n, *d),
             Event::Tick => self.trace.frames(before.clock),
-            Event::Transmit(_, _) => self.tell_sent(before.datagrams),
+            Event::Transmit(_, _) => self.write_sent_records(before.datagrams),
             Event::CoreTurn(n) => {
                 let inputs = behind(self.sim.inputs(*n), before.inputs);
                 self.trace.turn(*n, inputs, before.life)
@@ -180,7 +180,7 @@ impl<S: Watched> Traced<S> {
         let refused = self.sim.happen_at(place, event)?;
         match refused {
             None => {
-                self.tell(event, before)?;
+                self.write_records_of(event, before)?;
                 Ok(None)
             }
             Some(error) => Ok(Some(error)),

@@ -260,7 +260,8 @@ fn short(number: usize, cargo: &Cargo) -> Option<KeptCargo>
 
 /// An update in compressed form, with this index of its origin, if its numbers are small enough.
 fn short_update(origin: u16, update: &Update) -> Option<KeptCargo>
-    ensures { IfSome result (λ kept. (life : AnyLife) → IsShort origin (Cargo.Packet life (Packet.Upd update.now)) kept) }
+    ensures { IfSome result (λ kept.
+        (life : AnyLife) → IsShort origin (Cargo.Packet life (Packet.Upd update.now)) kept) }
 {
     let destination = u16::try_from(update.destination()).ok()?;
     let height = update.height();

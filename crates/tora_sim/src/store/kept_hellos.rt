@@ -33,7 +33,13 @@ impl Model for KeptHello {
 
     ghost Value = { Header };
 
-    ghost view = { λ h. record { version = One; sender = h.sender; receiver = h.receiver; life = h.life; heard = h.heard } };
+    ghost view = { λ h. record {
+      version = One;
+      sender = h.sender;
+      receiver = h.receiver;
+      life = h.life;
+      heard = h.heard;
+    } };
 
     ghost invariant = { λ h. IsHeader (record {
       version = One;
@@ -106,7 +112,8 @@ pub fn hello_at(kept: &Vec<KeptHello>, place: u32) -> Option<(Header, u32)>
 /// The header of the HELLO with this index in a version, and the guess at its receiving end.
 #[inline(always)]
 fn hello_of(kept: &Vec<KeptHello>, index: u32, version: Version) -> Option<(Header, u32)>
-    ensures header { option_map (λ told. told.0) result ≡ option_map (in_version version) (slice_get kept.now.items index) }
+    ensures header { option_map (λ told. told.0) result
+        ≡ option_map (in_version version) (slice_get kept.now.items index) }
     ensures valid { IfSome result (λ told. IsHeader told.0) }
 {
     let Some(hello) = kept.get(index as usize) else {

@@ -48,7 +48,10 @@ impl Model for KeptList {
 
     ghost Value = { KeptItems };
 
-    ghost view = { λ l. record { items = l.list.items ++ take l.count l.inline_items; places = INLINE_KEPT - l.count } };
+    ghost view = { λ l. record {
+      items = l.list.items ++ take l.count l.inline_items;
+      places = INLINE_KEPT - l.count;
+    } };
 
     ghost invariant = { λ l. (l.count ≤ INLINE_KEPT) × (length l.inline_items ≡ INLINE_KEPT)
         × (length l.list.items < MOST_LISTED + INLINE_KEPT) };

@@ -6,7 +6,7 @@ use std::process::{Abort, ExitCode};
 use tora_arq::Times;
 use tora_commands::{MEMORY, sim_command};
 use tora_script::{
-    Channel, ChannelTable, LineCause, Place, Reports, Setup, TableError, channel_table,
+    Channel, ChannelTable, FaultReports, LineCause, Place, Setup, TableError, channel_table,
 };
 use tora_sim::Sim;
 
@@ -140,7 +140,7 @@ fn simulated<T: AllocGlobal + Eprint>(
     };
     let reader = LinesReader::new((lines, "", 0, ""));
     sim_command::run_over::<Sim, T, LinesReader<'_>, ArrayWriter>(
-        Reports {
+        FaultReports {
             rt,
             is_verbose: false,
         },

@@ -13,10 +13,10 @@ use std::time::Clock;
 use tora_arq::Times;
 use tora_commands::drive_command::DriveWords;
 use tora_commands::{
-    AskedSimulation, ChannelFile, INPUT, MEMORY, SetupWords, Shown, USAGE, drive_command,
+    ChannelFile, INPUT, MEMORY, SetupWords, Shown, SimulationOptions, USAGE, drive_command,
     replay_command, sim_command, simulate_file, traced_command, usage,
 };
-use tora_script::{ChannelTable, Reports, Setup, TraceOut};
+use tora_script::{ChannelTable, FaultReports, Setup, TraceOut};
 use tora_sim::Sim;
 
 /// No options of `tora drive`.
@@ -52,7 +52,7 @@ impl Run {
             Run::Replay => replay_command::run(rt, None, reader, is_verbose, writer),
             Run::Drive => drive_command::run(rt, no_words(), reader, writer),
             Run::Simulation => sim_command::run_over::<Sim, T, LinesReader<'_>, ArrayWriter>(
-                Reports { rt, is_verbose },
+                FaultReports { rt, is_verbose },
                 Setup::plain(Times::STANDARD),
                 ChannelTable::none(),
                 reader,
@@ -60,8 +60,8 @@ impl Run {
             ),
             Run::Traced => {
                 traced_command::run_over::<Sim, T, LinesReader<'_>, ArrayWriter, ArrayWriter>(
-                    Reports { rt, is_verbose },
-                    AskedSimulation {
+                    FaultReports { rt, is_verbose },
+                    SimulationOptions {
                         setup: Setup::plain(Times::STANDARD),
                         file: ChannelFile::none(),
                     },

@@ -4,13 +4,13 @@ use super::failing_streams::{ArrayWriter, Fails, Lines, LinesReader};
 use std::alloc::Global;
 use std::process::Abort;
 use tora_arq::Times;
-use tora_commands::{replay_and_flush, simulate_and_flush, simulate_told_and_flush};
+use tora_commands::{replay_and_flush, simulate_and_flush, simulate_with_reports_and_flush};
 use tora_core::Erasure;
 use tora_drive::{DriveSetup, drive_in};
 use tora_lines::{Ended, ReplayError};
-use tora_script::{ChannelTable, Reports, Setup, WorldOptions, replay, replay_with};
+use tora_script::{ChannelTable, FaultReports, Setup, WorldOptions, replay, replay_with};
 use tora_sim::{Limits, Sim};
-use tora_simulate::{simulate, simulate_telling_and_flush, simulate_with};
+use tora_simulate::{simulate, simulate_report_and_flush, simulate_with};
 
 /// A call that runs the lines of a file.
 #[derive(Clone, Copy)]
@@ -65,7 +65,7 @@ fn simulated_large<T: AllocGlobal + Eprint>(
     reader: &mut LinesReader<'_>,
     writer: &mut ArrayWriter,
 ) -> Result<Ended, ReplayError> {
-    let reports = Reports {
+    let reports = FaultReports {
         rt,
         is_verbose: false,
     };
@@ -74,7 +74,7 @@ fn simulated_large<T: AllocGlobal + Eprint>(
         ..Setup::plain(Times::STANDARD)
     };
     let table = ChannelTable::none();
-    simulate_telling_and_flush::<Sim, T, LinesReader<'_>, ArrayWriter>(
+    simulate_report_and_flush::<Sim, T, LinesReader<'_>, ArrayWriter>(
         reports,
         rt.alloc(),
         setup,
@@ -105,13 +105,12 @@ impl Way {
                 reader,
                 writer,
             ),
-            Way::ToldSimulation => simulate_told_and_flush::<Sim, T, LinesReader<'_>, ArrayWriter>(
-                rt,
-                alloc,
-                Times::STANDARD,
-                reader,
-                writer,
-            ),
+            Way::ToldSimulation => simulate_with_reports_and_flush::<
+                Sim,
+                T,
+                LinesReader<'_>,
+                ArrayWriter,
+            >(rt, alloc, Times::STANDARD, reader, writer),
             Way::StandardTimes => simulate_with(alloc, Times::STANDARD, reader, writer),
             Way::ShortSilence => simulate_with(alloc, SHORT_SILENCE, reader, writer),
             Way::LargeSimulation => simulated_large(rt, reader, writer),

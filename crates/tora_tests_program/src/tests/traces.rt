@@ -6,7 +6,7 @@ use super::sees::{same_at, sees_at};
 use std::process::Abort;
 use tora_arq::Times;
 use tora_lines::{Ended, ReplayError};
-use tora_script::{ChannelTable, Reports, Setup, TraceOut, simulate_traced};
+use tora_script::{ChannelTable, FaultReports, Setup, TraceOut, simulate_traced};
 use tora_sim::Sim;
 
 /// How a simulation is traced: where the writers of its output and its trace fail, and whether with `-v`.
@@ -31,7 +31,7 @@ fn traced_once<'a, T: AllocGlobal + Eprint>(
     let mut writer = ArrayWriter::new(output);
     let mut out = TraceOut::new(ArrayWriter::new(trace));
     let found = simulate_traced::<Sim, T, LinesReader<'_>, ArrayWriter, ArrayWriter>(
-        Reports { rt, is_verbose },
+        FaultReports { rt, is_verbose },
         Setup::plain(Times::STANDARD),
         ChannelTable::none(),
         &mut reader,

@@ -11,9 +11,9 @@ returns-clause-gives g c =
     let world = g.S.Simulator.world in
     let s = running_view world c.args.running.now in
     let o = state_view c.args.state.now in
-    subst (λ (state : StateView). option_map (told s) (outcome_of s o c.args.line) ≡ Some (running_view world c.perform.new.running, state, string_bytes c.close.new.out)) (sym c.record_line.ensures.view)
-    (answered s o c.args.line (running_view world c.perform.new.running) (state_view c.perform.new.state) (string_bytes c.perform.new.out) (string_bytes c.write_sent.new.out) (string_bytes c.write_hops.new.out) (string_bytes c.close.new.out)
-    c.in_ok-before.before.items c.in_ok-is_refused.is_refused c.in_ok-is_refused.ensures.gives (rw c.datagrams-first.ensures at c.in_ok-write_sent.ensures) c.in_ok-before.ensures (rw c.deref.ensures.value at c.in_ok-write_hops.ensures) c.in_ok-close.ensures)
+    subst (λ (state : StateView). option_map (told s) (outcome_of s o c.args.line) ≡ Some (running_view world c.perform.new.running, state, string_bytes c.append_ok.new.out)) (sym c.record_line.ensures.view)
+    (answered s o c.args.line (running_view world c.perform.new.running) (state_view c.perform.new.state) (string_bytes c.perform.new.out) (string_bytes c.write_sent.new.out) (string_bytes c.write_hops.new.out) (string_bytes c.append_ok.new.out)
+    c.in_ok-before.before.items c.in_ok-is_refused.is_refused c.in_ok-is_refused.ensures.gives (rw c.datagrams-first.ensures at c.in_ok-write_sent.ensures) c.in_ok-before.ensures (rw c.deref.ensures.value at c.in_ok-write_hops.ensures) c.in_ok-append_ok.ensures)
 
 pub returns-clause-record : goal.returns-clause-record
 returns-clause-record g c = rw (c.in_ok-record_line.ensures.record, c.in_ok-is_refused.ensures.record, c.in_ok-is_refused.ensures.gives) refl

@@ -14,15 +14,15 @@ returns-clause-gives g c =
     let world = g.S.Simulator.world in
     let s = running_view world c.args.running.now in
     let o = state_view c.args.state.now in
-    on_ok_weaker c.close.result
-    (λ closed. subst (λ (state : StateView). option_map (told s) (outcome_of s o Step) ≡ Some (running_view world c.finish.new.running, state, string_bytes c.close.new.out)) (sym c.put_text.ensures.view)
-    (step_answered s o (world c.tick.new.sim) (running_view world c.finish.new.running) (string_bytes c.finish.new.out) (string_bytes c.close.new.out)
-    c.in_ok-tick.ensures.after (rw c.deref.ensures.value at c.in_ok-finish.ensures.view) (rw c.requires at c.in_ok-finish.ensures.told) closed)) c.close.ensures
+    on_ok_weaker c.append_ok.result
+    (λ closed. subst (λ (state : StateView). option_map (told s) (outcome_of s o Step) ≡ Some (running_view world c.finish.new.running, state, string_bytes c.append_ok.new.out)) (sym c.put_text.ensures.view)
+    (step_answered s o (world c.tick.new.sim) (running_view world c.finish.new.running) (string_bytes c.finish.new.out) (string_bytes c.append_ok.new.out)
+    c.in_ok-tick.ensures.after (rw c.deref.ensures.value at c.in_ok-finish.ensures.view) (rw c.requires at c.in_ok-finish.ensures.told) closed)) c.append_ok.ensures
 
 pub returns-clause-record : goal.returns-clause-record
 returns-clause-record g c =
     let world = g.S.Simulator.world in
-    on_ok_weaker c.close.result
+    on_ok_weaker c.append_ok.result
     (λ closed. step_told (running_view world c.args.running.now) (state_view c.args.state.now) (world c.tick.new.sim) (record_view c.args.state.now) (record_view c.put_text.new.self)
     (text_record c.new_text-events.result) (text_record c.tick.new.text) (text_record c.finish.new.events)
-    c.in_ok-tick.ensures.after c.new_text-events.ensures c.in_ok-tick.ensures.told (rw c.deref.ensures.value at c.in_ok-finish.ensures.record) c.in_ok-put_text.ensures.record) c.close.ensures
+    c.in_ok-tick.ensures.after c.new_text-events.ensures c.in_ok-tick.ensures.told (rw c.deref.ensures.value at c.in_ok-finish.ensures.record) c.in_ok-put_text.ensures.record) c.append_ok.ensures

@@ -19,8 +19,8 @@ pub loop-preserved : goal.loop-preserved
 loop-preserved g c =
     let k : c.args.most - c.loop.counter ≡ suc (c.args.most - (c.loop.counter + 1)) = omega (arith, c.loop-test.true) in
     told_again (g.S.Simulator.world c.args.sim.now) (repeats c.args.most c.args.event.now (g.S.Simulator.world c.args.sim.now)) (g.S.Simulator.world c.loop.sim) (g.S.Simulator.world c.happen_at.new.self) c.loop.some
-    (c.args.most - (c.loop.counter + 1)) c.args.event.now (Some (string_bytes c.args.text.now)) (Some (string_bytes c.loop.text)) (Some (string_bytes c.tell_event.new.out)) (rw k at c.loop.invariant) (sym c.in_ok-refused.ensures.refused ∙ c.in-None.is) c.in_ok-refused.ensures.after
-    (ap (λ (x : List ℕ). Some x) c.in_ok-tell_event-in-None.ensures)
+    (c.args.most - (c.loop.counter + 1)) c.args.event.now (Some (string_bytes c.args.text.now)) (Some (string_bytes c.loop.text)) (Some (string_bytes c.write_event_line.new.out)) (rw k at c.loop.invariant) (sym c.in_ok-refused.ensures.refused ∙ c.in-None.is) c.in_ok-refused.ensures.after
+    (ap (λ (x : List ℕ). Some x) c.in_ok-write_event_line-in-None.ensures)
 
 pub returns : goal.returns
 returns g c =

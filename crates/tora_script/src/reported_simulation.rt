@@ -26,7 +26,7 @@ use tora_world::Event;
 
 /// Where a simulation reports why a line is a fault and, if `is_verbose`, why an event is refused.
 #[derive(Drop)]
-pub struct Reports<'a, T> {
+pub struct FaultReports<'a, T> {
     pub rt: &'a T,
     pub is_verbose: bool,
 }
@@ -34,19 +34,19 @@ pub struct Reports<'a, T> {
 /// A simulation file, and where to report its fault and its refusals.
 #[derive(Drop)]
 pub struct Told<'a, S, T> {
-    pub reports: Reports<'a, T>,
+    pub reports: FaultReports<'a, T>,
     /// The number of the last line.
     pub number: u64,
     pub state: Simulation<S>,
 }
 
 /// Reports why a line is a fault.
-pub fn tell_cause<T: Eprint>(rt: &T, number: u64, cause: SimulationCause) {
+pub fn report_cause<T: Eprint>(rt: &T, number: u64, cause: SimulationCause) {
     let _ = rt.eprintln(format_args!("tora: line {number}: {cause}"));
 }
 
 /// Reports that a core refuses a need because the destination is not in the list.
-fn tell_need<T: Eprint>(rt: &T, number: u64, line: &[u8], dests: &[Id]) {
+fn report_need<T: Eprint>(rt: &T, number: u64, line: &[u8], dests: &[Id]) {
     if let Some(SimulationLine::Happens(Event::Need(n, d))) = simulation_line(line) {
         if !has_number(d, dests) {
             let _ = rt.eprintln(format_args!(
@@ -58,13 +58,13 @@ fn tell_need<T: Eprint>(rt: &T, number: u64, line: &[u8], dests: &[Id]) {
 
 /// Reports why the event of a line was refused, if it was; otherwise that the core refuses the need of the line, if it
 /// does.
-fn tell_refusal<S, T: Eprint>(rt: &T, number: u64, stage: &Stage<S>, line: &[u8]) {
+fn report_refusal<S, T: Eprint>(rt: &T, number: u64, stage: &Stage<S>, line: &[u8]) {
     if let Stage::Runs(running) = stage {
         match running.refused {
             Some(error) => {
                 let _ = rt.eprintln(format_args!("tora: line {number}: refused: {error}"));
             }
-            None => tell_need(rt, number, line, &running.dests),
+            None => report_need(rt, number, line, &running.dests),
         }
     }
 }
@@ -78,13 +78,13 @@ impl<S: Simulator, T: Eprint> FileKind for Told<'_, S, T> {
         let taken = self.state.take(alloc, line, text);
         match taken {
             Ok(()) if tells => {
-                tell_refusal(self.reports.rt, self.number, &self.state.stage, line);
+                report_refusal(self.reports.rt, self.number, &self.state.stage, line);
             }
             Ok(()) => {}
             Err(LineError::Fault) => {
                 let limits = self.state.setup.options.limits;
                 let cause = simulation_cause_within(limits, &self.state.stage, line);
-                tell_cause(self.reports.rt, self.number, cause);
+                report_cause(self.reports.rt, self.number, cause);
             }
             Err(LineError::Memory) => {}
         }
@@ -96,7 +96,7 @@ impl<S: Simulator, T: Eprint> FileKind for Told<'_, S, T> {
         match fault {
             Some(line) => {
                 let cause = end_cause(self.state.setup.options.limits, &self.state.stage);
-                tell_cause(self.reports.rt, line, cause);
+                report_cause(self.reports.rt, line, cause);
             }
             None => {}
         }
@@ -107,8 +107,8 @@ impl<S: Simulator, T: Eprint> FileKind for Told<'_, S, T> {
 /// Simulates with these settings, over a channel that the table changes by round. Reports why a line is a fault, unless
 /// it is too long, and, if asked to, why an event is refused.
 #[tactic(auto, unfolding(tora_lines::specs::Engine::text_of))]
-pub fn simulate_telling<S: Simulator, T: Eprint, R: Input, W: Output>(
-    reports: Reports<'_, T>,
+pub fn simulate_and_report<S: Simulator, T: Eprint, R: Input, W: Output>(
+    reports: FaultReports<'_, T>,
     alloc: Global,
     setup: Setup,
     table: ChannelTable,
@@ -135,11 +135,11 @@ pub fn simulate_telling<S: Simulator, T: Eprint, R: Input, W: Output>(
     read_lines(alloc, state, reader, writer)
 }
 
-/// As `simulate_telling`, for a program that ends afterwards: the memory of the world is not freed, which saves a tenth
+/// As `simulate_and_report`, for a program that ends afterwards: the memory of the world is not freed, which saves a tenth
 /// of the time for a world of a thousand nodes.
 #[tactic(auto, unfolding(tora_lines::specs::Engine::text_of))]
-pub fn simulate_telling_last<S: Simulator, T: Eprint, R: Input, W: Output>(
-    reports: Reports<'_, T>,
+pub fn simulate_last_and_report<S: Simulator, T: Eprint, R: Input, W: Output>(
+    reports: FaultReports<'_, T>,
     alloc: Global,
     setup: Setup,
     table: ChannelTable,
@@ -168,7 +168,7 @@ pub fn simulate_telling_last<S: Simulator, T: Eprint, R: Input, W: Output>(
 
 /// Simulates with these times of each link end. Reports on standard error why an event is refused, and why a line is a
 /// fault, unless it is too long.
-pub fn simulate_told<S: Simulator, T: Eprint, R: Input, W: Output>(
+pub fn simulate_with_reports<S: Simulator, T: Eprint, R: Input, W: Output>(
     rt: &T,
     alloc: Global,
     times: Times,
@@ -188,9 +188,9 @@ pub fn simulate_told<S: Simulator, T: Eprint, R: Input, W: Output>(
     ensures failed { IfErr result (λ e. e ≡ ReplayError.Write → IsUnwritten W.did_write writer.new) }
 {
     let (setup, table) = (Setup::plain(times), ChannelTable::none());
-    let reports = Reports {
+    let reports = FaultReports {
         rt,
         is_verbose: true,
     };
-    simulate_telling::<S, T, R, W>(reports, alloc, setup, table, reader, writer)
+    simulate_and_report::<S, T, R, W>(reports, alloc, setup, table, reader, writer)
 }

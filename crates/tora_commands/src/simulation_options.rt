@@ -4,7 +4,7 @@ use tora_script::Setup;
 
 /// The settings of a simulation, and its channel file.
 #[derive(Drop)]
-pub struct AskedSimulation {
+pub struct SimulationOptions {
     pub setup: Setup,
     pub file: ChannelFile,
 }
