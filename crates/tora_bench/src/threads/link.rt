@@ -54,20 +54,32 @@ fn cargoes(alloc: Global, count: u32) -> Option<Vec<Cargo>> {
     Some(list)
 }
 
-/// Runs an end until every packet was delivered.
-fn run_end<R: Clock + Wait, W: Wire + Drop>(
-    rt: &R,
-    alloc: Global,
+/// An end of a link before it runs: its node, the peer, its wire, and the list of what it sends.
+#[derive(Drop)]
+struct WiredEnd<W> {
     me: Id,
     peer: Id,
     wire: W,
     cargoes: Vec<Cargo>,
+}
+
+/// Runs an end until every packet was delivered.
+fn run_end<R: Clock + Wait, W: Wire + Drop>(
+    rt: &R,
+    alloc: Global,
+    wired: WiredEnd<W>,
     course: &Course,
 ) -> Option<u64>
-    requires me { 0 < me }
-    requires peer { 0 < peer }
-    requires other { me ≢ peer }
+    requires me { 0 < wired.me }
+    requires peer { 0 < wired.peer }
+    requires other { wired.me ≢ wired.peer }
 {
+    let WiredEnd {
+        me,
+        peer,
+        wire,
+        cargoes,
+    } = wired;
     let end = LinkEnd::new(alloc, me, peer, Times::STANDARD).ok()?;
     let Ok(file) = LifeFile::open(MemDisk::new(), me, peer) else {
         return None;
@@ -99,8 +111,24 @@ fn run_ends<R: Clock + Threads + Wait + Sync, W: Wire + Send + Drop>(
     let none = Vec::new(alloc);
     let (sent, received) = thread::join(
         rt,
-        move || run_end(rt, alloc, 1, 2, first, list, course),
-        move || run_end(rt, alloc, 2, 1, second, none, course),
+        move || {
+            let wired = WiredEnd {
+                me: 1,
+                peer: 2,
+                wire: first,
+                cargoes: list,
+            };
+            run_end(rt, alloc, wired, course)
+        },
+        move || {
+            let wired = WiredEnd {
+                me: 2,
+                peer: 1,
+                wire: second,
+                cargoes: none,
+            };
+            run_end(rt, alloc, wired, course)
+        },
     );
     sent?;
     received?;
