@@ -11,6 +11,7 @@ use std::io;
 use std::io::{BufWriter, IsTerminal};
 use std::process::ExitCode;
 use tora_commands::drive_command::DriveWords;
+use tora_commands::node_command::NodeOptions;
 use tora_commands::{
     LogLines, MEMORY, SetupWords, Shown, USAGE, command, drive_command, key_command, node_command,
     record_command, replay_command, simulate_file, stop, usage,
@@ -115,17 +116,13 @@ fn main(rt: HostRuntime) -> ExitCode {
     match matches.subcommand() {
         Some(("node", node)) => {
             let path = node.get_str("CONFIG").unwrap_or("");
-            let (check, log) = (node.get_flag("check"), logging(rt, node));
-            let (mut reader, writer) = (rt.stdin(), io::writer(&rt));
-            let (code, _) = node_command::run(
-                &rt,
-                &log,
-                path,
-                check,
+            let options = NodeOptions {
+                is_check: node.get_flag("check"),
                 is_verbose,
-                &mut reader,
-                writer,
-            );
+            };
+            let log = logging(rt, node);
+            let (mut reader, writer) = (rt.stdin(), io::writer(&rt));
+            let (code, _) = node_command::run(&rt, &log, path, options, &mut reader, writer);
             code
         }
         Some(("sim", sim)) => simulate_to_output(&rt, sim, is_verbose),

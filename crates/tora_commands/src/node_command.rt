@@ -2,14 +2,14 @@
 ghost use Rattle.std.specs.Prelude.{◌≡◌, ◌⊎◌, List, map, length, replicate, IfSome, Err, Some};
 ghost use Rattle.std.specs.Process.{exit_status};
 ghost use Rattle.tora_commands.specs.Statuses.{core_of, status_of_node, status_of_fault};
-ghost use Rattle.tora_commands.specs.Statuses.{IsUnstarted, RanNode, RanAndEnded, EndsNode};
+ghost use Rattle.tora_commands.specs.Statuses.{RanNode, EndsNode};
 ghost use Rattle.tora_commands.specs.NodeConfig.{IsNodeConfig};
 ghost use Rattle.tora_node.specs.NewLinks.{IsOpened};
 ghost use Rattle.tora_node.specs.WholeRuns.{NodeAnswers};
 
 use crate::configuration::NodeConfig;
 use crate::life_files::{open, report_life_file};
-use crate::link_wires::{ProgramWaker, ProgramWire, bind, close, lend};
+use crate::link_wires::{ProgramWire, bind, close, lend};
 use crate::node_configuration::{praise, read};
 use crate::{INPUT, LIFE, MEMORY, SOCKET, stop};
 use log::Log;
@@ -26,7 +26,7 @@ use tora_core::numbers_are_put_in_order;
 use tora_height::Id;
 use tora_life::{Disk, FileDisk};
 use tora_neighbour::{NodeClock, Wake, Wire};
-use tora_node::{Config, Ended, NodeError, run_node};
+use tora_node::{Config, Ended, NodeError, NodeParts, run_node};
 use tora_simulate::{Paths, report};
 
 /// Why a node is not started.
@@ -125,8 +125,17 @@ fn finish<R: Files<File = File> + AllocGlobal + Eprint>(
     code
 }
 
-/// Reads the configuration, binds the sockets, opens the life files, and runs the node, which logs to `log`, until its
-/// commands end it.
+/// The options of a running node.
+#[derive(Clone, Copy)]
+pub struct NodeOptions {
+    /// Whether its configuration and keys are only read.
+    pub is_check: bool,
+    /// Whether standard error has the owner of a life file of another node.
+    pub is_verbose: bool,
+}
+
+/// Reads the configuration at a path, binds the sockets, opens the life files, and runs the node, which logs to `log`,
+/// until its commands end it.
 ///
 /// The first fault ends it before a thread is started: the configuration or a key file (status 1), then a socket, by
 /// ascending neighbour (3), then a life file, by ascending neighbour (4); memory at any point (5). With `is_check` it
@@ -145,12 +154,11 @@ pub fn run<
     rt: &'a R,
     log: &'a L,
     path: &str,
-    is_check: bool,
-    is_verbose: bool,
+    options: NodeOptions,
     reader: &mut Rd,
     writer: W,
 ) -> (ExitCode, Option<W>)
-    ensures { EndsNode is_check (R.did_open rt.now) R.did_read ⟦<File as Read>⟧.remaining path.now
+    ensures { EndsNode options.is_check (R.did_open rt.now) R.did_read ⟦<File as Read>⟧.remaining path.now
         (λ config. RanNode ⟦<&'a mut ProgramWire<'a, R, L> as Wire>⟧ ⟦<&'a NodeClock<&'a R> as tora_neighbour::Clock>⟧
         ⟦<FileDisk as Disk>⟧ W.contents (core_of config) (Rd.remaining reader.old) writer result.1)
         (Some writer) result.1 (exit_status result.0) }
@@ -160,7 +168,7 @@ pub fn run<
         Ok(read) => read,
         Err(fault) => return (code_of(fault), Some(writer)),
     };
-    if is_check {
+    if options.is_check {
         praise(rt, path, &config);
         return (ExitCode::SUCCESS, Some(writer));
     }
@@ -169,48 +177,33 @@ pub fn run<
         Ok(bound) => bound,
         Err(fault) => return (code_of(fault), Some(writer)),
     };
-    let ended = run_bound(
-        rt, log, &config, &mut wires, wakers, &clock, is_verbose, reader, writer,
-    );
-    close(&mut wires);
-    ended
-}
-
-/// Opens the life files, runs the node of a configuration over borrowed wires, and wakes its links.
-fn run_bound<
-    'a,
-    R: Files<File = File> + AllocGlobal + Eprint + Net + Clock + Sync,
-    L: Threads + Wait + Log + Sync,
-    Rd: Read,
-    W: Write + Send + Drop,
->(
-    rt: &'a R,
-    log: &'a L,
-    config: &NodeConfig,
-    wires: &mut [ProgramWire<'a, R, L>],
-    wakers: Vec<ProgramWaker<'a, R>>,
-    clock: &'a NodeClock<&'a R>,
-    is_verbose: bool,
-    reader: &mut Rd,
-    writer: W,
-) -> (ExitCode, Option<W>)
-    requires config { IsNodeConfig config.now }
-    requires wires { length wires.now ≡ length config.now.links.items }
-    ensures { (IsUnstarted (exit_status result.0) × (result.1 ≡ Some writer))
-        ⊎ RanAndEnded (RanNode ⟦<&'a mut ProgramWire<'a, R, L> as Wire>⟧
-        ⟦<&'a NodeClock<&'a R> as tora_neighbour::Clock>⟧
-        ⟦<FileDisk as Disk>⟧ W.contents (core_of config.now) (Rd.remaining reader.old) writer result.1)
-        (exit_status result.0) }
-{
-    let (alloc, folder) = (rt.alloc(), config.life_dir.as_str());
+    let folder = config.life_dir.as_str();
     let disks = match open(rt, alloc, folder, config.links.as_slice()) {
         Ok(disks) => disks,
-        Err(fault) => return (code_of(fault), Some(writer)),
+        Err(fault) => {
+            close(&mut wires);
+            return (code_of(fault), Some(writer));
+        }
     };
-    let (ended, writer) = run_over(
-        log, alloc, config, wires, disks, wakers, clock, reader, writer,
-    );
-    (finish(rt, folder, ended, is_verbose), writer)
+    let devices = LinkDevices {
+        wires: &mut wires,
+        disks,
+        wakers,
+        clock: &clock,
+    };
+    let (ended, writer) = run_over(log, alloc, &config, devices, reader, writer);
+    let code = finish(rt, folder, ended, options.is_verbose);
+    close(&mut wires);
+    (code, writer)
+}
+
+/// What the links of a node need: their wires, which are borrowed, and their disks and wakers, one each, in ascending
+/// order of the neighbours; and the clock that all threads of the node share.
+struct LinkDevices<'a, Wi, D, K, C> {
+    wires: &'a mut [Wi],
+    disks: Vec<D>,
+    wakers: Vec<K>,
+    clock: C,
 }
 
 /// Runs the node of a configuration over borrowed wires and its disks, and wakes its links. `Memory` if memory ran out
@@ -228,23 +221,27 @@ fn run_over<
     log: &L,
     alloc: Global,
     config: &NodeConfig,
-    wires: &'a mut [Wi],
-    disks: Vec<D>,
-    wakers: Vec<K>,
-    clock: C,
+    devices: LinkDevices<'a, Wi, D, K, C>,
     reader: &mut Rd,
     writer: W,
 ) -> (Result<Ended, NodeError>, Option<W>)
     requires config { IsNodeConfig config.now }
-    requires wires { length wires.now ≡ length config.now.links.items }
-    requires disks { length disks.items ≡ length config.now.links.items }
+    requires wires { length devices.wires.now ≡ length config.now.links.items }
+    requires disks { length devices.disks.items ≡ length config.now.links.items }
     ensures { ((result.0 ≡ Err NodeError.Memory) × (result.1 ≡ Some writer))
-        ⊎ ((lent : List _) × (map (λ l. l.now) lent ≡ wires.old)
+        ⊎ ((lent : List _) × (map (λ l. l.now) lent ≡ devices.entry.wires.now)
         × NodeAnswers ⟦<&'a mut Wi as Wire>⟧.did_send ⟦<&'a mut Wi as Wire>⟧.did_receive C.did_tell
         (IsOpened D.syncs D.reads D.writes) W.contents
-        (core_of config.now) lent disks.items (replicate (length disks.items) clock) clock (Rd.remaining reader.old)
-        writer result.1 result.0) }
+        (core_of config.now) lent devices.entry.disks.items
+        (replicate (length devices.entry.disks.items) devices.entry.clock) devices.entry.clock
+        (Rd.remaining reader.old) writer result.1 result.0) }
 {
+    let LinkDevices {
+        wires,
+        disks,
+        wakers,
+        clock,
+    } = devices;
     let Some(node) = node_of(alloc, config) else {
         return (Err(NodeError::Memory), Some(writer));
     };
@@ -254,9 +251,15 @@ fn run_over<
     let Some(lent) = lend(alloc, wires) else {
         return (Err(NodeError::Memory), Some(writer));
     };
-    run_node(
-        log, alloc, node, lent, disks, wakers, clocks, clock, reader, writer,
-    )
+    let parts = NodeParts {
+        config: node,
+        wires: lent,
+        disks,
+        wakers,
+        clocks,
+        command_clock: clock,
+    };
+    run_node(log, alloc, parts, reader, writer)
 }
 
 /// `count` copies of a clock, one for each link. `None` if memory ran out.

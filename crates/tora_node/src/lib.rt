@@ -37,7 +37,7 @@ pub use core_thread::{CoreEnd, run_core};
 pub use fault::NodeError;
 pub use limit_values::limits_have_their_values;
 pub use log_hub::LogHub;
-pub use node::{Ended, run_node};
+pub use node::{Ended, NodeParts, run_node};
 pub use tora_neighbour::{
     Clock, Finished, FuseWire, Hub, Intake, LaneHub, Link, ListHub, MemWire, Tally, Wire,
     run_neighbour, take_in,

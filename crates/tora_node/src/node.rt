@@ -13,7 +13,7 @@ use crate::fault::NodeError;
 use crate::link_task::{LinkRest, Outcome};
 use crate::settle::settle_links;
 use crate::starting::{new_ends, new_lanes, new_links, new_starts};
-use crate::threads::{Rests, run_threads};
+use crate::threads::{Rests, Tasks, run_threads};
 use log::Log;
 use std::alloc::Global;
 use std::io::{Read, Write};
@@ -22,7 +22,7 @@ use std::sync::Wait;
 use std::thread::Threads;
 use tora_core::Core;
 use tora_height::Id;
-use tora_lane::{Lanes, OutPuts, Settling, what_was_offered_was_sent};
+use tora_lane::{OutPuts, Settling, what_was_offered_was_sent};
 use tora_life::Disk;
 use tora_neighbour::{Clock, LinkFault, Tally, Wake, Wire};
 use tora_seat::CoreSeat;
@@ -159,17 +159,33 @@ fn settled<Wr: Drop>(
     }
 }
 
+/// What a node is made of: its configuration; a wire, a disk and a clock for each link, in ascending order of the
+/// neighbours; and a clock for the commands.
+#[derive(Drop)]
+pub struct NodeParts<W, D, K, C> {
+    /// The node, its neighbours and its destinations.
+    pub config: Config,
+    /// The wire of each link.
+    pub wires: Vec<W>,
+    /// The disk with the life file of each link.
+    pub disks: Vec<D>,
+    /// The wakers of the neighbours' threads, in the order of the wires. A thread without a waker is not woken.
+    pub wakers: Vec<K>,
+    /// The clock of each link.
+    pub clocks: Vec<C>,
+    /// The clock of the commands.
+    pub command_clock: C,
+}
+
 /// Runs a node until its commands or a fault of its core end it, and returns the writer. The writer is `None` only if
 /// the result is `Memory`.
 ///
-/// It takes one wire, one disk and one clock for each link, in ascending order of the neighbours, and a clock for the
-/// commands. First it makes the core, the link ends and the queues, and opens the life files in order; after a fault
-/// here no thread starts. Then the core and each neighbour have a thread, and this thread reads the commands as
-/// `run_commands` does. The core's thread prints their output, as `run_core` does. A link whose thread has ended by a
-/// fault is down from then on, and the others go on.
+/// First it makes the core, the link ends and the queues, and opens the life files in order; after a fault here no
+/// thread starts. Then the core and each neighbour have a thread, and this thread reads the commands as `run_commands`
+/// does. The core's thread prints their output, as `run_core` does. A link whose thread has ended by a fault is down
+/// from then on, and the others go on.
 ///
-/// The thread of a neighbour is woken when a message was put into its queue. The wakers are in the order of the wires;
-/// without a waker, the thread is not woken. No contract states that a thread is woken.
+/// The thread of a neighbour is woken when a message was put into its queue. No contract states that a thread is woken.
 ///
 /// # Errors
 /// Without a thread: `Lane` if there are no neighbours or more than there can be queues for, and `Life` with the
@@ -187,23 +203,19 @@ pub fn run_node<
 >(
     rt: &R,
     alloc: Global,
-    config: Config,
-    wires: Vec<W>,
-    disks: Vec<D>,
-    wakers: Vec<K>,
-    clocks: Vec<C>,
-    clock: C,
+    parts: NodeParts<W, D, K, C>,
     reader: &mut Rd,
     writer: Wr,
 ) -> (Result<Ended, NodeError>, Option<Wr>)
-    requires wires { length wires.items ≡ length config.neighbours }
-    requires disks { length disks.items ≡ length config.neighbours }
-    requires clocks { length clocks.items ≡ length config.neighbours }
+    requires wires { length parts.wires.items ≡ length parts.config.neighbours }
+    requires disks { length parts.disks.items ≡ length parts.config.neighbours }
+    requires clocks { length parts.clocks.items ≡ length parts.config.neighbours }
     ensures { NodeAnswers W.did_send W.did_receive C.did_tell (IsOpened D.syncs D.reads D.writes) Wr.contents
-        config wires.items disks.items clocks.items clock (Rd.remaining reader.old) writer result.1 result.0 }
+        parts.config parts.wires.items parts.disks.items parts.clocks.items parts.command_clock
+        (Rd.remaining reader.old) writer result.1 result.0 }
 {
     what_was_offered_was_sent();
-    let core = config.into_core();
+    let core = parts.config.into_core();
     let Some(ends) = new_ends(alloc, &core) else {
         return (Err(NodeError::Memory), Some(writer));
     };
@@ -211,28 +223,27 @@ pub fn run_node<
         Ok(lanes) => lanes,
         Err(fault) => return (Err(fault), Some(writer)),
     };
-    let Lanes {
-        core: port,
-        command,
-        links,
-        outs,
-    } = lanes;
-    let new = match new_links(alloc, ends, disks, wires) {
+    let new = match new_links(alloc, ends, parts.disks, parts.wires) {
         Ok(new) => new,
         Err(fault) => return (Err(fault), Some(writer)),
     };
-    let Some(starts) = new_starts(alloc, new, links, clocks) else {
+    let Some(starts) = new_starts(alloc, new, lanes.links, parts.clocks) else {
         return (Err(NodeError::Memory), Some(writer));
     };
     let mut outcomes = Vec::new(alloc);
     let Ok(()) = outcomes.reserve(starts.len()) else {
         return (Err(NodeError::Memory), Some(writer));
     };
-    let core_task = match new_core_start(alloc, core, port, outs, wakers, writer) {
-        Ok(core_task) => core_task,
+    let core = match new_core_start(alloc, core, lanes.core, lanes.outs, parts.wakers, writer) {
+        Ok(core) => core,
         Err(writer) => return (Err(NodeError::Memory), Some(writer)),
     };
-    let Some(rests) = run_threads(rt, alloc, core_task, command, starts, clock, reader) else {
+    let tasks = Tasks {
+        core,
+        links: starts,
+        command: lanes.command,
+    };
+    let Some(rests) = run_threads(rt, alloc, tasks, parts.command_clock, reader) else {
         return (Err(NodeError::Memory), None);
     };
     let (ended, writer) = settled(rests, outcomes);

@@ -25,6 +25,14 @@ pub(crate) struct Rests<O, L> {
     pub(crate) end: CommandsEnd,
 }
 
+/// What a node's threads begin with: the core's task, the neighbours' in order, and the port of the commands.
+#[derive(Drop)]
+pub(crate) struct Tasks<K, T> {
+    pub(crate) core: K,
+    pub(crate) links: Vec<T>,
+    pub(crate) command: InPort,
+}
+
 /// Starts the threads of the core and the neighbours, reads the commands meanwhile, and waits until all threads have
 /// ended.
 ///
@@ -37,38 +45,35 @@ pub(crate) fn run_threads<
     T: Task<L> + Send + Drop,
     C: Clock + Drop,
     Rd: Read,
->(
-    rt: &R,
-    alloc: Global,
-    core_task: K,
-    command: InPort,
-    tasks: Vec<T>,
-    clock: C,
-    reader: &mut Rd,
-) -> Option<Rests<O, L>>
-    ensures core { IfSome result (λ rests. K.leaves core_task rests.core) }
-    ensures links { IfSome result (λ rests. Each T.leaves tasks.items rests.links.items) }
+>(rt: &R, alloc: Global, tasks: Tasks<K, T>, clock: C, reader: &mut Rd) -> Option<Rests<O, L>>
+    ensures core { IfSome result (λ rests. K.leaves tasks.core rests.core) }
+    ensures links { IfSome result (λ rests. Each T.leaves tasks.links.items rests.links.items) }
     ensures commands { IfSome result
-        (λ rests. CommandsFrom C.did_tell clock (Rd.remaining reader.old) command rests.command rests.end) }
+        (λ rests. CommandsFrom C.did_tell clock (Rd.remaining reader.old) tasks.command rests.command rests.end) }
 {
     thread::scope(
         thread::scope_env(),
         rt,
         |scope| -> Option<Rests<O, L>>
             requires { IsSync R.row × IsSend K.row × IsSend T.row × IsSend O.row × IsSend L.row }
-            ensures { IfSome result (λ rests. K.leaves core_task rests.core
-                × Each T.leaves tasks.items rests.links.items
-                × CommandsFrom C.did_tell clock (Rd.remaining reader.entry.now) command rests.command rests.end) }
+            ensures { IfSome result (λ rests. K.leaves tasks.core rests.core
+                × Each T.leaves tasks.links.items rests.links.items
+                × CommandsFrom C.did_tell clock (Rd.remaining reader.entry.now) tasks.command rests.command
+                rests.end) }
         {
-            let mut command = command;
+            let Tasks {
+                core,
+                links,
+                mut command,
+            } = tasks;
             let mut clock = clock;
-            let handles = room_for(alloc, tasks.len())?;
-            let rests = room_for(alloc, tasks.len())?;
-            let promise = Does(Snapshot::of(&core_task));
-            let Ok(core_thread) = scope.spawn_with(promise, move || core_task.run(rt)) else {
+            let handles = room_for(alloc, links.len())?;
+            let rests = room_for(alloc, links.len())?;
+            let promise = Does(Snapshot::of(&core));
+            let Ok(core_thread) = scope.spawn_with(promise, move || core.run(rt)) else {
                 return None;
             };
-            let Some(handles) = start_all(scope, rt, tasks, handles) else {
+            let Some(handles) = start_all(scope, rt, links, handles) else {
                 let _ = command.put(rt, clock.now(), What::Quit);
                 return None;
             };

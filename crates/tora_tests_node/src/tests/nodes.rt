@@ -47,7 +47,15 @@ fn list_of<T: Drop>(rt: &impl Abort, alloc: Global, value: T) -> Vec<T> {
     list
 }
 
-/// Runs a node over these wires and disks, one for each link.
+/// A node that is not started: its configuration, and a wire and a disk for each link, by ascending neighbour.
+#[derive(Drop)]
+struct NewNode<W, D> {
+    config: Config,
+    wires: Vec<W>,
+    disks: Vec<D>,
+}
+
+/// Runs a node until these commands end it.
 fn run_over<
     R: Threads + Wait + Sync + time::Clock + log::Log + Abort,
     W: Wire + Send + Drop,
@@ -57,39 +65,60 @@ fn run_over<
 >(
     rt: &R,
     alloc: Global,
-    config: Config,
-    wires: Vec<W>,
-    disks: Vec<D>,
+    node: NewNode<W, D>,
     commands: &mut C,
     screen: &mut S,
 ) -> Result<Ended, NodeError> {
+    let NewNode {
+        config,
+        wires,
+        disks,
+    } = node;
     let links = config.peers().len();
     as_many(rt, wires.len(), links);
     as_many(rt, disks.len(), links);
     let clock = UnixClock::new(rt);
     let clocks = there(rt, vec![in alloc; clock; links].ok(), "memory for clocks");
     as_many(rt, clocks.len(), links);
-    let wakers = Vec::<()>::new(alloc);
-    let (ended, _) = run_node(
-        rt, alloc, config, wires, disks, wakers, clocks, clock, commands, screen,
-    );
+    let parts = NodeParts {
+        config,
+        wires,
+        disks,
+        wakers: Vec::<()>::new(alloc),
+        clocks,
+        command_clock: clock,
+    };
+    let (ended, _) = run_node(rt, alloc, parts, commands, screen);
     ended
+}
+
+/// A node that is not started, with one link over the loopback: its number and its peer's, the wire with its waker, its
+/// clock, and its first commands.
+struct LoopbackNode<'a, R> {
+    me: Id,
+    peer: Id,
+    woken: Woken<'a, R>,
+    clock: &'a NodeClock<&'a R>,
+    first: &'a [u8],
 }
 
 /// Runs a node with one link over the loopback, with a waker for the link's thread.
 fn run_one<R: Threads + Wait + Sync + time::Clock + log::Log + Abort>(
     rt: &R,
     alloc: Global,
-    me: u32,
-    peer: u32,
-    woken: Woken<'_, R>,
-    clock: &NodeClock<&R>,
-    first: &[u8],
+    node: LoopbackNode<'_, R>,
     course: &Course,
 ) -> bool
-    requires me { 0 < me }
-    requires peer { 0 < peer }
+    requires me { 0 < node.me }
+    requires peer { 0 < node.peer }
 {
+    let LoopbackNode {
+        me,
+        peer,
+        woken,
+        clock,
+        first,
+    } = node;
     let config = config_of(rt, alloc, me, &[peer]);
     let (wire, waker) = woken;
     let wires = list_of(rt, alloc, wire);
@@ -107,9 +136,15 @@ fn run_one<R: Threads + Wait + Sync + time::Clock + log::Log + Abort>(
         asked: 0,
     };
     let screen = Screen { course };
-    let (ended, screen) = run_node(
-        rt, alloc, config, wires, disks, wakers, clocks, clock, &mut read, screen,
-    );
+    let parts = NodeParts {
+        config,
+        wires,
+        disks,
+        wakers,
+        clocks,
+        command_clock: clock,
+    };
+    let (ended, screen) = run_node(rt, alloc, parts, &mut read, screen);
     ended.is_ok() && screen.is_some()
 }
 
@@ -140,12 +175,25 @@ fn two_nodes_on_the_loopback(rt: HostRuntime) {
     let (three, four) = thread::join(
         &rt,
         move || {
-            let asked = b"need 4\nshow\n";
-            run_one(runtime, alloc, 3, 4, third, clocks.0, asked, shared)
+            let node = LoopbackNode {
+                me: 3,
+                peer: 4,
+                woken: third,
+                clock: clocks.0,
+                first: b"need 4\nshow\n",
+            };
+            run_one(runtime, alloc, node, shared)
         },
         move || {
             wait_for_print(runtime, shared);
-            run_one(runtime, alloc, 4, 3, fourth, clocks.1, b"hello\n", shared)
+            let node = LoopbackNode {
+                me: 4,
+                peer: 3,
+                woken: fourth,
+                clock: clocks.1,
+                first: b"hello\n",
+            };
+            run_one(runtime, alloc, node, shared)
         },
     );
     sees(&rt, three && four, "both nodes end well");
@@ -197,7 +245,12 @@ fn run_over_meeting<'a, R: Threads + Wait + Sync + time::Clock + log::Log + Abor
         met: &asked.met,
     };
     let mut screen = Vec::new(alloc);
-    let ended = run_over(rt, alloc, config, wires, disks, &mut commands, &mut screen);
+    let node = NewNode {
+        config,
+        wires,
+        disks,
+    };
+    let ended = run_over(rt, alloc, node, &mut commands, &mut screen);
     ended.err()
 }
 
@@ -344,8 +397,13 @@ fn run_in_memory<R: Threads + Wait + Sync + time::Clock + log::Log + Abort>(
             return Err(NodeError::Memory);
         }
     }
+    let node = NewNode {
+        config,
+        wires,
+        disks,
+    };
     let mut reader = commands;
-    run_over(rt, alloc, config, wires, disks, &mut reader, page)
+    run_over(rt, alloc, node, &mut reader, page)
 }
 
 /// Checks that the node has a link to this peer and counted nothing on it, or that it has no such link.

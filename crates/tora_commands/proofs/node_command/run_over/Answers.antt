@@ -4,7 +4,7 @@ use Rattle.tora_commands.proofs.node_command.run_over.Goals as goal
 
 pub returns : goal.returns
 returns g c =
-    let count : c.len.result ≡ length c.args.disks.items = omega (arith, c.len.ensures) in
+    let count : c.len.result ≡ length c.args.devices.disks.items = omega (arith, c.len.ensures) in
     inr (
       c.in-Some-lend.lent.items,
       c.in-Some-lend.ensures,

@@ -59,6 +59,9 @@ fn datagrams_of(rt: &impl Abort, alloc: Global, rows: &[Coming]) -> Vec<Vec<u8>>
     datagrams
 }
 
+/// A wire that waits until other wires are idle or broken, and of which a number of calls succeed.
+type FusedWire<'a, R> = Settling<'a, R, FuseWire<MemWire<32>>>;
+
 /// A wire on which these datagrams arrive, and of which this many calls succeed.
 fn wire_of<'a, R: Abort>(
     rt: &'a R,
@@ -67,7 +70,7 @@ fn wire_of<'a, R: Abort>(
     after: u64,
     rows: &[Coming],
     settled: &'a AtomicU64,
-) -> Settling<'a, R, FuseWire<MemWire<32>>> {
+) -> FusedWire<'a, R> {
     let wire = MemWire::<32>::new(datagrams_of(rt, alloc, rows));
     Settling {
         rt,
@@ -86,7 +89,21 @@ fn list_of_two<T: Drop>(rt: &impl Abort, alloc: Global, first: T, second: T) -> 
     list
 }
 
-/// Runs node 1 over these wires and disks, with commands that arrive once both wires are idle or broken.
+/// Commands that arrive once both wires are idle or broken.
+fn settled_commands<'a, R>(
+    rt: &'a R,
+    settled: &'a AtomicU64,
+    commands: &'static [u8],
+) -> Settled<'a, R> {
+    Settled {
+        rt,
+        settled,
+        count: 2,
+        commands,
+    }
+}
+
+/// Runs node 1 over these wires and disks, until these commands end it.
 fn run_settled<
     'a,
     R: Threads + Wait + Sync + time::Clock + log::Log + Abort,
@@ -94,20 +111,17 @@ fn run_settled<
 >(
     rt: &'a R,
     alloc: Global,
-    wires: Vec<Settling<'a, R, FuseWire<MemWire<32>>>>,
+    wires: Vec<FusedWire<'a, R>>,
     disks: Vec<D>,
-    commands: &'static [u8],
-    settled: &'a AtomicU64,
+    commands: &mut Settled<'a, R>,
     paper: &mut Paper,
 ) -> Result<Ended, NodeError> {
-    let config = config_of(rt, alloc, 1, &[3, 2]);
-    let mut reader = Settled {
-        rt,
-        settled,
-        count: 2,
-        commands,
+    let node = NewNode {
+        config: config_of(rt, alloc, 1, &[3, 2]),
+        wires,
+        disks,
     };
-    run_over(rt, alloc, config, wires, disks, &mut reader, paper)
+    run_over(rt, alloc, node, commands, paper)
 }
 
 /// An output with an empty page.
@@ -136,7 +150,8 @@ fn fault_of<'a, R: Threads + Wait + Sync + time::Clock + log::Log + Abort>(
     let third = wire_of(rt, alloc, run.fuses.1, 0, &[], settled);
     let wires = list_of_two(rt, alloc, second, third);
     let disks = new_disks(rt, alloc);
-    run_settled(rt, alloc, wires, disks, run.commands, settled, paper).err()
+    let mut commands = settled_commands(rt, settled, run.commands);
+    run_settled(rt, alloc, wires, disks, &mut commands, paper).err()
 }
 
 /// Makes a run, and checks its fault and its output.
@@ -281,7 +296,8 @@ fn run_shown<'a, R: Threads + Wait + Sync + time::Clock + log::Log + Abort>(
     };
     let disks = list_of_two(rt, alloc, disk, other);
     let mut paper = paper_of(Output::Whole);
-    run_settled(rt, alloc, wires, disks, b"quit\n", settled, &mut paper).err()
+    let mut commands = settled_commands(rt, settled, b"quit\n");
+    run_settled(rt, alloc, wires, disks, &mut commands, &mut paper).err()
 }
 
 /// The tags of node 1 and its peers 2 and 3: the text `TORALIF2`, the node and the peer, and the complement of these

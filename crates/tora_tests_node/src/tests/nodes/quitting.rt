@@ -11,7 +11,7 @@ use std::thread::Threads;
 use std::time::Duration;
 use std::{thread, time};
 use tora_neighbour::{Clock, NodeClock, Wake};
-use tora_node::run_node;
+use tora_node::{NodeParts, run_node};
 
 /// What a test observes of the end of a node.
 #[derive(Drop)]
@@ -113,18 +113,15 @@ fn run_to_the_end<R: Threads + Wait + Sync + time::Clock + log::Log + Abort>(
     as_many(rt, clocks.len(), links);
     let mut commands = Running { rt, course };
     let screen = Vec::new(alloc);
-    let (ended, screen) = run_node(
-        rt,
-        alloc,
+    let parts = NodeParts {
         config,
         wires,
         disks,
         wakers,
         clocks,
-        counting,
-        &mut commands,
-        screen,
-    );
+        command_clock: counting,
+    };
+    let (ended, screen) = run_node(rt, alloc, parts, &mut commands, screen);
     ended.is_ok() && screen.is_some()
 }
 

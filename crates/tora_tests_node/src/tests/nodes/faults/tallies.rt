@@ -119,7 +119,8 @@ fn run_whole<'a, R: Threads + Wait + Sync + time::Clock + log::Log + Abort>(
     let wires = list_of_two(rt, alloc, second, third);
     let disks = new_disks(rt, alloc);
     let mut paper = paper_of(Output::Whole);
-    run_settled(rt, alloc, wires, disks, b"quit\n", settled, &mut paper)
+    let mut commands = settled_commands(rt, settled, b"quit\n");
+    run_settled(rt, alloc, wires, disks, &mut commands, &mut paper)
 }
 
 /// Checks how often each verdict was counted.
