@@ -1,8 +1,8 @@
-//! A change at a router.
+//! A change that a router reports to its host.
 use tora_arq::Reason;
 use tora_height::Id;
 
-/// A change at a router.
+/// A change that a router reports to its host by `poll_change`.
 #[derive(Clone, Copy, Debug, PartialEq, Eq)]
 pub enum Change {
     /// The link to this neighbour is up.
@@ -13,7 +13,7 @@ pub enum Change {
     NextHop(Id, Option<Id>),
 }
 
-/// The latest change of a link.
+/// The latest change of a link: it came up, or went down for this reason.
 #[derive(Clone, Copy, Debug, PartialEq, Eq)]
 pub enum News {
     Up,

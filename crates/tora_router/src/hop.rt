@@ -8,7 +8,8 @@ use crate::change::Change;
 use tora_core::Core;
 use tora_height::Id;
 
-/// The next hop to a destination that the host polled last.
+/// The next hop to a destination that the host polled last. `told` is `None` if there was no next hop then, or if the
+/// host has polled none yet.
 #[derive(Clone, Copy, Debug, PartialEq, Eq)]
 pub struct Hop {
     pub destination: Id,
@@ -28,7 +29,7 @@ fn is_same_hop(one: Option<Id>, two: Option<Id>) -> bool
 }
 
 impl Hop {
-    /// Returns the next hop if it differs from the one polled last, and marks it as polled.
+    /// Returns the next hop if it differs from the one polled last, and marks it as polled; otherwise `None`.
     fn poll(&mut self, core: &Core) -> Option<Change>
         ensures change { result ≡ hop_change core.now self.old }
         ensures none { IfNone result (self.new ≡ self.old) }
@@ -44,7 +45,7 @@ impl Hop {
 }
 
 /// Returns the next hop of the first destination whose next hop differs from the one polled last, with the index of the
-/// destination, and marks it as polled.
+/// destination, and marks it as polled. `None` if there is no such destination; nothing changes then.
 pub fn poll_hops(hops: &mut Vec<Hop>, core: &Core) -> Option<(usize, Change)>
     ensures first { result ≡ first_in (hop_change core.now) hops.old.items }
     ensures none { IfNone result (hops.new.items ≡ hops.old.items) }

@@ -24,5 +24,5 @@ pub use router::Router;
 pub use router_error::RouterError;
 pub use tally::Tally;
 
-/// The greatest life number.
+/// The greatest session number, 2^62.
 pub const GREATEST_LIFE: u64 = 1 << 62;

@@ -2,7 +2,7 @@
 ghost use Rattle.std.specs.Prelude.{◌≡◌, ◌^◌};
 ghost use Rattle.tora_router.specs.declared.TheConstants.{GREATEST_LIFE};
 
-/// The limits have these values.
+/// A law: `GREATEST_LIFE` is 2^62.
 pub fn limits_have_their_values()
     ensures greatest_life { GREATEST_LIFE ≡ 2 ^ 62 }
 {}

@@ -33,7 +33,7 @@ pub struct Link {
 }
 
 impl Link {
-    /// Passes a cargo of the core to the end.
+    /// Passes an outbound message of the core to the end, as `hand_in` does.
     pub fn give(&mut self, cargo: &Cargo)
         ensures { self.new ≡ given cargo.now self.old }
     {
@@ -48,7 +48,8 @@ impl Link {
         self.end.next_event().is_some()
     }
 
-    /// Removes and returns the first event of the end, and notes the change of the link that it reports.
+    /// Removes and returns the first event of the end, and notes the change of the link that the event reports. `None`
+    /// if there is no event.
     pub fn poll(&mut self) -> Option<LinkEvent>
         ensures event { result ≡ event_of self.old }
         ensures none { IfNone result (self.new ≡ self.old) }
@@ -62,7 +63,7 @@ impl Link {
         Some(event)
     }
 
-    /// Whether the end is closed, and may be opened with this number.
+    /// Whether the end is closed, and this session number is above the last one of the end and at most `GREATEST_LIFE`.
     fn may_open(&self, number: u64) -> bool
         ensures value { result ≡ may_open number self.now }
         ensures closed { result ≡ true → is_closed self.now.end.state ≡ true }
@@ -75,7 +76,7 @@ impl Link {
         is_closed && (is_above && is_within)
     }
 
-    /// Opens a closed end with this number, and returns whether it did so.
+    /// Opens the end with this session number if `may_open` allows it, and returns whether it did so.
     fn open(&mut self, number: u64, now: u64) -> bool
         ensures opened { self.new ≡ opened number now self.old }
         ensures answer { result ≡ may_open number self.old }
@@ -88,7 +89,8 @@ impl Link {
         may_open
     }
 
-    /// Opens a closed end with this number, returns whether it did so, and passes the tick to the end.
+    /// Opens the end with this session number if `may_open` allows it, and then passes the tick to the end. Returns
+    /// whether it opened the end.
     pub fn tick(&mut self, number: u64, now: u64) -> bool
         ensures ticked { self.new ≡ ticked number now self.old }
         ensures answer { result ≡ may_open number self.old }
@@ -99,7 +101,8 @@ impl Link {
         is_opened
     }
 
-    /// Passes a datagram to the end, and counts the outcome. `packets` is a buffer for the packets of the frame.
+    /// Decodes a datagram, passes its frame to the end, and counts the outcome: `Bad` if the bytes are not a frame,
+    /// otherwise `Seen`. `packets` is a buffer for the packets of the frame.
     pub fn hear(&mut self, datagram: &[u8], now: u64, packets: &mut Packets) -> Intake
         ensures intake { result ≡ intake_of self.old now (frame_reading datagram.now) }
         ensures heard { self.new ≡ heard now (frame_reading datagram.now) self.old }
@@ -113,7 +116,8 @@ impl Link {
     }
 
     /// Writes the first frame due to the front of `out`, which has room for any frame, and returns its length in bytes.
-    /// `packets` and `bytes` are buffers for the frame's packets and bytes.
+    /// `None` if no frame is due; nothing changes then. `packets` and `bytes` are buffers for the frame's packets and
+    /// bytes.
     pub fn send(
         &mut self,
         now: u64,
@@ -142,7 +146,7 @@ impl Link {
         Some(count)
     }
 
-    /// Returns the latest change of the link, and marks it as polled.
+    /// Returns the latest change of the link, and marks it as polled. `None` if there was none since the last call.
     pub fn poll_news(&mut self) -> Option<Change>
         ensures change { result ≡ link_change self.old }
         ensures none { IfNone result (self.new ≡ self.old) }
@@ -157,8 +161,8 @@ impl Link {
         })
     }
 
-    /// The tick before which no frame is due, no closed end is to be opened with this number, and a tick changes
-    /// nothing.
+    /// The tick from which on a frame is due, the session times out, or the closed end can be opened with this session
+    /// number. It is 0 if that is so at every tick, and 2^64 - 1 if it is so at no earlier tick.
     pub fn next_due(&self, number: u64) -> u64
         ensures { (tick : ℕ) → tick < last_tick → nat_le result tick ≡ is_link_due number tick self.now }
     {
@@ -177,7 +181,7 @@ impl Link {
     }
 }
 
-/// The latest change of a link after an event. An event that changes nothing for the host leaves it as it was.
+/// The latest change of a link after an event. A delivered packet leaves it as it was.
 fn news_after(event: &LinkEvent, news: Option<News>) -> Option<News>
     ensures { result ≡ news_after event.now news }
 {
@@ -188,7 +192,7 @@ fn news_after(event: &LinkEvent, news: Option<News>) -> Option<News>
     }
 }
 
-/// A new link: its end is closed.
+/// A new link, whose end is closed; `None` if memory runs out.
 pub fn new_link(alloc: Global, me: Id, peer: Id, times: Times) -> Option<Link>
     requires me { 0 < me }
     requires peer { 0 < peer }

@@ -1,4 +1,4 @@
-//! All links of a router. They take the cargoes of its core at once, without a lane.
+//! All links of a router. Their ends take the outbound messages of the core at once, without a queue.
 ghost use Rattle.std.specs.Prelude.{◌≡◌, ◌<◌, ◌≤◌, ◌++◌, true, ℕ, nat_le, drop, slice_get, Option, Some, None};
 ghost use Rattle.std.specs.Prelude.{IfNone, IfSome, MatchOption, is_some, length, option_map};
 ghost use Rattle.tora_frame.specs.FrameGrammar.{frame_reading};
@@ -57,7 +57,7 @@ impl OutLanes for Links {
 }
 
 impl Links {
-    /// These links, which are in ascending order.
+    /// The links in this list, which is in ascending order of the neighbours.
     pub(crate) fn of(list: Vec<Link>) -> Links
         ensures { result ≡ list.items }
     {
@@ -75,7 +75,7 @@ impl Links {
         self.list.len()
     }
 
-    /// The place of the link to a neighbour.
+    /// The place of the link to neighbour `k`, counted from 0; `None` if there is no such link.
     pub fn place(&self, k: Id) -> Option<usize>
         ensures place { option_map (λ place. (place, tt)) result ≡ first_in (to_peer k) self.now }
         ensures within { IfSome result (λ at. at < length self.now) }
@@ -104,7 +104,7 @@ impl Links {
         self.list[place].tally
     }
 
-    /// Whether an event waits.
+    /// Whether the end of some link has an event.
     #[inline(always)]
     pub fn has_event(&self) -> bool
         ensures { result ≡ is_some (first_in event_of self.now) }
@@ -117,7 +117,8 @@ impl Links {
         false
     }
 
-    /// Removes and returns the first waiting event, with the place of its link.
+    /// Removes and returns the first event of the first link that has one, with the place of the link; `None` if no
+    /// link has an event.
     pub fn poll(&mut self) -> Option<(usize, LinkEvent)>
         ensures first { result ≡ first_in event_of self.old }
         ensures none { IfNone result (self.new ≡ self.old) }
@@ -131,8 +132,8 @@ impl Links {
         None
     }
 
-    /// Passes the tick to the link at a place. If its end is closed, opens it with this number. Returns whether it did
-    /// so.
+    /// Opens the end of the link at a place with this session number, if `Link::may_open` allows it, and then passes
+    /// the tick to the end. Returns whether it opened the end.
     pub fn tick(&mut self, place: usize, number: u64, now: u64) -> bool
         requires { place < length self.old }
         ensures ticked { self.new ≡ at_place (ticked number now) place self.old }
@@ -142,7 +143,7 @@ impl Links {
         self.list[place].tick(number, now)
     }
 
-    /// Passes a datagram to the link at a place.
+    /// Passes a datagram to the link at a place, and returns the outcome: `Bad` or `Seen`.
     pub fn hear(&mut self, place: usize, datagram: &[u8], now: u64) -> Intake
         requires { place < length self.old }
         ensures intake { result ≡ intake_at now (frame_reading datagram.now) place self.old }
@@ -152,7 +153,8 @@ impl Links {
     }
 
     /// Writes the first frame due of the first link that has one to the front of a buffer with room for any frame.
-    /// Returns the place of the link and the length of the frame in bytes.
+    /// Returns the place of the link and the length of the frame in bytes. `None` if no frame is due; nothing changes
+    /// then.
     pub fn send(&mut self, now: u64, out: &mut [u8]) -> Option<(usize, usize)>
         requires { LONGEST_FRAME ≤ length out.old }
         ensures first { result ≡ option_map (λ (found : ℕ × FrameParts). (found.0, length (frame_spelling found.1)))
@@ -173,7 +175,8 @@ impl Links {
         None
     }
 
-    /// Returns the change of the first link that has one, with the index of the link, and marks it as polled.
+    /// Returns the change of the first link that has one to poll, with the index of the link, and marks it as polled.
+    /// `None` if no link has one.
     pub fn poll_news(&mut self) -> Option<(usize, Change)>
         ensures first { result ≡ first_in link_change self.old }
         ensures none { IfNone result (self.new ≡ self.old) }
@@ -187,7 +190,7 @@ impl Links {
         None
     }
 
-    /// The tick before which nothing is due at any link, if the next end is opened with this number.
+    /// The least `Link::next_due` of all links with this session number; 2^64 - 1 if there is no link.
     pub fn next_due(&self, number: u64) -> u64
         ensures { (tick : ℕ) → tick < last_tick → nat_le result tick ≡ list_any (is_link_due number tick) self.now }
     {

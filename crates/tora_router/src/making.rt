@@ -33,7 +33,8 @@ fn has_no_time(times: Times) -> bool
     no_hearing || no_try
 }
 
-/// Why a router is refused, apart from the causes that its core checks.
+/// Why a router is refused: `Id`, `Times` or `Life`, the first that applies. `None` if none does; the core checks the
+/// other causes.
 pub fn early_refusal(
     config: &Config,
     neighbours: &[Id],
@@ -60,7 +61,7 @@ pub fn early_refusal(
     None
 }
 
-/// A link for each neighbour of a core.
+/// A link for each neighbour of a core; `None` if memory runs out.
 pub fn new_links(alloc: Global, core: &Core, times: Times) -> Option<Links>
     requires { IsTimes times }
     ensures { IfSome result (λ links. links ≡ map (new_link core.now.me times) core.now.neighbours) }
@@ -76,7 +77,7 @@ pub fn new_links(alloc: Global, core: &Core, times: Times) -> Option<Links>
     Some(Links::of(list))
 }
 
-/// The state that no next hop to a destination was polled.
+/// The `Hop` of a destination whose next hop was not polled yet.
 fn new_hop(destination: Id) -> Hop
     ensures { result ≡ new_hop destination }
 {
@@ -86,7 +87,10 @@ fn new_hop(destination: Id) -> Hop
     }
 }
 
-/// For each destination the state that no next hop was polled.
+/// The `Hop` of each destination, of which none was polled yet.
+///
+/// # Errors
+/// Memory ran out.
 pub fn new_hops(alloc: Global, destinations: &[Id]) -> Result<Vec<Hop>, AllocError>
     ensures { IfOk result (λ hops. hops.items ≡ map new_hop destinations.now) }
 {

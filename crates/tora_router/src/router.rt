@@ -1,4 +1,4 @@
-//! A router.
+//! A router: a node without threads, sockets and clocks.
 ghost use Rattle.std.specs.Prelude.{◌≡◌, ◌<◌, ◌≤◌, ◌++◌, ◌*◌, ℕ, Bool, true, false, Err, IfErr, IfOk, IfNone, IfSome};
 ghost use Rattle.std.specs.Prelude.{MatchOption, None, OnOk, Some, drop, is_some, length, map, option_map};
 ghost use Rattle.std.specs.Prelude.{string_bytes, slice_get};
@@ -39,8 +39,8 @@ use tora_seat::{Answer, CoreSeat, Item, What, what_of};
 /// 5. `poll_change` until it gives `None`, if it wants to see changes.
 ///
 /// Any other order is safe. A call handles its input completely before it returns, so nothing waits inside between two
-/// calls. Only `new` and `show` take memory. A router never uses a life number twice. The host stores `next_life`, and
-/// makes a new router with a number from which on none was used.
+/// calls. Only `new` and `show` take memory. A router never uses a session number twice. The host stores `next_life`,
+/// and gives the node's next router a `first_life` above every number that was used.
 ///
 /// ```rust
 /// let config = Config { me: 1, times: Times::STANDARD, erasure: Erasure::Plain, limits: CoreLimits::STANDARD };
@@ -73,13 +73,13 @@ impl Model for Router {
 
 impl Router {
     /// The router of node `config.me` with these neighbours and destinations, in any order. Its link ends are closed
-    /// until the first tick. Their life numbers are `first_life` (1 to `GREATEST_LIFE`) and those above it: the host
+    /// until the first tick. Their session numbers are `first_life` (1 to `GREATEST_LIFE`) and those above it: the host
     /// must ensure that no end of this node ever had one of them.
     ///
     /// # Errors
-    /// In this order: `Id` if a number is 0, `Times` if a time is 0, `Life` if the first life number is out of range,
-    /// `TooMany` neighbours or destinations, `Repeated` within one list, `OwnId` if the node is among its neighbours,
-    /// `Memory`.
+    /// In this order: `Id` if the number of a node is 0, `Times` if a time is 0, `Life` if `first_life` is out of
+    /// range, `TooMany` if there are more neighbours or destinations than `config.limits` allow, `Repeated` if one is
+    /// named twice, `OwnId` if the node is among its neighbours, `Memory`.
     pub fn new(
         alloc: Global,
         config: &Config,
@@ -129,7 +129,7 @@ impl Router {
         })
     }
 
-    /// Serves an item. The link ends take its cargoes at once.
+    /// Serves an item. The link ends take the outbound messages at once.
     fn serve(&mut self, item: &Item) -> Answer
         ensures served { router_of self.new ≡ after_item (router_of self.old) item.entry.now }
         ensures answer { result ≡ (serving (router_of self.old) item.entry.now).answer }
@@ -178,7 +178,8 @@ impl Router {
         'events: while self.serve_event(now) {}
     }
 
-    /// Passes the tick to the link at a place. If its end is closed, opens it with the next life number.
+    /// Opens the end of the link at a place with the next session number, if it is closed and the number is at most
+    /// `GREATEST_LIFE`. Then passes the tick to the end.
     fn tick_at(&mut self, place: usize, now: u64)
         requires { place < length self.old.links }
         ensures ticked { router_of self.new ≡ ticked_at place now (router_of self.old) }
@@ -189,8 +190,8 @@ impl Router {
         }
     }
 
-    /// Applies the tick `now`: opens each closed link end with the next life number, and ends the sessions that have
-    /// timed out.
+    /// Applies the tick `now` of 100 ms: opens each closed link end with the next session number, unless the numbers up
+    /// to `GREATEST_LIFE` are used up, and then ends the sessions that have timed out.
     pub fn on_tick(&mut self, now: u64)
         ensures router { router_of self.new ≡ after_tick now (router_of self.old) }
         ensures settled { first_in event_of self.new.links ≡ None }
@@ -202,7 +203,7 @@ impl Router {
     }
 
     /// Receives a datagram of any bytes from a neighbour at the tick `now`. A datagram of a node that is not a
-    /// neighbour changes nothing.
+    /// neighbour changes nothing (`NoNeighbour`).
     pub fn on_datagram(&mut self, peer: Id, datagram: &[u8], now: u64) -> Intake
         ensures intake { result ≡ intake_from peer now (frame_reading datagram.now) (router_of self.old) }
         ensures router { router_of self.new
@@ -288,15 +289,16 @@ impl Router {
         Some(change)
     }
 
-    /// The tick from which on a datagram is due or a tick changes something, until another call. It is 0 if that is so
-    /// at once, and 2^64 - 1 if it never is.
+    /// The tick from which on a datagram is due or `on_tick` changes something, if there is no other call. It may be
+    /// past. It is 0 if that is so at every tick, and 2^64 - 1 if it is so at no earlier tick.
     pub fn next_due(&self) -> u64
         ensures { IsNextDue (router_of self.now) result }
     {
         self.links.next_due(self.next_life)
     }
 
-    /// The next life number. No link end has had it or one above it.
+    /// The session number for the end that is opened next. No link end of this router has had it or a greater one. It
+    /// is `GREATEST_LIFE` + 1 if the numbers are used up.
     pub fn next_life(&self) -> u64
         ensures { result ≡ self.now.next_life }
     {
@@ -317,28 +319,30 @@ impl Router {
         self.seat.core().neighbours()
     }
 
-    /// The own height for a destination, `None` if the table does not have it.
+    /// The node's own height for a destination, `Some(None)` if it is NULL; `None` if the table does not have the
+    /// destination.
     pub fn height(&self, destination: Id) -> Option<Entry>
         ensures { result ≡ height_of self.now.seat.core destination }
     {
         self.seat.core().height(destination)
     }
 
-    /// The height that a neighbour sent for a destination, `None` if the table does not have it or the link is not up.
+    /// The node's entry for a destination and a neighbour: the height that the neighbour sent, `Some(None)` if it is
+    /// NULL. `None` if the table does not have the destination, or the link to the neighbour is not up.
     pub fn entry(&self, destination: Id, neighbour: Id) -> Option<Entry>
         ensures { result ≡ entry_of self.now.seat.core destination neighbour }
     {
         self.seat.core().entry(destination, neighbour)
     }
 
-    /// The next hop to a destination; `None` if there is none.
+    /// The next hop to a destination; `None` if there is none, or the table does not have the destination.
     pub fn next_hop(&self, destination: Id) -> Option<Id>
         ensures { result ≡ hop_of self.now.seat.core destination }
     {
         self.seat.core().next_hop(destination)
     }
 
-    /// Whether a route to a destination is required.
+    /// Whether a route to a destination is required; `false` if the table does not have the destination.
     pub fn flag(&self, destination: Id) -> bool
         ensures { result ≡ flag_of self.now.seat.core destination }
     {
@@ -353,7 +357,7 @@ impl Router {
         Some(self.links.tally(place))
     }
 
-    /// The core as text, as `Core::show` has it.
+    /// The core as text, as `Core::show` returns it.
     ///
     /// # Errors
     /// `Memory`.
@@ -365,7 +369,7 @@ impl Router {
     }
 }
 
-/// The result of a need.
+/// The result of `Router::need` by the answer to its item: the cause of a refusal, otherwise `Ok`.
 fn result_of(answer: Answer) -> Result<(), StepError>
     ensures { result ≡ result_of answer }
 {

@@ -13,9 +13,9 @@ pub enum RouterError {
     Id,
     /// One of the times is 0.
     Times,
-    /// The first life number is 0 or above `GREATEST_LIFE`.
+    /// The first session number is 0 or above `GREATEST_LIFE`.
     Life,
-    /// There are more neighbours or destinations than the limits allow.
+    /// There are more neighbours or destinations than the limits in the configuration allow.
     TooMany,
     /// A neighbour or a destination is named twice.
     Repeated,
@@ -48,7 +48,7 @@ impl fmt::Display for RouterError {
 }
 
 impl RouterError {
-    /// The error of a router whose core is refused.
+    /// Why a router can't be made, if its core can't be made for this cause.
     pub(crate) fn of_core(error: CoreError) -> RouterError
         ensures { result ≡ error_of error }
     {

@@ -49,7 +49,7 @@ impl Tally {
         }
     }
 
-    /// Adds 1 to the count of a datagram's outcome.
+    /// Adds 1 to the count of a datagram's outcome, at most 2^64 - 1. `NoNeighbour` is not counted.
     pub(crate) fn count(&mut self, intake: Intake)
         ensures { self.new ≡ counted intake self.old }
     {

@@ -39,7 +39,7 @@ use tora_world::{
 /// with the same cores, link ends, queues, and records of what was sent, taken and accepted.
 ///
 /// A run of parts must satisfy only this: the thread's definition allows each part, queues keep their order, no wire
-/// delivers a forged datagram that its end accepts, and the numbers drawn for a link end rise. Ticks, results of
+/// delivers a forged datagram that its end accepts, and the session numbers of a link end rise. Ticks, results of
 /// queues, losses, repeated datagrams and the moments of starts are arbitrary.
 pub fn running_nodes_are_a_world()
     ensures { EveryNetwork (λ t times w. IsOfWorld t times w) }
@@ -88,8 +88,8 @@ pub fn running_nodes_keep_the_no_gap_law()
     no_gap_law();
 }
 
-/// Exact entries give walks of running nodes: if each entry for a destination that is not NULL is the current height of
-/// its neighbour, the next hops lead from every node with a height to the destination.
+/// Exact entries give walks of running nodes: if each entry for a destination is NULL or the current height of its
+/// neighbour, the next hops lead from every node with a height to the destination.
 pub fn running_walks_arrive()
     ensures { EveryNetwork (λ t times w. HoldsOfSound WalksArrive t w) }
 {
@@ -130,7 +130,8 @@ pub fn histories_are_of_the_threads()
     // Whole turns of a link's thread are parts of its end, one after another.
     ensures turns { (s : Settings) (e : EndState) (turns : List Turn) (after : EndState) → AreTurns s e turns after
         → AreLinkParts s e (parts_of_turns turns) after }
-    // The same holds for the last turn, which may end early; an event that the hub refused is not a part.
+    // The same holds for the last turn, which may end early; an event that the thread could not put into the queue into
+    // the core is not a part.
     ensures last { (s : Settings) (last_beat : Option ℕ) (e : EndState) (t : Turn) (ending : Ending) (after : EndState)
         → IsLastTurn s last_beat e t ending after
         → (between : EndState) × AreLinkParts s e (parts_of_last ending t) between
@@ -140,13 +141,14 @@ pub fn histories_are_of_the_threads()
         → IsTurnRun s e turns last ending after
         → (between : EndState) × AreLinkParts s e (parts_of_turns turns ++ parts_of_last ending last) between
         × IsAfterRefused between last.refused after }
-    // These parts exchange with the thread's file, queues and wire what `Traffic` says of its turns: the numbers drawn,
-    // the outbound messages taken, the frames sent, the datagrams received, and the items put.
+    // These parts exchange with the thread's file, queues and wire what `Traffic` says of its turns: the session
+    // numbers taken from the file, the outbound messages taken, the frames sent, the datagrams received, and the items
+    // put.
     ensures exchanges { (s : Settings) (e : EndState) (turns : List Turn) (last : Turn) (ending : Ending)
         (after : EndState) → IsTurnRun s e turns last ending after
         → ExchangeTheSame (parts_of_turns turns ++ parts_of_last ending last) (turns ++ last ∷ []) }
     // The items that a core's thread has served one after another, as the contract of `run_core` describes them, are a
-    // run of parts if they wait in its queue, and the run leads to the same seat.
+    // run of parts if they wait in its queue, and the run leads to the same state of the seat.
     ensures served { (w : Network) (n : ℕ) (xs : List ServedItem) (rest : List Item) (after : SeatState)
         → is_node w.topology n ≡ true
         → w.items n ≡ items_served xs ++ rest → AreServed (neighbours_at w n) (w.seats n) xs after
@@ -200,7 +202,7 @@ pub fn worked_networks_hold()
     // node is refused. Then the wire of node 1 fails, node 2 receives no frame for 60 ticks, and the route is lost.
     ensures last { IsRun met last_parts }
     ensures left { HasLeft left }
-    // Rising numbers are necessary: if the same numbers were drawn again after a start, an old datagram would be taken
-    // a second time.
+    // Rising session numbers are necessary: if the file gave the same numbers again after a start, an old datagram
+    // would be taken a second time.
     ensures numbers { TakesTwice drawn_again }
 {}

@@ -1,6 +1,5 @@
 //! What a link end and the seat of a core pass to each other. The simulator, the routers and the threads of a node call
 //! these functions.
-//! this.
 ghost use Rattle.std.specs.Prelude.{◌≡◌};
 ghost use Rattle.tora_arq.specs.LinkEnd.{bound_life};
 ghost use Rattle.tora_seat.specs.Between.{what_of, after_cargo, after_cut_of_bound};
@@ -19,8 +18,8 @@ pub fn what_of(event: LinkEvent) -> What
     }
 }
 
-/// Passes an outbound message to the link end: submits its packet, or cuts its session. A packet that the end refuses
-/// is dropped, because its session has ended.
+/// Passes an outbound message to the link end: submits its packet, or cuts its session. A packet is dropped if its
+/// session is not the bound one, or if the end can take no more packets, which ends the session.
 pub fn hand_in(end: &mut LinkEnd, cargo: &Cargo)
     ensures { end.new ≡ record end.old { state = after_cargo end.old.state cargo.now } }
 {

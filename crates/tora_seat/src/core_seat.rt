@@ -1,4 +1,4 @@
-//! The core's seat.
+//! The seat of a core, which serves items. It has its own list for the packets of a step.
 ghost use Rattle.std.specs.Prelude.{◌≡◌, ◌≤◌, List, length, [], None, IfOk, MatchOption, slice_get};
 ghost use Rattle.tora_core.specs.Numbers.{IsAscending};
 ghost use Rattle.tora_seat.specs.Serving.{Answers, Offer, serving_of};
@@ -50,14 +50,15 @@ impl CoreSeat {
         self.seat.core()
     }
 
-    /// The inputs that the core accepted for the last item, in order.
+    /// The inputs that the core accepted for the item served last, in order; none before the first item.
     pub fn inputs(&self) -> &[Input]
         ensures { result.now ≡ self.now.inputs }
     {
         self.seat.inputs()
     }
 
-    /// The packet that was passed to the core for the last item, if there was one.
+    /// The packet of a neighbour that was passed to the core for the item served last. `None` if the item was no
+    /// packet, or its session was not the current one.
     pub fn stepped(&self) -> Option<Stepped>
         ensures { result ≡ self.now.stepped }
     {

@@ -2,8 +2,8 @@
 use crate::{Answer, Cargo, Item, Status, What};
 use std::fmt;
 
-/// A word, followed by the session, the packet, the reason, the destination or the neighbour. A status has a word of
-/// its own.
+/// A word, and then what the variant carries: the session, the packet, the reason, the destination or the neighbour. A
+/// status prints as `json` or `watch`.
 impl fmt::Display for What {
     ghost use Rattle.std.specs.Prelude.{Some};
     ghost use Rattle.tora_seat.specs.Texts.{written_what};
@@ -50,7 +50,7 @@ impl fmt::Display for Item {
     }
 }
 
-/// A packet with its session, or the session that is cut.
+/// `packet`, the session and the packet; or `cut` and the session.
 impl fmt::Display for Cargo {
     ghost use Rattle.std.specs.Prelude.{Some};
     ghost use Rattle.tora_seat.specs.Texts.{written_cargo};
@@ -65,7 +65,7 @@ impl fmt::Display for Cargo {
     }
 }
 
-/// A word; for a refusal, followed by its cause.
+/// One word; for a refusal `refused:` and the cause.
 impl fmt::Display for Answer {
     ghost use Rattle.std.specs.Prelude.{Some};
     ghost use Rattle.tora_seat.specs.Texts.{written_answer};

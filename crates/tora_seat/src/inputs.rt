@@ -1,4 +1,4 @@
-//! The effect of the inputs that a core accepts in an item.
+//! The effect of the inputs that a core accepts while it serves an item.
 ghost use Rattle.std.specs.Prelude.{◌≡◌, ℕ, List};
 ghost use Rattle.std.specs.List.{AllByRecursion};
 ghost use Rattle.tora_core.specs.declared.Input.{Input};

@@ -1,13 +1,13 @@
-//! An item for the core.
+//! An item of the queue into a core.
 use crate::What;
 
-/// An item for the core.
+/// An item of the queue into a core: what a link or a command reports to the core or asks of it.
 #[derive(Clone, Copy, Debug, PartialEq, Eq, Hash)]
 pub struct Item {
-    /// The seat that put it. The seat of a link is the place of its neighbour in ascending order; the seat of the
-    /// commands comes after those.
+    /// The source of the item (its seat), as a number from 0: for a link the place of its neighbour in ascending order,
+    /// for the commands the number of neighbours.
     pub seat: usize,
-    /// Its number among the items of its seat, counted from 1.
+    /// The number of the item among those of its source, counted from 1; 0 in a router, which does not count them.
     pub number: u64,
     /// The tick of 100 ms at which it was put into the queue.
     pub now: u64,

@@ -13,8 +13,9 @@ pub fn lives_are_current_where_links_are_up()
         → IsInStep ks s → IsInStep ks (serving_of answers ks s item).seat }
 {}
 
-/// The packets put into the queue to a neighbour are a prefix of the packets that the core broadcasts while its link is
-/// up, all in one session. They are all of these packets if the queue returns none.
+/// While an item is served, the packets put into the queue to a neighbour are a prefix of the packets that the core
+/// broadcasts while the neighbour's link is up, all in one session. They are all of these packets if the queue returns
+/// none.
 pub fn lives_have_no_gap()
     ensures { (answers : Answers) (ks : List ℕ) (s : SeatState) (item : Item) (k : ℕ)
         → ks ≡ s.core.neighbours → has_repeat ks ≡ false

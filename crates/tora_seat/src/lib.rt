@@ -2,7 +2,7 @@
 //!
 //! A link gives the core items: a session that came up, its packets, and its end. The core gives a link outbound
 //! messages: packets of the current session, and orders to cut a session. The seat of a core serves one item after
-//! another over any lanes (queues), and reports the outcome of each:
+//! another over any queues (`OutLanes`), and reports the outcome of each:
 //!
 //! ```rust
 //! let core = Core::new(alloc, 1, &[2, 3], &[4])?;
@@ -53,8 +53,8 @@ pub use stepped::Stepped;
 pub use what::What;
 pub use worked::worked_downs_hold;
 
-/// How many items the queue into a core holds.
+/// The most items that the queue into a core can hold.
 pub const MOST_ITEMS: usize = 1024;
 
-/// How many outbound messages the queue to a neighbour holds.
+/// The most outbound messages that the queue to a neighbour can hold.
 pub const MOST_CARGOES: usize = 256;

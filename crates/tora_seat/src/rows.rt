@@ -26,7 +26,7 @@ pub struct LinkRow {
     pub pending: Option<Life>,
 }
 
-/// Offers the pending cut of a row.
+/// Offers the pending cut of a row, if there is one, to the queue at `place`. A cut that is put is no longer pending.
 fn try_cut<O: OutLanes>(row: &mut LinkRow, place: usize, outs: &mut O)
     requires { place < O.count outs.old }
     ensures count { O.count outs.new ≡ O.count outs.old }
@@ -55,8 +55,8 @@ pub fn try_cuts<O: OutLanes>(rows: &mut [LinkRow], outs: &mut O) -> bool
     is_left
 }
 
-/// Sends a packet to the neighbour of a row in its current session. If the queue returns the packet, the session is
-/// over. Returns whether it did.
+/// Offers a packet to the queue at `place` in the row's current session; does nothing if there is none. Returns whether
+/// the queue returned the packet: then the session is over, and its cut is pending.
 fn send<O: OutLanes>(row: &mut LinkRow, place: usize, packet: &Packet, outs: &mut O) -> bool
     requires { place < O.count outs.old }
     ensures count { O.count outs.new ≡ O.count outs.old }
@@ -73,7 +73,8 @@ fn send<O: OutLanes>(row: &mut LinkRow, place: usize, packet: &Packet, outs: &mu
     false
 }
 
-/// Sends a packet to each neighbour, in ascending order. Returns whether a queue returned it.
+/// Sends a packet to each neighbour that has a current session, in ascending order. Returns whether a queue returned
+/// it.
 fn broadcast<O: OutLanes>(rows: &mut [LinkRow], packet: &Packet, outs: &mut O) -> bool
     requires lanes { length rows.old ≤ O.count outs.old }
     requires different { has_repeat (neighbours_of rows.old) ≡ false }
@@ -89,8 +90,8 @@ fn broadcast<O: OutLanes>(rows: &mut [LinkRow], packet: &Packet, outs: &mut O) -
     is_over
 }
 
-/// Sends the packets one after another, each to every neighbour in ascending order. Returns whether a queue returned
-/// one; if not, the rows are unchanged.
+/// Sends the packets one after another, each to every neighbour that has a current session, in ascending order. Returns
+/// whether a queue returned one; if not, the rows are unchanged.
 pub fn broadcast_all<O: OutLanes>(rows: &mut [LinkRow], packets: &[Packet], outs: &mut O) -> bool
     requires lanes { length rows.old ≤ O.count outs.old }
     requires different { has_repeat (neighbours_of rows.old) ≡ false }
@@ -106,21 +107,22 @@ pub fn broadcast_all<O: OutLanes>(rows: &mut [LinkRow], packets: &[Packet], outs
     is_over
 }
 
-/// The row at a place.
+/// The row at a place, counted from 0; `None` past the last one.
 pub fn row_at(rows: &[LinkRow], place: usize) -> Option<LinkRow>
     ensures { result ≡ slice_get rows.now place }
 {
     rows.get(place).copied()
 }
 
-/// The place of a neighbour, counted from 0, if it is one of these.
+/// The place of neighbour `k`, counted from 0; `None` if it is none of these.
 pub fn place_in(neighbours: &[Id], k: Id) -> Option<usize>
     ensures { result ≡ position (λ n. n == k) neighbours.now }
 {
     neighbours.iter().position(|n| *n == k)
 }
 
-/// The neighbour of the first row whose link is up at the core without a current session.
+/// The neighbour of the first row whose link is up at the core without a current session; `None` if there is no such
+/// row.
 pub fn first_cut(core: &Core, rows: &[LinkRow]) -> Option<Id>
     ensures { result ≡ first_cut_of core.now rows.now }
 {
@@ -140,14 +142,14 @@ fn is_cut(core: &Core, row: &LinkRow) -> bool
     core.is_up(row.neighbour)
 }
 
-/// The pending cut of a session after it was offered: none if it was put.
+/// The pending cut of a session after the cut was offered: `None` if it was put.
 pub fn left_pending(is_put: bool, life: Life) -> Option<Life>
     ensures { result ≡ (if is_put then None else Some life) }
 {
     if is_put { None } else { Some(life) }
 }
 
-/// Whether a session is the current one.
+/// Whether a session is the current one; `false` if there is none.
 pub fn is_current(life: &Life, current: &Option<Life>) -> bool
     ensures { result ≡ is_current life.now current.now }
 {
@@ -157,7 +159,7 @@ pub fn is_current(life: &Life, current: &Option<Life>) -> bool
     }
 }
 
-/// The row of a neighbour without a session.
+/// The row of a neighbour, without a current session and without a pending cut.
 fn new_row(neighbour: Id) -> LinkRow
     ensures { result ≡ new_row neighbour }
 {
@@ -168,7 +170,10 @@ fn new_row(neighbour: Id) -> LinkRow
     }
 }
 
-/// The rows of these neighbours, without a session.
+/// The rows of these neighbours, without current sessions and without pending cuts.
+///
+/// # Errors
+/// Memory ran out.
 pub fn new_rows(alloc: Global, neighbours: &[Id]) -> Result<Vec<LinkRow>, AllocError>
     ensures { IfOk result (λ rows. rows.items ≡ map new_row neighbours.now) }
 {

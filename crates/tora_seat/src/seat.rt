@@ -51,14 +51,14 @@ impl Model for BareSeat {
 }
 
 impl BareSeat {
-    /// The neighbour at a place, counted from 0 in ascending order.
+    /// The neighbour at a place, counted from 0 in ascending order; `None` past the last one.
     pub(crate) fn neighbour(&self, place: usize) -> Option<Id>
         ensures { result ≡ slice_get self.now.core.neighbours place }
     {
         self.core.neighbours().get(place).copied()
     }
 
-    /// Clears what the seat recorded for the last item.
+    /// Clears what the seat recorded for the item served last.
     fn begin(&mut self)
         ensures { self.new ≡ record self.old { inputs = []; stepped = None; answer = Answer.Nothing } }
     {
@@ -67,7 +67,7 @@ impl BareSeat {
         self.answer = Answer::Nothing;
     }
 
-    /// The least neighbour whose link is up at the core without a current session.
+    /// The least neighbour whose link is up at the core without a current session; `None` if there is none.
     pub(crate) fn first_cut(&self) -> Option<Id>
         ensures { result ≡ first_cut (state_of self.now) self.now.core.neighbours }
     {
@@ -89,7 +89,7 @@ impl BareSeat {
         self.has_cut = false;
     }
 
-    /// Sets the current session of the neighbour at a place.
+    /// Sets the current session of neighbour `k`, which is at `place`; `None` removes it.
     pub(crate) fn set_current(&mut self, place: usize, k: Id, life: Option<Life>)
         requires { slice_get self.old.core.neighbours place ≡ Some k }
         ensures rest { self.new ≡ record self.old { rows = self.new.rows } }
@@ -101,7 +101,7 @@ impl BareSeat {
         row.current = life;
     }
 
-    /// Sets the session whose cut is pending, or none, for the neighbour at a place.
+    /// Sets the session whose cut is pending for neighbour `k`, which is at `place`; `None` if no cut is pending.
     pub(crate) fn set_pending(&mut self, place: usize, k: Id, life: Option<Life>)
         requires { slice_get self.old.core.neighbours place ≡ Some k }
         ensures rest { self.new ≡ record self.old { rows = self.new.rows } }
@@ -121,7 +121,7 @@ impl BareSeat {
         self.stepped = Some(*stepped);
     }
 
-    /// The place of a neighbour, counted from 0 in ascending order, if there is such a neighbour.
+    /// The place of neighbour `k`, counted from 0 in ascending order; `None` if there is no such neighbour.
     pub(crate) fn place(&self, k: Id) -> Option<usize>
         ensures { MatchOption result (has_number k self.now.core.neighbours ≡ false)
             (λ place. slice_get self.now.core.neighbours place ≡ Some k) }
@@ -158,14 +158,15 @@ impl BareSeat {
         &self.core
     }
 
-    /// The inputs that the core accepted for the last item, in order.
+    /// The inputs that the core accepted for the item served last, in order; none before the first item.
     pub fn inputs(&self) -> &[Input]
         ensures { result.now ≡ self.now.inputs }
     {
         self.inputs.as_slice()
     }
 
-    /// The packet that was passed to the core for the last item, if there was one.
+    /// The packet of a neighbour that was passed to the core for the item served last. `None` if the item was no
+    /// packet, or its session was not the current one.
     pub fn stepped(&self) -> Option<Stepped>
         ensures { result ≡ self.now.stepped }
     {

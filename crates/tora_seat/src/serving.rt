@@ -23,8 +23,8 @@ struct Neighbour {
 }
 
 impl BareSeat {
-    /// Steps the core with an input, and sends the packets of the step. Returns whether the core accepted the input and
-    /// no session ended by it.
+    /// Passes an input to the core, and sends the packets of the step. Returns whether the core accepted the input and
+    /// no session ended by it. A refusal becomes the answer to the item.
     fn step<O: OutLanes>(
         &mut self,
         input: &Input,
@@ -55,7 +55,8 @@ impl BareSeat {
         }
     }
 
-    /// Takes down the link of each neighbour whose session was cut, the least first, until none is left.
+    /// Takes down, at the core, each link that is up without a current session, the least neighbour first, until none
+    /// is left.
     fn settle<O: OutLanes>(&mut self, now: u64, sends: &mut Sends, outs: &mut O)
         requires lanes { length self.old.core.neighbours ≤ O.count outs.old }
         requires room { length self.old.inputs + length self.old.core.neighbours
@@ -79,8 +80,9 @@ impl BareSeat {
         }
     }
 
-    /// Steps the core with an input, and then takes down the links whose sessions its packets ended. There are none if
-    /// `is_settled` holds and no session ended by the input.
+    /// Passes an input to the core, and then takes down the links whose sessions ended. It skips the search for them if
+    /// no session ended by the input and the caller knows that the input leaves no other link up without a session
+    /// (`is_settled`).
     fn take_in<O: OutLanes>(
         &mut self,
         input: &Input,
@@ -106,7 +108,7 @@ impl BareSeat {
         }
     }
 
-    /// Steps the core with an input that brings no link up or down.
+    /// Passes an input that brings no link up or down to the core, as `take_in` does.
     fn take_in_calm<O: OutLanes>(
         &mut self,
         input: &Input,
@@ -125,7 +127,7 @@ impl BareSeat {
         self.take_in(input, now, is_settled, sends, outs);
     }
 
-    /// Ends the current session of a neighbour.
+    /// Ends the current session of a neighbour at the core: its link goes down.
     fn on_end<O: OutLanes>(&mut self, peer: Neighbour, now: u64, sends: &mut Sends, outs: &mut O)
         requires place { slice_get self.old.core.neighbours peer.place ≡ Some peer.id }
         requires lanes { length self.old.core.neighbours ≤ O.count outs.old }
@@ -140,7 +142,7 @@ impl BareSeat {
         self.take_in(&Input::LinkDown(peer.id), now, is_settled, sends, outs);
     }
 
-    /// Ends the current session of a neighbour, if there is one.
+    /// Ends the current session of a neighbour at the core, as `on_end` does, if there is one.
     fn on_old_end<O: OutLanes>(
         &mut self,
         peer: Neighbour,
@@ -162,7 +164,7 @@ impl BareSeat {
         }
     }
 
-    /// Begins a session of a neighbour.
+    /// Begins a session of a neighbour at the core: ends the current one, if there is one, and brings the link up.
     fn on_up<O: OutLanes>(
         &mut self,
         peer: Neighbour,
@@ -185,7 +187,8 @@ impl BareSeat {
         self.take_in(&Input::LinkUp(peer.id), now, is_settled, sends, outs);
     }
 
-    /// Passes a packet to the core if its session is the current one of its sender, the neighbour at a place.
+    /// Passes a packet to the core if its session is the current one of its sender, the neighbour at a place. Otherwise
+    /// nothing happens.
     fn on_packet<O: OutLanes>(
         &mut self,
         place: usize,
@@ -215,7 +218,8 @@ impl BareSeat {
         }
     }
 
-    /// Handles the end of a session of a neighbour.
+    /// Handles the report that a session of a neighbour ended: takes the link down if the session is current, or
+    /// withdraws its pending cut. Otherwise nothing happens.
     fn on_down<O: OutLanes>(
         &mut self,
         peer: Neighbour,
@@ -239,8 +243,8 @@ impl BareSeat {
         }
     }
 
-    /// Offers the cut of a session to the queue of a neighbour. If the queue returns the cut, it is
-    /// pending.
+    /// Offers the cut of a session to the queue to a neighbour. The cut is pending if the queue returns it. Either way
+    /// an earlier pending cut of the neighbour is forgotten.
     fn ask_cut<O: OutLanes>(&mut self, peer: Neighbour, life: Life, now: u64, outs: &mut O)
         requires place { slice_get self.old.core.neighbours peer.place ≡ Some peer.id }
         requires lanes { length self.old.core.neighbours ≤ O.count outs.old }
@@ -284,7 +288,7 @@ impl BareSeat {
         }
     }
 
-    /// Handles an item of the link to the neighbour at a place.
+    /// Handles an item of the link to a neighbour. `Cut` and `Beat` have no effect.
     fn on_link_item<O: OutLanes>(
         &mut self,
         peer: Neighbour,
@@ -321,7 +325,7 @@ impl BareSeat {
         }
     }
 
-    /// Handles an item that no link put.
+    /// Handles an item that no link put. `Up`, `Packet`, `Down` and `Beat` have no effect.
     fn on_other_item<O: OutLanes>(&mut self, what: &What, now: u64, sends: &mut Sends, outs: &mut O)
         requires lanes { length self.old.core.neighbours ≤ O.count outs.old }
         requires room { length self.old.inputs ≤ 0 }
@@ -355,7 +359,8 @@ impl BareSeat {
         }
     }
 
-    /// Handles an item.
+    /// Handles an item: as one of the link at the place `item.seat`, or as one that no link put if there is no such
+    /// link.
     pub(crate) fn on_item<O: OutLanes>(&mut self, item: &Item, sends: &mut Sends, outs: &mut O)
         requires lanes { length self.old.core.neighbours ≤ O.count outs.old }
         requires room { length self.old.inputs ≤ 0 }

@@ -4,25 +4,27 @@ use tora_arq::{Life, Reason};
 use tora_height::Id;
 use tora_packet::Packet;
 
-/// The content of an item.
+/// The content of an item. `Up`, `Packet` and `Down` have an effect only in an item of a link, and `Cut` only in an
+/// item of the commands.
 #[derive(Clone, Copy, Debug, PartialEq, Eq, Hash)]
 pub enum What {
-    /// A session of the link was bound.
+    /// This session of the link was bound.
     Up(Life),
-    /// A packet of the neighbour in a session.
+    /// A packet of the neighbour in this session.
     Packet(Life, Packet),
-    /// A session of the link ended.
+    /// This session of the link ended, for this reason.
     Down(Life, Reason),
-    /// The link's thread is alive.
+    /// The link's thread is alive. The core does nothing.
     Beat,
-    /// A route to a destination is needed.
+    /// A route to this destination is needed.
     Need(Id),
-    /// The current session of a neighbour has to end at once, for instance because its carrier is lost.
+    /// The current session of this neighbour has to end at once, for instance because the network interface lost its
+    /// carrier.
     Cut(Id),
-    /// The caller has to print the core.
+    /// A user asks to print the core.
     Show,
-    /// A program asks for the status of the core.
+    /// A program asks for this status of the core.
     Status(Status),
-    /// The caller has to end the core.
+    /// A user asks to end the core.
     Quit,
 }

@@ -24,9 +24,9 @@ impl LinkParts {
 }
 
 impl Sim {
-    /// Cuts the session that the end of node `n` towards `k` is bound to, if there is one, as a link layer does that
-    /// reports a broken link. Nothing changes if there is no such link. This is not an event of `step`, but the new
-    /// world is one that running threads can reach.
+    /// Cuts the session to which the end of node `n` towards `k` is bound, as when a link layer reports a broken link.
+    /// Nothing changes if there is no such link or session. This is not an event of `step`, but running threads can
+    /// reach the same world.
     pub fn cut_bound(&mut self, n: Id, k: Id)
         ensures { world_of self.new ≡ after_cut_at (world_of self.old) n k }
     {

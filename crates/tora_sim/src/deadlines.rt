@@ -2,7 +2,7 @@
 //! block of ends, and each block of blocks, has a deadline that is at most those of its members.
 //!
 //! Deadlines are stored in four bytes, so sixteen fit into a cache line. A later tick is stored as the greatest number
-//! of four bytes. Therefore, after more than four thousand million rounds every end is examined in each round.
+//! of four bytes. Therefore, when the clock is at 2^32 - 1 or later, the deadline of every end counts as come.
 ghost use Rattle.std.specs.Prelude.{◌≡◌, ◌+◌, ◌*◌, ◌-◌, ◌^◌, ◌<◌, ◌≤◌, ℕ, true, IfNone, IfSome, MatchResult, length};
 ghost use Rattle.std.specs.Prelude.{min, replicate, slice_index, slice_set};
 ghost use Rattle.tora_sim.specs.Quiet.{AreForgotten};
@@ -50,6 +50,9 @@ pub fn short(tick: u64) -> u32
 }
 
 /// Deadlines of `count` ends, all 0, which gives no information.
+///
+/// # Errors
+/// `Memory`.
 pub fn no_deadlines(alloc: Global, count: usize) -> Result<Deadlines, SimError>
     ensures { MatchResult result (λ deadlines. deadlines ≡ replicate count 0) (λ e. e ≡ SimError.Memory) }
 {
@@ -70,7 +73,7 @@ fn zeros(alloc: Global, count: usize) -> Result<Vec<u32>, SimError>
     }
 }
 
-/// The number of the block of an end.
+/// The index of the block that has the end at the index `at`.
 #[inline(always)]
 pub fn block_of(at: usize) -> usize
     ensures from { 16 * result ≤ at }
@@ -121,7 +124,7 @@ pub fn ends_of(deadlines: &Deadlines, block: usize) -> (usize, usize)
     (first, (many - first).min(BLOCK))
 }
 
-/// The deadline of an end.
+/// The stored deadline of the end at an index: 0 gives no information, and 2^32 - 1 stands for every later tick, too.
 #[inline(always)]
 pub fn deadline_at(deadlines: &Deadlines, at: usize) -> u64
     requires { at < length deadlines.now }
@@ -149,7 +152,7 @@ pub fn is_idle_block(deadlines: &Deadlines, block: usize, now: u64) -> bool
     now < u64::from(deadlines.blocks[block])
 }
 
-/// The first block from `block` on whose deadline has come.
+/// The first block from `block` on whose deadline has come; `block_count` or more if there is none.
 #[inline(always)]
 pub fn next_block(deadlines: &Deadlines, block: usize, now: u64) -> usize
     ensures onward { block ≤ result }
@@ -158,7 +161,8 @@ pub fn next_block(deadlines: &Deadlines, block: usize, now: u64) -> usize
     next_in(&deadlines.tops, &deadlines.blocks, block, now)
 }
 
-/// The first index from `from` on whose deadline has come. Each 16 deadlines have a lower bound in `firsts`.
+/// The first index from `from` on whose deadline has come, the length of `ticks` or more if there is none. Each 16
+/// deadlines have a lower bound in `firsts`.
 fn next_in(firsts: &Vec<u32>, ticks: &Vec<u32>, from: usize, now: u64) -> usize
     requires { AreBlocks firsts.now.items ticks.now.items }
     ensures onward { from ≤ result }
@@ -178,7 +182,7 @@ fn next_in(firsts: &Vec<u32>, ticks: &Vec<u32>, from: usize, now: u64) -> usize
     next
 }
 
-/// The first index from `from` to below `to` whose deadline has come.
+/// The first index from `from` to below `to` whose deadline has come; `None` if there is none.
 fn first_due(ticks: &Vec<u32>, now: u64, from: usize, to: usize) -> Option<usize>
     requires { to ≤ length ticks.now.items }
     ensures none { IfNone result (AreLater now from to ticks.now.items) }
@@ -224,7 +228,7 @@ fn keep_firsts(tops: &mut Vec<u32>, blocks: &Vec<u32>, now: u64)
     }
 }
 
-/// Renews the deadline at one index.
+/// Renews the deadline of 16 blocks, at the index `top`: it becomes the earliest of the blocks' deadlines.
 fn keep_first(tops: &mut Vec<u32>, blocks: &Vec<u32>, top: usize)
     requires within { top < length tops.old.items }
     requires tops { AreBlocks tops.old.items blocks.now.items }
@@ -264,7 +268,7 @@ pub fn keep_block(deadlines: &mut Deadlines, block: usize)
     set_block(&mut deadlines.blocks, &mut deadlines.tops, block, until);
 }
 
-/// The earliest deadline of the `count` ends from the index `first` on.
+/// The earliest deadline of the `count` ends from the index `first` on; 2^32 - 1 if `count` is 0.
 fn first_tick(ends: &Vec<u32>, first: usize, count: usize) -> u32
     requires { first + count ≤ length ends.now.items }
     ensures { (at : ℕ) → first ≤ at → at < first + count → result ≤ slice_index ends.now.items at }
@@ -304,8 +308,8 @@ pub fn forget(deadlines: &mut Deadlines, first: usize, count: usize)
     }
 }
 
-/// The tick before which no end has anything to do; 0 if one may have something to do at once. It reads one deadline
-/// for each 16 blocks.
+/// The tick before which no end has anything to do: 0 if one may have something to do at once, 2^64 - 1 if there is no
+/// end. It reads one deadline for each 16 blocks.
 pub fn deadline(deadlines: &Deadlines, now: u64) -> u64
     ensures { 0 < result → (at : ℕ) → at < length deadlines.now → (now < slice_index deadlines.now at)
         × (result ≤ slice_index deadlines.now at) }
@@ -313,7 +317,7 @@ pub fn deadline(deadlines: &Deadlines, now: u64) -> u64
     first_after(&deadlines.tops, now)
 }
 
-/// The earliest of some ticks if all of them are in the future, otherwise 0.
+/// The earliest of some ticks if all of them are in the future, otherwise 0; 2^64 - 1 if there are no ticks.
 fn first_after(ticks: &Vec<u32>, now: u64) -> u64
     ensures { 0 < result → (at : ℕ) → at < length ticks.now.items
         → (now < slice_index ticks.now.items at) × (result ≤ slice_index ticks.now.items at) }

@@ -17,7 +17,11 @@ use std::alloc::AllocError;
 use tora_frame::{BorrowedFrame, Header};
 
 impl Sim {
-    /// Hands a datagram to its receiver, unless the receive is armed to fail, and stores the new deadline of the end.
+    /// Delivers the datagram with the number `i`, counted from 1, unless the receive is armed to fail, and stores the
+    /// new deadline of the receiving end.
+    ///
+    /// # Errors
+    /// In this order: `NoDatagram` if there is no such datagram; `Memory`. Nothing changes then.
     #[inline(always)]
     pub(crate) fn deliver(&mut self, i: u64) -> Result<(), SimError>
         ensures { Does self.old (Deliver i) result self.new }
@@ -61,7 +65,7 @@ impl Sim {
         true
     }
 
-    /// Delivers a datagram of any kind.
+    /// Delivers a datagram of any kind, as `deliver` does.
     #[inline(never)]
     fn deliver_frame(&mut self, i: u64) -> Result<(), SimError>
         ensures { Does self.old (Deliver i) result self.new }
@@ -95,8 +99,8 @@ impl Sim {
         Ok(())
     }
 
-    /// Repeats `Deliver` of a datagram until it is refused, at most `most` times, and returns whether it happened at
-    /// all.
+    /// Delivers the datagram with the number `i`, counted from 1, `most` times. Returns `false` if there is no such
+    /// datagram or `most` is 0.
     ///
     /// # Errors
     /// Memory ran out at the end that handles the frame. The earlier deliveries have happened.
@@ -118,7 +122,7 @@ impl Sim {
     }
 }
 
-/// The datagram with this number, from 1.
+/// The datagram with this number, counted from 1; `None` if there is no such datagram.
 #[inline(always)]
 pub fn numbered(datagrams: &Datagrams, i: u64) -> Option<BorrowedFrame<'_>>
     ensures { result ≡ numbered i datagrams.now.items }
@@ -128,7 +132,7 @@ pub fn numbered(datagrams: &Datagrams, i: u64) -> Option<BorrowedFrame<'_>>
 }
 
 /// The header of a HELLO, given by its number from 1, and a guess at the index of the link end that receives it. `None`
-/// for any other datagram.
+/// if there is no such datagram, or it is not a HELLO.
 #[inline(always)]
 fn numbered_hello(datagrams: &Datagrams, i: u64) -> Option<(Header, usize)>
     ensures hello { IfSome result (λ told. numbered i datagrams.now.items ≡ Some (frame_of told.0 Hello)) }
@@ -139,7 +143,8 @@ fn numbered_hello(datagrams: &Datagrams, i: u64) -> Option<(Header, usize)>
     Some((header, far_end as usize))
 }
 
-/// A guess at the index of the link end that receives a datagram, given by its number from 1.
+/// A guess at the index of the link end that receives a datagram, given by its number from 1; 0 if there is no such
+/// datagram.
 #[inline(always)]
 fn numbered_far_end(datagrams: &Datagrams, i: u64) -> usize {
     match usize::try_from(i) {

@@ -22,9 +22,9 @@ impl Sim {
         are_ends(self.keys.as_slice(), ends)
     }
 
-    /// The first index from `place` on, in the order of `ends`, at which a link end may have something to do. No
-    /// skipped end can be opened, take a cargo, send a frame or give an event. An end is skipped only if its deadline
-    /// is stored and has not come.
+    /// The first index from `place` on, in the order of `ends`, at which a link end may have something to do. If there
+    /// is none, the number of ends, or `place` if that is greater. No skipped end can be opened, take an outbound
+    /// message, send a frame or give an event. An end is skipped only if its deadline is stored and has not come.
     #[inline(always)]
     pub fn next_due(&self, place: usize) -> usize
         ensures onward { place ≤ result }
@@ -69,7 +69,8 @@ fn nodes_apart(n: Id, k: Id) -> Id
     n.wrapping_sub(k)
 }
 
-/// The first index from `place` on whose deadline has come. In most passes it is `place` itself or one of the next 16.
+/// The first index from `place` on whose deadline has come. If there is none, the number of ends, or `place` if that is
+/// greater. Most often it is `place` itself or one of the next 16.
 #[inline(always)]
 pub fn next_due(deadlines: &Deadlines, now: u64, place: usize) -> usize
     ensures onward { place ≤ result }
@@ -91,7 +92,7 @@ pub fn next_due(deadlines: &Deadlines, now: u64, place: usize) -> usize
     due_from(deadlines, now, place + BLOCK)
 }
 
-/// The index of the first end that may be due, skipping the blocks whose deadlines have not come.
+/// `next_due` block by block: the blocks whose deadlines have not come are skipped.
 fn due_from(deadlines: &Deadlines, now: u64, place: usize) -> usize
     ensures onward { place ≤ result }
     ensures passed { (at : ℕ) → place ≤ at → at < result → now < slice_index deadlines.now at }
@@ -106,7 +107,7 @@ fn due_from(deadlines: &Deadlines, now: u64, place: usize) -> usize
     place.max(end_count(deadlines))
 }
 
-/// The first index from `place` on, within a block, whose deadline has come.
+/// The first index from `place` on, within a block, whose deadline has come; `None` if there is none.
 #[inline(always)]
 fn due_in_block(deadlines: &Deadlines, block: usize, now: u64, place: usize) -> Option<usize>
     requires { 16 * block < length deadlines.now }
@@ -125,7 +126,8 @@ fn due_in_block(deadlines: &Deadlines, block: usize, now: u64, place: usize) -> 
     due_within(deadlines, now, place.max(first), first + count)
 }
 
-/// The first of the 16 indexes from `from` on whose deadline has come. All are compared at once.
+/// The first of the 16 indexes from `from` on whose deadline has come; `None` if there is none. All are compared at
+/// once.
 #[inline(always)]
 fn due_of_sixteen(deadlines: &Deadlines, now: u64, from: usize) -> Option<usize>
     requires { from + 16 ≤ length deadlines.now }
@@ -143,7 +145,7 @@ fn due_of_sixteen(deadlines: &Deadlines, now: u64, from: usize) -> Option<usize>
     }
 }
 
-/// The first index from `from` to below `to` whose deadline has come.
+/// The first index from `from` to below `to` whose deadline has come; `None` if there is none.
 fn due_within(deadlines: &Deadlines, now: u64, from: usize, to: usize) -> Option<usize>
     requires { to ≤ length deadlines.now }
     ensures none { IfNone result (AreLater now from to deadlines.now) }

@@ -1,4 +1,4 @@
-//! The events of a link end and its lane, except those of frames.
+//! The events `Open`, `Pull` and `Pump` of a link end.
 ghost use Rattle.tora_world.specs.declared.event.Event.TheVariants.{Open, Pull, Pump};
 ghost use Rattle.tora_sim.specs.Steps.{Does};
 
@@ -11,7 +11,11 @@ use tora_height::Id;
 use tora_seat::{MOST_ITEMS, what_of};
 
 impl Sim {
-    /// Opens a closed end with a number of its life file.
+    /// Opens the closed end of node `n` towards `k` with a session number from its life file. The end stays closed if
+    /// the file gives no number.
+    ///
+    /// # Errors
+    /// In this order: `NoNode` if there is no such link; `NotPossible` if the end is not closed.
     #[inline(never)]
     pub(crate) fn open(&mut self, n: Id, k: Id) -> Result<(), SimError>
         ensures { Does self.old (Open n k) result self.new }
@@ -26,8 +30,12 @@ impl Sim {
         Ok(())
     }
 
-    /// Submits the packet of a cargo of a lane, or cuts its session. The link end is looked for at the index `guess`
-    /// first.
+    /// Takes the first outbound message from the queue of node `n` to `k`, and submits its packet or cuts its session.
+    /// The link end is looked for first at the index `guess`.
+    ///
+    /// # Errors
+    /// In this order: `NoNode` if there is no such link; `NotPossible` if no message waits; `Memory`. Nothing changes
+    /// then.
     pub(crate) fn pull(&mut self, guess: usize, n: Id, k: Id) -> Result<(), SimError>
         ensures { Does self.old (Pull n k) result self.new }
     {
@@ -44,8 +52,12 @@ impl Sim {
         Ok(())
     }
 
-    /// Puts an event of an end into the queue of its node's core. The link end is looked for at the index `guess`
-    /// first.
+    /// Puts the next event of the end of node `n` towards `k` into the queue into the core of `n`. The link end is
+    /// looked for first at the index `guess`.
+    ///
+    /// # Errors
+    /// In this order: `NoNode` if there is no such link; `NotPossible` if the end has no event or `MOST_ITEMS` items
+    /// wait; `Memory`. Nothing changes then.
     pub(crate) fn pump(&mut self, guess: usize, n: Id, k: Id) -> Result<(), SimError>
         ensures { Does self.old (Pump n k) result self.new }
     {

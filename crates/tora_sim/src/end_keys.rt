@@ -25,7 +25,7 @@ pub fn keys_of(alloc: Global, links: &[LinkSlot]) -> Result<Vec<(Id, Id)>, SimEr
     Ok(keys)
 }
 
-/// Whether a key is that of the end of node `n` towards `k`.
+/// Whether a key names the end of node `n` towards `k`.
 #[inline(always)]
 pub fn is_key(key: (Id, Id), n: Id, k: Id) -> bool
     ensures { result ≡ is_key n k key }
@@ -33,7 +33,7 @@ pub fn is_key(key: (Id, Id), n: Id, k: Id) -> bool
     key.0 == n && key.1 == k
 }
 
-/// The index of the end of node `n` towards `k`, by the keys of the ends.
+/// The index of the end of node `n` towards `k`, by the keys of the ends; `None` if there is no such end.
 pub fn place(_links: &Vec<LinkSlot>, keys: &Vec<(Id, Id)>, n: Id, k: Id) -> Option<usize>
     requires rising { AreRising _links.now.items }
     requires keys { keys.now.items ≡ map key_of _links.now.items }
@@ -44,7 +44,8 @@ pub fn place(_links: &Vec<LinkSlot>, keys: &Vec<(Id, Id)>, n: Id, k: Id) -> Opti
     search(ends, n, k)
 }
 
-/// The index of the end of node `n` towards `k`. It is `at`, if that end is there; otherwise the ends are searched.
+/// The index of the end of node `n` towards `k`; `None` if there is no such end. The ends are searched only if that end
+/// is not at the index `at`.
 #[inline(always)]
 pub fn place_near(
     links: &Vec<LinkSlot>,
@@ -65,7 +66,7 @@ pub fn place_near(
     }
 }
 
-/// The index `at`, if the end of node `n` towards `k` is there.
+/// The index `at` if the end of node `n` towards `k` is there; otherwise `None`.
 #[inline(always)]
 fn stands_at(keys: &[(Id, Id)], at: usize, n: Id, k: Id) -> Option<usize>
     ensures { IfSome result (λ i. slice_get keys.now i ≡ Some (n, k)) }

@@ -18,7 +18,7 @@ pub enum FileSlot {
     Unopened(Owner, MemDisk),
 }
 
-/// Opens the life file on a disk for its owner.
+/// Opens the life file on a disk for its owner; `Unopened` if it does not open, for any cause.
 pub fn open(disk: MemDisk, owner: Owner) -> FileSlot
     requires node { 0 < owner.node }
     requires peer { 0 < owner.peer }
@@ -45,12 +45,13 @@ pub fn apart(alloc: Global, file: FileSlot) -> Result<Box<FileSlot>, SimError>
 }
 
 impl FileSlot {
-    /// Draws a session number.
+    /// Takes the next session number from the file: it is above all earlier ones, and at most 2^62. `None` if the file
+    /// is not open, if its numbers are used up, or if a call of the disk fails or failed before.
     pub fn draw(&mut self) -> Option<u64>
         ensures drawn { list_of result ≡ drawn_by Draw (disk_of self.old) }
         ensures disk { disk_of self.new ≡ after_event Draw (disk_of self.old) }
         ensures owner { owner_in (disk_of self.new) ≡ owner_in (disk_of self.old) }
-        // The number is above every number that was drawn, and at most `LAST_NUMBER`.
+        // The number is above every number that the file gave, and at most `LAST_NUMBER`.
         ensures above { IfSome result (λ n. (earlier : ℕ) → IsDrawn earlier (disk_of self.old) → earlier < n) }
         ensures within { IfSome result (λ n. n ≤ LAST_NUMBER) }
         ensures last { IfSome result (λ n. IsDrawn n (disk_of self.new)) }
@@ -66,7 +67,7 @@ impl FileSlot {
         }
     }
 
-    /// Makes the next call of this kind fail at the disk.
+    /// Makes the next call of this kind fail at the disk of the file.
     pub fn arm(&mut self, call: DiskCall)
         ensures disk { disk_of self.new ≡ after_event (Arm call) (disk_of self.old) }
         ensures owner { owner_in (disk_of self.new) ≡ owner_in (disk_of self.old) }
@@ -78,7 +79,7 @@ impl FileSlot {
         }
     }
 
-    /// Crashes the disk, and opens the life file for its owner.
+    /// Crashes the disk, as `MemDisk::crash` does with `torn`, and opens the life file for its owner.
     pub fn restart(self, owner: Owner, torn: Option<[u8; 16]>) -> FileSlot
         requires same { owner ≡ owner_in (disk_of self) }
         requires node { 0 < owner.node }

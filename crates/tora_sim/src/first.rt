@@ -31,8 +31,8 @@ use tora_life::{MemDisk, Owner};
 use tora_seat::BareSeat;
 
 impl Sim {
-    /// The world of a topology at its start: no link end is open, every life file is empty, all queues are empty, no
-    /// datagram was sent, and the clock is 0.
+    /// The world of a topology at its start: no link end is open, no life file has given a number, all queues are
+    /// empty, no datagram was sent, and the clock is 0.
     ///
     /// Each link end has the standard times: 10 ticks of 100 ms between HELLOs, 50 of silence, 5 between tries, and 8
     /// tries. The lists of the topology are copied.
@@ -91,6 +91,9 @@ impl Sim {
 }
 
 /// Adds a node, and its link ends.
+///
+/// # Errors
+/// `Memory`.
 fn add_node(
     alloc: Global,
     topology: &Topology,
@@ -134,6 +137,9 @@ fn add_node(
 }
 
 /// The seat of the core of a node with these neighbours, before any input.
+///
+/// # Errors
+/// `Memory`.
 fn new_seat(
     alloc: Global,
     topology: &Topology,
@@ -162,6 +168,9 @@ fn new_seat(
 }
 
 /// Adds the link ends of a node towards these neighbours.
+///
+/// # Errors
+/// `Memory`.
 fn add_links(
     alloc: Global,
     topology: &Topology,
@@ -189,7 +198,11 @@ fn add_links(
     Ok(())
 }
 
-/// The end of a link at its start.
+/// The end of node `n` towards `k` in a new world: it is closed, its life file has given no number, and its outbound
+/// queue is empty.
+///
+/// # Errors
+/// `Memory`.
 fn new_link(
     alloc: Global,
     version: Version,
@@ -211,7 +224,10 @@ fn new_link(
     }
 }
 
-/// The parts of the end of a link at its start.
+/// The parts of the end that `new_link` makes.
+///
+/// # Errors
+/// `Memory`.
 fn new_parts(
     alloc: Global,
     version: Version,

@@ -10,7 +10,8 @@ use tora_height::Id;
 
 impl Sim {
     /// The first index from `place` on at which the core of a node may have an item to take: `step` refuses `CoreTurn`
-    /// of each skipped node. A node is skipped only if it is stored at the same index as in `nodes`.
+    /// of each skipped node. If there is none, the length of `nodes` (at most the number of nodes of the world), or
+    /// `place` if that is greater. A node is skipped only if it is stored at the same index as in `nodes`.
     pub fn next_core(&self, nodes: &[Id], place: usize) -> usize
         ensures onward { place ≤ result }
         ensures passed { (at n : ℕ) → place ≤ at → at < result → slice_get nodes.now at ≡ Some n

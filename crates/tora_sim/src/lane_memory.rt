@@ -1,4 +1,4 @@
-//! Memory for the lanes of a node, between the turns of its core.
+//! Memory for the outbound queues of a node, between the turns of its core.
 ghost use Rattle.std.specs.Prelude.{◌≡◌, ◌+◌, ◌<◌, ◌≤◌, length};
 ghost use Rattle.tora_sim.specs.Store.{world_of};
 
@@ -6,8 +6,8 @@ use crate::lanes::{make_room_at, shorten};
 use crate::sim::Sim;
 
 impl Sim {
-    /// If the lane of the link end at an index is empty, allocates memory there for all that one item of the node can
-    /// put, and marks the end as ready. If memory runs out, the next turn of the node's core allocates it.
+    /// If the outbound queue of the link end at an index is empty, allocates memory there for all that one item of the
+    /// node can put, and marks the end as ready. If memory runs out, the next turn of the node's core allocates it.
     #[inline(always)]
     pub(crate) fn make_ready_again(&mut self, at: usize)
         ensures { world_of self.new ≡ world_of self.old }
@@ -21,8 +21,8 @@ impl Sim {
         let _made = make_room_at(&mut self.links, &mut self.ready, at);
     }
 
-    /// `make_ready_again` for the end with this seat, if the seat belongs to a neighbour. The ends of the node begin at
-    /// the index `first`.
+    /// `make_ready_again` for the node's link end with the index `seat`, if there are more than `seat` ends (`count`).
+    /// The ends of the node begin at the index `first`.
     #[inline(always)]
     pub(crate) fn make_seat_ready(&mut self, first: usize, count: usize, seat: usize)
         ensures { world_of self.new ≡ world_of self.old }
@@ -32,8 +32,8 @@ impl Sim {
         }
     }
 
-    /// Returns the long lists of lanes to the pool, if a lane took a list and no item waits for the core of the node at
-    /// the index `home`. The lanes are those of the `count` link ends from the index `first` on.
+    /// Returns the long lists of outbound queues to the pool, if a queue took a list and no item waits for the core of
+    /// the node at the index `home`. The queues are those of the `count` link ends from the index `first` on.
     #[inline(always)]
     pub(crate) fn shorten_lanes(&mut self, home: usize, first: usize, count: usize)
         requires node { home < length self.old.nodes }
@@ -45,7 +45,7 @@ impl Sim {
         }
     }
 
-    /// `shorten_lanes` after a lane took a list.
+    /// `shorten_lanes` after an outbound queue took a list.
     #[inline(never)]
     fn shorten_now(&mut self, home: usize, first: usize, count: usize)
         requires node { home < length self.old.nodes }

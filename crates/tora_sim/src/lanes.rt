@@ -1,4 +1,4 @@
-//! The lanes from a node's core to its neighbours.
+//! The queues from a node's core to its neighbours (its outbound queues).
 ghost use Rattle.std.specs.Prelude.{◌≡◌, ◌+◌, ◌<◌, ◌≤◌, ◌++◌, ◌∷◌, [], ⊤, Some, length, slice_get, slice_set, OnOk};
 ghost use Rattle.std.specs.Prelude.{IfErr, IfOk, MatchOption, ℕ, true};
 ghost use Rattle.tora_sim.specs.Lane.{AreWhole};
@@ -16,8 +16,8 @@ use crate::unready::{EndsWithoutRoom, Unready, unready_range};
 use std::marker::Model;
 use tora_seat::{Cargo, OutLanes, Stepped};
 
-/// The lanes of one node, among all link ends: the node's ends are adjacent, in the order of its neighbours. The lanes
-/// and the pool have memory for all that one item of the node can put.
+/// The outbound queues of one node, among all link ends: the node's ends are adjacent, in the order of its neighbours.
+/// The queues and the pool have memory for all that one item of the node can put.
 #[derive(Drop)]
 pub struct NodeLanes {
     links: Vec<LinkSlot>,
@@ -54,7 +54,7 @@ impl OutLanes for NodeLanes {
 }
 
 impl NodeLanes {
-    /// The lanes of the node whose `count` ends begin at the index `first`.
+    /// The outbound queues of the node whose `count` ends begin at the index `first`.
     #[inline(always)]
     pub fn new(
         links: Vec<LinkSlot>,
@@ -76,8 +76,8 @@ impl NodeLanes {
         }
     }
 
-    /// Returns the ends. If a packet was stepped, it is recorded at the node's end with the index `place`. All ends of
-    /// the node outside `unready` are ready afterwards. The pool of lists goes into `pool`.
+    /// Returns all link ends. If the core took a packet (`stepped`), it is recorded at the node's end with the index
+    /// `place`. All ends of the node outside `unready` are ready afterwards. The pool of lists goes into `pool`.
     #[inline(always)]
     pub fn into_links(
         self,
@@ -110,7 +110,7 @@ impl NodeLanes {
     }
 }
 
-/// Records a packet that was stepped at the end with this index.
+/// Records, at the end with the index `at`, a packet that the node's core took.
 fn note(links: &mut Vec<LinkSlot>, at: usize, step: &Stepped)
     requires within { at < length links.old.items }
     requires room { HasRoomAt links.old.items at }
@@ -124,7 +124,7 @@ fn note(links: &mut Vec<LinkSlot>, at: usize, step: &Stepped)
 }
 
 /// Allocates memory for all that one item can put at the `count` ends from the index `first` on: at the ends that are
-/// not marked as ready, and in as many lists of the pool. Returns what may be lacking afterwards.
+/// not marked as ready, and in as many lists of the pool. Returns the ends that may not be ready afterwards.
 ///
 /// # Errors
 /// `Memory`. The ends do not change.
@@ -185,8 +185,8 @@ pub fn make_room_at(
     Ok(())
 }
 
-/// Moves the cargoes of lanes with long lists into short lists, at the `count` ends from the index `first` on, and
-/// returns the long lists to the pool, so that later lanes use the same few.
+/// Moves the outbound messages of queues with long lists into short lists, at the `count` ends from the index `first`
+/// on, and returns the long lists to the pool, so that later queues use the same few.
 pub fn shorten(
     links: &mut Vec<LinkSlot>,
     ready: &Vec<bool>,

@@ -1,6 +1,6 @@
 //! A simulated world of nodes, links and datagrams.
 //!
-//! `Sim` is a world of the prefix law as a value, with its cores, link ends, life files and lanes. `step` makes one
+//! `Sim` is a world of the prefix law as a value, with its cores, link ends, life files and queues. `step` makes one
 //! event happen, or refuses it and changes nothing. Nothing happens without an event, and nothing is random. All
 //! datagrams that were ever sent are kept, so that each can be delivered late, twice or never.
 //!
@@ -9,7 +9,7 @@
 //! let mut sim = Sim::new(alloc, &topology)?;
 //! sim.run(&[Event::Open(1, 2), Event::Transmit(1, 2)])?; // the end of node 1 sends its first HELLO
 //! assert_eq!(rt; sim.datagram(1), Some((1, 2)));
-//! assert_eq!(rt; sim.step(&Event::Pull(1, 2)), Err(SimError::NotPossible)); // no cargo waits
+//! assert_eq!(rt; sim.step(&Event::Pull(1, 2)), Err(SimError::NotPossible)); // nothing waits to be pulled
 //! assert_eq!(rt; sim.height(2, 2), Some(Some(Height::zero(2))));
 //! ```
 #![tactic(auto)]

@@ -1,4 +1,4 @@
-//! The calls of a stored link end, idle or not: on its lane, its life file and its events.
+//! The calls of a stored link end, idle or not: on its outbound queue, its life file and its events.
 ghost use Rattle.std.specs.Prelude.{◌≡◌, ◌<◌, ◌++◌, ◌∷◌, [], true, false, IsTrue, OnOk, IfOk, IfErr, length, is_some};
 ghost use Rattle.std.specs.Prelude.{nat_lt, slice_get};
 ghost use Rattle.tora_arq.specs.EndRange.{link_end_of};
@@ -52,14 +52,14 @@ impl LinkSlot {
         self.steady.is_none() && self.parts.has_event()
     }
 
-    /// The next event of the end; it is not taken.
+    /// The next event of the end, which stays there; `None` if there is none.
     pub fn next_event(&self) -> Option<LinkEvent>
         ensures { result ≡ first_event self.now.state }
     {
         self.parts.next_event()
     }
 
-    /// Takes the first event.
+    /// Removes and returns the first event; `None` if there is none.
     pub fn take_event(&mut self) -> Option<LinkEvent>
         ensures event { result ≡ first_event self.old.state }
         ensures state { self.new ≡ with_state self.old (after_poll_event self.old.state) }
@@ -70,7 +70,8 @@ impl LinkSlot {
         event
     }
 
-    /// Draws a session number, and opens the closed end with it; does nothing if none is drawn.
+    /// Takes a session number from the life file, and opens the closed end with it. The end stays closed if the file
+    /// gives none.
     pub fn open(&mut self, now: u64)
         requires { IsTrue (is_closed self.old.state) }
         ensures { self.new ≡ after_open_at self.old now }
@@ -94,7 +95,7 @@ impl LinkSlot {
         self.parts.cut_bound();
     }
 
-    /// Whether a cargo waits in the lane; at an idle end none does.
+    /// Whether an outbound message waits; at an idle end none does.
     #[inline(always)]
     pub fn has_cargo(&self) -> bool
         ensures { result ≡ nat_lt self.now.pulled (length self.now.put) }
@@ -102,8 +103,8 @@ impl LinkSlot {
         self.steady.is_none() && self.parts.has_cargo()
     }
 
-    /// Takes a cargo of the lane, and submits its packet or cuts its session. Returns `false` if memory runs out;
-    /// nothing changes then.
+    /// Takes the first outbound message from the queue, and submits its packet or cuts its session. Returns `false` if
+    /// memory runs out; nothing changes then.
     pub fn pull(&mut self) -> bool
         requires { self.old.pulled < length self.old.put }
         ensures pulled { result ≡ true → self.new ≡ after_pull_at self.old (slice_get self.old.put self.old.pulled) }
@@ -113,7 +114,8 @@ impl LinkSlot {
         self.parts.pull()
     }
 
-    /// Allocates memory for all that one item of the node can put here, and returns whether the lane is empty.
+    /// Allocates memory for all that one item of the node can put here, and returns whether the outbound queue is
+    /// empty.
     ///
     /// # Errors
     /// `Memory`. The end does not change.
@@ -126,7 +128,8 @@ impl LinkSlot {
         self.parts.make_ready()
     }
 
-    /// Shortens a long list of the lane, if a cargo waits. The long list goes to the pool at the index `spare`.
+    /// Shortens a long list of the outbound queue, if a message waits. The long list goes to the pool at the index
+    /// `spare`.
     #[inline(always)]
     pub fn shorten(&mut self, pool: &mut Pool, spare: usize)
         ensures { bare self.new ≡ bare self.old }
@@ -136,8 +139,8 @@ impl LinkSlot {
         }
     }
 
-    /// Puts a cargo at the back of the lane, unless the lane is full, and returns whether it did. If the lane needs a
-    /// list, it takes that of the pool at the index `spare`.
+    /// Puts an outbound message at the back of the queue, unless `MOST_CARGOES` wait, and returns whether it did. If
+    /// the queue needs a list, it takes the one in the pool at the index `spare`.
     pub fn offer(&mut self, cargo: Cargo, pool: &mut Pool, spare: usize) -> bool
         requires { Fits self.old.pulled self.old.room pool.old spare }
         ensures put { result ≡ has_place self.old }
@@ -150,7 +153,7 @@ impl LinkSlot {
         self.parts.offer(cargo, pool, spare)
     }
 
-    /// A fresh end of the same link.
+    /// A new, closed end of the same link, with the same version and times.
     ///
     /// # Errors
     /// `Memory`.
@@ -161,7 +164,8 @@ impl LinkSlot {
         self.parts.new_end(alloc)
     }
 
-    /// Swaps its end with a fresh one, empties the lane, and opens the life file after a crash of its disk.
+    /// Swaps its end with `end`, a new one, empties the outbound queue, crashes the disk of the life file as
+    /// `MemDisk::crash` does with `torn`, and opens the file again.
     pub fn restart(&mut self, end: &mut GrowingEnd, torn: Option<[u8; 16]>)
         requires { end.old ≡ link_end_of self.old.settings first_end }
         ensures { self.new ≡ restarted torn self.old }
@@ -170,7 +174,7 @@ impl LinkSlot {
         self.parts.restart(end, torn);
     }
 
-    /// Records a packet that the node's core took from the peer, with its session.
+    /// Records a packet that the node's core took from the peer, with its session. There must be room for it.
     pub fn note_step(&mut self, life: Life, packet: Packet)
         requires { length self.old.steps < self.old.step_room }
         ensures { self.new ≡ record self.old {
@@ -180,42 +184,48 @@ impl LinkSlot {
         self.parts.note_step(life, packet);
     }
 
-    /// Whether nothing waits in the lane or the end, and all that was submitted is acknowledged.
+    /// Whether no message waits in the outbound queue, no event in the end, and all that was submitted is acknowledged.
     pub fn is_idle(&self) -> bool
         ensures { result ≡ is_idle self.now }
     {
         self.parts.is_idle()
     }
 
-    /// The session that the end is bound in.
+    /// The session in which the end is bound; `None` if it is not bound.
     pub fn life(&self) -> Option<Life>
         ensures { result ≡ bound_life self.now.state }
     {
         self.parts.life()
     }
 
-    /// How many packets of a session were put into the lane.
+    /// How many packets of a session were ever put into the outbound queue.
     pub fn sent_count(&self, life: Life) -> usize
         ensures { result ≡ length (packets_of life (parcels_in self.now.put)) }
     {
         self.parts.sent_count(life)
     }
 
-    /// The packets of a session that were put into the lane.
+    /// The packets of a session that were ever put into the outbound queue, in order.
+    ///
+    /// # Errors
+    /// Memory ran out.
     pub fn sent(&self, alloc: Global, life: Life) -> Result<Vec<Packet>, AllocError>
         ensures { IfOk result (λ v. v.items ≡ packets_of life (parcels_in self.now.put)) }
     {
         self.parts.sent(alloc, life)
     }
 
-    /// How many packets of the peer the node's core stepped in a session.
+    /// How many packets of the peer the node's core took in a session.
     pub fn taken_count(&self, life: Life) -> usize
         ensures { result ≡ length (packets_of life self.now.steps) }
     {
         self.parts.taken_count(life)
     }
 
-    /// The packets of the peer that the node's core stepped in a session.
+    /// The packets of the peer that the node's core took in a session, in order.
+    ///
+    /// # Errors
+    /// Memory ran out.
     pub fn taken(&self, alloc: Global, life: Life) -> Result<Vec<Packet>, AllocError>
         ensures { IfOk result (λ v. v.items ≡ packets_of life self.now.steps) }
     {

@@ -44,7 +44,7 @@ pub fn neighbours_of(links: &[(Id, Id)], n: Id) -> ArrayVec<Id, GREATEST_NEIGHBO
     neighbours
 }
 
-/// The nodes that links name, in ascending order; `None` if there are more than the greatest limits allow.
+/// The nodes that links name, in ascending order; `None` if there are more than `GREATEST_NODES`.
 pub fn nodes_of(links: &[(Id, Id)]) -> Option<ArrayVec<Id, GREATEST_NODES>>
     ensures { MatchOption result (GREATEST_NODES < length (nodes_in (links_in links.now))) (λ nodes.
         nodes.items ≡ nodes_in (links_in links.now)) }
@@ -91,7 +91,8 @@ pub fn count_others(n: Id, ends: &[Id]) -> usize
     }
 }
 
-/// Adds the other end of a link to an ascending list, if it is a link of node `n`. Returns false if the list is full.
+/// Adds the other end of a link to an ascending list, if it is a link of node `n` and the list does not have that end.
+/// Returns `false`, and adds nothing, if there is no room for it.
 pub fn put_end<const N: usize>(ends: &mut ArrayVec<Id, N>, n: Id, link: (Id, Id)) -> bool
     ensures { MatchBool result (ends.new.items ≡ with_end n (link_in link) ends.old.items)
         (N < length (with_end n (link_in link) ends.old.items)) }
@@ -105,7 +106,8 @@ pub fn put_end<const N: usize>(ends: &mut ArrayVec<Id, N>, n: Id, link: (Id, Id)
     }
 }
 
-/// Adds a number to an ascending list, unless the list has it. Returns false if the list is full.
+/// Adds a number to an ascending list, unless the list has it. Returns `false`, and adds nothing, if there is no room
+/// for it.
 pub fn put<const N: usize>(numbers: &mut ArrayVec<Id, N>, n: Id) -> bool
     ensures { MatchBool result (numbers.new.items ≡ with_node n numbers.old.items)
         (N < length (with_node n numbers.old.items)) }

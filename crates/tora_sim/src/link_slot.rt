@@ -14,11 +14,13 @@ use std::marker::Model;
 use tora_arq::Steady;
 use tora_frame::{BorrowedBody, BorrowedFrame, Header, Packets, Version};
 
-/// One end of a link. While the end is idle, the few fields that a HELLO reads are stored here, and all others in a
-/// box. So the ends are close together in memory, and most HELLOs read one or two cache lines.
+/// One end of a link. An end is idle if it is open, has no event, no outbound message and no unacknowledged packet, and
+/// owes only regular HELLOs. The few fields of an idle end that a HELLO reads (its idle fields) may be stored here, and
+/// all others are in a box. So the ends are close together in memory, and most HELLOs read one or two cache lines.
 #[derive(Drop)]
 pub struct LinkSlot {
-    /// The fields of the end while it is idle; `is_none` otherwise.
+    /// The idle fields if they are stored here; `is_none` if they are in `parts`, as always for an end that is not
+    /// idle.
     pub(crate) steady: Steady,
     pub(crate) parts: Box<LinkParts>,
 }
@@ -34,7 +36,7 @@ impl Model for LinkSlot {
     ghost invariant = { λ s. IsKept s.steady s.parts.value };
 }
 
-/// Writes the idle fields back into the parts, after which there are none.
+/// Writes the idle fields back into the parts, if they are stored; afterwards none are stored.
 #[inline(always)]
 pub fn wake(steady: &mut Steady, parts: &mut LinkParts)
     requires { IsKept steady.old parts.old }
@@ -85,7 +87,7 @@ impl LinkSlot {
         }
     }
 
-    /// Whether a frame is due.
+    /// Whether a frame is due at the tick `now`.
     pub fn has_frame_due(&self, now: u64) -> bool
         ensures { result ≡ is_some (frame_due self.now.settings self.now.state now) }
     {
@@ -95,7 +97,8 @@ impl LinkSlot {
         self.steady.has_frame_due(now)
     }
 
-    /// Takes the first frame that is due, and puts its packets into `packets`.
+    /// Returns the first frame due at the tick `now`, which counts as sent; `None` if no frame is due. Its packets are
+    /// in `packets`, which is overwritten.
     #[inline(always)]
     pub fn send<'a>(&mut self, now: u64, packets: &'a mut Packets) -> Option<BorrowedFrame<'a>>
         ensures frame { result ≡ frame_due self.old.settings self.old.state now }
@@ -110,8 +113,8 @@ impl LinkSlot {
         frame
     }
 
-    /// Sends the HELLO that an idle end owes, and returns its header. `None` if the end is not idle or no frame is due;
-    /// nothing changes then.
+    /// Sends the HELLO that is due at an end whose idle fields are stored, and returns its header. `None` if none are
+    /// stored or no frame is due; nothing changes then.
     #[inline(always)]
     pub fn send_hello(&mut self, now: u64) -> Option<Header>
         ensures frame { IfSome result (λ header. frame_due self.old.settings self.old.state now
@@ -127,8 +130,8 @@ impl LinkSlot {
         self.steady.send_hello(now)
     }
 
-    /// Whether the idle fields show that each HELLO is sent in both versions, because the peer is not known to speak
-    /// version 2.
+    /// Whether idle fields are stored and show that the next HELLO is sent in both versions, because the peer is not
+    /// known to speak version 2.
     #[inline(always)]
     pub fn says_both(&self) -> bool
         ensures { result ≡ true → self.now.state.speaks_two ≡ false }
@@ -139,8 +142,9 @@ impl LinkSlot {
             && self.steady.version == Version::Two
     }
 
-    /// Sends a HELLO in both versions and appends the two datagrams, if the idle fields show that they are due and the
-    /// end at the index `end` has sent the same two before. `far_end` is a guess at the index of the receiving end.
+    /// Sends a HELLO in both versions and appends the two datagrams, if the idle fields show that they are due, the end
+    /// at the index `end` has sent the same two before, and `datagrams` has room. `far_end` is a guess at the index of
+    /// the receiving end.
     ///
     /// Returns the tick before which the end has nothing to do. `None` otherwise; nothing changes then.
     #[inline(always)]
@@ -249,7 +253,7 @@ impl LinkSlot {
         Some(until)
     }
 
-    /// Ticks the end.
+    /// Passes the tick `now` to the end.
     #[inline(always)]
     pub fn tick(&mut self, now: u64)
         ensures { self.new ≡ with_state self.old (after_tick self.old.settings self.old.state now) }

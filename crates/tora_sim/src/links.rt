@@ -29,7 +29,7 @@ use tora_life::{DiskCall, MemDisk, Owner};
 use tora_packet::Packet;
 use tora_seat::Cargo;
 
-/// One end of a link: the link end, its life file, and the lane from the node's core to it.
+/// One end of a link: the link end, its life file, and the outbound queue from the node's core to it.
 #[derive(Drop)]
 pub struct LinkParts {
     /// Boxed, because it is seldom read.
@@ -37,9 +37,9 @@ pub struct LinkParts {
     /// The index of the peer among the node's neighbours.
     pub(crate) seat: usize,
     pub(crate) end: GrowingEnd,
-    /// The lane from the node's core.
+    /// The outbound queue from the node's core to this end.
     pub(crate) lane: Lane,
-    /// The packets of the peer that the node's core ever stepped, each with its session.
+    /// The packets that the node's core ever took from the peer, each with its session.
     pub(crate) steps: KeptCargoes,
 }
 
@@ -90,21 +90,22 @@ impl LinkParts {
         self.end.has_event()
     }
 
-    /// The next event of the end; it is not taken.
+    /// The next event of the end, which stays there; `None` if there is none.
     pub fn next_event(&self) -> Option<LinkEvent>
         ensures { result ≡ first_event self.now.state }
     {
         self.end.next_event()
     }
 
-    /// Whether a frame is due.
+    /// Whether a frame is due at the tick `now`.
     pub fn has_frame_due(&self, now: u64) -> bool
         ensures { result ≡ is_some (frame_due self.now.settings self.now.state now) }
     {
         self.end.has_frame_due(now)
     }
 
-    /// The tick before which no frame is due and no tick ends the session.
+    /// The tick before which no frame is due and no tick ends the session: 0 if a frame is owed at once, 2^64 - 1 if
+    /// the end is closed.
     #[inline(always)]
     pub fn quiet_end_until(&self) -> u64
         ensures frames { (tick : ℕ) → tick < result → is_some (frame_due self.now.settings self.now.state tick)
@@ -114,7 +115,7 @@ impl LinkParts {
         self.end.deadline()
     }
 
-    /// Ticks the end.
+    /// Passes the tick `now` to the end.
     pub fn tick(&mut self, now: u64)
         ensures { self.new ≡ with_state self.old (after_tick self.old.settings self.old.state now) }
     {
@@ -122,7 +123,8 @@ impl LinkParts {
         self.end.on_tick(now);
     }
 
-    /// Takes the first frame that is due, and puts its packets into `packets`.
+    /// Returns the first frame due at the tick `now`, which counts as sent; `None` if no frame is due. Its packets are
+    /// in `packets`, which is overwritten.
     #[inline(always)]
     pub fn send<'a>(&mut self, now: u64, packets: &'a mut Packets) -> Option<BorrowedFrame<'a>>
         ensures frame { result ≡ frame_due self.old.settings self.old.state now }
@@ -155,7 +157,7 @@ impl LinkParts {
         self.end.on_hello(header, now).is_ok()
     }
 
-    /// The fields that HELLOs read, if the end is idle and no cargo waits in its lane.
+    /// The fields that HELLOs read, if the end is idle and no outbound message waits; otherwise `None`.
     pub fn steady(&self) -> Option<Steady>
         ensures steady { IfSome result (λ steady. IsSteadyLink steady self.now) }
         ensures same { IfSome result (λ steady. with_state self.now (resumed steady self.now.state) ≡ self.now) }
@@ -174,7 +176,7 @@ impl LinkParts {
         self.end.resume(steady);
     }
 
-    /// Takes the first event.
+    /// Removes and returns the first event; `None` if there is none.
     pub fn take_event(&mut self) -> Option<LinkEvent>
         ensures event { result ≡ first_event self.old.state }
         ensures state { self.new ≡ with_state self.old (after_poll_event self.old.state) }
@@ -183,7 +185,8 @@ impl LinkParts {
         self.end.poll_event()
     }
 
-    /// Draws a session number, and opens the closed end with it; does nothing if none is drawn.
+    /// Takes a session number from the life file, and opens the closed end with it. The end stays closed if the file
+    /// gives none.
     pub fn open(&mut self, now: u64)
         requires { IsTrue (is_closed self.old.state) }
         ensures { self.new ≡ after_open_at self.old now }
@@ -200,15 +203,15 @@ impl LinkParts {
         self.file.arm(call);
     }
 
-    /// Whether a cargo waits in the lane.
+    /// Whether an outbound message waits.
     pub fn has_cargo(&self) -> bool
         ensures { result ≡ nat_lt self.now.pulled (length self.now.put) }
     {
         self.lane.has_cargo()
     }
 
-    /// Takes a cargo of the lane, and submits its packet or cuts its session. Returns `false` if memory runs out;
-    /// nothing changes then.
+    /// Takes the first outbound message from the queue, and submits its packet or cuts its session. Returns `false` if
+    /// memory runs out; nothing changes then.
     pub fn pull(&mut self) -> bool
         requires { self.old.pulled < length self.old.put }
         ensures pulled { result ≡ true → self.new ≡ after_pull_at self.old (slice_get self.old.put self.old.pulled) }
@@ -223,8 +226,8 @@ impl LinkParts {
         true
     }
 
-    /// Allocates memory for all that one item of the node can put here: as many cargoes as a lane holds, if the lane
-    /// has a list, and a stepped packet.
+    /// Allocates memory for all that one item of the node can put here: for `MOST_CARGOES` outbound messages, if the
+    /// queue has a list, and for one packet that the core takes.
     ///
     /// # Errors
     /// `Memory`. The end does not change.
@@ -242,7 +245,7 @@ impl LinkParts {
         Ok(())
     }
 
-    /// Allocates memory as `make_room` does, and returns whether the lane is empty.
+    /// Allocates memory as `make_room` does, and returns whether the outbound queue is empty.
     ///
     /// # Errors
     /// `Memory`. The end does not change.
@@ -256,7 +259,8 @@ impl LinkParts {
         Ok(!self.has_cargo())
     }
 
-    /// Shortens a long list of the lane, as `Lane::shorten` does. The long list goes to the pool at the index `spare`.
+    /// Shortens a long list of the outbound queue, as `Lane::shorten` does. The long list goes to the pool at the index
+    /// `spare`.
     #[inline(always)]
     pub fn shorten(&mut self, pool: &mut Pool, spare: usize)
         ensures { bare self.new ≡ bare self.old }
@@ -264,8 +268,8 @@ impl LinkParts {
         self.lane.shorten(pool, spare);
     }
 
-    /// Puts a cargo at the back of the lane, unless the lane is full, and returns whether it did. If the lane needs a
-    /// list, it takes that of the pool at the index `spare`.
+    /// Puts an outbound message at the back of the queue, unless `MOST_CARGOES` wait, and returns whether it did. If
+    /// the queue needs a list, it takes the one in the pool at the index `spare`.
     #[inline(always)]
     pub fn offer(&mut self, cargo: Cargo, pool: &mut Pool, spare: usize) -> bool
         requires { Fits self.old.pulled self.old.room pool.old spare }
@@ -282,7 +286,7 @@ impl LinkParts {
         true
     }
 
-    /// A fresh end of the same link.
+    /// A new, closed end of the same link, with the same version and times.
     ///
     /// # Errors
     /// `Memory`.
@@ -298,7 +302,8 @@ impl LinkParts {
         }
     }
 
-    /// Swaps its end with a fresh one, empties the lane, and opens the life file after a crash of its disk.
+    /// Swaps its end with `end`, a new one, empties the outbound queue, crashes the disk of the life file as
+    /// `MemDisk::crash` does with `torn`, and opens the file again.
     pub fn restart(&mut self, end: &mut GrowingEnd, torn: Option<[u8; 16]>)
         requires { end.old ≡ link_end_of self.old.settings first_end }
         ensures { self.new ≡ restarted torn self.old }
@@ -313,7 +318,7 @@ impl LinkParts {
         self.lane.take_all();
     }
 
-    /// Records a packet of the peer that the node's core stepped, with its session.
+    /// Records a packet that the node's core took from the peer, with its session. There must be room for it.
     pub fn note_step(&mut self, life: Life, packet: Packet)
         requires { length self.old.steps < self.old.step_room }
         ensures { self.new ≡ record self.old {
@@ -324,8 +329,8 @@ impl LinkParts {
     }
 }
 
-/// Submits the packet of a cargo, or cuts its session. Returns `false` if memory runs out; nothing changes then. A
-/// packet whose session has ended is dropped.
+/// Submits the packet of an outbound message, or cuts its session. A packet whose session is not the bound one is
+/// dropped. Returns `false` if memory runs out; nothing changes then.
 fn hand_in(end: &mut GrowingEnd, cargo: &Cargo) -> bool
     ensures state { result ≡ true → end.new ≡ record end.old { state = after_cargo end.old.state cargo.now } }
     ensures same { result ≡ false → end.new ≡ end.old }
@@ -348,7 +353,10 @@ pub fn cut_bound(end: &mut GrowingEnd)
     }
 }
 
-/// A closed end that speaks frame versions up to this one.
+/// A closed end of the link between node `me` and `peer`. It speaks the versions of frames up to this one.
+///
+/// # Errors
+/// `Memory`.
 pub fn end_of(
     alloc: Global,
     version: Version,

@@ -1,4 +1,4 @@
-//! The walk over the link ends whose deadline has come.
+//! The new deadlines of the link ends whose deadline has come.
 ghost use Rattle.std.specs.Prelude.{◌≡◌, ◌+◌, ◌*◌, ◌<◌, ◌≤◌, length};
 ghost use Rattle.tora_sim.specs.Quiet.{AreDeadlines};
 
@@ -90,7 +90,7 @@ fn look_at_few(
     }
 }
 
-/// Stores the new deadline of the end at an index.
+/// Stores the new deadline of the end at the index `place`.
 #[inline(always)]
 fn look(links: &Vec<LinkSlot>, deadlines: &mut Deadlines, place: usize, _now: u64)
     requires within { place < length deadlines.old }

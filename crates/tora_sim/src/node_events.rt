@@ -16,7 +16,11 @@ use tora_life::DiskCall;
 use tora_seat::{MOST_ITEMS, What};
 
 impl Sim {
-    /// Puts the need of a destination into the queue of a node's core.
+    /// Node `n` needs a route to `d`: puts the need into the queue into the core of `n`.
+    ///
+    /// # Errors
+    /// In this order: `NoNode` if there is no such node; `NotPossible` if `MOST_ITEMS` items wait; `Memory`. Nothing
+    /// changes then.
     #[inline(never)]
     pub(crate) fn need(&mut self, n: Id, d: Id) -> Result<(), SimError>
         ensures { Does self.old (Need n d) result self.new }
@@ -31,7 +35,11 @@ impl Sim {
         self.nodes[home].put_item(seat, self.clock, What::Need(d))
     }
 
-    /// The core of a node serves the first item of its queue.
+    /// The core of node `n` serves the first item of its queue.
+    ///
+    /// # Errors
+    /// In this order: `NoNode` if there is no such node; `NotPossible` if no item waits; `Memory`. Nothing changes
+    /// then.
     #[inline(never)]
     pub(crate) fn core_turn(&mut self, n: Id) -> Result<(), SimError>
         ensures { Does self.old (CoreTurn n) result self.new }
@@ -48,7 +56,11 @@ impl Sim {
         }
     }
 
-    /// Restarts a node: its core, ends and lanes are new, and its life files are opened after a crash.
+    /// Restarts node `n`: replaces its core and its link ends by new ones, empties its queues, crashes the disks of its
+    /// life files as `MemDisk::crash` does with `torn`, and opens the files again.
+    ///
+    /// # Errors
+    /// In this order: `NoNode` if there is no such node; `Memory`. Nothing changes then.
     #[inline(never)]
     pub(crate) fn restart(&mut self, n: Id, torn: Option<[u8; 16]>) -> Result<(), SimError>
         ensures { Does self.old (Restart n torn) result self.new }
@@ -71,7 +83,10 @@ impl Sim {
         Ok(())
     }
 
-    /// Makes the next call of this kind fail at a node.
+    /// Makes the next call of this kind fail at node `n`.
+    ///
+    /// # Errors
+    /// `NoNode` if there is no such node.
     #[inline(never)]
     pub(crate) fn arm(&mut self, n: Id, call: Call) -> Result<(), SimError>
         ensures { Does self.old (Arm n call) result self.new }

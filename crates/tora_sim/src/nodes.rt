@@ -22,7 +22,8 @@ use tora_seat::{
     offers_are_their_own_answers,
 };
 
-/// What happens to the next datagram that a node sends.
+/// What happens to the next datagram that a node sends: it is sent (`Goes`), the call fails and it is not sent
+/// (`IsLost`), or the call fails although it is sent (`IsGone`).
 #[derive(Clone, Copy, Debug, PartialEq, Eq)]
 pub enum Sending {
     Goes,
@@ -43,8 +44,8 @@ pub struct NodeSlot {
     pub(crate) first: usize,
     /// The number of its neighbours.
     pub(crate) count: usize,
-    /// How many items each seat has put since the node's last restart: the seats of the neighbours in order, and then
-    /// that of the commands.
+    /// How many items each source (`Item::seat`) has put since the node's last restart: the neighbours in order, and
+    /// then the commands.
     pub(crate) counts: Vec<u64>,
     /// The inputs that its core accepted since the node's last restart, each with its tick.
     pub(crate) inputs: Vec<(Input, u64)>,
@@ -101,7 +102,7 @@ impl NodeSlot {
         self.sending
     }
 
-    /// Arms its next send.
+    /// Sets what happens to the next datagram that this node sends.
     #[inline(always)]
     pub fn arm_sending(&mut self, sending: Sending)
         ensures { self.new ≡ record self.old { sending = sending } }
@@ -128,7 +129,7 @@ impl NodeSlot {
     /// Puts an item into the queue.
     ///
     /// # Errors
-    /// `Memory`, also if the seat has put 2^64 - 1 items. Nothing changes then.
+    /// `Memory`, also if the source `seat` has put 2^64 - 1 items. Nothing changes then.
     pub fn put_item(&mut self, seat: usize, now: u64, what: What) -> Result<(), SimError>
         requires { seat < length self.old.counts }
         ensures { MatchResult result (λ _. self.new ≡ after_item self.old seat now what) (λ e. (e ≡ SimError.Memory)
@@ -157,7 +158,7 @@ impl NodeSlot {
         self.first
     }
 
-    /// The packet that was stepped for the last served item, if one was.
+    /// The packet that the core took for the item served last; `None` if it took none.
     pub fn stepped(&self) -> Option<Stepped>
         ensures { result ≡ self.now.seat.stepped }
     {
@@ -193,7 +194,8 @@ impl NodeSlot {
         }
     }
 
-    /// Replaces its seat by a new one, empties the queue, and forgets the accepted inputs.
+    /// Replaces its seat by a new one, empties the queue, forgets the accepted inputs, and sets the counts of items to
+    /// 0.
     pub fn restart(&mut self, seat: BareSeat)
         ensures { self.new ≡ restarted_node seat self.old }
     {
@@ -203,8 +205,8 @@ impl NodeSlot {
         self.counts.fill(0);
     }
 
-    /// Serves the first item of the queue, offers to the lanes to the neighbours, and records the inputs that the core
-    /// accepted.
+    /// Serves the first item of the queue, and returns that item. Offers outbound messages to the queues to the
+    /// neighbours, and records the inputs that the core accepted.
     ///
     /// # Errors
     /// `Memory`. Nothing changes then.
@@ -236,7 +238,10 @@ impl NodeSlot {
     }
 }
 
-/// Counts for `seats` seats, all 0.
+/// Counts of items for `seats` sources, all 0.
+///
+/// # Errors
+/// `Memory`.
 pub fn no_counts(alloc: Global, seats: usize) -> Result<Vec<u64>, SimError>
     ensures { MatchResult result (λ counts. counts.items ≡ replicate seats 0) (λ e. e ≡ SimError.Memory) }
 {
@@ -274,7 +279,7 @@ fn note_inputs(inputs: &mut Vec<(Input, u64)>, accepted: &[Input], now: u64)
     }
 }
 
-/// The index of a node.
+/// The index of node `n`; `None` if there is no such node.
 pub fn place(nodes: &Vec<NodeSlot>, n: Id) -> Option<usize>
     requires { AreRising nodes.now.items }
     ensures first { IfSome result (λ i. IsFirst (is_of n) nodes.now.items i) }
@@ -283,7 +288,7 @@ pub fn place(nodes: &Vec<NodeSlot>, n: Id) -> Option<usize>
     search(nodes, n)
 }
 
-/// The index of a node. It is `at`, if the node is there; otherwise the nodes are searched.
+/// The index of node `n`; `None` if there is no such node. The nodes are searched only if it is not at the index `at`.
 #[inline(always)]
 pub fn node_near(nodes: &Vec<NodeSlot>, at: usize, n: Id) -> Option<usize>
     requires { AreRising nodes.now.items }
@@ -296,7 +301,7 @@ pub fn node_near(nodes: &Vec<NodeSlot>, at: usize, n: Id) -> Option<usize>
     }
 }
 
-/// The index `place`, if the node is there.
+/// The index `place` if node `n` is there; otherwise `None`.
 #[inline(always)]
 fn near(nodes: &[NodeSlot], place: usize, n: Id) -> Option<usize>
     requires { AreRising nodes.now }

@@ -16,9 +16,9 @@ use tora_arq::data_frames_are_what_was_submitted;
 use tora_height::Id;
 
 impl Sim {
-    /// Sends a HELLO in both versions, if the idle fields show that the two are due, the end has sent the same two
-    /// before, `most` is at least 2, and the next send of the node is not armed. Otherwise nothing changes, and the
-    /// result is `None`.
+    /// Sends a HELLO in both versions, if the idle fields of the end (`LinkSlot::steady`) show that the two are due,
+    /// the end has sent the same two before, `most` is at least 2, there is room for two datagrams, and the next send
+    /// of the node is not armed. Otherwise nothing changes, and the result is `None`.
     ///
     /// Returns whether the end has no further frame due. If so, the tick before which it has nothing to do is stored.
     #[inline(always)]

@@ -73,7 +73,7 @@ fn may_turn(nodes: &[NodeSlot], place: usize, n: Id) -> bool
     }
 }
 
-/// Whether the end at an index is that of node `n` towards `k`. It reads only the keys.
+/// Whether the end of node `n` towards `k` is at the index `place`. It reads only the keys.
 #[inline(always)]
 fn stands_there(_links: &[LinkSlot], keys: &[(Id, Id)], place: usize, n: Id, k: Id) -> bool
     requires keys { keys.now ≡ map key_of _links.now }

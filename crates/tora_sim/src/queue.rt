@@ -47,7 +47,7 @@ impl<T: Copy + Drop> Queue<T> {
         self.list.len() - self.taken
     }
 
-    /// The first item; it is not taken.
+    /// The first item, which stays in the queue; `None` if there is none.
     pub fn first(&self) -> Option<T>
         ensures { result ≡ slice_get self.now.items 0 }
     {
@@ -70,7 +70,7 @@ impl<T: Copy + Drop> Queue<T> {
         Ok(())
     }
 
-    /// Takes the first item.
+    /// Removes and returns the first item; `None` if there is none.
     #[inline(always)]
     pub fn pop(&mut self) -> Option<T>
         ensures items { self.old.items ≡ option_to_list result ++ self.new.items }

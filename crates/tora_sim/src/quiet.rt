@@ -1,4 +1,4 @@
-//! The tick before which nothing is to be done.
+//! The tests whether anything is to be done now.
 ghost use Rattle.std.specs.Prelude.{◌≡◌, ℕ, true, false, is_some};
 ghost use Rattle.std.specs.List.{list_all};
 ghost use Rattle.tora_sim.specs.Quiet.{IsQuiet, is_idle};
@@ -13,7 +13,7 @@ use crate::sim::Sim;
 
 impl Sim {
     /// Whether it is known that nothing is to be done: no core has an item to take, and no link end can be opened, take
-    /// a cargo, send a frame or give an event. If it is not known, `settle` may find it out.
+    /// an outbound message, send a frame or give an event. If it is not known, `settle` may find it out.
     pub fn is_quiet(&self) -> bool
         ensures { result ≡ true → IsQuiet (world_of self.now) }
     {
@@ -24,7 +24,7 @@ impl Sim {
         are_idle(&self.nodes)
     }
 
-    /// Whether an item waits for a core.
+    /// Whether an item waits for some core.
     pub fn may_turn(&self) -> bool
         ensures { result ≡ false → (n : ℕ) → is_some (refusal_of (world_of self.now) (CoreTurn n)) ≡ true }
     {
@@ -32,7 +32,8 @@ impl Sim {
     }
 
     /// Stores the new deadline of each link end whose deadline has come: the tick before which the end has nothing to
-    /// do. Until then `next_due` skips the end, and no tick changes it. The world does not change.
+    /// do. Until then, or until another event at the end, `next_due` skips the end, and no tick changes it. The world
+    /// does not change.
     pub fn settle(&mut self)
         ensures { self.new ≡ self.old }
     {

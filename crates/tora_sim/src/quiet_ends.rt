@@ -10,8 +10,8 @@ use crate::links::LinkParts;
 use tora_frame::{BorrowedFrame, Header};
 
 impl LinkParts {
-    /// Whether the end may have something to do besides sending: it is closed, a cargo waits in its lane, or it has an
-    /// event to give.
+    /// Whether the end may have something to do besides sending: it is closed, an outbound message waits for it, or it
+    /// has an event to give.
     #[inline(always)]
     fn is_busy(&self) -> bool
         ensures { result ≡ false → MayOnlySend self.now }

@@ -62,7 +62,11 @@ impl Sim {
         Ok(ends)
     }
 
-    /// Appends the ends of a node, by the neighbours of its core; the links of the topology are not read.
+    /// Appends the ends of a node, by the neighbours of its core; nothing if there is no such node. The links of the
+    /// topology are not read.
+    ///
+    /// # Errors
+    /// Memory ran out.
     fn put_ends_of(&self, ends: &mut Vec<(Id, Id)>, n: Id) -> Result<(), AllocError>
         ensures { IfOk result (λ _. ends.new.items ≡ ends.old.items ++ ends_at self.now.topology n) }
     {
@@ -115,7 +119,8 @@ impl Sim {
         way_of_numbered(&self.datagrams, i)
     }
 
-    /// The height of a node for a destination; `None` if there is no such node or destination.
+    /// The height of a node for a destination, `Some(None)` if it is NULL; `None` if there is no such node or
+    /// destination.
     pub fn height(&self, n: Id, d: Id) -> Option<Entry>
         ensures { result ≡ height_at (world_of self.now) n d }
     {
@@ -135,8 +140,8 @@ impl Sim {
         }
     }
 
-    /// How many packets of a session the core of `a` put into the lane to `b`; 0 if there is no such link or session.
-    /// `life` is the session as the end of `a` writes it.
+    /// How many packets of a session the core of `a` put into the queue to `b`; 0 if there is no such link or session.
+    /// `life` is the session as the end of `a` writes it, with its own number first.
     pub fn sent_count(&self, a: Id, b: Id, life: Life) -> usize
         ensures { result ≡ length (sent_packets (world_of self.now) a b life) }
     {
@@ -146,8 +151,8 @@ impl Sim {
         }
     }
 
-    /// The packets of a session that the core of `a` put into the lane to `b`, in order; none if there is no such link
-    /// or session. `life` is the session as the end of `a` writes it.
+    /// The packets of a session that the core of `a` put into the queue to `b`, in order; none if there is no such link
+    /// or session. `life` is the session as the end of `a` writes it, with its own number first.
     ///
     /// The list is built by a search at each call.
     ///
@@ -162,8 +167,8 @@ impl Sim {
         }
     }
 
-    /// How many packets of `a` the core of `b` stepped in a session; 0 if there is no such link or session. `life` is
-    /// the session as the end of `b` writes it.
+    /// How many packets of `a` the core of `b` took in a session; 0 if there is no such link or session. `life` is the
+    /// session as the end of `b` writes it, with its own number first.
     pub fn taken_count(&self, b: Id, a: Id, life: Life) -> usize
         ensures { result ≡ length (taken_packets (world_of self.now) b a life) }
     {
@@ -173,8 +178,8 @@ impl Sim {
         }
     }
 
-    /// The packets of `a` that the core of `b` stepped in a session, in order; none if there is no such link or
-    /// session. `life` is the session as the end of `b` writes it.
+    /// The packets of `a` that the core of `b` took in a session, in order; none if there is no such link or session.
+    /// `life` is the session as the end of `b` writes it, with its own number first.
     ///
     /// The list is built by a search at each call.
     ///
@@ -198,14 +203,14 @@ impl NodeSlot {
         self.seat.core().neighbours()
     }
 
-    /// The height of the node for a destination.
+    /// The height of the node for a destination, `Some(None)` if it is NULL; `None` if there is no such destination.
     fn height(&self, d: Id) -> Option<Entry>
         ensures { result ≡ height_of self.now.seat.core d }
     {
         self.seat.core().height(d)
     }
 
-    /// The next hop of the node to a destination.
+    /// The next hop of the node to a destination; `None` if there is none, or no such destination.
     fn next_hop(&self, d: Id) -> Option<Id>
         ensures { result ≡ hop_of self.now.seat.core d }
     {
@@ -214,28 +219,34 @@ impl NodeSlot {
 }
 
 impl LinkParts {
-    /// How many packets of a session were put into the lane.
+    /// How many packets of a session were ever put into the outbound queue.
     pub fn sent_count(&self, life: Life) -> usize
         ensures { result ≡ length (packets_of life (parcels_in self.now.put)) }
     {
         self.lane.sent_count(life)
     }
 
-    /// The packets of a session that were put into the lane.
+    /// The packets of a session that were ever put into the outbound queue, in order.
+    ///
+    /// # Errors
+    /// Memory ran out.
     pub fn sent(&self, alloc: Global, life: Life) -> Result<Vec<Packet>, AllocError>
         ensures { IfOk result (λ v. v.items ≡ packets_of life (parcels_in self.now.put)) }
     {
         self.lane.sent(alloc, life)
     }
 
-    /// How many packets of the peer the node's core stepped in a session.
+    /// How many packets of the peer the node's core took in a session.
     pub fn taken_count(&self, life: Life) -> usize
         ensures { result ≡ length (packets_of life self.now.steps) }
     {
         count_kept(&self.steps, life)
     }
 
-    /// The packets of the peer that the node's core stepped in a session.
+    /// The packets of the peer that the node's core took in a session, in order.
+    ///
+    /// # Errors
+    /// Memory ran out.
     pub fn taken(&self, alloc: Global, life: Life) -> Result<Vec<Packet>, AllocError>
         ensures { IfOk result (λ v. v.items ≡ packets_of life self.now.steps) }
     {
@@ -245,7 +256,10 @@ impl LinkParts {
     }
 }
 
-/// Appends the ends of a node.
+/// Appends the ends of node `n`, one for each of these neighbours.
+///
+/// # Errors
+/// Memory ran out.
 fn put_ends(ends: &mut Vec<(Id, Id)>, n: Id, neighbours: &[Id]) -> Result<(), AllocError>
     ensures { IfOk result (λ _. ends.new.items ≡ ends.old.items ++ map (λ k. (n, k)) neighbours.now) }
 {

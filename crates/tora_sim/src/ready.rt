@@ -1,11 +1,14 @@
-//! Marks of link ends that are ready: the lane is empty, and the end has memory for all that one item of its node can
-//! put.
+//! Marks of link ends that are ready: the outbound queue is empty, and the end has memory for all that one item of its
+//! node can put.
 ghost use Rattle.std.specs.Prelude.{◌≡◌, ◌<◌, false, MatchResult, length, replicate, slice_index_or, slice_set};
 
 use crate::SimError;
 use std::alloc::Global;
 
 /// Marks for `count` ends, none of which is marked.
+///
+/// # Errors
+/// `Memory`.
 pub fn none_ready(alloc: Global, count: usize) -> Result<Vec<bool>, SimError>
     ensures { MatchResult result (λ ready. ready.items ≡ replicate count false) (λ e. e ≡ SimError.Memory) }
 {
@@ -16,7 +19,7 @@ pub fn none_ready(alloc: Global, count: usize) -> Result<Vec<bool>, SimError>
     }
 }
 
-/// Whether the end at an index is marked.
+/// Whether the end at an index is marked as ready. An end without a mark may be ready, too.
 #[inline(always)]
 pub fn is_ready(ready: &Vec<bool>, at: usize) -> bool
     requires { at < length ready.now.items }

@@ -20,9 +20,9 @@ use tora_core::numbers_come_and_go;
 use tora_height::Id;
 
 impl Sim {
-    /// Whether the world is at rest: no item waits for a core, no cargo in a lane and no event in a link end; all
-    /// submitted packets are acknowledged; and each link is up at both cores in one session, in which both its ends are
-    /// bound, or at neither.
+    /// Whether the world is at rest: no item waits for a core, no outbound message for a link end, and no event in a
+    /// link end; all submitted packets are acknowledged; and each link is up at both cores in one session, in which
+    /// both its ends are bound, or at neither.
     ///
     /// At rest, HELLOs and repeated ACKs may still be sent, datagrams may be undelivered, and a need may come at any
     /// time. Each entry is then NULL, or the height of its neighbour, or the neighbour has no height, and walks go
@@ -105,7 +105,8 @@ impl Sim {
         }
     }
 
-    /// The session in which the link to `k` is up at the core of `n`.
+    /// The session in which the link to `k` is up at the core of `n`; `None` if it is not up, or if there is no such
+    /// link.
     fn life_at(&self, n: Id, k: Id) -> Option<Life>
         ensures { result ≡ life_at (world_of self.now) n k }
     {
@@ -148,14 +149,14 @@ fn is_life(life: Life, bound: Option<Life>) -> bool
 }
 
 impl LinkParts {
-    /// Whether nothing waits in the lane or the end, and all that was submitted is acknowledged.
+    /// Whether no message waits in the outbound queue, no event in the end, and all that was submitted is acknowledged.
     pub fn is_idle(&self) -> bool
         ensures { result ≡ is_idle self.now }
     {
         self.has_no_cargo() && self.has_no_event() && self.has_no_packet()
     }
 
-    /// Whether no cargo waits in the lane.
+    /// Whether no outbound message waits.
     #[tactic(auto, using(crate::proofs::Resting::empty_lane))]
     fn has_no_cargo(&self) -> bool
         ensures { result ≡ is_empty (waiting self.now) }
@@ -178,7 +179,7 @@ impl LinkParts {
         self.end.waiting() == 0
     }
 
-    /// The session that the end is bound in.
+    /// The session in which the end is bound; `None` if it is not bound.
     pub fn life(&self) -> Option<Life>
         ensures { result ≡ bound_life self.now.state }
     {
@@ -187,7 +188,7 @@ impl LinkParts {
 }
 
 impl NodeSlot {
-    /// The current session of the neighbour with this index.
+    /// The current session of the neighbour with this index; `None` if it has none, or there is no such neighbour.
     fn current(&self, seat: usize) -> Option<Life>
         ensures { MatchOption (slice_get self.now.seat.core.neighbours seat) (result ≡ None) (λ k.
             result ≡ current_of self.now.seat.rows k) }

@@ -8,7 +8,7 @@ use crate::link_slot::LinkSlot;
 use std::alloc::Global;
 use tora_arq::GrowingEnd;
 
-/// A fresh link end for each of the `count` ends from the index `first` on, in their order.
+/// A new, closed link end for each of the `count` ends from the index `first` on, in their order.
 ///
 /// # Errors
 /// `Memory`.
@@ -36,8 +36,9 @@ pub fn new_ends(
     Ok(ends)
 }
 
-/// Restarts the link ends from the index `first` on: each is replaced by one of `ends`, its lane is emptied, and its
-/// life file is opened after a crash of its disk. Afterwards `ends` has the old ends.
+/// Restarts the link ends from the index `first` on, as `LinkSlot::restart` does: each is replaced by one of `ends`,
+/// its outbound queue is emptied, and its life file is opened after a crash of its disk. Afterwards `ends` has the old
+/// ends.
 pub fn restart_ends(
     links: &mut Vec<LinkSlot>,
     first: usize,

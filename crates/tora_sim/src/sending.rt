@@ -25,7 +25,11 @@ use tora_frame::{BorrowedFrame, Header};
 use tora_height::Id;
 
 impl Sim {
-    /// Sends the first due frame of an end, unless the send is armed to lose it.
+    /// Sends the first due frame of the end of node `n` towards `k`, unless the send is armed to lose it.
+    ///
+    /// # Errors
+    /// In this order: `NoNode` if there is no such link; `NotPossible` if no frame is due; `Memory`. Nothing changes
+    /// then.
     pub(crate) fn transmit(&mut self, n: Id, k: Id) -> Result<(), SimError>
         ensures { Does self.old (Transmit n k) result self.new }
     {
@@ -38,8 +42,8 @@ impl Sim {
         self.transmit_at(n, k, at, home)
     }
 
-    /// Sends the first due frame of the end of node `_n` towards `_k`, whose index is `at`; the node's index is `home`.
-    /// It is never inlined, so that the loop that sends HELLOs has registers of its own.
+    /// `transmit` for the end of node `_n` towards `_k`, whose index is `at`; the node's index is `home`. It is never
+    /// inlined, so that the loop that sends HELLOs has registers of its own.
     #[inline(never)]
     pub(crate) fn transmit_at(
         &mut self,
@@ -76,13 +80,13 @@ impl Sim {
         Ok(())
     }
 
-    /// Repeats `Transmit` at the end of node `n` towards `k` until it is refused, at most `most` times, and returns
-    /// whether it happened at all. The end and its node are looked up once.
+    /// Repeats `Transmit` at the end of node `n` towards `k` until it is refused, at most `most` times. Returns whether
+    /// it happened at all; `false` also if there is no such link. The end and its node are looked up once.
     ///
     /// `place` is the index of the link end among `ends`. If another end is there, the end is searched for.
     ///
     /// # Errors
-    /// Memory ran out for a frame that is due. The earlier frames were sent.
+    /// Memory ran out for a frame that is due, or no more datagrams can be stored. The earlier frames were sent.
     #[inline(always)]
     pub fn transmit_all(
         &mut self,
@@ -102,8 +106,8 @@ impl Sim {
         self.transmit_from(n, k, at, home, most)
     }
 
-    /// Whether the end at the index `at` is known to have no frame due. This is checked only after a frame was sent;
-    /// the tick before which the end has nothing to do is then stored.
+    /// Whether the end at the index `at` is known to have no frame due. If no frame was `sent` yet, the answer is
+    /// `false` without a check. If the answer is `true`, the new deadline of the end is stored.
     #[inline(always)]
     fn is_over(&mut self, at: usize, sent: bool) -> bool
         requires { at < length self.old.links }
@@ -121,8 +125,8 @@ impl Sim {
         true
     }
 
-    /// Sends the first due frame of an end, if the idle fields show that it is a HELLO, as most frames are, and returns
-    /// whether it did. Otherwise nothing changes.
+    /// Sends the first due frame of an end, if the idle fields of the end (`LinkSlot::steady`) show that it is a HELLO,
+    /// as most frames are, and returns whether it did. Otherwise nothing changes.
     #[inline(always)]
     fn transmit_hello(&mut self, _n: Id, _k: Id, at: usize, home: usize) -> bool
         requires end { IsFirst (is_at _n _k) self.old.links at }
@@ -150,7 +154,8 @@ impl Sim {
         true
     }
 
-    /// Sends the first due frame of an end. A HELLO is sent by the idle fields alone, if they show that it is due.
+    /// `transmit` for the end at the index `at`. If the idle fields of the end show that a HELLO is due, it is sent
+    /// without a look at the other fields of the end.
     #[inline(always)]
     fn transmit_first(&mut self, n: Id, k: Id, at: usize, home: usize) -> Result<(), SimError>
         requires end { IsFirst (is_at n k) self.old.links at }
@@ -165,7 +170,7 @@ impl Sim {
         self.transmit_at(n, k, at, home)
     }
 
-    /// Sends the due frames of an end, at most `most`. The end has the index `at`, and its node the index `home`.
+    /// `transmit_all` for the end at the index `at`, whose node has the index `home`.
     #[inline(always)]
     fn transmit_from(
         &mut self,

@@ -16,8 +16,8 @@ use tora_core::Sends;
 use tora_frame::Packets;
 use tora_height::Id;
 
-/// Memory of a step, which means nothing between two steps. It is kept because filling new buffers for each step takes
-/// time.
+/// Buffers for a step, whose contents mean nothing between two steps. They are kept because making new ones for each
+/// step takes time.
 #[derive(Drop)]
 pub(crate) struct Buffers {
     /// The packets of the frame that is being sent.
@@ -35,7 +35,8 @@ impl Buffers {
     }
 }
 
-/// A simulated world.
+/// A simulated world: its nodes, link ends, queues and life files, and all datagrams that were ever sent. It changes
+/// only by events and by `cut_bound`.
 #[derive(Drop)]
 pub struct Sim {
     pub(crate) topology: Topology,
@@ -51,10 +52,10 @@ pub struct Sim {
     /// The deadline of each link end: before this tick it has nothing to do. A deadline that has come gives no
     /// information.
     pub(crate) deadlines: Deadlines,
-    /// Marks of the ends that are ready: the lane is empty, and the end has memory for all that one item of its node
-    /// can put.
+    /// Marks of the ends that are ready: the outbound queue is empty, and the end has memory for all that one item of
+    /// its node can put. A missing mark gives no information.
     pub(crate) ready: Vec<bool>,
-    /// A pool of lists for lanes that are longer than their inline places.
+    /// A pool of lists for outbound queues that are longer than their inline places.
     pub(crate) pool: Pool,
     pub(crate) buffers: Buffers,
 }
@@ -76,7 +77,10 @@ impl Model for Sim {
 }
 
 impl Sim {
-    /// Advances the clock by one tick, and ticks every end.
+    /// Advances the clock by one tick of 100 ms, and ticks every end.
+    ///
+    /// # Errors
+    /// `Memory` if the clock is at 2^64 - 1. Nothing changes then.
     pub(crate) fn tick(&mut self) -> Result<(), SimError>
         ensures { Does self.old Tick result self.new }
     {
@@ -92,15 +96,16 @@ impl Sim {
     ///
     /// # Errors
     /// `NoNode` if there is no such node or link, `NoDatagram` if there is no such datagram, `NotPossible` if the event
-    /// is not possible now, and last `Memory`. Nothing changes then.
+    /// is not possible now, and last `Memory`, also if the clock, a count of items or the number of datagrams cannot
+    /// grow. Nothing changes then.
     pub fn step(&mut self, event: &Event) -> Result<(), SimError>
         ensures { Does self.old event.now result self.new }
     {
         self.step_at(0, event)
     }
 
-    /// Makes one event happen as `step` does. For a `Pull` or `Pump`, the link end is looked for at the index `place`
-    /// first.
+    /// Makes one event happen as `step` does. For a `Pull` or `Pump`, the link end is looked for first at the index
+    /// `place` among `ends`.
     ///
     /// # Errors
     /// Those of `step`.

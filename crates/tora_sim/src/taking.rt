@@ -13,8 +13,9 @@ use std::alloc::AllocError;
 use tora_height::Id;
 
 impl Sim {
-    /// Repeats `CoreTurn` at node `n` until it is refused, at most `most` times, and returns whether it happened at
-    /// all. The node is looked up once, and the marks and deadlines of its link ends are updated once.
+    /// Repeats `CoreTurn` at node `n` until it is refused, at most `most` times. Returns whether an item was served;
+    /// `false` also if there is no such node. The node is looked up once, and the marks and deadlines of its link ends
+    /// are updated once.
     ///
     /// `place` is the index of the node among `nodes`. If another node is there, the node is searched for.
     ///
@@ -32,7 +33,7 @@ impl Sim {
         self.turn_from(n, home, most)
     }
 
-    /// `turn_all` for the node at the index `home`, at least once.
+    /// `turn_all` for the node at the index `home`; `most` is not 0.
     #[inline(never)]
     pub(crate) fn turn_from(&mut self, _n: Id, home: usize, most: u64) -> Result<bool, AllocError>
         requires first { IsFirst (is_of _n) self.old.nodes home }

@@ -6,7 +6,7 @@ ghost use Rattle.tora_sim.specs.Quiet.{IsIdleUntil, AreDeadlines, AreDeadlinesFr
 use crate::deadlines::{Deadlines, block_count, deadline_at, ends_of, is_idle_block};
 use crate::link_slot::LinkSlot;
 
-/// Ticks every end whose deadline has come. The tick changes no other end.
+/// Passes the tick `now` to every end whose deadline has come. It would change no other end.
 pub fn tick(links: &mut Vec<LinkSlot>, deadlines: &Deadlines, now: u64)
     requires { AreDeadlines now deadlines.now links.old.items }
     ensures { links.new.items ≡ map (ticked now) links.old.items }
@@ -16,7 +16,7 @@ pub fn tick(links: &mut Vec<LinkSlot>, deadlines: &Deadlines, now: u64)
     }
 }
 
-/// Ticks the ends of a block, unless the deadline of the block has not come.
+/// Passes the tick to the ends of a block whose deadlines have come; to none if the deadline of the block has not come.
 fn tick_block(links: &mut Vec<LinkSlot>, deadlines: &Deadlines, block: usize, now: u64)
     requires within { 16 * block < length deadlines.now }
     requires many { length deadlines.now ≡ length links.old.items }
@@ -32,7 +32,7 @@ fn tick_block(links: &mut Vec<LinkSlot>, deadlines: &Deadlines, block: usize, no
     }
 }
 
-/// Ticks the end at an index, unless its deadline has not come.
+/// Passes the tick to the end at an index if its deadline has come.
 #[inline(always)]
 fn tick_end(links: &mut Vec<LinkSlot>, deadlines: &Deadlines, place: usize, now: u64)
     requires known { place < length deadlines.now }

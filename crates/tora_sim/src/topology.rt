@@ -132,7 +132,7 @@ impl Topology {
         Ok(())
     }
 
-    /// Sets how all nodes treat erased levels, except those with a choice by `choose`.
+    /// Sets how all nodes treat erased levels, except those with a choice by `choose`. Without this call it is `Plain`.
     pub fn set_erasure(&mut self, erasure: Erasure)
         ensures { self.new ≡ record self.old { erasure = erasure } }
     {
@@ -158,7 +158,7 @@ impl Topology {
         }
     }
 
-    /// How a node treats erased levels.
+    /// How a node treats erased levels: by the last `choose` for it, otherwise as `set_erasure` says.
     pub fn erasure_of(&self, n: Id) -> Erasure
         ensures { result ≡ erasure_at self.now n }
     {
@@ -234,6 +234,9 @@ impl Topology {
     }
 
     /// A copy of the topology.
+    ///
+    /// # Errors
+    /// Memory ran out.
     pub(crate) fn copied(&self, alloc: Global) -> Result<Topology, AllocError>
         ensures { IfOk result (λ t. t ≡ self.now) }
     {

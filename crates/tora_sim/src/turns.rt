@@ -20,7 +20,7 @@ use std::mem;
 use tora_core::Sends;
 use tora_seat::offers_are_their_own_answers;
 
-/// Serves the first item of a node's queue. The node's link ends must have memory for all that it can put; those
+/// Serves the first item of a node's queue. The node's link ends must have memory for all that the item can put; those
 /// outside `lacking.unready` are ready, before and after. Afterwards all ends but the one at `lacking.seat` have memory
 /// for another item.
 ///
@@ -100,8 +100,8 @@ fn make_room_again(
     Ok(())
 }
 
-/// Serves the items of a node's queue until none waits, at most `most`, and returns whether any was served. `lacking`
-/// is that of `turn`. Between two items, only the end at its `seat` is checked for memory.
+/// Serves the items of a node's queue until none waits, at most `most`, and returns whether any was served. `turn`
+/// reads and renews `lacking`. Between two items, only the end at `lacking.seat` is checked for memory.
 ///
 /// # Errors
 /// `Memory`. The earlier items were served.
@@ -136,9 +136,9 @@ pub fn take_items(
     Ok(some)
 }
 
-/// For the `count` link ends from the index `first` on: marks an end as ready if its lane is empty and its index is not
-/// `but`, and sets its deadline to 0 if a cargo waits. The other deadlines stay, because a turn changes only lanes and
-/// stepped packets.
+/// For the `count` link ends from the index `first` on: marks an end as ready if its outbound queue is empty and its
+/// index is not `but`, otherwise removes its mark; and sets its deadline to 0 if an outbound message waits. The other
+/// deadlines stay, because a turn changes only outbound queues and the records of packets taken.
 pub fn forget_waiting(
     links: &Vec<LinkSlot>,
     ready: &mut Vec<bool>,
@@ -159,7 +159,7 @@ pub fn forget_waiting(
     }
 }
 
-/// Renews the mark of the link end at an index, and sets its deadline to 0 if a cargo waits.
+/// `forget_waiting` for the link end at the index `at`.
 #[inline(always)]
 fn forget_if_waiting(
     links: &Vec<LinkSlot>,
@@ -181,7 +181,8 @@ fn forget_if_waiting(
     set_deadline(deadlines, at, 0);
 }
 
-/// Marks the link end at an index as ready if its lane is empty and the index is not `but`.
+/// Marks the link end at an index as ready if its outbound queue is empty and the index is not `but`; otherwise removes
+/// its mark.
 #[inline(always)]
 fn remark(links: &Vec<LinkSlot>, ready: &mut Vec<bool>, at: usize, but: usize)
     requires within { at < length links.now.items }

@@ -4,7 +4,7 @@ ghost use Rattle.tora_sim.specs.Unready.{IsOutside};
 
 use crate::ready::is_ready;
 
-/// A range of a node's link ends, by their indexes among the node's ends.
+/// A range of a node's link ends, by their indexes among the node's ends. It is empty if `from` is not below `behind`.
 #[derive(Clone, Copy, Debug)]
 pub struct Unready {
     /// The first index.
@@ -16,9 +16,10 @@ pub struct Unready {
 /// The link ends of a node that may lack memory for one more item.
 #[derive(Clone, Copy, Debug)]
 pub struct EndsWithoutRoom {
-    /// Those that may not be ready.
+    /// A range that includes all ends that may not be ready.
     pub unready: Unready,
-    /// The only one that may lack room in its queue, by its index among the node's ends.
+    /// The only one that may lack memory, by its index among the node's ends; none does if this is not an index of an
+    /// end.
     pub seat: usize,
 }
 
@@ -52,7 +53,7 @@ impl Unready {
         self.from <= place && place < self.behind
     }
 
-    /// The smallest range that contains this range and one more index.
+    /// A range that contains this range and one more index, which is below 2^64 - 1.
     #[inline(always)]
     pub fn with_place(self, place: usize) -> Unready
         requires { place < 18446744073709551615 }
@@ -65,7 +66,7 @@ impl Unready {
         }
     }
 
-    /// The smallest range that contains both ranges.
+    /// A range that contains both ranges.
     #[inline(always)]
     pub fn joined(self, other: Unready) -> Unready
         ensures these { (place : ℕ) → IsOutside result place → IsOutside self place }

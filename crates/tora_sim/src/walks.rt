@@ -57,7 +57,10 @@ impl Sim {
         }
     }
 
-    /// The walk with at most this many hops.
+    /// The walk with at most this many hops; `None` if there is none.
+    ///
+    /// # Errors
+    /// Memory ran out.
     fn walk_within(
         &self,
         alloc: Global,
@@ -122,7 +125,8 @@ impl Sim {
 }
 
 impl NodeSlot {
-    /// The node's entry of neighbour `k` for a destination.
+    /// The node's entry of neighbour `k` for a destination; `None` if there is no such destination, or the link is not
+    /// up.
     fn entry(&self, k: Id, d: Id) -> Option<Entry>
         ensures { result ≡ entry_of self.now.seat.core d k }
     {

@@ -63,21 +63,21 @@ impl Sim {
 }
 
 impl NodeSlot {
-    /// The item that the core of this node serves next.
+    /// The item that the core of this node serves next; `None` if none waits.
     fn first_item(&self) -> Option<Item>
         ensures { result ≡ slice_get self.now.items 0 }
     {
         self.items.first()
     }
 
-    /// Whether the core of this node requires a route to a destination.
+    /// Whether the core of this node requires a route to a destination; `false` if there is no such destination.
     fn flag(&self, d: Id) -> bool
         ensures { result ≡ flag_of self.now.seat.core d }
     {
         self.seat.core().flag(d)
     }
 
-    /// The inputs that the core of this node accepted since its last restart.
+    /// The inputs that the core of this node accepted since the node's last restart, each with its tick.
     fn inputs(&self) -> &[(Input, u64)]
         ensures { result.now ≡ self.now.inputs }
     {

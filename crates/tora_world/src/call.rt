@@ -7,7 +7,7 @@ pub enum Call {
     SendLost,
     /// The next send of a node fails, but the datagram is sent.
     SendGone,
-    /// The next receive of a node returns nothing.
+    /// The next receive of a node fails: no link end sees the datagram that is delivered.
     Receive,
     /// The next read of each life file of a node fails.
     Read,

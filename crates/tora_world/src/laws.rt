@@ -119,8 +119,8 @@ pub fn only_needs_are_refused()
     layers_keep_their_laws();
 }
 
-/// Exact entries give walks: if each entry for a destination that is not NULL is the current height of its neighbour,
-/// the next hops lead from every node with a height to the destination.
+/// Exact entries give walks: if each entry for a destination is NULL or the current height of its neighbour, the next
+/// hops lead from every node with a height to the destination.
 ///
 /// It holds for every world that events reach over a topology that is not refused. Its proof uses only the lower
 /// neighbour law (a node other than the destination that has a height has a lower entry) and the order of heights:
@@ -148,10 +148,10 @@ pub fn simulator_runs_are_free_runs()
         (first_world t times) }
 {}
 
-/// A life file of the free world may change to any file that draws no number which the old file could not draw. So it
-/// may change in any way in which its calls, failing calls and crashes can change it.
+/// A life file of the free world may change to any file that gives no session number which the old file could not give.
+/// So it may change in any way in which its calls, failing calls and crashes can change it.
 pub fn life_files_become_what_crashes_leave()
-    // Such a change never allows again a number that was drawn, and `ChangesFile` requires this.
+    // Such a change never allows again a session number that was given, and `ChangesFile` requires this.
     ensures any { (before after : LifeDisk) → ((n : ℕ) → IsFloor n before → IsFloor n after) → MayBecome before after }
     // A crash may leave any image of what was written and not synced.
     ensures events { (event : LifeEvent) (disk : LifeDisk) → MayHappen event disk

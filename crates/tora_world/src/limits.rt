@@ -35,7 +35,7 @@ impl Limits {
         nodes: GREATEST_NODES,
     };
 
-    /// How many neighbours a node may have.
+    /// How many neighbours a node may have: `neighbours`, but at most 255.
     pub fn most_neighbours(self) -> usize
         ensures value { result ≡ most_neighbours self }
         ensures bound { result ≤ GREATEST_NEIGHBOURS }
@@ -43,7 +43,7 @@ impl Limits {
         at_most(GREATEST_NEIGHBOURS, self.neighbours)
     }
 
-    /// How many destinations a table may have.
+    /// How many destinations a table may have: `destinations`, but at most 64.
     pub fn most_destinations(self) -> usize
         ensures value { result ≡ most_destinations self }
         ensures bound { result ≤ MOST_DESTINATIONS }
@@ -51,7 +51,7 @@ impl Limits {
         at_most(MOST_DESTINATIONS, self.destinations)
     }
 
-    /// How many nodes a world may have.
+    /// How many nodes a world may have: `nodes`, but at most 1,024.
     pub fn most_nodes(self) -> usize
         ensures value { result ≡ most_nodes self }
         ensures bound { result ≤ GREATEST_NODES }

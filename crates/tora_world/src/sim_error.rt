@@ -4,19 +4,22 @@ ghost use Rattle.tora_world.specs.Errors.{sim_error_number};
 
 use thiserror::Error;
 
-/// Why an event is refused, in the order of the checks; memory comes last. A refused event changes nothing.
+/// Why an event, or another call of the simulator, is refused, in the order of the checks; memory comes last. A refused
+/// event changes nothing.
 #[derive(Clone, Copy, Debug, PartialEq, Eq, Error)]
 pub enum SimError {
-    /// There is not enough memory.
+    /// There is not enough memory, or a count cannot grow: the clock or a count of items at 2^64 - 1, or the number of
+    /// stored datagrams.
     #[error("there is not enough memory")]
     Memory,
-    /// There is no such node or link.
+    /// There is no such node or link; for a walk also no such destination.
     #[error("there is no such node or link")]
     NoNode,
     /// There is no such datagram.
     #[error("there is no such datagram")]
     NoDatagram,
-    /// The event is not possible now.
+    /// The event is not possible now: a queue is full, the link end is open already, or there is nothing to take or to
+    /// send.
     #[error("the event is not possible now")]
     NotPossible,
 }

@@ -31,7 +31,7 @@ pub fn steps_are_the_table()
         ↔ (refusal_by c w event ≡ Some error) }
 {}
 
-/// Rows of the table, computed.
+/// Examples of rows of the table of events, computed.
 pub fn worked_rows_of_the_table_hold()
     // A pulled cut ends its own session and no other. A pulled packet is submitted in its own session.
     ensures pulls { Pulls }

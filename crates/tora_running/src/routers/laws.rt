@@ -60,8 +60,8 @@ pub fn routers_refuse_only_unknown_needs()
     running_cores_refuse_only_needs();
 }
 
-/// Exact entries give walks of embedded routers: if each entry for a destination that is not NULL is the current height
-/// of its neighbour, the next hops lead from every node with a height to the destination.
+/// Exact entries give walks of embedded routers: if each entry for a destination is NULL or the current height of its
+/// neighbour, the next hops lead from every node with a height to the destination.
 pub fn router_walks_arrive()
     ensures { AllHosts (λ t times hosts. HoldsOfSound WalksArrive t times hosts) }
 {

@@ -158,7 +158,7 @@ impl Datagrams {
         true
     }
 
-    /// The datagram at the index `place`, without copying its packets.
+    /// The datagram at the index `place`, counted from 0, without copying its packets; `None` if there is none.
     #[inline(always)]
     pub fn get(&self, place: usize) -> Option<BorrowedFrame<'_>>
         ensures { result ≡ slice_get self.now.items place }
@@ -172,8 +172,8 @@ impl Datagrams {
         }
     }
 
-    /// The header of the datagram at the index `place`, if it is a HELLO, and a guess at the index of the link end that
-    /// receives it.
+    /// The header of the datagram at the index `place`, and a guess at the index of the link end that receives it.
+    /// `None` if there is no such datagram, or it is not a HELLO.
     #[inline(always)]
     pub fn hello(&self, place: usize) -> Option<(Header, u32)>
         ensures hello { IfSome result (λ told. slice_get self.now.items place ≡ Some (frame_of told.0 Body.Hello)) }
@@ -185,7 +185,8 @@ impl Datagrams {
         hello_at(&self.kept, at)
     }
 
-    /// A guess at the index of the link end that receives the datagram at the index `place`.
+    /// A guess at the index of the link end that receives the datagram at the index `place`; 0 if there is no such
+    /// datagram.
     #[inline(always)]
     pub fn far_end(&self, place: usize) -> usize {
         let Some(at) = place_at(&self.places, place) else {
@@ -197,7 +198,7 @@ impl Datagrams {
         }
     }
 
-    /// The sender and the receiver of the datagram at the index `place`.
+    /// The sender and the receiver of the datagram at the index `place`; `None` if there is no such datagram.
     #[inline(always)]
     pub fn way(&self, place: usize) -> Option<(Id, Id)>
         ensures { result ≡ option_map way_of (slice_get self.now.items place) }
@@ -210,7 +211,7 @@ impl Datagrams {
     }
 }
 
-/// The place of the frame of the datagram at the index `at`.
+/// The place of the frame of the datagram at the index `at`; `None` if there is no such datagram.
 #[inline(always)]
 fn place_at(places: &Vec<u32>, at: usize) -> Option<u32>
     ensures { result ≡ slice_get places.now.items at }
@@ -219,7 +220,7 @@ fn place_at(places: &Vec<u32>, at: usize) -> Option<u32>
 }
 
 /// The place of the HELLO with this header, if it repeats the last HELLO of the link end, in the same or the other
-/// version.
+/// version; otherwise `None`.
 #[inline(always)]
 fn found_hello(kept: &Vec<KeptHello>, hellos: &[u32], end: usize, header: &Header) -> Option<u32>
     requires { length kept.now.items ≤ MOST_HELLOS }

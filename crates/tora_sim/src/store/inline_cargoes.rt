@@ -1,4 +1,4 @@
-//! A list of cargoes whose first few are stored inline.
+//! Outbound messages (`Cargo`) in order: a few inline, or more in a list.
 ghost use Rattle.std.specs.Prelude.{◌≡◌, ◌<◌, ◌≤◌, ◌+◌, ◌⊎◌, ◌^◌, ◌-◌, ◌++◌, ◌∷◌, [], length, drop, take, vec_len};
 ghost use Rattle.std.specs.Prelude.{vec_capacity, slice_get, slice_set, Some, IfOk, OnOk};
 ghost use Rattle.tora_seat.specs.declared.TheConstants.{MOST_CARGOES};
@@ -16,16 +16,16 @@ use tora_seat::{Cargo, MOST_CARGOES};
 /// The number of inline places.
 pub const INLINE_CARGOES: usize = 4;
 
-/// A list is long if it has memory for more than this many times its cargoes.
+/// A list is long if it has memory for more than this many times its messages.
 const LONG: usize = 4;
 
-/// Cargoes in the order in which they were put: up to `INLINE_CARGOES` inline, or all in a list. If there is none left
-/// before a turn of the core, the memory of the list is freed, and the next cargoes are stored inline.
+/// Outbound messages in the order in which they were put: up to `INLINE_CARGOES` inline, or all in a list. If there is
+/// none left before a turn of the core, the memory of the list is freed, and the next messages are stored inline.
 #[derive(Drop)]
 pub struct InlineCargoes {
-    /// Whether the cargoes are in the list.
+    /// Whether the outbound messages are in the list.
     is_wide: bool,
-    /// The number of inline cargoes, if there is no list.
+    /// The number of inline messages, if there is no list.
     count: usize,
     list: Vec<Cargo>,
     cells: [Cargo; INLINE_CARGOES],
@@ -58,7 +58,7 @@ impl InlineCargoes {
         }
     }
 
-    /// The cargoes, in order.
+    /// The outbound messages, in order.
     #[inline(always)]
     pub fn as_slice(&self) -> &[Cargo]
         ensures items { result.now ≡ self.now.items }
@@ -70,7 +70,7 @@ impl InlineCargoes {
         &self.cells[..self.count]
     }
 
-    /// The cargo at an index.
+    /// The outbound message at an index, which must be below `len`.
     #[inline(always)]
     pub fn at(&self, place: usize) -> Cargo
         requires { place < length self.now.items }
@@ -80,7 +80,7 @@ impl InlineCargoes {
         self.as_slice()[place]
     }
 
-    /// The number of cargoes.
+    /// The number of outbound messages.
     #[inline(always)]
     pub fn len(&self) -> usize
         ensures len { result ≡ length self.now.items }
@@ -92,7 +92,7 @@ impl InlineCargoes {
         self.count
     }
 
-    /// Removes the first `count` cargoes.
+    /// Removes the first `count` outbound messages. There must be as many.
     pub fn drop_first(&mut self, count: usize)
         requires { count ≤ length self.old.items }
         ensures items { self.new.items ≡ drop count self.old.items }
@@ -106,8 +106,8 @@ impl InlineCargoes {
         self.count -= count;
     }
 
-    /// Allocates room for as many cargoes as a lane holds, if the cargoes are in a list. An empty list is freed, and
-    /// the next cargoes are stored inline again.
+    /// If the outbound messages are in a list, allocates room for `MOST_CARGOES` in all. An empty list is freed, and
+    /// the next messages are stored inline again.
     ///
     /// # Errors
     /// Memory ran out.
@@ -130,9 +130,9 @@ impl InlineCargoes {
         self.list.reserve(needed)
     }
 
-    /// If the list has more than four times the memory that its cargoes need, moves them to a list of the right size,
-    /// and returns the old list to the pool `pool` at the index `place`. Nothing changes if the list is empty or
-    /// memory runs out.
+    /// If the list has more than four times the memory that its messages need, moves them to a list of the right size,
+    /// and returns the old list to the pool `pool` at the index `place`. Nothing changes if the list is empty or memory
+    /// runs out.
     #[inline(never)]
     pub fn shorten(&mut self, pool: &mut Pool, place: usize)
         ensures items { self.new.items ≡ self.old.items }
@@ -153,8 +153,8 @@ impl InlineCargoes {
         pool.give(place, long);
     }
 
-    /// Appends a cargo: inline or to the list. If the inline places are full, all cargoes move to the list that the
-    /// pool `pool` has at the index `place`.
+    /// Appends an outbound message: inline or to the list. If the inline places are full, all messages move to the list
+    /// that the pool `pool` has at the index `place`.
     #[inline(always)]
     pub fn push(&mut self, cargo: &Cargo, pool: &mut Pool, place: usize)
         requires { ((self.old.places ≡ 0) × IsWhole pool.old place) ⊎ (length self.old.items < self.old.places) }
@@ -178,7 +178,7 @@ impl InlineCargoes {
     }
 }
 
-/// A list with these cargoes and room for no more.
+/// A list with these outbound messages and room for no more.
 ///
 /// # Errors
 /// Memory ran out.
@@ -191,7 +191,7 @@ fn copied(alloc: Global, cargoes: &[Cargo]) -> Result<Vec<Cargo>, AllocError>
     Ok(list)
 }
 
-/// Replaces the cargo at an index.
+/// Replaces the outbound message at an index.
 #[inline(always)]
 fn set_cell(cells: &mut [Cargo; INLINE_CARGOES], at: usize, cargo: &Cargo)
     requires { at < INLINE_CARGOES }
@@ -200,7 +200,7 @@ fn set_cell(cells: &mut [Cargo; INLINE_CARGOES], at: usize, cargo: &Cargo)
     cells[at] = *cargo;
 }
 
-/// Moves the cargoes after the first ones to the front.
+/// Moves the outbound messages from the index `first` to below `count` to the front.
 fn drop_cells(cells: &mut [Cargo; INLINE_CARGOES], count: usize, first: usize)
     requires first { first ≤ count }
     requires count { count ≤ INLINE_CARGOES }
@@ -212,7 +212,7 @@ fn drop_cells(cells: &mut [Cargo; INLINE_CARGOES], count: usize, first: usize)
     }
 }
 
-/// All inline cargoes, in the list that the pool has at an index.
+/// All inline messages, in the list that the pool has at an index.
 #[inline(never)]
 fn listed(cells: &[Cargo; INLINE_CARGOES], pool: &mut Pool, place: usize) -> Vec<Cargo>
     requires { IsWhole pool.old place }

@@ -1,4 +1,4 @@
-//! Outbound messages (cargoes) in compressed form.
+//! Outbound messages (`Cargo`) in compressed form.
 ghost use Rattle.std.specs.Prelude.{◌≡◌, ◌<◌, ◌-◌, ◌^◌, ◌∷◌, ◌++◌, [], List, slice_get, length, vec_len, vec_capacity};
 ghost use Rattle.std.specs.Prelude.{IfOk, IfSome, OnOk, IsTrue, ◌↔◌};
 ghost use Rattle.tora_arq.specs.declared.life.Life.{Life as AnyLife};
@@ -17,7 +17,7 @@ use tora_height::{Height, Id};
 use tora_packet::{Packet, Query, Update};
 use tora_seat::Cargo;
 
-/// The most cargoes that are stored uncompressed: the index of each fits 32 bits.
+/// The most outbound messages that are stored uncompressed: the index of each fits 32 bits.
 const MOST_APART: usize = 0x1_0000_0000;
 
 /// The first time tag that has more than 24 bits.
@@ -26,21 +26,21 @@ const FIRST_LONG: u64 = 0x100_0000;
 /// The number of origins that a list has room for at first. Most lists with an origin get a few: one for each session.
 const FIRST_ORIGINS: usize = 4;
 
-/// The value of `KeptCargoes::last` before the first cargo.
+/// The value of `KeptCargoes::last` before the first outbound message.
 const NO_ORIGIN: Origin = Origin {
     life: Life { own: 0, peer: 0 },
     id: 0,
 };
 
-/// The session of a cargo and, for an update, the node in its height.
+/// The session of an outbound message and, for an update, the node in its height.
 #[derive(Clone, Copy)]
 pub struct Origin {
     life: Life,
-    /// Any node for a cut or a query.
+    /// The node in the height of an update; any node for another message.
     id: Id,
 }
 
-/// A compressed cargo, in 12 bytes.
+/// A compressed outbound message, in 12 bytes.
 #[derive(Clone, Copy)]
 pub enum KeptCargo {
     /// A cut: the index of its origin.
@@ -51,19 +51,19 @@ pub enum KeptCargo {
     /// level, the low 16 and the high 8 bits of the time tag in ticks of 100 ms, and the offset within the level. The
     /// origin has the node of the height.
     Upd(u8, u16, u16, u16, u16, u8, i8),
-    /// A clear, or a cargo with numbers that are too large for the other variants: its index among the uncompressed
-    /// cargoes.
+    /// A clear, or an outbound message with numbers that are too large for the other variants: its index among the
+    /// uncompressed messages.
     Apart(u32),
 }
 
 const _: () = prove!(size_of::<KeptCargo>() == 12);
 
-/// Compressed cargoes, in order of arrival.
+/// Compressed outbound messages, in order of arrival.
 #[derive(Drop)]
 pub struct KeptCargoes {
-    /// Whether there is room for one more cargo.
+    /// Whether room was made for one more outbound message.
     spare: bool,
-    /// The last origin in `origins`. Most cargoes have it, so `origins` is not read for them.
+    /// The last origin in `origins`. Most outbound messages have it, so `origins` is not read for them.
     last: Origin,
     origins: Vec<Origin>,
     cargoes: KeptList,
@@ -102,7 +102,7 @@ impl KeptCargoes {
         }
     }
 
-    /// The number of cargoes.
+    /// The number of outbound messages.
     pub fn len(&self) -> usize
         ensures len { result ≡ length self.now.items }
         ensures most { result < 2 ^ 63 }
@@ -110,10 +110,10 @@ impl KeptCargoes {
         self.cargoes.len()
     }
 
-    /// Makes room for one more cargo.
+    /// Makes room for one more outbound message.
     ///
     /// # Errors
-    /// Memory ran out, or no more cargoes can be stored.
+    /// Memory ran out, or no more outbound messages can be stored: 2^62 in all, 2^32 uncompressed.
     pub fn reserve(&mut self) -> Result<(), AllocError>
         ensures items { self.new.items ≡ self.old.items }
         ensures room { OnOk result (0 < self.new.places) }
@@ -131,7 +131,7 @@ impl KeptCargoes {
         Ok(())
     }
 
-    /// Appends a cargo. There must be room for it.
+    /// Appends an outbound message. There must be room for it.
     pub fn push(&mut self, cargo: &Cargo)
         requires { 0 < self.old.places }
         ensures { self.new ≡ record self.old {
@@ -145,7 +145,7 @@ impl KeptCargoes {
         self.cargoes.push(kept);
     }
 
-    /// The cargo at the index `place`, counted from 0.
+    /// The outbound message at the index `place`, counted from 0; `None` past the last one.
     pub fn get(&self, place: usize) -> Option<Cargo>
         ensures { result ≡ slice_get self.now.items place }
     {
@@ -172,7 +172,7 @@ fn reserve_origin(origins: &mut Vec<Origin>) -> Result<(), AllocError>
     }
 }
 
-/// Whether a cargo has this origin.
+/// Whether an outbound message has this origin.
 fn has_origin(cargo: &Cargo, origin: &Origin) -> bool
     ensures { IsTrue result ↔ IsOrigin cargo.now origin.now }
 {
@@ -185,7 +185,7 @@ fn has_origin(cargo: &Cargo, origin: &Origin) -> bool
     }
 }
 
-/// An origin for a cargo. For a cargo without a height it has the node of the origin `last`.
+/// An origin for an outbound message. If the message is not an update, the origin has the node of the origin `last`.
 fn origin_of(cargo: &Cargo, last: &Origin) -> Origin
     ensures { IsOrigin cargo.now result }
 {
@@ -197,7 +197,7 @@ fn origin_of(cargo: &Cargo, last: &Origin) -> Origin
     Origin { life, id }
 }
 
-/// The index of a cargo's origin, if that is the last origin.
+/// The index of the last origin, if the outbound message has that origin; otherwise `None`.
 fn last_number(origins: &[Origin], last: &Origin, cargo: &Cargo) -> Option<usize>
     requires { IsLastOrigin last.now origins.now }
     ensures { IfSome result (λ number. HasOrigin origins.now number cargo.now) }
@@ -209,7 +209,7 @@ fn last_number(origins: &[Origin], last: &Origin, cargo: &Cargo) -> Option<usize
     if is_same { Some(number) } else { None }
 }
 
-/// The index of a cargo's origin. A new origin is appended, unless it is the last one used.
+/// The index of an outbound message's origin. A new origin is appended, unless the message has the last one.
 fn number_of(origins: &mut Vec<Origin>, last: &mut Origin, cargo: &Cargo) -> usize
     requires places { vec_len origins.old < vec_capacity origins.old }
     requires last { IsLastOrigin last.old origins.old.items }
@@ -227,7 +227,7 @@ fn number_of(origins: &mut Vec<Origin>, last: &mut Origin, cargo: &Cargo) -> usi
     number
 }
 
-/// Stores a cargo whose origin has this index: compressed, or appended to the uncompressed cargoes.
+/// Stores an outbound message whose origin has this index: compressed, or appended to the uncompressed messages.
 fn keep(apart: &mut Vec<Cargo>, number: usize, cargo: &Cargo) -> KeptCargo
     requires places { vec_len apart.old < vec_capacity apart.old }
     requires numbers { vec_len apart.old < 2 ^ 32 }
@@ -245,7 +245,7 @@ fn keep(apart: &mut Vec<Cargo>, number: usize, cargo: &Cargo) -> KeptCargo
     KeptCargo::Apart(place)
 }
 
-/// A cargo in compressed form, if its numbers are small enough.
+/// An outbound message in compressed form; `None` if it is a clear, or if its numbers are too large.
 fn short(number: usize, cargo: &Cargo) -> Option<KeptCargo>
     ensures { IfSome result (IsShort number cargo.now) }
 {
@@ -258,7 +258,7 @@ fn short(number: usize, cargo: &Cargo) -> Option<KeptCargo>
     }
 }
 
-/// An update in compressed form, with this index of its origin, if its numbers are small enough.
+/// An update in compressed form, with this index of its origin; `None` if its numbers are too large.
 fn short_update(origin: u16, update: &Update) -> Option<KeptCargo>
     ensures { IfSome result (λ kept.
         (life : AnyLife) → IsShort origin (Cargo.Packet life (Packet.Upd update.now)) kept) }
@@ -271,7 +271,7 @@ fn short_update(origin: u16, update: &Update) -> Option<KeptCargo>
     Some(KeptCargo::Upd(height.r(), origin, destination, oid, low, high, delta))
 }
 
-/// The low 16 and the high 8 bits of a time tag, if it has at most 24 bits.
+/// The low 16 and the high 8 bits of a time tag; `None` if it has more than 24 bits.
 fn short_tau(tau: u64) -> Option<(u16, u8)>
     ensures { IfSome result (λ parts. tau_of parts.0 parts.1 ≡ tau) }
 {
@@ -288,7 +288,7 @@ fn long_tau(low: u16, high: u8) -> u64
     65536 * u64::from(high) + u64::from(low)
 }
 
-/// The origin at an index.
+/// The origin at an index; `NO_ORIGIN` if there is none.
 fn origin_at(origins: &[Origin], number: u16) -> Origin
     ensures { result ≡ origin_at origins.now number }
 {
@@ -298,7 +298,7 @@ fn origin_at(origins: &[Origin], number: u16) -> Origin
     }
 }
 
-/// The uncompressed cargo at an index.
+/// The uncompressed outbound message at an index; a cut of the session 0/0 if there is none.
 fn apart_at(apart: &[Cargo], place: u32) -> Cargo
     ensures { result ≡ apart_in (slice_get apart.now place) }
 {
@@ -308,7 +308,7 @@ fn apart_at(apart: &[Cargo], place: u32) -> Cargo
     }
 }
 
-/// The cargo that is stored as `kept`.
+/// The outbound message that is stored as `kept`.
 fn cargo_of(origins: &[Origin], apart: &[Cargo], kept: &KeptCargo) -> Cargo
     requires { IsKeptCargo origins.now apart.now kept.now }
     ensures { result ≡ cargo_in origins.now apart.now kept.now }
@@ -347,7 +347,7 @@ fn height_of(tau: u64, oid: u32, r: u8, delta: i32, id: Id) -> Height
     }
 }
 
-/// Appends a cargo. There must be room for it.
+/// Appends an outbound message. There must be room for it.
 pub fn append(cargoes: &mut Vec<Cargo>, cargo: &Cargo)
     requires { vec_len cargoes.old < vec_capacity cargoes.old }
     ensures items { cargoes.new.items ≡ cargoes.old.items ++ cargo.now ∷ [] }

@@ -104,7 +104,7 @@ impl KeptFrames {
         place
     }
 
-    /// The frame at the index `place`, without copying its packets.
+    /// The frame at the index `place`, without copying its packets; `None` if there is none.
     #[inline(always)]
     pub fn get(&self, place: usize) -> Option<BorrowedFrame<'_>>
         ensures { result ≡ slice_get self.now.items place }
@@ -115,7 +115,7 @@ impl KeptFrames {
         Some(frame_of(&self.packets, kept))
     }
 
-    /// A guess at the index of the link end that receives the frame at the index `place`.
+    /// A guess at the index of the link end that receives the frame at the index `place`; 0 if there is no such frame.
     #[inline(always)]
     pub fn far_end(&self, place: usize) -> u32 {
         match self.frames.get(place) {

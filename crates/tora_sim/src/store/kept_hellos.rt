@@ -109,7 +109,8 @@ pub fn hello_at(kept: &Vec<KeptHello>, place: u32) -> Option<(Header, u32)>
     hello_of(kept, number - MOST_HELLOS, Version::Two)
 }
 
-/// The header of the HELLO with this index in a version, and the guess at its receiving end.
+/// The header of the HELLO with this index in a version, and the guess at its receiving end; `None` if there is no such
+/// index.
 #[inline(always)]
 fn hello_of(kept: &Vec<KeptHello>, index: u32, version: Version) -> Option<(Header, u32)>
     ensures header { option_map (λ told. told.0) result

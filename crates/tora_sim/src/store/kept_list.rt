@@ -1,4 +1,4 @@
-//! A list of compressed cargoes, the last few of which are stored inline.
+//! A list of compressed outbound messages, the last few of which are stored inline.
 ghost use Rattle.std.specs.Prelude.{◌≡◌, ◌<◌, ◌≤◌, ◌+◌, ◌^◌, ◌++◌, ◌∷◌, [], length, take, slice_get, slice_set};
 ghost use Rattle.std.specs.Prelude.{vec_len, vec_capacity, OnOk};
 ghost use Rattle.tora_sim.specs.declared.store.kept_list.TheConstants.{INLINE_KEPT};
@@ -7,7 +7,7 @@ use crate::store::kept_cargoes::KeptCargo;
 use std::alloc::{AllocError, Global};
 use std::marker::Model;
 
-/// The number of inline places.
+/// The number of inline places of a list.
 pub const INLINE_KEPT: usize = 4;
 
 /// The least number of places by which a short list grows.
@@ -16,21 +16,21 @@ const FIRST_LISTED: usize = 12;
 /// From this length on, a list grows by the rule of `Vec`.
 const LONG_LIST: usize = 64;
 
-/// The greatest length of the list.
+/// From this length on, 2^62, the list does not grow.
 const MOST_LISTED: usize = 0x4000_0000_0000_0000;
 
-/// Compressed cargoes in order of arrival. The last few are inline and move into the list together, so only every
-/// fourth cargo touches the list's memory.
+/// Compressed outbound messages in order of arrival. The last few are inline and move into the list together, so only
+/// every fourth message touches the list's memory.
 #[derive(Drop)]
 pub struct KeptList {
-    /// The number of inline cargoes.
+    /// The number of inline messages.
     count: usize,
     inline_items: [KeptCargo; INLINE_KEPT],
     list: Vec<KeptCargo>,
 }
 
-/// The least number of places by which a list of `count` cargoes grows. A short list doubles, so that it moves less
-/// often.
+/// The least number of places by which a list of `count` outbound messages grows. A short list doubles, so that it
+/// moves less often.
 fn more_of(count: usize) -> usize
     ensures { INLINE_KEPT ≤ result }
 {
@@ -69,7 +69,7 @@ impl KeptList {
         }
     }
 
-    /// The number of cargoes.
+    /// The number of outbound messages.
     #[inline(always)]
     pub fn len(&self) -> usize
         ensures len { result ≡ length self.now.items }
@@ -78,10 +78,10 @@ impl KeptList {
         self.list.len() + self.count
     }
 
-    /// Makes room for one more cargo. If no inline place is free, the inline cargoes move into the list.
+    /// Makes room for one more outbound message. If no inline place is free, the inline messages move into the list.
     ///
     /// # Errors
-    /// Memory ran out, or no more cargoes can be stored.
+    /// Memory ran out, or the list has 2^62 messages.
     #[inline(always)]
     pub fn reserve(&mut self) -> Result<(), AllocError>
         ensures items { self.new.items ≡ self.old.items }
@@ -93,10 +93,10 @@ impl KeptList {
         self.put_away()
     }
 
-    /// Moves the inline cargoes into the list.
+    /// Moves the inline messages into the list.
     ///
     /// # Errors
-    /// Memory ran out, or no more cargoes can be stored.
+    /// Memory ran out, or the list has 2^62 messages.
     #[inline(never)]
     fn put_away(&mut self) -> Result<(), AllocError>
         requires { self.old.places ≡ 0 }
@@ -112,7 +112,7 @@ impl KeptList {
         Ok(())
     }
 
-    /// Appends a cargo. There must be room for it.
+    /// Appends an outbound message. There must be room for it.
     #[inline(always)]
     pub fn push(&mut self, kept: KeptCargo)
         requires { 0 < self.old.places }
@@ -122,7 +122,7 @@ impl KeptList {
         self.count += 1;
     }
 
-    /// The cargo at the index `place`, counted from 0.
+    /// The outbound message at the index `place`, counted from 0; `None` past the last one.
     pub fn get(&self, place: usize) -> Option<KeptCargo>
         ensures { result ≡ slice_get self.now.items place }
     {
@@ -134,7 +134,7 @@ impl KeptList {
     }
 }
 
-/// Writes a cargo to an inline place.
+/// Writes an outbound message to the inline place at the index `at`.
 #[inline(always)]
 fn set_inline(inline_items: &mut [KeptCargo; INLINE_KEPT], at: usize, kept: KeptCargo)
     requires { at < INLINE_KEPT }
@@ -143,7 +143,7 @@ fn set_inline(inline_items: &mut [KeptCargo; INLINE_KEPT], at: usize, kept: Kept
     inline_items[at] = kept;
 }
 
-/// The inline cargo at an index, if it is below `count`.
+/// The inline message at the index `at`; `None` if `at` is not below `count`.
 fn inline_at(inline_items: &[KeptCargo; INLINE_KEPT], count: usize, at: usize) -> Option<KeptCargo>
     requires { count ≤ INLINE_KEPT }
     ensures { result ≡ slice_get (take count inline_items.now) at }
@@ -151,7 +151,7 @@ fn inline_at(inline_items: &[KeptCargo; INLINE_KEPT], count: usize, at: usize) -
     inline_items[..count].get(at).copied()
 }
 
-/// Appends all inline cargoes to a list.
+/// Appends all inline messages to a list.
 fn append_all(list: &mut Vec<KeptCargo>, inline_items: &[KeptCargo; INLINE_KEPT])
     requires { vec_len list.old + INLINE_KEPT ≤ vec_capacity list.old }
     ensures { list.new.items ≡ list.old.items ++ inline_items.now }

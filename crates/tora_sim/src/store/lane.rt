@@ -1,4 +1,5 @@
-//! The queue (lane) of outbound messages (cargoes) from a core to a link end, with all that it ever held.
+//! The outbound queue (`Lane`): the queue of outbound messages (`Cargo`) from a core to a link end, with all that it
+//! ever held.
 ghost use Rattle.std.specs.Prelude.{◌≡◌, ◌<◌, ◌≤◌, ◌⊎◌, ◌+◌, ◌++◌, ◌∷◌, [], true, suc, Some, length, nat_lt, slice_get};
 ghost use Rattle.std.specs.Prelude.{take, OnOk, IfOk};
 ghost use Rattle.tora_seat.specs.declared.TheConstants.{MOST_CARGOES};
@@ -15,17 +16,17 @@ use tora_arq::Life;
 use tora_packet::Packet;
 use tora_seat::{Cargo, MOST_CARGOES};
 
-/// The queue (lane) from a core to a link end, with all cargoes that were ever put into it.
+/// The outbound queue from a core to a link end, with all outbound messages that were ever put into it.
 ///
-/// Cargoes that have left the lane are compressed before the next turn of the node's core, when memory may be
-/// requested. A few waiting cargoes are stored inline; only a lane with more has a list.
+/// Messages that have left the queue are compressed before the next turn of the node's core, when memory may be
+/// requested. A few waiting messages are stored inline; only a queue with more has a list.
 #[derive(Drop)]
 pub struct Lane {
-    /// How many of `cargoes` have left the lane.
+    /// How many of `cargoes` have left the queue.
     taken: usize,
-    /// The last cargoes that were put; those that have left the lane come first.
+    /// The last outbound messages that were put; those that have left the queue come first.
     cargoes: InlineCargoes,
-    /// The cargoes before `cargoes`, all of which have left the lane.
+    /// The outbound messages before `cargoes`, all of which have left the queue.
     past: KeptCargoes,
 }
 
@@ -41,7 +42,7 @@ impl Model for Lane {
 }
 
 impl Lane {
-    /// An empty lane.
+    /// An empty outbound queue.
     pub fn new(alloc: Global) -> Lane
         ensures put { result.put ≡ [] }
         ensures pulled { result.pulled ≡ 0 }
@@ -53,21 +54,21 @@ impl Lane {
         }
     }
 
-    /// Whether a cargo waits.
+    /// Whether an outbound message waits.
     pub fn has_cargo(&self) -> bool
         ensures { result ≡ nat_lt self.now.pulled (length self.now.put) }
     {
         self.taken < self.cargoes.len()
     }
 
-    /// Whether fewer than `MOST_CARGOES` cargoes wait.
+    /// Whether fewer than `MOST_CARGOES` outbound messages wait.
     pub fn has_place(&self) -> bool
         ensures { result ≡ has_place_in self.now }
     {
         self.cargoes.len() - self.taken < MOST_CARGOES
     }
 
-    /// The first cargo that waits.
+    /// The first outbound message that waits, which stays in the queue. One must wait.
     pub fn next(&self) -> Cargo
         requires { self.now.pulled < length self.now.put }
         ensures { slice_get self.now.put self.now.pulled ≡ Some result }
@@ -75,7 +76,7 @@ impl Lane {
         self.cargoes.at(self.taken)
     }
 
-    /// Takes the first cargo that waits.
+    /// Removes and returns the first outbound message that waits. One must wait.
     pub fn take(&mut self) -> Cargo
         requires { self.old.pulled < length self.old.put }
         ensures cargo { slice_get self.old.put self.old.pulled ≡ Some result }
@@ -86,15 +87,15 @@ impl Lane {
         cargo
     }
 
-    /// Takes all cargoes that wait.
+    /// Removes all outbound messages that wait.
     pub fn take_all(&mut self)
         ensures { self.new ≡ record self.old { pulled = length self.old.put } }
     {
         self.taken = self.cargoes.len();
     }
 
-    /// Compresses the cargoes that have left the lane, and allocates room for as many cargoes as a lane holds, if it
-    /// has a list.
+    /// Compresses the outbound messages that have left the queue. If the queue has a list, allocates room there for
+    /// `MOST_CARGOES` messages, or frees it if it is empty.
     ///
     /// # Errors
     /// Memory ran out.
@@ -107,9 +108,9 @@ impl Lane {
         self.cargoes.reserve()
     }
 
-    /// If the list has more than four times the memory that its cargoes need, moves them to a list of the right size,
-    /// and returns the old list to the pool `pool` at the index `spare`. Nothing changes if the list is empty or
-    /// memory runs out.
+    /// If the list has more than four times the memory that its messages need, moves them to a list of the right size,
+    /// and returns the old list to the pool `pool` at the index `spare`. Nothing changes if the list is empty or memory
+    /// runs out.
     #[inline(always)]
     pub fn shorten(&mut self, pool: &mut Pool, spare: usize)
         ensures put { self.new.put ≡ self.old.put }
@@ -118,8 +119,9 @@ impl Lane {
         self.cargoes.shorten(pool, spare);
     }
 
-    /// Puts a cargo at the back. The lane must not be full. It must have room in its list, or no list and a list in the
-    /// pool `pool` at the index `spare`, which it takes when its inline places are full.
+    /// Puts an outbound message at the back. Fewer than `MOST_CARGOES` must wait. The queue must have room in its list,
+    /// or no list and a whole list in the pool `pool` at the index `spare`, which it takes when its inline places are
+    /// full.
     #[inline(always)]
     pub fn put(&mut self, cargo: Cargo, pool: &mut Pool, spare: usize)
         requires room { Fits self.old.pulled self.old.room pool.old spare }
@@ -132,14 +134,14 @@ impl Lane {
         self.cargoes.push(&cargo, pool, spare);
     }
 
-    /// How many packets of a session were ever put.
+    /// How many packets of a session were ever put into the queue.
     pub fn sent_count(&self, life: Life) -> usize
         ensures { result ≡ length (packets_of life (parcels_in self.now.put)) }
     {
         count_kept(&self.past, life) + count_put(self.cargoes.as_slice(), life)
     }
 
-    /// The packets of a session that were ever put, in order.
+    /// The packets of a session that were ever put into the queue, in order.
     ///
     /// # Errors
     /// Memory ran out.
@@ -153,7 +155,7 @@ impl Lane {
     }
 }
 
-/// Compresses the cargoes that have left a lane. If memory runs out, the first of them are compressed.
+/// Compresses the outbound messages that have left a queue. If memory runs out, only the first of them are compressed.
 ///
 /// # Errors
 /// Memory ran out.
@@ -178,7 +180,7 @@ fn keep_taken(
     if *taken == 0 { Ok(()) } else { Err(AllocError) }
 }
 
-/// Appends cargoes until memory runs out, and returns how many it appended.
+/// Appends outbound messages until memory runs out, and returns how many it appended.
 fn keep_first(past: &mut KeptCargoes, cargoes: &[Cargo]) -> usize
     ensures kept { past.new.items ≡ past.old.items ++ take result cargoes.now }
     ensures within { result ≤ length cargoes.now }

@@ -1,4 +1,4 @@
-//! The packets of one session among cargoes.
+//! The packets of one session among outbound messages.
 ghost use Rattle.std.specs.Prelude.{◌≡◌, ◌<◌, ◌≤◌, ◌^◌, ◌++◌, ◌∷◌, [], length, option_to_list, slice_get, OnOk, Some};
 ghost use Rattle.tora_seat.specs.declared.cargo.Cargo.{Cargo as AnyCargo};
 ghost use Rattle.tora_world.specs.Lists.{packets_of, parcels_in};
@@ -9,7 +9,7 @@ use tora_arq::Life;
 use tora_packet::Packet;
 use tora_seat::Cargo;
 
-/// The packet of a cargo, if it belongs to this session.
+/// The packet of an outbound message; `None` if the message is a cut or belongs to another session.
 fn packet_put(cargo: &Cargo, life: Life) -> Option<Packet>
     ensures { option_to_list result ≡ packets_of life (parcels_in (cargo.now ∷ [])) }
 {
@@ -19,7 +19,7 @@ fn packet_put(cargo: &Cargo, life: Life) -> Option<Packet>
     }
 }
 
-/// How many packets of a session are among cargoes.
+/// How many packets of a session are among outbound messages.
 pub fn count_put(put: &[Cargo], life: Life) -> usize
     ensures count { result ≡ length (packets_of life (parcels_in put.now)) }
     ensures few { result ≤ length put.now }
@@ -33,7 +33,7 @@ pub fn count_put(put: &[Cargo], life: Life) -> usize
     count
 }
 
-/// Appends the packets of a session that are among cargoes.
+/// Appends the packets of a session that are among outbound messages.
 ///
 /// # Errors
 /// Memory ran out.
@@ -49,7 +49,7 @@ pub fn list_put(packets: &mut Vec<Packet>, put: &[Cargo], life: Life) -> Result<
     Ok(())
 }
 
-/// The packet of the cargo at an index, if it belongs to this session.
+/// The packet of the outbound message at an index; `None` if the message is a cut or belongs to another session.
 fn packet_kept(kept: &KeptCargoes, place: usize, life: Life) -> Option<Packet>
     requires { place < length kept.now.items }
     ensures { (cargo : AnyCargo) → slice_get kept.now.items place ≡ Some cargo
@@ -61,7 +61,7 @@ fn packet_kept(kept: &KeptCargoes, place: usize, life: Life) -> Option<Packet>
     }
 }
 
-/// How many packets of a session are among compressed cargoes.
+/// How many packets of a session are among compressed outbound messages.
 pub fn count_kept(kept: &KeptCargoes, life: Life) -> usize
     ensures count { result ≡ length (packets_of life (parcels_in kept.now.items)) }
     ensures few { result < 2 ^ 63 }
@@ -75,7 +75,7 @@ pub fn count_kept(kept: &KeptCargoes, life: Life) -> usize
     count
 }
 
-/// Appends the packets of a session that are among compressed cargoes.
+/// Appends the packets of a session that are among compressed outbound messages.
 ///
 /// # Errors
 /// Memory ran out.

@@ -1,4 +1,4 @@
-//! A pool of empty lists for lanes whose inline places are full.
+//! A pool of empty lists for outbound queues whose inline places are full.
 ghost use Rattle.std.specs.Prelude.{◌≡◌, ◌<◌, ◌≤◌, ◌+◌, [], length, vec_capacity, slice_index, OnOk};
 ghost use Rattle.tora_seat.specs.declared.TheConstants.{MOST_CARGOES};
 ghost use Rattle.tora_sim.specs.declared.store.inline_cargoes.TheConstants.{INLINE_CARGOES};
@@ -34,7 +34,7 @@ impl Spare {
         }
     }
 
-    /// Allocates room for all cargoes that a lane holds, and for the inline ones.
+    /// Allocates room for all messages that an outbound queue can hold, and for the inline ones.
     ///
     /// # Errors
     /// Memory ran out.
@@ -54,14 +54,14 @@ impl Spare {
     }
 }
 
-/// The pool of a node: an empty list for each neighbour. A lane that needs a list takes that of its neighbour. The lane
-/// returns the list when it is shortened, and frees it when it is empty before a turn of the core. Missing lists are
-/// allocated before the next turn, so serving an item needs no memory, and only lanes that once held many cargoes have
-/// a list.
+/// Empty lists for the outbound queues of the node that is served, one for each neighbour. A queue that needs a list
+/// takes that of its neighbour. The queue returns the list when it is shortened, and frees it when it is empty before a
+/// turn of the core. Missing lists are allocated before the next turn, so serving an item needs no memory, and only
+/// queues that once held many messages have a list.
 #[derive(Drop)]
 pub struct Pool {
     lists: Vec<Spare>,
-    /// This many of the first lists are known to have room for all cargoes that a lane holds.
+    /// This many of the first lists are known to have the room that `Spare::make_whole` allocates.
     whole: usize,
     /// Whether a list was taken since `forget_taken` was last called.
     is_taken: bool,
@@ -88,7 +88,7 @@ impl Pool {
         }
     }
 
-    /// Makes the first `count` lists whole: each has room for all cargoes that a lane holds.
+    /// Makes the first `count` lists whole: each has room for all messages that an outbound queue can hold.
     ///
     /// # Errors
     /// Memory ran out.
@@ -115,7 +115,7 @@ impl Pool {
         Ok(())
     }
 
-    /// Takes the list at an index, and leaves an empty list without memory there.
+    /// Takes the list at an index, which must be whole, and leaves an empty list without memory there.
     pub fn take(&mut self, place: usize) -> Vec<Cargo>
         requires { IsWhole self.old place }
         ensures items { result.items ≡ [] }
@@ -127,7 +127,8 @@ impl Pool {
         self.lists[place].take()
     }
 
-    /// Whether a list was taken since `forget_taken` was last called. If not, no lane has a longer list than then.
+    /// Whether a list was taken since `forget_taken` was last called. If not, no outbound queue has a longer list than
+    /// then.
     #[inline(always)]
     pub fn was_taken(&self) -> bool {
         self.is_taken
