@@ -24,7 +24,8 @@ pub use tora_script::{
 };
 pub use tora_simulate::{simulate, simulate_with};
 
-/// Replays standard input, for a node that treats erased levels as a word says.
+/// Replays standard input for a node that treats erased levels as the word says: `plain`, which is the default, or
+/// `remembered`. Returns the exit status.
 fn replay_input(rt: &HostRuntime, erasure: Option<&str>, is_verbose: bool) -> ExitCode {
     let Ok(mut writer) = BufWriter::new(rt.alloc(), io::writer(rt)) else {
         return stop(rt, MEMORY, "memory");
@@ -75,8 +76,8 @@ fn drive_input(rt: &HostRuntime, drive: &ArgMatches<'_>) -> ExitCode {
     }
 }
 
-/// The runtime with the log of a node, without sockets. The options give the level of the log, and whether lines have
-/// the time.
+/// The runtime, with a log to standard error. `--log` gives the level of the log, `info` by default, and `--log-time`
+/// puts the time before each line.
 fn logging<R: Copy>(rt: R, node: &ArgMatches<'_>) -> Logged<R, LogLines<R>> {
     let level = node
         .get_one::<LevelFilter>("log")
@@ -84,8 +85,8 @@ fn logging<R: Copy>(rt: R, node: &ArgMatches<'_>) -> Logged<R, LogLines<R>> {
     Logged::new(rt, level, LogLines::new(rt, node.get_flag("log-time")))
 }
 
-/// The words of the command line. If they can't be read, a line goes to standard error and the result is the exit
-/// status.
+/// The words of the command line. An error is the exit status, after a line on standard error: 5 if memory ran out, 2
+/// if the words cannot be read for another reason.
 fn words_of(rt: &HostRuntime) -> Result<Vec<String>, ExitCode> {
     let words = match std::env::args(rt) {
         Ok(words) => words,

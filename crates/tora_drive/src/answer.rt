@@ -28,7 +28,8 @@ use tora_height::Id;
 use tora_lines::words::LineError;
 use tora_script::{Running, SimulationLine};
 
-/// Records an accepted line, if there is a record. The events of a step are recorded as they happen.
+/// Appends a line that is not a fault to the record, if there is one: an event unless it was refused, and each other
+/// line of a simulation file, but no line that only a drive has. The events of a step are recorded as they happen.
 fn record_line(
     alloc: Global,
     state: &mut DriveState,
@@ -137,7 +138,8 @@ fn answer_step<S: Driven>(
 }
 
 /// Carries out a line other than `step`, given with its text. Writes the answer to an empty text, and appends the lines
-/// for it to the record, if there is one.
+/// for it to the record, if there is one. The error is `Fault` if the line is no event and names a node, link or
+/// destination that does not exist, and `Memory`.
 fn answer_line<S: Driven>(
     alloc: Global,
     running: &mut Running<S>,

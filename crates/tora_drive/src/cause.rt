@@ -12,15 +12,16 @@ use tora_world::Limits;
 /// Why a line is a fault.
 #[derive(Clone, Copy, Debug, PartialEq, Eq)]
 pub enum Cause {
-    /// The line is the first one and not `dests LIST`.
+    /// No line `dests LIST` was accepted yet, and the line is none.
     Dests,
-    /// The line comes after the first line and is not `link A B`.
+    /// The destinations were accepted, but no link yet, and the line is not `link A B`.
     NoLink,
-    /// The line comes after the links, and the links are refused.
+    /// Links were accepted, the world is not made yet, and the links or the destinations are refused.
     Topology,
-    /// The line names a node, a link or a destination that does not exist.
+    /// After the links, the line has a known form, but names a node, a link or a destination that does not exist.
     Name,
-    /// The line has none of the forms of a line.
+    /// After the links, the line has none of the forms that are possible at its place, or it is `old N` or
+    /// `erasure N WORD` for a node without a link.
     Word,
     /// The drive is recorded, and no line of a simulation file has the effect of this line.
     Recorded,
@@ -63,7 +64,8 @@ fn cause_behind_links(limits: Limits, lines: &LinkLines, line: &[u8]) -> Cause
     }
 }
 
-/// Why a line is a fault within the limits.
+/// Why a line is a fault at this stage of a drive, if it is one. The limits are those for the links and destinations.
+/// The result is never `Recorded`.
 #[tactic(auto, unfolding(crate::specs::DriveText::cause_of))]
 pub fn fault_cause<S: Simulator>(limits: Limits, stage: &Stage<S>, line: &[u8]) -> Cause
     ensures { result ≡ cause_of limits (progress_of S.world stage.now) line.now }

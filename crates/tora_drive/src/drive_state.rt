@@ -10,13 +10,13 @@ use std::alloc::{AllocError, Global};
 use tora_height::Id;
 use tora_world::Event;
 
-/// The silent ends, each as its node and its neighbour: a `step` sends none of their frames. Then the number up to
-/// which datagrams are forgotten, and the record of the last line.
+/// The state that only a drive has: the silent ends, each as its node and its neighbour, of which a `step` sends no
+/// frame; and the number up to which datagrams can no longer be named, 0 if all can.
 #[derive(Drop)]
 pub struct DriveState {
     pub silent: Vec<(Id, Id)>,
     pub forgotten: u64,
-    /// The lines of a simulation file for the last line; `None` if there is no record.
+    /// The lines that were recorded for the line that was taken last; `None` if the drive has no record.
     pub recorded: Option<Vec<u8>>,
 }
 

@@ -12,15 +12,16 @@ use tora_sim::Sim;
 
 /// A simulator that `tora drive` can run.
 pub trait Driven: Simulator {
-    /// A datagram, by its number from 1.
+    /// The datagram with this number, counted from 1 over all that were ever sent, also a forgotten one. `None` for 0
+    /// and for a number that no datagram has yet.
     fn frame(&self, i: u64) -> Option<Frame>
         ensures { result ≡ datagram (Self.world self.now) i };
 
-    /// A datagram, by its number from 1, without a copy of its packets.
+    /// As `frame`, without a copy of its packets.
     fn borrowed_frame(&self, i: u64) -> Option<BorrowedFrame<'_>>
         ensures { result ≡ datagram (Self.world self.now) i };
 
-    /// Whether the core of a node requires a route to a destination.
+    /// Whether the core of node `n` requires a route to destination `d`; false if there is no such node or destination.
     fn flag(&self, n: Id, d: Id) -> bool
         ensures { result ≡ flag_at (Self.world self.now) n d };
 

@@ -16,11 +16,12 @@ use tora_script::Stage;
 /// Reads lines to the end of the input. It answers each line by one call of the writer's `write_all` before it reads
 /// on. No time of the settings is 0.
 ///
-/// A line of more than 4,096 bytes counts as an empty one, which is always a fault: the world does not change, and the
-/// drive goes on.
+/// A fault is answered, changes nothing and does not end the drive, so the result is `Whole` or an error. A line of
+/// more than 4,096 bytes counts as an empty one, which is always a fault.
 ///
 /// # Errors
-/// `Memory` if memory ran out; `Read` if a read failed, or after 2^32 reads without an end; `Write` if a write failed.
+/// `Memory` if memory ran out; `Read` if a read failed, or 2^32 reads did not reach the end of the input; `Write` if a
+/// write failed.
 #[tactic(auto, unfolding(tora_lines::specs::Shortened::shortened_text_of))]
 pub fn drive_in<S: Driven, R: Input, W: Output>(
     alloc: Global,

@@ -52,7 +52,8 @@ fn write_digits(out: &mut String, n: Id, digits: &str) -> Result<(), AllocError>
     write!(out, "restart {n} {digits}")
 }
 
-/// Appends `restart N T` to a text.
+/// Appends `restart N T` to a text, where T is the torn bytes as 32 hexadecimal digits in lower case, or `-` for
+/// `None`.
 fn write_restart(out: &mut String, n: Id, torn: Option<[u8; 16]>) -> Result<(), AllocError>
     ensures { OnOk result (string_bytes out.new ≡ string_bytes out.old ++ codes "restart " ++ decimal n ++ codes " "
         ++ torn_text torn) }

@@ -9,7 +9,7 @@
 //! let ended = drive_in::<Sim, R, W>(alloc, setup, &mut reader, &mut writer)?;
 //!
 //! let mut drive: Drive<Sim> = Drive::new(alloc, setup);
-//! drive.answer(alloc, b"dests 2", &mut text)?; // the text is `ok` and its end
+//! drive.answer(alloc, b"dests 2", &mut text)?; // the text is `ok` and LF
 //! ```
 #![tactic(auto)]
 

@@ -10,11 +10,11 @@ use tora_script::{SimulationLine, is_word, pair, simulation_line};
 /// A line after the links.
 #[derive(Clone, Copy, Debug)]
 pub enum DriveLine {
-    /// A line of a simulation file.
+    /// A line of a simulation file after the links; also `take`, as the delivery that it stands for.
     Script(SimulationLine),
     /// A round in which no datagram is delivered.
     Step,
-    /// Prints the routes that are required.
+    /// Prints `need N D` for each node N and each destination D to which the core of N requires a route.
     Needs,
     /// Ends the silence of the first node's end towards the second.
     Near(Id, Id),
@@ -28,7 +28,7 @@ pub enum DriveLine {
     Forget(u64),
 }
 
-/// `near N K`, `far N K`, `notice N K`, `bytes ID` or `forget ID`.
+/// Reads `near N K`, `far N K`, `notice N K`, `bytes ID` or `forget ID`; `None` for any other text.
 #[tactic(auto, unfolding(crate::specs::DriveLines::own_line_of, crate::specs::DriveLines::for_number, tora_script::specs::SimulationLines::for_pair))]
 fn own_line(text: &[u8]) -> Option<DriveLine>
     ensures { result ≡ own_line_of text.now }
@@ -54,7 +54,8 @@ fn own_line(text: &[u8]) -> Option<DriveLine>
     None
 }
 
-/// A line after the links.
+/// Reads a line after the links, other than `take A B HEX`, which `line_in` reads. `None` for any other text; the names
+/// in a line are not checked.
 #[tactic(auto, unfolding(crate::specs::DriveLines::drive_line_of))]
 pub fn drive_line(text: &[u8]) -> Option<DriveLine>
     ensures { result ≡ drive_line_of text.now }

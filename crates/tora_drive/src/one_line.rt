@@ -14,7 +14,7 @@ use std::alloc::{AllocError, Global};
 use tora_lines::LONGEST_LINE;
 use tora_script::Stage;
 
-/// The line, or an empty one if it is too long.
+/// The line, or an empty one if it has more than 4,096 bytes.
 fn shortened(line: &[u8]) -> &[u8]
     ensures { result.now ≡ shortened line.now }
 {
@@ -48,11 +48,12 @@ impl<S: Driven> Drive<S> {
         self.state = DriveState::new(alloc);
     }
 
-    /// Takes a line without its LF, as `drive_in` takes the lines of its input: a line of more than 4,096 bytes counts
-    /// as an empty one, which is a fault. The text is then the answer.
+    /// Takes a line without its LF, as `drive_in` takes the lines of its input, and replaces the text by the answer. A
+    /// line of more than 4,096 bytes counts as an empty one, which is a fault.
     ///
     /// # Errors
-    /// Out of memory; then the text is empty, and the drive is as `new` makes it.
+    /// Memory ran out, or the drive has taken 2^64 - 1 lines. Then the text is empty, and the drive is as `new` makes
+    /// it.
     pub fn answer(
         &mut self,
         alloc: Global,

@@ -63,7 +63,8 @@ fn is_forgotten(state: &DriveState, event: &Event) -> bool
     }
 }
 
-/// Makes an event happen, unless it names a forgotten datagram. Returns whether it was refused.
+/// Makes an event happen, unless it delivers a forgotten datagram, which is refused with `NoDatagram`. Returns whether
+/// the event was refused; the refusal is written to an empty text.
 fn event<S: Driven>(
     running: &mut Running<S>,
     state: &DriveState,
@@ -134,8 +135,8 @@ fn notice<S: Driven>(
     Ok(false)
 }
 
-/// Writes the bytes of a datagram to an empty text. Returns whether that is refused, because there is no such datagram
-/// or it is forgotten.
+/// Writes `bytes ID HEX` for datagram `i` to an empty text. Returns whether that is refused, because there is no such
+/// datagram or it is forgotten; then the text is the refusal.
 fn write_bytes<S: Driven>(
     running: &Running<S>,
     state: &DriveState,
@@ -165,7 +166,8 @@ fn write_bytes<S: Driven>(
     }
 }
 
-/// Forgets the datagrams up to a number. Returns whether that is refused, because fewer were sent.
+/// Forgets the datagrams up to number `i`; those that are forgotten already stay so. Returns whether that is refused,
+/// because fewer were sent; the refusal is written to an empty text.
 fn forget<S: Driven>(
     running: &Running<S>,
     state: &mut DriveState,
@@ -188,7 +190,8 @@ fn forget<S: Driven>(
 }
 
 /// Carries out a line of a simulation file, and writes its first output to an empty text. Returns whether it was
-/// refused.
+/// refused. The error is `Fault` if the line is no event and names a node, link or destination that does not exist, and
+/// `Memory`.
 fn perform_script<S: Driven>(
     running: &mut Running<S>,
     state: &DriveState,
@@ -211,6 +214,8 @@ fn perform_script<S: Driven>(
 }
 
 /// Carries out a line other than `step`, and writes its first output to an empty text. Returns whether it was refused.
+/// The error is `Fault`, and nothing changes, if the line is no event and names a node, link or destination that does
+/// not exist; `Memory` if memory ran out.
 #[tactic(auto, unfolding(crate::specs::DriveText::outcome_of))]
 pub fn perform<S: Driven>(
     running: &mut Running<S>,

@@ -24,7 +24,7 @@ pub struct Recording<'a, S, W> {
     out: &'a mut TraceOut<W>,
 }
 
-/// Writes the record of the last line.
+/// Writes the lines that were recorded for the line taken last; nothing if the drive has no record.
 fn hand_on<W: Output>(state: &DriveState, out: &mut TraceOut<W>)
     ensures { ArePut W.did_write out.old (record_view state.now) out.new }
 {
@@ -54,10 +54,13 @@ impl<S: Driven, W: Output> FileKind for Recording<'_, S, W> {
 }
 
 /// Drives as `drive_in` does, and writes a record: a simulation file with the same effect. It has the lines before the
-/// world, the orders, the line of each accepted event, and the events of each `step`. `needs`, `near`, `far`, `bytes`
-/// and `forget` do not change the world and are not recorded. `notice N K` is a fault.
+/// world is made, the orders and questions, the line of each event that happened, and the events of each `step`.
+/// `needs`, `near`, `far`, `bytes` and `forget` do not change the world and are not recorded. `notice N K` is a fault.
 ///
 /// The drive goes on if the record cannot be written; `out` then has the error.
+///
+/// # Errors
+/// Those of `drive_in`.
 #[tactic(auto, unfolding(tora_lines::specs::Shortened::shortened_text_of))]
 pub fn drive_recorded<S: Driven, R: Input, W: Output, V: Output>(
     alloc: Global,

@@ -25,10 +25,10 @@ const HELLO_LENGTH: usize = 28;
 /// The length of an ACK in bytes.
 const ACK_LENGTH: usize = 36;
 
-/// The place of the packet in a DATA frame of version 1.
+/// The offset in bytes of the packet in a DATA frame of version 1.
 const PACKET_OFFSET: usize = 44;
 
-/// The place of the first packet in a DATA frame of version 2.
+/// The offset in bytes of the first packet in a DATA frame of version 2.
 const BATCH_OFFSET: usize = 48;
 
 /// The next hop of a node to a destination before a line.
@@ -36,11 +36,11 @@ const BATCH_OFFSET: usize = 48;
 pub struct Route {
     pub node: Id,
     pub destination: Id,
-    /// `None` if there was none.
+    /// `None` if the node had no next hop.
     pub hop: Option<Id>,
 }
 
-/// The length of packets in bytes, one after another from a place on.
+/// The offset in bytes after these packets, which follow one another from offset `place` on.
 fn length_behind(place: usize, packets: &[Packet]) -> usize
     requires place { place ≤ BATCH_OFFSET }
     requires many { length packets.now ≤ MOST_PACKETS }
@@ -84,7 +84,8 @@ fn write_datagram(out: &mut String, i: u64, frame: &BorrowedFrame<'_>) -> Result
     write_line(out, header.sender, header.receiver, i, length_of(frame))
 }
 
-/// Appends the line of a datagram, given by its number from 1, to a text.
+/// Appends the line `sent A B ID LENGTH` of the datagram with this number, from 1, to a text; nothing if there is no
+/// such datagram.
 fn write_sent_one<S: Driven>(out: &mut String, sim: &S, i: u64) -> Result<(), AllocError>
     requires { 0 < i }
     ensures { OnOk result (string_bytes out.new ≡ string_bytes out.old ++ sent_of (S.world sim.now) (i)) }
@@ -95,7 +96,7 @@ fn write_sent_one<S: Driven>(out: &mut String, sim: &S, i: u64) -> Result<(), Al
     }
 }
 
-/// Appends the lines of the datagrams numbered above `first` to a text.
+/// Appends a line `sent A B ID LENGTH` to a text for each datagram with a number above `first`, in ascending order.
 pub fn write_sent<S: Driven>(out: &mut String, sim: &S, first: u64) -> Result<(), AllocError>
     ensures { OnOk result (string_bytes out.new ≡ string_bytes out.old
         ++ sent_from (S.world sim.now) (first) (length (S.world sim.now).datagrams - first)) }
@@ -187,7 +188,7 @@ fn may_change_hops(line: &DriveLine) -> bool
     }
 }
 
-/// The next hops before a line that may change them; none for another line.
+/// The next hops of all nodes to all destinations before a line that may change one; an empty list for another line.
 pub fn routes_before<S: Driven>(
     alloc: Global,
     running: &Running<S>,
@@ -228,7 +229,7 @@ fn write_hop<S: Simulator>(out: &mut String, sim: &S, route: &Route) -> Result<(
     writeln!(out, "hop {n} {d} {hop}")
 }
 
-/// Appends a line for each next hop that has changed to a text.
+/// Appends a line `hop N D K` to a text for each of these next hops that has changed since.
 pub fn write_hops<S: Simulator>(
     out: &mut String,
     sim: &S,

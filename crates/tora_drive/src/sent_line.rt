@@ -10,10 +10,10 @@ use tora_height::Id;
 /// The most bytes of a space and a number.
 const LONGEST_WORD: usize = 21;
 
-/// The most bytes of a line behind its first word: four numbers, and an LF.
+/// The most bytes of a line after its first word: four numbers, each with a space, and an LF.
 const LONGEST_REST: usize = 4 * LONGEST_WORD + 1;
 
-/// Writes a space and a number that end at `end`, and returns where they begin.
+/// Writes a space and a number that end before index `end`, and returns the index of the space.
 #[inline(always)]
 fn put_number(room: &mut [u8], end: usize, n: u64) -> usize
     requires room { (LONGEST_WORD ≤ end) × (end ≤ length room.old) }

@@ -34,7 +34,7 @@ pub fn is_silent(silent: &[(Id, Id)], end: (Id, Id)) -> bool
     silent.iter().any(|e| end.0 == e.0 && end.1 == e.1)
 }
 
-/// How often the event of a turn happens at most.
+/// How often the event of a turn happens at most: `Open` once, the others `MOST_TIMES` times.
 #[inline(always)]
 fn most_of(kind: EndTurn) -> u64
     ensures { result ≡ most_of kind }
@@ -86,7 +86,8 @@ fn repeat_told<S: Simulator>(
     Ok(some)
 }
 
-/// Lets a core take its items.
+/// Lets a core take items until it has none, at most `MOST_TIMES`, and returns whether it took any. `place` is the
+/// index of its node.
 #[inline(always)]
 fn turn_core<S: Simulator>(
     sim: &mut S,
@@ -106,7 +107,8 @@ fn turn_core<S: Simulator>(
     }
 }
 
-/// Lets each core take its items. Cores of which the simulator knows that they have no item are skipped.
+/// Lets each core take its items, and returns whether any core did. Cores of which the simulator knows that they have
+/// no item are skipped.
 #[inline(always)]
 fn turn_cores<S: Simulator>(
     sim: &mut S,
@@ -129,7 +131,8 @@ fn turn_cores<S: Simulator>(
     Ok(some)
 }
 
-/// Gives a link end its turn, unless the end is silent and would send. `place` is its index.
+/// Gives a link end its turn, unless the end is silent and would send, and returns whether an event happened. `place`
+/// is the index of the end.
 #[inline(always)]
 fn turn_of<S: Simulator>(
     sim: &mut S,
@@ -151,7 +154,7 @@ fn turn_of<S: Simulator>(
     }
 }
 
-/// Gives each link end its turn.
+/// Gives each link end its turn, and returns whether an event happened.
 #[inline(always)]
 fn turn_ends<S: Simulator>(
     sim: &mut S,
@@ -221,7 +224,7 @@ fn make_passes<S: Simulator>(
     Ok(())
 }
 
-/// The tick of a step.
+/// Makes the tick of a step happen, and appends the line `tick` to a text, if there is one.
 pub fn tick<S: Simulator>(sim: &mut S, text: &mut Option<String>) -> Result<(), AllocError>
     ensures after { IfOk result (λ _. S.world sim.new ≡ world_after (S.world sim.old) Tick) }
     ensures told { OnOk result (text_record text.new ≡ with_record (text_record text.old) (event_line Tick)) }
@@ -233,7 +236,8 @@ pub fn tick<S: Simulator>(sim: &mut S, text: &mut Option<String>) -> Result<(), 
     }
 }
 
-/// Does what a step does after its tick.
+/// Does what a step does after its tick: opens each closed end once, then makes passes. Appends the line of each event
+/// to a text, if there is one.
 #[inline(never)]
 pub fn finish_step<S: Simulator>(
     sim: &mut S,

@@ -59,7 +59,8 @@ fn number_of_bytes<S: Driven>(
     0
 }
 
-/// The bytes that hexadecimal digits encode.
+/// The bytes that hexadecimal digits of either case encode. The error is `Fault` for other text or an odd number of
+/// digits, and `Memory`.
 fn bytes_of(alloc: Global, digits: &[u8]) -> Result<Vec<u8>, LineError>
     ensures { Gives (λ v. v.items) result (result_ok (decode_of digits.now)) }
 {
@@ -70,7 +71,9 @@ fn bytes_of(alloc: Global, digits: &[u8]) -> Result<Vec<u8>, LineError>
     }
 }
 
-/// The rest of a line after `take `: the delivery of the datagram with these bytes.
+/// Reads `A B HEX`, the rest of a line after `take `: the delivery of the last datagram from B to A that has these
+/// bytes and is not forgotten, or of datagram 0, which is refused, if there is none. The error is `Fault` for other
+/// text, and `Memory`.
 #[tactic(auto, unfolding(crate::specs::Taking::taking))]
 fn taking<S: Driven>(
     alloc: Global,
@@ -97,7 +100,8 @@ fn taking<S: Driven>(
     Ok(DriveLine::Script(SimulationLine::Happens(Event::Deliver(i))))
 }
 
-/// The line of a drive with this text. `take A B HEX` is the delivery of the datagram with these bytes.
+/// Reads a line of a drive after the links; `take A B HEX` is read as the delivery of the datagram with these bytes.
+/// The error is `Fault` if the text has none of the forms of such a line, and `Memory` if memory ran out.
 #[tactic(auto, unfolding(crate::specs::Taking::line_in))]
 pub fn line_in<S: Driven>(
     alloc: Global,

@@ -21,8 +21,8 @@ use tora_lines::FileKind;
 use tora_lines::words::LineError;
 use tora_script::{LinkLines, Running, Setup, Stage, first_line, link, mark, take_link, take_mark};
 
-/// Takes the first line after the links and the lines about nodes, and makes the world; at least one link is required.
-/// A line that is a fault changes nothing.
+/// Makes the world, and takes in it the first line after the links and the lines about nodes. The error is `Fault` if
+/// there is no link, if the links or destinations are refused, or if the line is a fault; then nothing changes.
 fn begin<S: Driven>(
     alloc: Global,
     setup: DriveSetup,
@@ -69,7 +69,7 @@ fn take_in(state: &mut DriveState, line: &[u8], text: &mut String) -> Result<(),
     acknowledge(text)
 }
 
-/// Takes the first line, after which the links follow.
+/// Takes the first line, after which the links follow. The error is `Fault` if it is not `dests LIST`.
 ///
 /// Like `begin_run` it is never inlined; otherwise every line of a drive would need stack space for a simulation.
 #[inline(never)]
@@ -81,8 +81,8 @@ fn begin_links<S: Driven>(stage: &mut Stage<S>, alloc: Global, line: &[u8]) -> R
     Ok(())
 }
 
-/// Takes the first line after the links and the lines about nodes, and starts the simulation. At any other stage it is
-/// a fault, and nothing changes.
+/// Takes the first line after the links and the lines about nodes, and starts the simulation. The error is `Fault`, and
+/// nothing changes, at any other stage and if `begin` returns it.
 #[inline(never)]
 fn begin_run<S: Driven>(
     stage: &mut Stage<S>,
@@ -153,8 +153,11 @@ fn take_line<S: Driven>(
 }
 
 impl<S: Driven> Drive<S> {
-    /// Carries out a line, and appends its answer to an empty text. The record, if there is one, then holds the lines
-    /// for this line alone.
+    /// Carries out a line without its LF, whose length is not checked, and writes its answer to an empty text; a fault
+    /// is answered, too. The record, if there is one, then holds the lines for this line alone.
+    ///
+    /// # Errors
+    /// Memory ran out, or the drive has taken 2^64 - 1 lines. After an error the drive may have changed in part.
     pub fn reply(&mut self, alloc: Global, line: &[u8], text: &mut String) -> Result<(), AllocError>
         requires { string_bytes text.old ≡ [] }
         ensures answer { OnOk result ((view_of S.world self.new, string_bytes text.new)
@@ -186,7 +189,11 @@ impl<S: Driven> Drive<S> {
         }
     }
 
-    /// Refuses, as a fault, a line that cannot be recorded, and writes the answer to an empty text.
+    /// Answers `fault N CAUSE` with the cause `Recorded`, in an empty text, to a line that cannot be recorded. Only the
+    /// number of lines changes.
+    ///
+    /// # Errors
+    /// Memory ran out, or the drive has taken 2^64 - 1 lines.
     pub fn refuse(&mut self, text: &mut String) -> Result<(), AllocError>
         requires { string_bytes text.old ≡ [] }
         ensures answer { OnOk result ((view_of S.world self.new, string_bytes text.new)

@@ -17,7 +17,7 @@ use std::alloc::{AllocError, Global};
 use std::io::ErrorKind;
 use std::{io, mem};
 
-/// The most reads of one input.
+/// The most reads of one input, interrupted ones included. If none of them finds the end, the error is `Read`.
 pub const MOST_READS: u64 = 0x1_0000_0000;
 
 /// The size in bytes of the buffer for one read.
@@ -34,7 +34,8 @@ fn put<W: Output>(writer: &mut W, text: &[u8]) -> Result<(), ReplayError>
     }
 }
 
-/// Processes one line and writes its output. Returns false if the line is a fault.
+/// Processes one line, given without its LF, and writes its output. Returns false, and writes nothing, if the line is a
+/// fault, as each line of more than 4,096 bytes is. The error is `Memory` or `Write`.
 pub fn answer<K: FileKind, W: Output>(
     alloc: Global,
     session: &mut Session<K>,
@@ -55,7 +56,8 @@ pub fn answer<K: FileKind, W: Output>(
     }
 }
 
-/// Processes the complete lines of the text. Returns how many bytes follow them, or `None` at a fault.
+/// Processes the complete lines of the text. Returns how many bytes follow the last LF, or `None` if a line is a fault.
+/// `number` is that of the text's first line, and becomes that of the first line that was not processed.
 fn drain<K: FileKind, W: Output>(
     alloc: Global,
     session: &mut Session<K>,
@@ -79,7 +81,8 @@ fn drain<K: FileKind, W: Output>(
     Ok(Some(rest.len()))
 }
 
-/// Appends bytes to the pending part of a line. Returns false, and appends nothing, if the line would be too long.
+/// Appends bytes to the pending part of a line. Returns false, and appends nothing, if the line would have more than
+/// 4,096 bytes.
 fn keep(pending: &mut Vec<u8>, bytes: &[u8]) -> Result<bool, ReplayError>
     requires { vec_len pending.old ≤ LONGEST_LINE }
     ensures { Keeps pending.old.items bytes.now pending.new.items result }
@@ -93,8 +96,8 @@ fn keep(pending: &mut Vec<u8>, bytes: &[u8]) -> Result<bool, ReplayError>
     }
 }
 
-/// Processes the line that consists of the pending bytes and `end`; afterwards no bytes are pending. Returns false if
-/// the line is a fault.
+/// Processes the line that consists of the pending bytes and `end`. Returns true if it was processed; then no bytes are
+/// pending. Returns false if the line is a fault, as one of more than 4,096 bytes is.
 fn end_line<K: FileKind, W: Output>(
     alloc: Global,
     session: &mut Session<K>,
@@ -116,8 +119,8 @@ fn end_line<K: FileKind, W: Output>(
     Ok(taken)
 }
 
-/// Processes the complete lines of a text that begins with a line, and keeps the rest as pending. Returns false if a
-/// line is a fault.
+/// Processes the complete lines of a text that begins where a line begins, and keeps the rest as pending. Returns false
+/// if a line is a fault, as a rest of more than 4,096 bytes is.
 fn take_rest<K: FileKind, W: Output>(
     alloc: Global,
     session: &mut Session<K>,
@@ -141,7 +144,7 @@ fn take_rest<K: FileKind, W: Output>(
 }
 
 /// Processes the complete lines of the pending bytes and the new chunk, and keeps the rest as pending. Returns false if
-/// a line is a fault.
+/// a line is a fault, as a rest of more than 4,096 bytes is.
 fn take_chunk<K: FileKind, W: Output>(
     alloc: Global,
     session: &mut Session<K>,
@@ -168,7 +171,7 @@ fn take_chunk<K: FileKind, W: Output>(
     take_rest(alloc, session, number, writer, pending, &chunk[at + 1..])
 }
 
-/// Writes `fault N` for the line with this number.
+/// Writes `fault N` for the line with number N, and returns `Ended::Fault(N)`. The error is `Memory` or `Write`.
 pub fn fault<W: Output>(alloc: Global, number: u64, writer: &mut W) -> Result<Ended, ReplayError>
     ensures text { Ends (faulty number) (W.contents writer.old) (W.contents writer.new) result }
     ensures failed { IfErr result (λ e. e ≡ ReplayError.Write → IsUnwritten W.did_write writer.new) }
@@ -181,7 +184,8 @@ pub fn fault<W: Output>(alloc: Global, number: u64, writer: &mut W) -> Result<En
     Ok(Ended::Fault(number))
 }
 
-/// Ends an input whose next line would have this number: writes `fault N` if the end is a fault.
+/// Ends an input whose next line would have this number. Returns `Whole`, or, if the file must not end here, writes
+/// `fault N` and returns `Fault(N)`, with the N of `FileKind::end`.
 pub fn close<K: FileKind, W: Output>(
     alloc: Global,
     session: &Session<K>,
@@ -199,7 +203,8 @@ pub fn close<K: FileKind, W: Output>(
     }
 }
 
-/// Processes the last line, which has no LF and may be empty, and ends the input.
+/// Processes the last line, which has no LF, unless it is empty, and ends the input as `close` does. If the line is a
+/// fault, writes `fault N` and returns `Fault(N)`.
 fn finish<K: FileKind, W: Output>(
     alloc: Global,
     session: &mut Session<K>,
@@ -230,7 +235,8 @@ pub fn zeros(alloc: Global, size: usize) -> Result<Vec<u8>, AllocError>
     vec![in alloc; 0u8; size]
 }
 
-/// Reads once.
+/// Reads once into the front of `chunk`, whose length stays. Returns the number of bytes, 0 at the end of the input.
+/// Errors, `Interrupted` included, are passed on.
 pub fn read_some<R: Input>(reader: &mut R, chunk: &mut Vec<u8>) -> io::Result<usize>
     ensures call { R.did_read reader.old (given_by result chunk.new.items) reader.new }
     ensures len { vec_len chunk.new ≡ vec_len chunk.old }
@@ -240,11 +246,13 @@ pub fn read_some<R: Input>(reader: &mut R, chunk: &mut Vec<u8>) -> io::Result<us
     reader.get_some(chunk.as_mut_slice())
 }
 
-/// Reads the lines of a file to the end of the input or to the first fault, and writes the output of each line.
+/// Reads the lines of a file to the end of the input or to the first fault, and writes the output of each line. A fault
+/// is not an error: `fault N` is written, and the result is `Ended::Fault(N)`.
 ///
 /// # Errors
-/// `Memory` if memory ran out; `Read` if a read failed, or 2^32 reads did not reach the end of the input; `Write` if a
-/// write failed. At `Memory` and `Read` the outputs of whole lines were written, never a part of one.
+/// `Memory` if memory ran out; `Read` if a read failed, or 2^32 reads did not reach the end of the input (an
+/// interrupted read is repeated, and counts); `Write` if a write failed. At `Memory` and `Read` the outputs of whole
+/// lines were written, never a part of one.
 pub fn read_lines<K: FileKind, R: Input, W: Output>(
     alloc: Global,
     state: K,
@@ -266,8 +274,8 @@ pub fn read_lines<K: FileKind, R: Input, W: Output>(
     read_session(alloc, &mut session, reader, writer)
 }
 
-/// Reads the lines of a file as `read_lines` does, for a program that exits afterwards. The memory of the state is not
-/// freed, which would take time if there is much.
+/// Reads the lines of a file as `read_lines` does, for a program that exits afterwards: to save time, the memory of the
+/// state is not freed.
 ///
 /// # Errors
 /// Those of `read_lines`.

@@ -6,7 +6,7 @@ ghost use Rattle.tora_lines.specs.Flushing.{after_flush};
 use crate::ended::{Ended, ReplayError};
 use crate::output::Output;
 
-/// Flushes the writer. The error is `Write` if only the flush fails.
+/// Flushes the writer, and returns `ended`; but if the flush fails and `ended` is no error, the error is `Write`.
 pub fn flushed<W: Output>(
     writer: &mut W,
     ended: Result<Ended, ReplayError>,

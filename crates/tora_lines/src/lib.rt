@@ -2,8 +2,8 @@
 //! reports how the file ended.
 //!
 //! A kind of file (`FileKind`) is defined by the state between two of its lines. The engine passes it one line after
-//! another, of at most 4,096 bytes, and writes its text for each line by one call. It ends at the end of the input or
-//! at the first fault. `read_shortened_lines` treats a longer line as an empty one, as `tora drive` does.
+//! another, and writes its text for each line by one call. The engine stops at the end of the input, at the first fault
+//! or at an error. A line of more than 4,096 bytes is a fault; `read_shortened_lines` treats it as an empty line.
 //!
 //! ```rust
 //! let ended = read_lines(alloc, state, &mut reader, &mut writer)?;

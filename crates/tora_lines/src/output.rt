@@ -1,11 +1,11 @@
-//! Writers whose calls contracts can describe.
+//! Writers whose calls can be described in contracts.
 ghost use Rattle.std.specs.Prelude.{◌≡◌, ℕ, Bool, true, is_ok, List, OnOk};
 ghost use Rattle.std.specs.Io.KnownBytes.{Appends, Keeps};
 
 use std::io;
 use std::io::Write;
 
-/// A writer whose calls contracts can describe. Every `Write` is an `Output`.
+/// A writer whose calls can be described in contracts. Every `Write` is an `Output`.
 pub trait Output: Write {
     /// Whether a write of these bytes, with this success, can lead from the first writer to the second.
     ghost did_write: { Self → List ℕ → Bool → Self → Type 0 };
@@ -13,7 +13,7 @@ pub trait Output: Write {
     /// Whether a flush with this success can lead from the first writer to the second.
     ghost did_flush: { Self → Bool → Self → Type 0 };
 
-    /// Writes all of some bytes.
+    /// Writes all of `bytes`. After an error any part of them may have been written.
     fn put_all(&mut self, bytes: &[u8]) -> io::Result<()>
         ensures call { did_write self.old bytes.now (is_ok result) self.new }
         ensures bytes { OnOk result (Appends (Self.contents self.old) (Self.contents self.new) bytes.now) };

@@ -1,4 +1,4 @@
-//! The state between two lines of a file, and the output of the last line.
+//! The state between two lines of a file, and the output of the line before.
 ghost use Rattle.std.specs.Prelude.{◌≡◌, ◌≤◌, [], length, string_bytes, IfOk};
 ghost use Rattle.tora_lines.specs.LineText.{ending};
 ghost use Rattle.tora_lines.specs.Engine.{Kind};
@@ -14,18 +14,21 @@ pub const LONGEST_LINE: usize = 4096;
 pub trait FileKind: Drop {
     ghost kind: { Kind Self };
 
-    /// Processes a line of at most 4,096 bytes, and writes its output to `text`, which is empty before.
+    /// Processes a line of at most 4,096 bytes, without its LF, and writes its output to `text`, which is empty before.
+    /// The error is `Fault` if the line is a fault, and `Memory` if memory ran out. After an error the engine uses
+    /// neither the state nor `text`.
     fn take(&mut self, alloc: Global, line: &[u8], text: &mut String) -> Result<(), LineError>
         requires short { length line.now ≤ LONGEST_LINE }
         requires empty { string_bytes text.old ≡ [] }
         ensures { TakesLine kind self.old line.now self.new (string_bytes text.new) result };
 
-    /// The number of the line that is a fault, if the input ends before the line `number` and that is a fault.
+    /// The input ends where the line `number` would come. `None` if the file may end there, otherwise the number of the
+    /// line to report as the fault.
     fn end(&self, alloc: Global, number: u64) -> Result<Option<u64>, AllocError>
         ensures { IfOk result (λ fault. kind.text self.now number [] ≡ ending fault) };
 }
 
-/// The state between two lines, and the output of the last line.
+/// The state between two lines, and the output of the line before.
 #[derive(Drop)]
 pub struct Session<K> {
     pub state: K,
@@ -43,7 +46,8 @@ impl<K: FileKind> Session<K> {
         }
     }
 
-    /// Processes a line, and stores its output. A line of more than 4,096 bytes is a fault.
+    /// Processes a line, and stores its output in `text`. The error is `Fault` if the line is a fault, as one of more
+    /// than 4,096 bytes is, and `Memory` if memory ran out.
     pub fn take(&mut self, alloc: Global, line: &[u8]) -> Result<(), LineError>
         ensures { TakesLine K.kind self.old.state line.now self.new.state (string_bytes self.new.text) result }
     {

@@ -14,7 +14,7 @@ use crate::session::{FileKind, LONGEST_LINE, Session};
 use std::alloc::{AllocError, Global};
 use std::io::ErrorKind;
 
-/// The line that is being read, without its bytes if there are more than 4,096.
+/// The line that is being read: its first bytes, at most 4,096, and whether it has more.
 #[derive(Drop)]
 pub struct Held {
     bytes: Vec<u8>,
@@ -41,7 +41,7 @@ impl Held {
         self.bytes.is_empty() && !self.is_too_long
     }
 
-    /// Adds the next byte of the line.
+    /// Adds the next byte of the line. After 4,096 bytes it is not stored, and the line counts as too long.
     fn push(&mut self, byte: u8) -> Result<(), AllocError>
         ensures { OnOk result ((text : List ℕ) → Holds self.old text → Holds self.new (text ++ byte ∷ [])) }
     {
@@ -53,7 +53,7 @@ impl Held {
         Ok(())
     }
 
-    /// The line, or an empty one if it is too long.
+    /// The line, or an empty one if it has more than 4,096 bytes.
     fn shortened(&self) -> &[u8]
         ensures { (text : List ℕ) → Holds self.now text → result.now ≡ shortened text }
     {
@@ -73,7 +73,8 @@ impl Held {
     }
 }
 
-/// Processes the lines that end in these bytes, and keeps the rest. Returns false if a line is a fault.
+/// Processes each line whose LF is among these bytes, and stores the rest in `held`. Returns false if a line is a
+/// fault; `number` is then its number.
 fn take_bytes<K: FileKind, W: Output>(
     alloc: Global,
     session: &mut Session<K>,
@@ -103,7 +104,8 @@ fn take_bytes<K: FileKind, W: Output>(
     Ok(true)
 }
 
-/// Processes the last line, which has no LF and may be empty, and ends the input.
+/// Processes the last line, which has no LF, unless it is empty, and ends the input as `close` does. If the line is a
+/// fault, writes `fault N` and returns `Fault(N)`.
 fn finish_held<K: FileKind, W: Output>(
     alloc: Global,
     session: &mut Session<K>,

@@ -4,7 +4,7 @@ ghost use Rattle.tora_lines.specs.LineText.{numbered};
 
 use std::alloc::AllocError;
 
-/// Appends a word, a number and a line feed to a text.
+/// Appends `word`, the number in decimal digits and a line feed to a text, with nothing between them.
 pub fn numbered(out: &mut String, word: &str, number: u64) -> Result<(), AllocError>
     ensures { OnOk result (string_bytes out.new ≡ string_bytes out.old ++ numbered word.now number) }
 {

@@ -35,14 +35,14 @@ impl<T: Drop> From<AllocFailed<T>> for LineError {
     }
 }
 
-/// The index of the first separator.
+/// The index of the first `separator` in the text; `None` if there is none.
 pub fn place(separator: u8, text: &[u8]) -> Option<usize>
     ensures { result ≡ position (λ x. x == separator) text.now }
 {
     text.iter().position(|x| *x == separator)
 }
 
-/// The parts before and after the first separator.
+/// The parts of the text before and after the first `separator`; `None` if there is none.
 #[tactic(auto, unfolding(crate::specs::Words::cut))]
 pub fn cut(separator: u8, text: &[u8]) -> Option<(&[u8], &[u8])>
     ensures parts { option_map (λ parts. (parts.0.now, parts.1.now)) result ≡ cut separator text.now }
@@ -73,7 +73,8 @@ fn is_all_digits(text: &[u8]) -> bool
     text.iter().all(|c| c.is_ascii_digit())
 }
 
-/// A number below 2^64 in decimal digits, without a leading zero.
+/// The number below 2^64 that the text spells in decimal digits, without a leading zero, but `0` is read. `None` for
+/// any other text.
 #[tactic(auto, unfolding(crate::specs::Words::number_of))]
 pub fn number(text: &[u8]) -> Option<u64>
     ensures { result ≡ number_of text.now }
@@ -87,7 +88,8 @@ pub fn number(text: &[u8]) -> Option<u64>
     value(text)
 }
 
-/// The number of a node, from 1 to 2^32 - 1.
+/// The node number that the text spells, from 1 to 2^32 - 1, in decimal digits without a leading zero. `None` for any
+/// other text.
 #[tactic(auto, unfolding(crate::specs::Words::id_of))]
 pub fn id(text: &[u8]) -> Option<Id>
     ensures value { result ≡ id_of text.now }
@@ -101,7 +103,7 @@ pub fn id(text: &[u8]) -> Option<Id>
     }
 }
 
-/// Ids, separated by commas.
+/// One or more ids, separated by commas. The error is `Fault` for any other text, and `Memory` if memory ran out.
 fn ids(alloc: Global, text: &[u8]) -> Result<Vec<Id>, LineError>
     ensures value { Gives (λ v. v.items) result (ids_of (split 44 text.now)) }
     ensures positive { IfOk result (λ v. All (λ n. 0 < n) v.items) }
@@ -129,7 +131,8 @@ pub fn is_dash(text: &[u8]) -> bool
     text.len() == 1 && text[0] == b'-'
 }
 
-/// A list of ids, or `-` for the empty list.
+/// A list of ids, separated by commas and in any order, or `-` for the empty list. The error is `Fault` for any other
+/// text, and `Memory` if memory ran out.
 #[tactic(auto, unfolding(crate::specs::Words::list_of))]
 pub fn list(alloc: Global, text: &[u8]) -> Result<Vec<Id>, LineError>
     ensures value { Gives (λ v. v.items) result (list_of text.now) }

@@ -27,7 +27,9 @@ pub enum SimulationCause {
     TooManyStandard,
     TooManyAtAll,
     Repeated,
+    /// The numbers of two lines, from 1, with the same link, in either direction.
     RepeatedLink(u64, u64),
+    /// A destination that occurs twice in the first line.
     RepeatedDestination(Id),
     OwnLink,
     Old,
@@ -226,7 +228,8 @@ fn line_of(place: usize) -> u64 {
     (place as u64).saturating_add(2)
 }
 
-/// The lines of the first link that occurs twice, in either direction.
+/// The line numbers of the first link that repeats an earlier one, in either direction, and of that one; `None` if no
+/// link does.
 fn repeated_link(links: &[(Id, Id)]) -> Option<SimulationCause> {
     for (place, link) in links.iter().enumerate() {
         for (before, other) in links.iter().enumerate() {
@@ -248,7 +251,7 @@ fn repeated_destination(dests: &[Id]) -> Option<SimulationCause> {
     None
 }
 
-/// Which link or destination occurs twice.
+/// Which link, or else which destination, occurs twice; `Repeated` if none does.
 fn repeated_cause(lines: &LinkLines) -> SimulationCause {
     repeated_link(&lines.links)
         .or(repeated_destination(&lines.dests))
@@ -316,7 +319,8 @@ pub fn simulation_cause<S>(stage: &Stage<S>, line: &[u8]) -> SimulationCause {
     simulation_cause_within(Limits::STANDARD, stage, line)
 }
 
-/// Why a line is a fault within these limits.
+/// Why a line is a fault at this stage and within these limits, if it is one. The result is never `TooLong`: a line of
+/// more than 4,096 bytes is taken as any other.
 pub fn simulation_cause_within<S>(
     limits: Limits,
     stage: &Stage<S>,
@@ -329,7 +333,7 @@ pub fn simulation_cause_within<S>(
     }
 }
 
-/// Why an input that ends too early is a fault.
+/// Why the end of the input at this stage is a fault; `Other` if it is none.
 pub fn end_cause<S>(limits: Limits, stage: &Stage<S>) -> SimulationCause {
     match stage {
         Stage::First => SimulationCause::Missing,

@@ -11,7 +11,8 @@ use crate::simulator::Simulator;
 use crate::turns::either;
 use std::alloc::{AllocError, Global};
 
-/// Delivers the datagrams numbered above `first`.
+/// Delivers the datagrams numbered above `first`, as often as the channel lets each arrive in the pass in which it was
+/// sent, but none between parted nodes. Returns whether any was delivered.
 ///
 /// What the channel does with a datagram depends on how many earlier ones of its round were sent in the same direction,
 /// so the datagrams are counted as they are delivered.
@@ -33,8 +34,8 @@ pub fn deliver_new<S: Simulator>(
     }
 }
 
-/// Whether there are datagrams after the first ones and all of them were sent in this round, so that they are counted
-/// by direction.
+/// Whether there are datagrams numbered above `first`, and all of them were sent in this round, so that they are
+/// counted by direction.
 fn is_to_count<S: Simulator>(sim: &S, moment: &Moment<'_>, first: u64) -> bool
     ensures { result ≡ true → moment.now.start ≤ first }
 {
@@ -44,7 +45,8 @@ fn is_to_count<S: Simulator>(sim: &S, moment: &Moment<'_>, first: u64) -> bool
     first < sim.datagrams()
 }
 
-/// Delivers a datagram over a clear channel, at once and once, unless its nodes are parted.
+/// Delivers datagram `i` over a clear channel, at once and once, unless its nodes are parted. Returns whether it was
+/// delivered.
 #[inline(always)]
 fn deliver_once<S: Simulator>(sim: &mut S, moment: &Moment<'_>, i: u64) -> Result<bool, AllocError>
     requires { IsClear (moment_view moment.now) }
@@ -81,7 +83,8 @@ fn deliver_clear<S: Simulator>(
     Ok(some)
 }
 
-/// Delivers a datagram as often as the channel says, unless its nodes are parted.
+/// Delivers datagram `i` as often as the channel lets it arrive in the pass in which it was sent, unless its nodes are
+/// parted. Returns whether it was delivered.
 fn deliver<S: Simulator>(sim: &mut S, moment: &Moment<'_>, i: u64) -> Result<bool, AllocError>
     ensures { IfOk result (λ some. Happened (S.world sim.old) (delivery moment.now.network.parted.now
         (moment_view moment.now) i (S.world sim.old)) (S.world sim.new) some) }
@@ -96,7 +99,8 @@ fn deliver<S: Simulator>(sim: &mut S, moment: &Moment<'_>, i: u64) -> Result<boo
     sim.deliver(i, at_once(copies))
 }
 
-/// Delivers each datagram after the first ones once, without counting.
+/// Delivers the datagrams numbered above `first` as `deliver` does. For each one, the earlier datagrams of its round
+/// are counted anew.
 fn deliver_each<S: Simulator>(
     sim: &mut S,
     moment: &Moment<'_>,

@@ -22,7 +22,7 @@ impl DirectionCounts {
         }
     }
 
-    /// The count of a direction.
+    /// The count of a direction; 0 if nothing was counted in it.
     pub fn times(&self, direction: (Id, Id)) -> u64
         ensures { result ≡ times self.now direction }
     {

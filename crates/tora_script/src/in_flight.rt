@@ -22,7 +22,7 @@ use tora_height::Id;
 pub struct InFlight {
     /// The number of rounds so far, modulo 2^64.
     pub round: u64,
-    /// For each delayed copy: after how many more rounds it arrives, at least 1, and the number of its datagram.
+    /// For each delayed copy: in how many rounds it arrives (1: in the next round), and the number of its datagram.
     pub later: Vec<(u64, u64)>,
 }
 
@@ -53,7 +53,7 @@ pub struct Moment<'a> {
 }
 
 impl Moment<'_> {
-    /// Whether the channel delivers each datagram at once, and once.
+    /// Whether the table has no lines and the channel is clear: then each datagram arrives at once, and once.
     #[inline(always)]
     pub fn is_clear(&self) -> bool
         ensures { result ≡ true → IsClear (moment_view self.now) }
@@ -70,7 +70,7 @@ impl Moment<'_> {
     }
 }
 
-/// 1 if a datagram was sent in this direction, otherwise 0.
+/// 1 if the datagram exists and was sent in this direction, otherwise 0.
 fn goes(direction: (Id, Id), datagram: Option<(Id, Id)>) -> u64
     ensures bound { result < 2 }
     ensures value { (f : Option FrameParts) → datagram ≡ option_map (λ f. (f.header.sender, f.header.receiver)) f
@@ -126,8 +126,8 @@ fn copies_behind(moment: &Moment<'_>, direction: (Id, Id), before: u64) -> Copie
     moment.network.table.copies(moment.network.channel, place)
 }
 
-/// The copies of datagram `i`, which was sent in this direction. `counts` has the earlier datagrams of the round, and
-/// then also this one.
+/// As `copies`, for a datagram whose earlier ones in the round are counted in `counts`; afterwards it is counted, too.
+/// Fails as `DirectionCounts::count` does.
 pub fn counted_copies<S: Simulator>(
     _sim: &S,
     moment: &Moment<'_>,
@@ -158,7 +158,7 @@ fn is_now(delay: Option<u64>) -> u64
     }
 }
 
-/// How many copies of a datagram arrive in the round in which it is sent.
+/// How many copies of a datagram arrive in the pass in which it is sent.
 pub fn at_once(copies: Copies) -> u64
     ensures { result ≡ at_once copies }
 {
@@ -166,7 +166,8 @@ pub fn at_once(copies: Copies) -> u64
 }
 
 impl InFlight {
-    /// Stores a copy of datagram `i` that is delayed by at least one round. `delay` is in rounds; `None` means no copy.
+    /// Stores a copy of datagram `i`, if it arrives in a later round. `delay` is in rounds; 0 means that it arrives at
+    /// once, and `None` that there is no copy.
     fn note(&mut self, i: u64, delay: Option<u64>) -> Result<(), AllocError>
         ensures later { OnOk result (self.new.later.items ≡ self.old.later.items ++ later_copy i delay) }
         ensures round { self.new.round ≡ self.old.round }

@@ -8,14 +8,14 @@ use std::alloc::AllocError;
 use tora_height::Id;
 use tora_world::Limits;
 
-/// The lines before a simulation runs: the destinations, the links so far, and the lines about nodes so far. No link
-/// and no destination has the number 0.
+/// The lines before a simulation runs: the destinations, the links so far, and the lines about nodes so far. No node of
+/// a link and no destination is 0.
 #[derive(Drop)]
 pub struct LinkLines {
     pub dests: Vec<Id>,
     pub links: Vec<(Id, Id)>,
     pub marks: Vec<Mark>,
-    /// Limits within which a topology of these links and destinations is known to exist.
+    /// Limits within which a topology of these links and destinations exists; `None` if none are known.
     pub(crate) known: Option<Limits>,
     ghost dests_are_ids: { ∥ AreIds dests.items ∥₁ },
     ghost links_are_pairs: { ∥ ArePairs links.items ∥₁ },

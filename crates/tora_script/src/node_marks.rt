@@ -16,7 +16,7 @@ pub enum Mark {
 }
 
 impl Mark {
-    /// The node.
+    /// The node that the line names.
     pub fn node(self) -> Id
         ensures { result ≡ marked self }
     {

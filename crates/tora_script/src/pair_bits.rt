@@ -34,7 +34,8 @@ fn place_of(key: (Id, Id)) -> Id
     key.1 % BITS
 }
 
-/// Whether the bit of a lower and a higher node is set; false if there is no such word.
+/// Whether the bit of a lower node and a higher node below 1,024 is set; false if the bits are not allocated. For a
+/// higher node from 1,024 on, the bit that is read may belong to another pair.
 #[inline(always)]
 pub fn has_bit(words: &Vec<u64>, key: (Id, Id)) -> bool
     ensures { result ≡ has_bit words.now.items key }
@@ -61,7 +62,7 @@ pub fn make_bits(words: &mut Vec<u64>, key: (Id, Id)) -> Result<(), AllocError>
     Ok(())
 }
 
-/// Sets the bit of a lower and a higher node, if they have one.
+/// Sets the bit of a lower node and a higher node, if the higher is below 1,024.
 pub fn set_bit(words: &mut Vec<u64>, key: (Id, Id))
     requires ordered { key.0 ≤ key.1 }
     requires many { key.1 < 1024 → 16384 ≤ length words.old.items }
@@ -74,7 +75,7 @@ pub fn set_bit(words: &mut Vec<u64>, key: (Id, Id))
     }
 }
 
-/// Clears the bit of a lower and a higher node, if they have one.
+/// Clears the bit of a lower node and a higher node, if the higher is below 1,024 and the bits are allocated.
 pub fn clear_bit(words: &mut Vec<u64>, key: (Id, Id))
     ensures { (other : ℕ × ℕ) → other.1 < 1024 → has_bit words.new.items other
         ≡ cond (pair_eq key other) false (has_bit words.old.items other) }

@@ -31,7 +31,7 @@ pub fn is_word(word: &[u8], text: &[u8]) -> bool
     text.len() == word.len() && after(word, text).is_some()
 }
 
-/// The ids of two nodes.
+/// Reads `N K`, two ids with one blank between them; `None` for any other text.
 #[tactic(auto, unfolding(crate::specs::SimulationLines::pair_of))]
 pub fn pair(text: &[u8]) -> Option<(Id, Id)>
     ensures value { result ≡ pair_of text.now }
@@ -55,7 +55,7 @@ fn life_number(text: &[u8]) -> Option<u64>
     }
 }
 
-/// The two numbers of a session.
+/// Reads `X Y`, the two numbers of a session, each from 1 to 2^62; `None` for any other text.
 #[tactic(auto, unfolding(crate::specs::SimulationLines::life_of))]
 fn life(text: &[u8]) -> Option<Life>
     ensures { result ≡ life_of text.now }
@@ -66,7 +66,7 @@ fn life(text: &[u8]) -> Option<Life>
     Some(Life { own, peer })
 }
 
-/// Two nodes and a session.
+/// Reads `N K X Y`, two ids and the two numbers of a session; `None` for any other text.
 #[tactic(auto, unfolding(crate::specs::SimulationLines::lane_of))]
 fn lane(text: &[u8]) -> Option<(Id, Id, Life)>
     ensures { result ≡ lane_of text.now }
@@ -105,7 +105,8 @@ fn call(text: &[u8]) -> Option<Call>
     }
 }
 
-/// The word T of `restart N T`: `-` for no bytes, or 16 bytes in hexadecimal digits.
+/// Reads the word T of `restart N T`: `Some(None)` for `-`, and 16 bytes for 32 hexadecimal digits of either case.
+/// `None` for any other word.
 #[tactic(auto, unfolding(crate::specs::SimulationLines::torn_of))]
 fn torn(text: &[u8]) -> Option<Option<[u8; 16]>>
     ensures { result ≡ torn_of text.now }
@@ -143,7 +144,7 @@ fn restart(text: &[u8]) -> Option<Event>
     Some(Event::Restart(n, torn))
 }
 
-/// `open N K`, `pull N K`, `transmit N K` or `pump N K`.
+/// Reads `open N K`, `pull N K`, `transmit N K` or `pump N K`; `None` for any other text.
 #[tactic(auto, unfolding(crate::specs::SimulationLines::end_event_of, crate::specs::SimulationLines::for_pair))]
 fn end_event(text: &[u8]) -> Option<Event>
     ensures { result ≡ end_event_of text.now }
@@ -164,7 +165,7 @@ fn end_event(text: &[u8]) -> Option<Event>
     Some(Event::Pump(n, k))
 }
 
-/// `need N D`, `deliver I`, `turn N`, `arm N CALL`, `restart N T` or `tick`.
+/// Reads `need N D`, `deliver I`, `turn N`, `arm N CALL`, `restart N T` or `tick`; `None` for any other text.
 #[tactic(auto, unfolding(crate::specs::SimulationLines::node_event_of, crate::specs::SimulationLines::for_pair, crate::specs::SimulationLines::for_id, crate::specs::SimulationLines::deliver_of))]
 fn node_event(text: &[u8]) -> Option<Event>
     ensures { result ≡ node_event_of text.now }
@@ -204,7 +205,7 @@ fn rounds(text: &[u8]) -> Option<SimulationLine>
     }
 }
 
-/// `exact D`, `walk N D` or `rest`.
+/// Reads `exact D`, `walk N D` or `rest`; `None` for any other text.
 #[tactic(auto, unfolding(crate::specs::SimulationLines::walk_line_of, crate::specs::SimulationLines::for_pair, crate::specs::SimulationLines::for_id))]
 fn walk_line(text: &[u8]) -> Option<SimulationLine>
     ensures { result ≡ walk_line_of text.now }
@@ -223,7 +224,8 @@ fn walk_line(text: &[u8]) -> Option<SimulationLine>
     }
 }
 
-/// `rounds R`, `part A B`, `mend A B`, `heights D`, `sent A B X Y`, `taken B A Y X`, or a line of walks.
+/// Reads `rounds R`, `part A B`, `mend A B`, `heights D`, `sent A B X Y`, `taken B A Y X`, or what `walk_line` reads;
+/// `None` for any other text.
 #[tactic(auto, unfolding(crate::specs::SimulationLines::order_line_of, crate::specs::SimulationLines::for_pair, crate::specs::SimulationLines::for_id, crate::specs::SimulationLines::for_lane))]
 fn order_line(text: &[u8]) -> Option<SimulationLine>
     ensures { result ≡ order_line_of text.now }
@@ -253,7 +255,8 @@ fn order_line(text: &[u8]) -> Option<SimulationLine>
     walk_line(text)
 }
 
-/// A line after the links.
+/// Reads a line after the links and the lines about nodes: an event, an order or a question. `None` for any other text;
+/// whether the named nodes and links exist is not checked.
 #[tactic(auto, unfolding(crate::specs::SimulationLines::simulation_line_of))]
 pub fn simulation_line(text: &[u8]) -> Option<SimulationLine>
     ensures { result ≡ simulation_line_of text.now }
@@ -267,7 +270,8 @@ pub fn simulation_line(text: &[u8]) -> Option<SimulationLine>
     order_line(text)
 }
 
-/// The first line: `dests LIST`.
+/// Reads the first line, `dests LIST`, and returns the destinations. The error is `Fault` for any other text, and
+/// `Memory` if memory ran out.
 #[tactic(auto, unfolding(crate::specs::SimulationLines::dests_of))]
 pub fn dests(alloc: Global, text: &[u8]) -> Result<Vec<Id>, LineError>
     ensures value { Gives (λ v. v.items) result (dests_of text.now) }
@@ -276,7 +280,7 @@ pub fn dests(alloc: Global, text: &[u8]) -> Result<Vec<Id>, LineError>
     words::list(alloc, behind(b"dests ", text)?)
 }
 
-/// `link A B`.
+/// Reads `link A B`; `None` for any other text.
 #[tactic(auto, unfolding(crate::specs::SimulationLines::link_of))]
 pub fn link(text: &[u8]) -> Option<(Id, Id)>
     ensures value { result ≡ link_of text.now }
@@ -285,7 +289,7 @@ pub fn link(text: &[u8]) -> Option<(Id, Id)>
     pair(after(b"link ", text)?)
 }
 
-/// `plain` or `remembered`.
+/// Reads the word `plain` or `remembered`; `None` for any other text.
 #[tactic(auto, unfolding(crate::specs::SimulationLines::erasure_of))]
 pub fn erasure_word(text: &[u8]) -> Option<Erasure>
     ensures { result ≡ erasure_of text.now }
@@ -310,7 +314,7 @@ fn erases(text: &[u8]) -> Option<Mark>
     Some(Mark::Erases(n, erasure))
 }
 
-/// `old N` or `erasure N WORD`.
+/// Reads `old N` or `erasure N WORD`, where WORD is `plain` or `remembered`; `None` for any other text.
 #[tactic(auto, unfolding(crate::specs::SimulationLines::mark_of, crate::specs::SimulationLines::for_id))]
 pub fn mark(text: &[u8]) -> Option<Mark>
     ensures { result ≡ mark_of text.now }

@@ -108,7 +108,7 @@ impl Parted {
         Ok(())
     }
 
-    /// Mends two nodes.
+    /// Ends the parting of two nodes. If they are not parted, nothing changes.
     pub fn mend(&mut self, a: Id, b: Id)
         ensures { self.new ≡ without_parted a b self.old }
     {

@@ -35,17 +35,17 @@ pub struct FaultReports<'a, T> {
 #[derive(Drop)]
 pub struct Told<'a, S, T> {
     pub reports: FaultReports<'a, T>,
-    /// The number of the last line.
+    /// The number of the line that was taken last, from 1; 0 before the first line.
     pub number: u64,
     pub state: Simulation<S>,
 }
 
-/// Reports why a line is a fault.
+/// Reports why a line is a fault: writes `tora: line N: CAUSE` to standard error.
 pub fn report_cause<T: Eprint>(rt: &T, number: u64, cause: SimulationCause) {
     let _ = rt.eprintln(format_args!("tora: line {number}: {cause}"));
 }
 
-/// Reports that a core refuses a need because the destination is not in the list.
+/// Reports that a core refuses the need of the line, if the line is a need whose destination is not in the list.
 fn report_need<T: Eprint>(rt: &T, number: u64, line: &[u8], dests: &[Id]) {
     if let Some(SimulationLine::Happens(Event::Need(n, d))) = simulation_line(line) {
         if !has_number(d, dests) {
@@ -105,7 +105,12 @@ impl<S: Simulator, T: Eprint> FileKind for Told<'_, S, T> {
 }
 
 /// Simulates with these settings, over a channel that the table changes by round. Reports why a line is a fault, unless
-/// it is too long, and, if asked to, why an event is refused.
+/// it has more than 4,096 bytes, and, if `is_verbose`, why an event is refused.
+///
+/// A fault is not an error: `fault N` is written, and the result is `Ended::Fault(N)`.
+///
+/// # Errors
+/// Those of `tora_lines::read_lines`: `Memory`, `Read` or `Write`.
 #[tactic(auto, unfolding(tora_lines::specs::Engine::text_of))]
 pub fn simulate_and_report<S: Simulator, T: Eprint, R: Input, W: Output>(
     reports: FaultReports<'_, T>,
@@ -135,8 +140,8 @@ pub fn simulate_and_report<S: Simulator, T: Eprint, R: Input, W: Output>(
     read_lines(alloc, state, reader, writer)
 }
 
-/// As `simulate_and_report`, for a program that ends afterwards: the memory of the world is not freed, which saves a tenth
-/// of the time for a world of a thousand nodes.
+/// As `simulate_and_report`, for a program that ends afterwards: the memory of the world is not freed, which saves a
+/// tenth of the time for a world of a thousand nodes.
 #[tactic(auto, unfolding(tora_lines::specs::Engine::text_of))]
 pub fn simulate_last_and_report<S: Simulator, T: Eprint, R: Input, W: Output>(
     reports: FaultReports<'_, T>,
@@ -166,8 +171,12 @@ pub fn simulate_last_and_report<S: Simulator, T: Eprint, R: Input, W: Output>(
     read_last_lines(alloc, state, reader, writer)
 }
 
-/// Simulates with these times of each link end. Reports on standard error why an event is refused, and why a line is a
-/// fault, unless it is too long.
+/// Simulates as `simulate_and_report` does, with these times of each link end, none of which is 0, and otherwise the
+/// settings of `Setup::plain`. Reports why an event is refused, and why a line is a fault, unless it has more than
+/// 4,096 bytes.
+///
+/// # Errors
+/// Those of `simulate_and_report`.
 pub fn simulate_with_reports<S: Simulator, T: Eprint, R: Input, W: Output>(
     rt: &T,
     alloc: Global,

@@ -18,7 +18,8 @@ use tora_world::Event;
 /// The most passes of a round.
 pub const MOST_PASSES: u64 = 1000;
 
-/// Delivers a datagram that was sent before the round, unless its nodes are parted.
+/// Delivers datagram `i`, which was sent before the round, unless its nodes are parted. Returns whether it was
+/// delivered.
 fn arrive<S: Simulator>(sim: &mut S, moment: &Moment<'_>, i: u64) -> Result<bool, AllocError>
     ensures { IfOk result (λ some. Happened (S.world sim.old) (arrival_of moment.now.network.parted.now i
         (datagram (S.world sim.old) i) (S.world sim.old)) (S.world sim.new) some) }
@@ -32,7 +33,8 @@ fn arrive<S: Simulator>(sim: &mut S, moment: &Moment<'_>, i: u64) -> Result<bool
     sim.deliver(i, 1)
 }
 
-/// Delivers a delayed datagram, if it arrives in this round.
+/// Delivers a delayed datagram, if it arrives in this round and its nodes are not parted. `copy` is in how many rounds
+/// it arrives, at most 1 for this one, and its number. Returns whether it was delivered.
 fn arrive_in<S: Simulator>(
     sim: &mut S,
     moment: &Moment<'_>,
@@ -47,7 +49,8 @@ fn arrive_in<S: Simulator>(
     arrive(sim, moment, copy.1)
 }
 
-/// Delivers the delayed datagrams that arrive in this round.
+/// Delivers the delayed datagrams that arrive in this round, except between parted nodes. Returns whether any was
+/// delivered.
 fn arrive_all<S: Simulator>(
     sim: &mut S,
     moment: &Moment<'_>,
@@ -103,7 +106,8 @@ fn make_passes<S: Simulator>(sim: &mut S, moment: &Moment<'_>) -> Result<(), All
     Ok(())
 }
 
-/// The events of one round.
+/// Makes the events of one round happen: the tick, an opening of each closed end, the delayed datagrams that arrive,
+/// and the passes.
 #[tactic(auto, unfolding(crate::specs::Rounds::round))]
 fn round<S: Simulator>(
     sim: &mut S,
@@ -149,10 +153,10 @@ fn make_round<S: Simulator>(
     in_flight.go_on(sim, &moment)
 }
 
-/// Makes rounds.
+/// Makes `count` rounds in a network, and updates the delayed datagrams. With 0 nothing changes.
 ///
 /// # Errors
-/// Memory ran out. Some of the events have happened.
+/// Memory ran out. Some of the events may have happened.
 pub fn make_rounds<S: Simulator>(
     sim: &mut S,
     count: u64,

@@ -41,7 +41,8 @@ pub struct Running<S> {
     pub in_flight: InFlight,
     /// Whether both ends of a link cut its session at once when the link is parted.
     pub has_notice: bool,
-    /// Why the event of the last line was refused, if it was.
+    /// Why the event that `answer` carried out last was refused; `None` if it happened, or if there was none. `take`
+    /// sets it to `None` before each line.
     pub refused: Option<SimError>,
     pub sim: S,
 }
@@ -53,8 +54,8 @@ pub fn has_number(n: Id, numbers: &[Id]) -> bool
     numbers.iter().any(|m| *m == n)
 }
 
-/// Whether there is a link between the nodes. A binary search finds it if the ends are in ascending order. If it finds
-/// nothing, every end is compared.
+/// Whether `ends` has the end of node `a` towards `b`. A binary search finds it if the ends are in ascending order. If
+/// it finds nothing, every end is compared.
 pub fn has_end(a: Id, b: Id, ends: &[(Id, Id)]) -> bool
     ensures { result ≡ has_end a b ends.now }
 {
@@ -141,7 +142,7 @@ fn write_nodes(out: &mut String, nodes: &[Id]) -> Result<(), AllocError>
     }
 }
 
-/// Appends a walk to a text.
+/// Appends a walk to a text: `walk LIST`, or `walk -` for `None`.
 #[tactic(auto, unfolding(crate::specs::SimulationText::walk_text))]
 fn write_walk(out: &mut String, walk: Option<Vec<Id>>) -> Result<(), AllocError>
     ensures { OnOk result (string_bytes out.new ≡ string_bytes out.old ++ walk_text (option_map (λ v. v.items) walk)) }
@@ -186,7 +187,8 @@ fn start<S: Simulator>(
 }
 
 impl<S: Simulator> Running<S> {
-    /// The simulation in its first world; a fault if there is no such topology.
+    /// The simulation in its first world. The error is `Fault` if the links or destinations are refused within the
+    /// limits, and `Memory` if memory ran out.
     pub fn new(
         alloc: Global,
         dests: &[Id],
@@ -350,7 +352,12 @@ impl<S: Simulator> Running<S> {
         write_at_rest(out, self.sim.is_at_rest())
     }
 
-    /// Carries out a line, and writes its output to an empty text. A line that is a fault changes nothing.
+    /// Carries out a line, and writes its output to an empty text. Rounds run over `channel` alone, without a last
+    /// round.
+    ///
+    /// # Errors
+    /// `Fault` if the line is no event and names a node, link or destination that does not exist; then nothing changes.
+    /// `Memory` if memory ran out.
     #[tactic(auto, unfolding(crate::specs::SimulationText::running_reply))]
     pub fn answer(&mut self, line: SimulationLine, out: &mut String) -> Result<(), LineError>
         requires { string_bytes out.old ≡ [] }

@@ -6,9 +6,9 @@ use tora_world::Event;
 /// A line after the links.
 #[derive(Clone, Copy, Debug)]
 pub enum SimulationLine {
-    /// The event happens.
+    /// Makes an event happen, or prints that it is refused.
     Happens(Event),
-    /// This many rounds, at most 10,000.
+    /// Makes this many rounds; a line that is read has at most 10,000.
     Rounds(u64),
     /// Rounds stop delivering datagrams between two nodes.
     Part(Id, Id),
@@ -22,9 +22,9 @@ pub enum SimulationLine {
     /// Prints how many packets the first node's core took from the second in a session, as the end of the first writes
     /// it.
     Taken(Id, Id, Life),
-    /// Prints whether the entries for a destination are exact.
+    /// Prints whether the entries for a destination are exact: each that is not NULL is the height of its neighbour.
     Exact(Id),
-    /// Prints the walk from a node to a destination.
+    /// Prints the nodes from a node to a destination along next hops, if they lead there.
     Walk(Id, Id),
     /// Prints whether the world is at rest.
     Rest,

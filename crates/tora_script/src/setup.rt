@@ -34,7 +34,7 @@ pub struct Setup {
     pub channel: Channel,
     pub has_notice: bool,
     pub options: WorldOptions,
-    /// The number of rounds after which the simulation ends.
+    /// The number of rounds after which lines do nothing more; `None` if there is no last round.
     pub until: Option<u64>,
 }
 

@@ -11,11 +11,11 @@ use crate::setup::Setup;
 /// The state between two lines of a simulation file.
 #[derive(Drop)]
 pub enum Stage<S> {
-    /// Before the first line.
+    /// No first line `dests LIST` was accepted yet.
     First,
-    /// After the first line.
+    /// The first line was accepted, and since then only links and lines about single nodes.
     Links(LinkLines),
-    /// After the links and the lines about single nodes.
+    /// The first line after these was accepted, so the world is made.
     Runs(Running<S>),
 }
 

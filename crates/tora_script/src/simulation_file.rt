@@ -32,7 +32,7 @@ use tora_lines::words::LineError;
 use tora_lines::{Ended, FileKind, Input, Output, ReplayError, read_lines};
 use tora_sim::{Limits, topology_fault_within};
 
-/// Takes the first line.
+/// Takes the first line. The error is `Fault` if it is not `dests LIST`, and `Memory` if memory ran out.
 pub fn first_line(alloc: Global, line: &[u8]) -> Result<LinkLines, LineError>
     ensures { Gives (λ lines. Progress.Links lines.dests.items lines.links.items lines.marks.items) result
         (first_progress line.now) }
@@ -46,7 +46,8 @@ pub fn first_line(alloc: Global, line: &[u8]) -> Result<LinkLines, LineError>
     })
 }
 
-/// Takes a link. After a line about a node it is a fault and changes nothing.
+/// Takes a link. After a line about a node the error is `Fault`, and nothing changes. The topology is not checked here.
+/// `Memory` if memory ran out.
 pub fn take_link(lines: &mut LinkLines, link: (Id, Id)) -> Result<(), LineError>
     requires { (0 < link.0) × (0 < link.1) }
     ensures gives { Gives (λ _. Progress.Links lines.new.dests.items lines.new.links.items lines.new.marks.items) result
@@ -91,7 +92,8 @@ pub fn take_mark(limits: Limits, lines: &mut LinkLines, mark: Mark) -> Result<()
     Ok(())
 }
 
-/// Takes the first line after the links and the lines about nodes, and starts the simulation.
+/// Takes the first line after the links and the lines about nodes, and starts the simulation. The error is `Fault` if
+/// the links or destinations are refused or the line is a fault, and `Memory`.
 fn first_run<S: Simulator>(
     alloc: Global,
     setup: Setup,
@@ -111,7 +113,8 @@ fn first_run<S: Simulator>(
     Ok(running)
 }
 
-/// Takes a line after the links and the lines about nodes. At least one link is required.
+/// Takes the first line after the links and the lines about nodes as `first_run` does; `Fault` also if there is no
+/// link.
 fn behind_links<S: Simulator>(
     alloc: Global,
     setup: Setup,
@@ -145,7 +148,7 @@ fn end_of_links(limits: Limits, lines: &LinkLines, number: u64) -> Option<u64>
     }
 }
 
-/// Takes the first line, after which the links follow.
+/// Takes the first line, after which the links follow. The error is `Fault` if it is not `dests LIST`.
 ///
 /// Like `begin_run` it is never inlined; otherwise every line of the file would need stack space for a simulation.
 #[inline(never)]
@@ -160,8 +163,8 @@ fn begin_links<S: Simulator>(
     Ok(())
 }
 
-/// Carries out the first line after the links and node lines, which starts the simulation. At any other stage nothing
-/// changes.
+/// Carries out the first line after the links and the lines about nodes, which starts the simulation. At any other
+/// stage the error is `Fault`, and nothing changes.
 #[inline(never)]
 fn begin_run<S: Simulator>(
     stage: &mut Stage<S>,
@@ -232,9 +235,13 @@ impl<S: Simulator> FileKind for Simulation<S> {
     }
 }
 
-/// Reads the lines of a simulation file to the end of the input or to the first line that is a fault, and writes the
-/// output of each line. The simulator is of this kind, and its link ends have these times, none of which is 0.
-/// `docs/formats.md`, "Simulation files", defines the file.
+/// Reads the lines of a simulation file to the end of the input or to the first fault, and writes the output of each
+/// line. The simulator is of the kind `S`, and its link ends have these times, none of which is 0. `docs/formats.md`,
+/// "Simulation files", defines the file. A fault is not an error: `fault N` is written, and the result is
+/// `Ended::Fault(N)`.
+///
+/// # Errors
+/// Those of `tora_lines::read_lines`: `Memory`, `Read` or `Write`.
 #[tactic(auto, unfolding(tora_lines::specs::Engine::text_of))]
 pub fn simulate_in<S: Simulator, R: Input, W: Output>(
     alloc: Global,

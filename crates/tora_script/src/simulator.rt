@@ -23,11 +23,14 @@ use tora_world::{Event, SimError};
 pub trait Simulator: Drop {
     ghost world: { Self → World };
 
-    /// The first world of links and destinations, or why there is no such topology within the limits.
+    /// The first world of links and destinations, within the limits of `options`.
     ///
     /// `marks` are the lines about single nodes: which nodes have link ends that speak only version 1 of frames, and
     /// how single nodes treat erased levels. A mark of a node that no link names changes nothing. Each link end has
     /// these times.
+    ///
+    /// # Errors
+    /// `TooMany`, `Repeated` or `OwnId` if there is no such topology within the limits; `Memory` if memory ran out.
     fn start(
         alloc: Global,
         options: WorldOptions,
@@ -93,7 +96,8 @@ pub trait Simulator: Drop {
     fn settle(&mut self)
         ensures { world self.new ≡ world self.old };
 
-    /// Makes an event happen, or returns why it is refused. A refused event changes nothing.
+    /// Makes an event happen and returns `Ok(None)`, or returns why it is refused, which is never `Memory`. A refused
+    /// event changes nothing. Fails if memory runs out; the event may have happened then.
     fn happen(&mut self, event: &Event) -> Result<Option<SimError>, AllocError>
         ensures refused { IfOk result (λ refused. refused ≡ refusal_of (world self.old) event.now) }
         ensures after { IfOk result (λ _. world self.new ≡ world_after (world self.old) event.now) };
@@ -155,39 +159,50 @@ pub trait Simulator: Drop {
     fn ends(&self, alloc: Global) -> Result<Vec<(Id, Id)>, AllocError>
         ensures { IfOk result (λ v. v.items ≡ ends_in (world self.now).topology) };
 
-    /// How many datagrams were ever sent.
+    /// How many datagrams were ever sent; their numbers begin with 1. Those that were lost on sending do not count.
     fn datagrams(&self) -> u64
         ensures { result ≡ length (world self.now).datagrams };
 
-    /// The sender and the receiver of a datagram, by its number from 1.
+    /// The sender and the receiver of a datagram, by its number from 1. `None` for 0 and for a number that no datagram
+    /// has yet.
     fn datagram(&self, i: u64) -> Option<(Id, Id)>
         ensures { result ≡ option_map (λ f. (f.header.sender, f.header.receiver)) (datagram (world self.now) i) };
 
-    /// The height of a node for a destination.
+    /// The height of node `n` for destination `d`, where `Some(None)` is NULL. `None` if there is no such node or
+    /// destination.
     fn height(&self, n: Id, d: Id) -> Option<Entry>
         ensures { result ≡ height_at (world self.now) n d };
 
-    /// The next hop of a node for a destination.
+    /// The next hop of node `n` to destination `d`. `None` if the node has none, or there is no such node or
+    /// destination.
     fn next_hop(&self, n: Id, d: Id) -> Option<Id>
         ensures { result ≡ hop_at (world self.now) n d };
 
-    /// How many packets the core of `a` sent to `b` in a session.
+    /// How many packets the core of `a` sent to `b` in a session, as the end of `a` writes it; 0 if there is no such
+    /// link or session.
     fn sent(&self, a: Id, b: Id, life: Life) -> usize
         ensures { result ≡ length (sent_packets (world self.now) a b life) };
 
-    /// How many packets the core of `b` took from `a` in a session.
+    /// How many packets the core of `b` took from `a` in a session, as the end of `b` writes it; 0 if there is no such
+    /// link or session.
     fn taken(&self, b: Id, a: Id, life: Life) -> usize
         ensures { result ≡ length (taken_packets (world self.now) b a life) };
 
-    /// Whether the entries for a destination are exact.
+    /// Whether the entries for a destination are exact: each that is not NULL, of any node and any neighbour whose link
+    /// is up, is the height of that neighbour.
     fn exact(&self, d: Id) -> bool
         ensures { result ≡ exact_in (world self.now) d };
 
-    /// The walk from a node to a destination, if there is one. The caller names a node and a destination of the world.
+    /// The nodes from node `n` to destination `d` along next hops, including both. `None` if a node before `d` has no
+    /// next hop, or if `d` is not reached within as many hops as there are nodes.
+    ///
+    /// # Errors
+    /// Memory ran out; or there is no such node or destination, which the caller excludes.
     fn walk(&self, alloc: Global, n: Id, d: Id) -> Result<Option<Vec<Id>>, AllocError>
         ensures { IfOk result (λ walk. option_map (λ v. v.items) walk ≡ walk_of (world self.now) n d) };
 
-    /// Whether the world is at rest.
+    /// Whether the world is at rest: nothing waits in a queue or a link end, all packets are acknowledged, and each
+    /// link is up at both cores in one session, to which both ends are bound, or at neither.
     fn is_at_rest(&self) -> bool
         ensures { result ≡ rests (world self.now) };
 }

@@ -66,8 +66,12 @@ impl<S: Simulator> Running<S> {
         }
     }
 
-    /// Takes a line of a simulation, and writes its output to an empty text. After the last round of `--until` it does
-    /// nothing. A table may change the channel by round.
+    /// Takes a line of a simulation, and writes its output to an empty text. A table may change the channel by round.
+    /// After the last round of `--until` any line is accepted and does nothing.
+    ///
+    /// # Errors
+    /// `Fault` if the line has no form of a line after the links, or is no event and names a node, link or destination
+    /// that does not exist; `Memory` if memory ran out.
     pub fn take(
         &mut self,
         until: Option<u64>,

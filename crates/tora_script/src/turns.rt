@@ -58,8 +58,8 @@ fn may_go_on<S: Simulator>(sim: &S, place: usize, event: &Event, some: bool) -> 
 }
 
 /// Makes an event happen until it is refused, at most `most` times, and returns whether it happened at all. `place` is
-/// the index of its node or link end. Except for the first time, it asks before whether the event may happen; for the
-/// first time the caller asks.
+/// the index of its node or link end. Before the first time the caller asks `may_happen`; before each other time this
+/// function does.
 #[inline(never)]
 pub fn repeat<S: Simulator>(
     sim: &mut S,
@@ -84,7 +84,8 @@ pub fn repeat<S: Simulator>(
     Ok(some)
 }
 
-/// Lets a core take its items.
+/// Lets a core take items until it has none, at most `MOST_TIMES`, and returns whether it took any. `place` is the
+/// index of its node.
 #[inline(always)]
 fn turn_core<S: Simulator>(sim: &mut S, place: usize, n: Id) -> Result<bool, AllocError>
     ensures { IfOk result (λ some. Happened (S.world sim.old) (while_possible (CoreTurn n) (S.world sim.old))
@@ -116,7 +117,7 @@ pub fn turn_cores<S: Simulator>(sim: &mut S, nodes: &[Id]) -> Result<bool, Alloc
     Ok(some)
 }
 
-/// Gives a link end its turn, one event at a time, at most `most` events.
+/// Gives a link end its turn, one event at a time, at most `most` events. Returns whether an event happened.
 #[inline(always)]
 fn repeat_turn<S: Simulator>(
     sim: &mut S,
@@ -134,8 +135,8 @@ fn repeat_turn<S: Simulator>(
     repeat(sim, place, &kind.event(end), most)
 }
 
-/// Gives a link end its turn, at most `most` events. Frames are sent by one call of the simulator, because they are
-/// what most ends have to do in most rounds.
+/// Gives a link end its turn, at most `most` events, and returns whether an event happened. Frames are sent by one call
+/// of the simulator, because they are what most ends have to do in most rounds.
 #[inline(always)]
 pub fn turn_end<S: Simulator>(
     sim: &mut S,
@@ -168,7 +169,8 @@ pub fn next_place<S: Simulator>(sim: &S, known: bool, _ends: &[(Id, Id)], place:
     if known { sim.next_due(place) } else { place }
 }
 
-/// Gives each link end its turn, at most `most` events each. If `known`, the ends that have nothing to do are skipped.
+/// Gives each link end its turn, at most `most` events each, and returns whether an event happened. If `known`, the
+/// ends that have nothing to do are skipped.
 #[inline(always)]
 pub fn turn_known_ends<S: Simulator>(
     sim: &mut S,

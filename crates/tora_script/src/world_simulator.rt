@@ -1,4 +1,4 @@
-//! The simulator of the world of all schedules, as the engine asks for it.
+//! `Sim`, the simulator of the world of all schedules, as a `Simulator`.
 ghost use Rattle.std.specs.Prelude.{◌≡◌, ◌⊎◌, None, Some, IfErr, IfOk, OnOk};
 ghost use Rattle.tora_world.specs.Topology.{topology_fault_within};
 ghost use Rattle.tora_sim.specs.Topologies.{topology_of};
@@ -57,7 +57,8 @@ fn put_marks(topology: &mut Topology, marks: &[Mark]) -> Result<(), AllocError>
     Ok(())
 }
 
-/// The topology of these links and destinations, with the lines about its nodes applied.
+/// The topology of these links and destinations, with the lines about its nodes applied. The error is `TooMany`,
+/// `Repeated` or `OwnId` if there is no such topology within the limits, and `Memory` if memory ran out.
 fn mixed_topology(
     alloc: Global,
     options: WorldOptions,

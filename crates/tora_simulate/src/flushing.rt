@@ -1,4 +1,4 @@
-//! Writes that are flushed: the output of the command's engine, and bytes of any command.
+//! Simulations whose output is flushed at the end, and bytes that are written and flushed.
 ghost use Rattle.std.specs.Prelude.{◌≡◌, ◌≢◌, Ok, OnOk, OnErr, IfOk, IfErr, IfSome};
 ghost use Rattle.std.specs.Io.KnownBytes.{Appends, IsAtEnd};
 ghost use Rattle.tora_arq.specs.Settings.{IsTimes};
@@ -15,8 +15,11 @@ use tora_script::{
     ChannelTable, FaultReports, Setup, Simulator, simulate_and_report, simulate_last_and_report,
 };
 
-/// Simulates with this setup, over the channel that the table gives, then flushes the writer. It reports the cause of a
-/// fault and, if asked to, refused events. The error is `Write` if only the flush fails.
+/// Simulates as `simulate_and_report` does, then flushes the writer. Reports why a line is a fault, unless it has more
+/// than 4,096 bytes, and, if `reports` asks for it, why an event is refused.
+///
+/// # Errors
+/// Those of `simulate_and_report`; `Write` if only the flush fails.
 pub fn simulate_report_and_flush<S: Simulator, T: Eprint, R: Input, W: Output>(
     reports: FaultReports<'_, T>,
     alloc: Global,

@@ -1,4 +1,4 @@
-//! The simulation that the program runs: a file of lines in its own simulator (`simulate`), and the command `sim`
+//! The simulation that the program runs: the lines of a file in `tora_sim::Sim` (`simulate`), and the command `sim`
 //! (`sim_command`) with its exit status (`status`).
 //!
 //! ```rust

@@ -1,4 +1,4 @@
-//! Files by their paths, with calls whose results contracts can name.
+//! Files by their paths, with calls whose results can be named in contracts.
 ghost use Rattle.std.specs.Prelude.{◌≡◌, List, ℕ, Result, Ok, Err, IfOk, IfErr, IfSome, string_bytes};
 ghost use Rattle.std.specs.declared.io.Error.{Error};
 ghost use Rattle.std.specs.Io.{ReadsAtMost};
@@ -12,18 +12,18 @@ use std::rt::Files;
 use std::{fs, io};
 use tora_lines::Input;
 
-/// Files by their paths. Contracts can name the file or the error that a call returned. Every `Files` implements it.
+/// Files by their paths. A contract can name the file or the error that a call returned. Every `Files` implements it.
 pub trait Paths: Files {
-    /// The result of opening the file at a path.
+    /// Whether opening the file at a path can have this result.
     ghost did_open: { Self → List ℕ → Result Self.File Error → Type 0 };
 
-    /// The result of creating the file at a path.
+    /// Whether creating the file at a path can have this result.
     ghost did_create: { Self → List ℕ → Result Self.File Error → Type 0 };
 
-    /// The result of reading a file to its end.
+    /// Whether reading a file to its end can have this result.
     ghost did_read: { Self.File → Result (List ℕ) Error → Type 0 };
 
-    /// The result of one read of a file: the bytes or the error that it returned, and the file after it.
+    /// Whether one read of a file can return these bytes or this error, and leave this file.
     ghost did_get: { Self.File → Given → Self.File → Type 0 };
 
     /// Opens the file at a path, to read it.
@@ -40,7 +40,7 @@ pub trait Paths: Files {
         ensures failed { IfErr result (λ error. did_read file (Err error)) }
         ensures bytes { IfOk result (λ bytes. IfSome (Self.File.remaining file) (λ input. bytes.items ≡ input)) };
 
-    /// Reads a file to its end as a text.
+    /// Reads a file to its end as a text. Fails also if it is not UTF-8.
     fn read_text(&self, alloc: Global, file: Self::File) -> io::Result<String>
         ensures read { IfOk result (λ text. did_read file (Ok (string_bytes text))) }
         ensures failed { IfErr result (λ error. did_read file (Err error)) }
@@ -86,7 +86,7 @@ impl<T: Files> Paths for T {
     }
 }
 
-/// A file that was opened by its path, as a reader whose calls contracts can name.
+/// A file that was opened by its path, as a reader whose calls can be named in contracts.
 #[derive(Drop)]
 pub struct Opened<'a, T: Paths> {
     rt: &'a T,
@@ -94,7 +94,7 @@ pub struct Opened<'a, T: Paths> {
 }
 
 impl<'a, T: Paths> Opened<'a, T> {
-    /// This file, of which nothing was read yet.
+    /// A reader of this file, from the position that the file has.
     pub fn new(rt: &'a T, file: T::File) -> Opened<'a, T>
         ensures { result.file ≡ file }
     {
@@ -121,7 +121,7 @@ pub fn bytes_at<T: Paths>(rt: &T, alloc: Global, path: &str) -> io::Result<Vec<u
     rt.read_bytes(alloc, file)
 }
 
-/// The text of the file at a path.
+/// The text of the file at a path. Fails if the file cannot be opened or read, or is not UTF-8.
 pub fn text_at<T: Paths>(rt: &T, alloc: Global, path: &str) -> io::Result<String>
     ensures read { IfOk result (λ text. IsRead (T.did_open rt.now path.now) T.did_read T.File.remaining
         (string_bytes text)) }

@@ -38,7 +38,8 @@ struct LastLines {
 }
 
 impl LastLines {
-    /// The line with this number, without its LF, if it is remembered. An empty piece after the last LF is not a line.
+    /// The line with this number, without its LF, as far as it was read; `None` if it is not stored or bytes are
+    /// missing. An empty piece after the last LF is not a line.
     fn line(&self, number: u64) -> Option<&[u8]> {
         if self.is_lossy || number < self.first {
             return None;
@@ -100,7 +101,8 @@ impl<R> Recent<R> {
         self.lines.is_lossy
     }
 
-    /// The line with this number, counted from 1, without its LF, if the last read had a part of it.
+    /// The line with this number, counted from 1, without its LF, as far as it was read. `None` if its LF came before
+    /// the last read, if it has not begun, or if `is_lossy`.
     pub fn line(&self, number: u64) -> Option<&[u8]> {
         self.lines.line(number)
     }

@@ -18,7 +18,8 @@ use std::process::ExitCode;
 use tora_lines::{Ended, Input, LONGEST_LINE, Output, ReplayError};
 use tora_script::{ChannelTable, FaultReports, Setup, SimulationCause, Simulator, report_cause};
 
-/// Reports why a file is not available, and returns the status of the cause. It reports the cause without `-v`, too.
+/// Reports why the file at a path cannot be opened or read. Returns the exit status, 5 (`MEMORY`) if memory ran out and
+/// otherwise 1 (`INPUT`). Does not depend on `-v`.
 pub fn refuse<R: Eprint>(rt: &R, path: &str, error: &io::Error) -> ExitCode
     ensures { IsStatusOfError error.now (exit_status result) }
 {

@@ -16,13 +16,13 @@ pub(crate) const PARTS: u32 = 1_000_000;
 pub struct Channel {
     /// The seed of the random numbers.
     pub seed: u64,
-    /// How many of a million are lost.
+    /// How many of a million datagrams are lost on average; all from 1,000,000 on.
     pub loss: u32,
-    /// How many of a million that are not lost arrive twice.
+    /// How many of a million datagrams that are not lost arrive twice on average; all from 1,000,000 on.
     pub repeat: u32,
     /// The least delay in rounds; 0 means the pass in which the datagram was sent.
     pub least: u32,
-    /// The greatest delay in rounds.
+    /// The greatest delay in rounds; if it is less than `least`, every delay is `least`.
     pub most: u32,
 }
 
@@ -36,7 +36,8 @@ pub struct Place {
     pub before: u64,
 }
 
-/// After how many rounds a datagram arrives, and after how many it arrives again. `None` if it does not.
+/// After how many rounds a datagram arrives, and after how many it arrives again; 0 is the pass in which it was sent.
+/// `first` is `None` if it is lost, and `second` is `None` if it does not arrive again.
 #[derive(Clone, Copy, Debug, PartialEq, Eq)]
 pub struct Copies {
     pub first: Option<u64>,
@@ -56,7 +57,7 @@ fn generator(seed: u64, place: Place) -> ChaCha8Rng
     words
 }
 
-/// Whether a random word falls into a share of this many millionths.
+/// Whether a random word modulo 1,000,000 is below `share`.
 fn is_among(word: u32, share: u32) -> bool
     ensures { result ≡ is_among word share }
 {
@@ -93,7 +94,8 @@ impl Channel {
         u64::from(self.least) + u64::from(word) % range
     }
 
-    /// After how many rounds a datagram arrives.
+    /// After how many rounds the datagram with this `Place` arrives. The result depends only on the channel and the
+    /// place.
     #[tactic(auto, unfolding(crate::specs::Channel::copies_of))]
     pub fn copies(&self, place: Place) -> Copies
         ensures { result ≡ copies_of self.now place }

@@ -12,12 +12,12 @@ use tora_lines::words;
 /// The greatest delay in rounds.
 const MOST_DELAY: u64 = 10_000;
 
-/// The parts that a channel's word has.
+/// The parts of a channel that a word names. `None` is a part that it does not name, which counts as 0.
 #[derive(Clone, Copy, Debug, PartialEq, Eq)]
 pub struct Parts {
     /// How many of a million datagrams are lost.
     pub loss: Option<u32>,
-    /// How many of a million arrive twice.
+    /// How many of a million datagrams that are not lost arrive twice on average.
     pub repeat: Option<u32>,
     /// The least and the greatest delay in rounds.
     pub delay: Option<(u32, u32)>,
@@ -58,7 +58,7 @@ fn whole_share(number: u64) -> Option<u32>
     }
 }
 
-/// A share from 0 to 1, in millionths: `0`, `1`, or `0.` and one to six digits.
+/// A share from 0 to 1, in millionths: `0`, `1`, or `0.` and one to six digits. `None` for any other text.
 #[tactic(auto, unfolding(crate::specs::Parts::share_of))]
 fn share(text: &[u8]) -> Option<u32>
     ensures { result ≡ share_of text.now }
@@ -79,7 +79,8 @@ fn share(text: &[u8]) -> Option<u32>
     )
 }
 
-/// The least and the greatest delay in rounds: `A-B`, or `D` for `D-D`; A is at most B, and B at most 10,000.
+/// The least and the greatest delay in rounds: `A-B`, or `D` for `D-D`; A is at most B, and B at most 10,000. `None`
+/// for any other text.
 #[tactic(auto, unfolding(crate::specs::Parts::delay_of))]
 fn delay(text: &[u8]) -> Option<(u32, u32)>
     ensures { result ≡ delay_of text.now }
@@ -154,10 +155,10 @@ impl Parts {
     }
 }
 
-/// The parts of `loss=SHARE,repeat=SHARE,delay=ROUNDS`, each once at most and in any order.
+/// The parts of `loss=SHARE,repeat=SHARE,delay=ROUNDS`: one to three of these, each once at most and in any order.
 ///
 /// # Errors
-/// The first part that is not valid, or that is repeated.
+/// The text of the first part that is not valid, or that is repeated. After two valid parts, all the rest is one part.
 #[tactic(auto, unfolding(crate::specs::Parts::parts_from))]
 pub fn channel_parts(text: &[u8]) -> Result<Parts, &[u8]>
     ensures { result_ok result ≡ parts_of text.now }

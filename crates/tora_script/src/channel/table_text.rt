@@ -18,9 +18,9 @@ use tora_lines::words;
 pub enum LineCause {
     /// The line has fewer than four words.
     Words,
-    /// The first word is not a round.
+    /// The first word is not a number below 2^64 in decimal digits without leading zeros.
     Round,
-    /// The second or the third word is not a node.
+    /// The second or the third word is not a node number, from 1 to 2^32 - 1 without leading zeros.
     Node,
     /// The two nodes are the same.
     OwnLink,
@@ -69,7 +69,7 @@ impl<T: Drop> From<AllocFailed<T>> for TableError {
     }
 }
 
-/// The line of two different nodes.
+/// The line of two nodes. The error is `OwnLink` if they are the same.
 fn line_between(round: u64, a: Id, b: Id, parts: Parts) -> Result<ChannelLine, LineCause>
     ensures { result_ok result ≡ line_from round a b parts }
 {
@@ -84,7 +84,7 @@ fn line_between(round: u64, a: Id, b: Id, parts: Parts) -> Result<ChannelLine, L
     })
 }
 
-/// The text before the first blank, and the text after it.
+/// The text before the first blank, and the text after it. The error is `Words` if there is no blank.
 fn word(text: &[u8]) -> Result<(&[u8], &[u8]), LineCause>
     ensures { option_map (λ halves. (halves.0.now, halves.1.now)) (result_ok result) ≡ cut 32 text.now }
 {
@@ -122,7 +122,8 @@ fn numbered_line(number: u64, text: &[u8]) -> Result<ChannelLine, TableError>
     }
 }
 
-/// The lines of a channel file, each ended by LF; the last one needs none.
+/// The lines of a channel file, each ended by LF; the last one needs none. The error is `Line` for the first line that
+/// is refused, and `Memory`.
 fn channel_lines(alloc: Global, text: &[u8]) -> Result<Vec<ChannelLine>, TableError>
     ensures { Reads result (channel_lines_of text.now) }
 {

@@ -10,7 +10,7 @@ use tora_core::{Core, Input, Sends};
 use tora_lines::numbered;
 use tora_packet::{LONGEST_PACKET, Packet, encode};
 
-/// Appends a line with these digits to a text.
+/// Appends a line `send HEX` to a text, where HEX is `digits`.
 fn send_digits(out: &mut String, digits: &str) -> Result<(), AllocError>
     ensures { OnOk result (string_bytes out.new ≡ string_bytes out.old ++ codes "send " ++ digits.now ++ 10 ∷ []) }
 {
@@ -32,7 +32,7 @@ fn send(out: &mut String, packet: &Packet) -> Result<(), AllocError>
     send_digits(out, digits)
 }
 
-/// Appends a line for each packet to a text.
+/// Appends a line `send HEX` to a text for each packet, where HEX is its bytes in lower case.
 fn send_all(out: &mut String, packets: &[Packet]) -> Result<(), AllocError>
     ensures { OnOk result (string_bytes out.new ≡ string_bytes out.old ++ send_lines packets.now) }
 {
@@ -42,7 +42,8 @@ fn send_all(out: &mut String, packets: &[Packet]) -> Result<(), AllocError>
     Ok(())
 }
 
-/// Steps the core, and appends the packets sent, or the refusal, to a text. The list then has the packets.
+/// Steps the core, and appends a line for each packet sent, or `refused N`, to a text. Afterwards the list has the
+/// packets; it is empty after a refusal.
 #[tactic(auto, unfolding(crate::specs::ReplayAnswers::step_reply))]
 fn step(
     core: &mut Core,

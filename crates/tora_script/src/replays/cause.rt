@@ -132,7 +132,8 @@ fn next_cause(line: &[u8]) -> ReplayCause {
     }
 }
 
-/// Why the line with this number is a fault. `None` is the end of the input before that line.
+/// Why the line with this number, from 1, is a fault, if it is one. `None` in place of a line means that the input ends
+/// before it; the cause is then `Missing`.
 pub fn replay_cause(alloc: Global, number: u64, line: Option<&[u8]>) -> ReplayCause {
     let Some(line) = line else {
         return ReplayCause::Missing;

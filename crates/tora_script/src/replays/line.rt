@@ -10,7 +10,7 @@ pub struct Header {
     pub dests: Vec<Id>,
 }
 
-/// The order in a line after the first.
+/// What a line after the first has after its time: an input of the node, or a question.
 #[derive(Clone, Copy, Debug, PartialEq, Eq)]
 pub enum Order {
     /// The link to this neighbour comes up.
@@ -30,6 +30,6 @@ pub enum Order {
 pub struct Line {
     /// The time of the line, in ticks of 100 ms.
     pub now: u64,
-    /// The order.
+    /// The input of the node, or the question.
     pub order: Order,
 }

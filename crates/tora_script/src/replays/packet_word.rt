@@ -9,8 +9,8 @@ ghost use Rattle.tora_script.specs.ReplayLines.{bytes_of};
 use tora_lines::words::is_dash;
 use tora_packet::{LONGEST_PACKET, Packet, PacketError, decode};
 
-/// Decodes the packet in a word of hexadecimal digits, with `room` for its bytes; `None` unless the word is an even
-/// number of digits.
+/// Decodes the packet in a word of hexadecimal digits, with `room` for its bytes. An `Err` inside says why the bytes
+/// are not a packet; `None` unless the word is an even number of hexadecimal digits.
 #[tactic(auto, unfolding(crate::specs::ReplayLines::bytes_of))]
 fn reading(digits: &[u8], room: &mut [u8]) -> Option<Result<Packet, PacketError>>
     requires some { 0 < length digits.now }

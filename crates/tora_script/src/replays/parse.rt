@@ -35,7 +35,8 @@ fn id(text: &[u8]) -> Result<Id, LineError>
     }
 }
 
-/// The first line of a file: `node I links LIST dests LIST`.
+/// Reads the first line, `node I links LIST dests LIST`. The error is `Fault` for any other text, and `Memory` if
+/// memory ran out.
 #[tactic(auto, unfolding(crate::specs::ReplayLines::header_of))]
 pub fn header(alloc: Global, text: &[u8]) -> Result<Header, LineError>
     ensures value { Gives header result (header_of text.now) }
@@ -50,7 +51,8 @@ pub fn header(alloc: Global, text: &[u8]) -> Result<Header, LineError>
     Ok(Header { node, links, dests })
 }
 
-/// The rest of `from K HEX` after its first word: the neighbour K, and the packet that HEX encodes.
+/// Reads `K HEX`, the rest of a line after `from `: the neighbour K, and the packet that HEX encodes, or why its bytes
+/// are not a packet. `None` for any other text.
 #[tactic(auto, unfolding(crate::specs::ReplayLines::from_of))]
 fn from(text: &[u8]) -> Option<Order>
     requires { length text.now ≤ LONGEST_LINE }
@@ -93,7 +95,7 @@ fn order(text: &[u8]) -> Option<Order>
     }
 }
 
-/// A line after the first.
+/// Reads a line after the first: its time in ticks of 100 ms, below 2^64, and its order. `None` for any other text.
 #[tactic(auto, unfolding(crate::specs::ReplayLines::line_of))]
 pub fn line(text: &[u8]) -> Option<Line>
     requires { length text.now ≤ LONGEST_LINE }

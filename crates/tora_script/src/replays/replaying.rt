@@ -22,7 +22,8 @@ use tora_core::{Core, CoreError, CoreLimits, Erasure, Sends};
 use tora_lines::words::LineError;
 use tora_lines::{Ended, FileKind, Input, Output, ReplayError, read_lines};
 
-/// The core that the first line describes, with this treatment of erased levels.
+/// The replay of the core that the first line describes, with this treatment of erased levels. The error is `Fault` if
+/// the line has another form, or a core within the standard limits refuses it; `Memory` if memory ran out.
 #[tactic(auto, unfolding(crate::specs::ReplayText::core_of))]
 fn first(alloc: Global, erasure: Erasure, line: &[u8]) -> Result<Replaying, LineError>
     ensures { Gives (λ core. core) result (option_and_then (core_of erasure) (header_of line.now)) }
@@ -128,7 +129,7 @@ impl FileKind for ReplayFile {
 ///
 /// The first line is `node I links LIST dests LIST`, and each further one `NOW up K`, `NOW down K`, `NOW need D`, `NOW
 /// from K HEX` or `NOW show`. A line has at most 4,096 bytes without its LF. The output of a line is written by one
-/// call of the writer's `write_all`. The memory taken is bounded by one line.
+/// call of the writer's `write_all`. The memory that it takes does not grow with the number of lines.
 ///
 /// A fault is not an error: `fault N` is written, and the result is `Ended::Fault(N)`.
 ///

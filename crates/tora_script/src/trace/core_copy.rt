@@ -15,8 +15,8 @@ use tora_arq::Life;
 use tora_core::{Core, CoreError, CoreLimits, Erasure, Input, Sends};
 use tora_height::Id;
 
-/// A copy of a node's core, the last session in which each of its links came up, and the last recorded route to each
-/// destination.
+/// A copy of a node's core, the last session in which each of its links came up since the last restart, and the last
+/// recorded route to each destination.
 #[derive(Drop)]
 pub struct CoreCopy {
     core: Core,
@@ -52,7 +52,7 @@ impl CoreCopy {
     /// recorded.
     ///
     /// # Errors
-    /// `OwnId` if a number is 0, and those of a new core within the greatest limits.
+    /// In this order: `OwnId` if a number is 0; those of a new core within the greatest limits, `Memory` last.
     pub fn new(
         alloc: Global,
         erasure: Erasure,
@@ -86,7 +86,8 @@ impl CoreCopy {
         })
     }
 
-    /// Steps an input that the core accepted, and appends its records to a text.
+    /// Steps an input that the core accepted, and appends its records to a text. `life` is the session that the item of
+    /// the input reported as up; `None` if it reported none.
     #[tactic(auto, unfolding(crate::specs::CoreCopies::copy_after, crate::specs::CoreCopies::input_records), using(crate::proofs::CopyOwners::me_stays))]
     fn step(
         &mut self,

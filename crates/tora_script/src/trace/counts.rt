@@ -9,17 +9,17 @@ use tora_frame::Body;
 /// Counts of datagrams since the last record of them.
 #[derive(Clone, Copy, Debug, PartialEq, Eq)]
 pub struct FrameCounts {
-    /// HELLOs.
+    /// How many HELLO frames.
     pub hellos: u64,
-    /// DATA frames.
+    /// How many DATA frames.
     pub datas: u64,
-    /// ACKs.
+    /// How many ACK frames.
     pub acks: u64,
-    /// Datagrams of any kind that are not delivered because their link was parted.
+    /// How many datagrams of these kinds were sent over a parted link, where rounds do not deliver.
     pub losts: u64,
 }
 
-/// The count, plus one if `is_more`. A count of 2^64 is an error.
+/// The count, plus one if `is_more`. Fails if that is 2^64.
 fn one_more(is_more: bool, count: u64) -> Result<u64, AllocError>
     ensures { IfOk result (λ n. n ≡ one_more is_more count) }
 {
@@ -45,14 +45,14 @@ impl FrameCounts {
         }
     }
 
-    /// Whether no datagram was sent.
+    /// Whether no datagram was counted.
     pub fn is_none(self) -> bool
         ensures { result ≡ has_none self }
     {
         self.hellos == 0 && self.datas == 0 && self.acks == 0
     }
 
-    /// The counts with one more datagram of the kind of this body.
+    /// The counts with one more datagram of the kind of this body. Fails if a count would be 2^64.
     fn and_body(self, body: &Body) -> Result<FrameCounts, AllocError>
         ensures { IfOk result (λ counts. counts ≡ with_body body.now self) }
     {
@@ -72,7 +72,8 @@ impl FrameCounts {
         }
     }
 
-    /// The counts with one more datagram, which is not delivered if its link is parted.
+    /// The counts with one more datagram of the kind of this body; `is_parted` says whether its link is parted. Fails
+    /// if a count would be 2^64.
     pub fn and(self, body: &Body, is_parted: bool) -> Result<FrameCounts, AllocError>
         ensures { IfOk result (λ counts. counts ≡ with_frame is_parted body.now self) }
     {
@@ -91,7 +92,7 @@ fn write_counts(out: &mut String, a: u64, b: u64) -> Result<(), AllocError>
     write!(out, " {a} {b}")
 }
 
-/// Appends the record of datagrams to a text.
+/// Appends the record `T frames H D A L` with these counts to a text, where T is `now`, in ticks.
 #[tactic(auto, unfolding(crate::specs::TraceRecords::frames_record))]
 pub fn write_frames(out: &mut String, now: u64, counts: &FrameCounts) -> Result<(), AllocError>
     ensures { OnOk result (string_bytes out.new ≡ string_bytes out.old ++ frames_record now counts.now) }

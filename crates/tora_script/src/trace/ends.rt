@@ -51,7 +51,7 @@ fn count_before(ends: &[(Id, Id)], n: Id) -> usize
     ends.partition_point(|end| end.0 < n)
 }
 
-/// The number of ends of this node and smaller ones.
+/// How many of the first ends are of node `n` or nodes below it.
 fn count_up_to(ends: &[(Id, Id)], n: Id) -> usize
     requires { AreByNode ends.now }
     ensures bound { result ≤ length ends.now }

@@ -8,7 +8,7 @@ use tora_arq::Life;
 use tora_core::Input;
 use tora_height::Id;
 
-/// The last session in which the link to a neighbour came up.
+/// The last session in which the link to a neighbour came up; `None` if the list has none.
 fn life_at(lives: &[(Id, Life)], k: Id) -> Option<Life>
     ensures { result ≡ life_at lives.now k }
 {
@@ -22,7 +22,7 @@ fn forget(lives: &mut Vec<(Id, Life)>, k: Id)
     lives.retain(|row| row.0 != k);
 }
 
-/// Stores the session in which a link comes up, if an item reported one.
+/// Stores the session in which a link comes up, in place of an earlier one. With `None` nothing changes.
 fn note_life(lives: &mut Vec<(Id, Life)>, k: Id, life: Option<Life>) -> Result<(), AllocError>
     ensures { OnOk result (lives.new.items ≡ with_life lives.old.items k life) }
 {
@@ -36,7 +36,8 @@ fn note_life(lives: &mut Vec<(Id, Life)>, k: Id, life: Option<Life>) -> Result<(
     }
 }
 
-/// Stores the session in which an input brings a link up.
+/// Stores the session in which an input brings a link up, if its item reported it as `life`. For another input nothing
+/// changes.
 pub fn note_lives(
     lives: &mut Vec<(Id, Life)>,
     input: &Input,
@@ -84,7 +85,8 @@ fn write_down(
     }
 }
 
-/// Appends the record of an input that brings a link up or down to a text.
+/// Appends the record `T up N K X Y` or `T down N K X Y` of an input that brings a link up or down to a text. Nothing
+/// for another input, or if `lives` has no session of the link.
 pub fn write_link(
     out: &mut String,
     now: u64,

@@ -28,7 +28,7 @@ impl Model for Names {
 }
 
 impl Names {
-    /// The names of these nodes.
+    /// A list of these nodes, in the given order.
     ///
     /// # Errors
     /// Out of memory.
@@ -66,7 +66,7 @@ fn is_rising(numbers: &[Id]) -> bool
     true
 }
 
-/// The first index of a number. `is_rising` says that each number is less than the next.
+/// The first index of a number; `None` if it does not occur. `is_rising` says that each number is less than the next.
 fn place_among(numbers: &[Id], is_rising: bool, n: Id) -> Option<usize>
     requires { MatchBool is_rising (IsStrictlyIncreasing numbers.now) ⊤ }
     ensures { result ≡ position (λ m. m == n) numbers.now }
@@ -78,7 +78,7 @@ fn place_among(numbers: &[Id], is_rising: bool, n: Id) -> Option<usize>
     }
 }
 
-/// The index of a number in an ascending list.
+/// The index of a number in an ascending list; `None` if it does not occur.
 fn place_by_halves(numbers: &[Id], n: Id) -> Option<usize>
     requires { IsStrictlyIncreasing numbers.now }
     ensures { result ≡ position (λ m. m == n) numbers.now }

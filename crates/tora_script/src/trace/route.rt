@@ -14,9 +14,9 @@ use tora_height::{Entry, Id};
 #[derive(Clone, Copy, Debug)]
 pub struct Route {
     pub destination: Id,
-    /// The node's own height.
+    /// The node's own height; NULL if the table does not have the destination.
     pub height: Entry,
-    /// Its next hop.
+    /// The node's next hop; `None` if it has none.
     pub hop: Option<Id>,
 }
 
@@ -111,7 +111,7 @@ fn write_change(out: &mut String, now: u64, core: &Core, told: &Route) -> Result
     write_route(out, now, core.me(), &route)
 }
 
-/// Appends the records of the routes that changed to a text.
+/// Appends the records of those routes of the core to a text that differ from the last recorded ones, `routes`.
 pub fn write_routes(
     out: &mut String,
     now: u64,
@@ -126,7 +126,7 @@ pub fn write_routes(
     Ok(())
 }
 
-/// Stores a route as recorded.
+/// Replaces a recorded route by the core's present one.
 #[tactic(auto, unfolding(crate::specs::CoreCopies::route_told))]
 fn note_route(core: &Core, told: &mut Route)
     ensures { told.new ≡ route_told core.now told.old }
@@ -135,7 +135,7 @@ fn note_route(core: &Core, told: &mut Route)
     *told = route_of(core, d);
 }
 
-/// Stores the routes as recorded.
+/// Replaces the recorded routes by the core's present ones.
 pub fn note_routes(core: &Core, routes: &mut [Route])
     ensures { routes.new ≡ routes_told core.now routes.old }
 {

@@ -112,7 +112,8 @@ fn first_copy(
     CoreCopy::new(alloc, erasure, n, neighbours.as_slice(), destinations)
 }
 
-/// The index of the copy of a node's core. The copies are in the order of `names`, so no copy is read.
+/// The index of the copy of a node's core; `None` if there is none. The copies are in the order of `names`, so no copy
+/// is read.
 fn place(names: &Names, copies: &[CoreCopy], n: Id) -> Option<usize>
     requires { owners_of copies.now ≡ names.now }
     ensures { result ≡ position (is_copy_of n) copies.now }
@@ -123,7 +124,8 @@ fn place(names: &Names, copies: &[CoreCopy], n: Id) -> Option<usize>
 
 impl Trace {
     /// The trace of new nodes, without a record. `ends` are the link ends, each as its node and its neighbour, and
-    /// `destinations` those of every node's table. All nodes have `erasure`, except those in `choices`.
+    /// `destinations` those of every node's table. All nodes have `erasure`, except those in `choices`, where the last
+    /// choice for a node holds.
     ///
     /// # Errors
     /// `OwnId` if a number is 0, those of a new core within the greatest limits, and `Memory`.
@@ -213,7 +215,7 @@ impl Trace {
     }
 
     /// Reports that the core of a node accepted these inputs in an item, each at its tick. `life` is the session that
-    /// the item reported as up, if it did.
+    /// the item reported as up; `None` if it reported none. Nothing changes if the trace does not have the node.
     ///
     /// # Errors
     /// Out of memory.
@@ -231,7 +233,7 @@ impl Trace {
         }
     }
 
-    /// Reports that a node restarted at a tick.
+    /// Reports that a node restarted at a tick. Nothing changes if the trace does not have the node.
     ///
     /// # Errors
     /// Out of memory.
@@ -245,10 +247,10 @@ impl Trace {
         }
     }
 
-    /// Reports that a datagram was sent, over a link that is parted or not.
+    /// Reports that a datagram was sent, over a link that is parted or not. It is counted; `frames` appends the record.
     ///
     /// # Errors
-    /// Out of memory; 2^64 datagrams without a record count as this error.
+    /// A count of datagrams since the last record would be 2^64.
     pub fn sent(&mut self, frame: &Frame, is_parted: bool) -> Result<(), AllocError>
         ensures { OnOk result (self.new ≡ record self.old {
           counts =
@@ -259,7 +261,8 @@ impl Trace {
         Ok(())
     }
 
-    /// Appends a record of the datagrams since the last such record, with this tick, if there are any.
+    /// Appends a record of the datagrams since the last such record, with this tick, and sets their counts to 0.
+    /// Nothing changes if there are none.
     ///
     /// # Errors
     /// Out of memory.

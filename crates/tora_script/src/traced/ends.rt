@@ -74,7 +74,8 @@ fn remembered_fields(
     out.push_str(" remembered")
 }
 
-/// Appends the last fields of the first record to a text.
+/// Appends the last fields of the first record to a text: those of `more_fields` for `Plain`, and of
+/// `remembered_fields` for `Remembered`.
 fn erasure_fields(
     out: &mut String,
     erasure: Erasure,
@@ -137,8 +138,8 @@ impl<W: Output> TraceOut<W> {
         }
     }
 
-    /// Writes the last record, at the clock of the last line: the digest of the input. If memory runs out, the writer
-    /// counts as failed.
+    /// Writes the last record `T end DIGEST`, where T is the clock of the last write and DIGEST is that of the input.
+    /// Nothing is written if the writer has failed. If memory runs out, it counts as failed.
     pub fn finish(&mut self, alloc: Global, digest: &str)
         ensures { is_some self.new.failure ≡ false → Appends (W.contents self.old.writer) (W.contents self.new.writer)
             (last_record self.old.clock digest.now) }

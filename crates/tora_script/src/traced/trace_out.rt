@@ -10,13 +10,13 @@ use tora_lines::Output;
 #[derive(Drop)]
 pub struct TraceOut<W> {
     pub writer: W,
-    /// The clock, in ticks, of the last write.
+    /// The clock, in ticks, of the last write that did not fail; 0 before the first.
     pub clock: u64,
     failure: Option<io::Error>,
 }
 
 impl<W: Output> TraceOut<W> {
-    /// A writer to which nothing was written.
+    /// A writer that has not failed, with the clock 0.
     pub fn new(writer: W) -> TraceOut<W>
         ensures writer { result.writer ≡ writer }
         ensures clock { result.clock ≡ 0 }
@@ -29,7 +29,8 @@ impl<W: Output> TraceOut<W> {
         }
     }
 
-    /// Writes bytes at a clock, unless the writer has failed.
+    /// Writes bytes at a clock, in ticks, unless the writer has failed. If the write fails, the error is stored, and
+    /// the clock stays.
     pub fn put(&mut self, now: u64, bytes: &[u8])
         ensures call { IsPut W.did_write self.old bytes.now self.new }
         ensures clock { is_some self.new.failure ≡ false → self.new.clock ≡ now }

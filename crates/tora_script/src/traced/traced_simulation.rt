@@ -118,9 +118,13 @@ impl<S: Watched, T: Eprint, W: Output> FileKind for Tracing<'_, S, T, W> {
 }
 
 /// Simulates with these settings, over a channel that the table changes by round, and writes the trace of what happened
-/// in each line. Reports why a line is a fault, unless it is too long, and, if asked to, why an event is refused.
+/// in each line. Reports why a line is a fault, unless it has more than 4,096 bytes, and, if `is_verbose`, why an event
+/// is refused.
 ///
 /// The simulation goes on if the trace cannot be written; `out` then has the error.
+///
+/// # Errors
+/// Those of `simulate_and_report`.
 #[tactic(auto, unfolding(tora_lines::specs::Engine::text_of))]
 pub fn simulate_traced<S: Watched, T: AllocGlobal + Eprint, R: Input, W: Output, V: Output>(
     reports: FaultReports<'_, T>,

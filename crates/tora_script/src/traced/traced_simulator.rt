@@ -125,7 +125,7 @@ impl<S: Watched> Traced<S> {
         }
     }
 
-    /// Records the datagram that was sent, if there are now more than `count` datagrams.
+    /// Counts the last datagram for the next record of datagrams, unless there are still only `count` datagrams.
     fn write_sent_records(&mut self, count: u64) -> Result<(), AllocError>
         ensures kept { self.new ≡ record self.old { trace = self.new.trace } }
         ensures told { OnOk result (self.new.trace ≡ after_sent self.old.parted count (S.world self.old.sim)
@@ -168,7 +168,8 @@ impl<S: Watched> Traced<S> {
         }
     }
 
-    /// Makes an event happen and records what it did. `place` is the index of its node or link end.
+    /// Makes an event happen and records what it did, or returns why it is refused. `place` is the index of its node or
+    /// link end. Fails if memory runs out; the event may have happened then, with a part of its records.
     fn step(&mut self, place: usize, event: &Event) -> Result<Option<SimError>, AllocError>
         ensures refused { IfOk result (λ refused. refused ≡ refusal_of (S.world self.old.sim) event.now) }
         ensures after { IfOk result (λ _. S.world self.new.sim ≡ world_after (S.world self.old.sim) event.now) }

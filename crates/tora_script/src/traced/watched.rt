@@ -15,15 +15,16 @@ pub trait Watched: Simulator {
     fn clock(&self) -> u64
         ensures { result ≡ (Self.world self.now).clock };
 
-    /// The item that the core of a node serves next.
+    /// The item that the core of a node serves next. `None` if none waits, or if there is no such node.
     fn first_item(&self, n: Id) -> Option<Item>
         ensures { result ≡ slice_get ((Self.world self.now).items n) 0 };
 
-    /// The inputs that the core of a node accepted since the node's last restart, each with its tick.
+    /// The inputs that the core of a node accepted since the node's last restart, each with its tick; none if there is
+    /// no such node.
     fn inputs(&self, n: Id) -> &[(Input, u64)]
         ensures { result.now ≡ (Self.world self.now).inputs n };
 
-    /// A datagram, by its number from 1.
+    /// The datagram with this number, counted from 1. `None` for 0 and for a number that no datagram has yet.
     fn frame(&self, i: u64) -> Option<Frame>
         ensures { result ≡ datagram (Self.world self.now) i };
 }
