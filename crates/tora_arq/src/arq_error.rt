@@ -1,11 +1,11 @@
-//! Why a link end can't be made.
+//! Why a link end can't be made, or why a call of a `GrowingEnd` fails.
 use std::fmt;
 use thiserror::Error;
 
-/// Why a link end can't be made.
+/// Why a link end can't be made, or why a call of a `GrowingEnd` fails.
 #[derive(Clone, Copy, Debug, PartialEq, Eq, Hash, Error)]
 pub enum ArqError {
-    /// There is not enough memory for its queues.
+    /// There is not enough memory for the queues of the link end.
     Memory,
 }
 

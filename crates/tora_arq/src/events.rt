@@ -26,7 +26,7 @@ impl Model for EventQueue {
 }
 
 impl EventQueue {
-    /// An empty queue with room for this many events.
+    /// An empty queue with room for this many events. Fails only if memory runs out.
     pub fn new(alloc: Global, places: usize) -> Result<EventQueue, AllocError>
         ensures { IfOk result (λ q. q ≡ buffer [] places) }
     {
@@ -51,7 +51,8 @@ impl EventQueue {
         self.len() > 0
     }
 
-    /// Whether fewer places are free than the events of one frame may need.
+    /// Whether fewer than `PLACES_OF_A_FRAME` of the `EVENT_PLACES` are free: then the verdict on a frame is `Busy`,
+    /// unless it is `Foreign`.
     #[inline(always)]
     pub fn is_busy(&self) -> bool
         ensures { result ≡ nat_lt (EVENT_PLACES - length self.now.items) PLACES_OF_A_FRAME }
@@ -83,14 +84,14 @@ impl EventQueue {
         push(&mut self.ring, event);
     }
 
-    /// The first event.
+    /// The oldest event, which stays in the queue; `None` if there is none.
     pub fn first(&self) -> Option<LinkEvent>
         ensures { result ≡ slice_get self.now.items 0 }
     {
         self.ring.front().copied()
     }
 
-    /// Removes the first event.
+    /// Removes and returns the oldest event; `None` if there is none.
     pub fn pop(&mut self) -> Option<LinkEvent>
         ensures value { result ≡ slice_get self.old.items 0 }
         ensures rest { self.new ≡ buffer (drop 1 self.old.items) self.old.capacity }

@@ -39,8 +39,8 @@ ghost use Rattle.tora_arq.specs.Floods.{after_submits, IsIdle, flood_frame};
 ghost use Rattle.tora_arq.specs.WorkedHellos.{worked_settings, given_hello, behind_hello};
 ghost use Rattle.tora_arq.specs.LinkTable.{Cuts, Gives, Hears, Opens, Submits, Tells, Ticks};
 
-/// Every call keeps these invariants: transmitted packets were submitted, at most a window of packets is held, and
-/// nothing is left of a session that has ended.
+/// Every call keeps these invariants: transmitted packets were submitted, at most a window of packets is held, and at a
+/// closed end no packet waits to be acknowledged and none is held.
 pub fn calls_keep_an_end()
     ensures first { (s : Settings) → IsEnd s first_end }
     ensures next { EveryCall (λ s e call after. IsEnd s e → IsEnd s after) }
@@ -135,8 +135,8 @@ pub fn events_of_a_life_are_in_order()
     ensures over { EveryRun (λ s run. AreOverByDown run.events) }
 {}
 
-/// The count of acknowledged packets begins at 0, and changes only to the count in a frame with both numbers of the
-/// session. It never exceeds the count of transmitted packets.
+/// In each session the count of acknowledged packets begins at 0, and changes only to the count in a frame with both
+/// numbers of the session. It never exceeds the count of transmitted packets.
 pub fn acknowledged_counts_come_from_the_peer()
     ensures first { EveryCall (λ s e call after. (own : ℕ) (life : Life) → e.phase ≡ Unbound own
         → after.phase ≡ Bound life
@@ -170,8 +170,8 @@ pub fn refused_frames_change_nothing()
         → verdict_of s e frame now ≡ Is.Stale → after_frame s e frame now ≡ e }
 {}
 
-/// At one tick an end sends at most its window and four frames: a HELLO of version 1 that was still due, a HELLO of
-/// each version, a DATA frame for each packet within the window, and an ACK.
+/// At one tick an end sends at most four frames more than its window has packets: a HELLO of version 1 that was still
+/// due, a HELLO of each version, a DATA frame for each packet within the window, and an ACK.
 pub fn polls_of_a_tick_end()
     // This holds however often the end is polled.
     ensures most { (s : Settings) (e : EndState) (now polls : ℕ) → IsTimes s.times
@@ -201,7 +201,7 @@ pub fn old_hello_comes_right_after()
         ≡ One ∷ Two ∷ One ∷ [] }
 {}
 
-/// Up to sixteen packets that are submitted at one tick go in one frame, if the peer is known to speak version 2, no
+/// One to sixteen packets that are submitted at one tick go in one frame, if the peer is known to speak version 2, no
 /// packet waited before and no HELLO is due. No other frame is due at that tick. So queries for sixteen destinations
 /// are one datagram for each neighbour.
 pub fn flood_is_one_frame()
@@ -216,7 +216,8 @@ pub fn flood_is_one_frame()
         → frame_due s (after_transmit s (after_submits e life packets) now) now ≡ None }
 {}
 
-/// The times that the program uses: 10 ticks between HELLOs, 50 of silence, 5 between tries, and 8 tries.
+/// `Times::STANDARD` is 10 ticks between HELLOs, 50 of silence, 5 between tries, and 8 tries, and is accepted by each
+/// `new`.
 pub fn standard_times()
     ensures are { STANDARD ≡ record { hello = 10; silent = 50; retry = 5; tries = 8 } }
     ensures valid { IsTimes STANDARD }

@@ -281,7 +281,7 @@ impl GrowingEnd {
         }
     }
 
-    /// As `LinkEnd::submit`.
+    /// As `LinkEnd::submit`, which gives the inner result.
     ///
     /// # Errors
     /// `Memory`; nothing changes then.

@@ -28,7 +28,7 @@ impl Model for HeldPackets {
 }
 
 impl HeldPackets {
-    /// No packets, with room for this many.
+    /// No packets, with room for this many. Fails only if memory runs out.
     pub fn new(alloc: Global, places: usize) -> Result<HeldPackets, AllocError>
         ensures { IfOk result (λ h. h ≡ buffer [] places) }
     {
@@ -88,7 +88,7 @@ impl HeldPackets {
         }
     }
 
-    /// Removes the first place, and returns its packet if there is one.
+    /// Removes the first place and returns its packet; `None`, and no change, if no packet is held there.
     pub fn take_first(&mut self) -> Option<Packet>
         ensures packet { result ≡ first_held self.old.items }
         ensures some { OnSome result (self.new ≡ buffer (drop 1 self.old.items) self.old.capacity) }

@@ -71,12 +71,13 @@ pub const WINDOW: u64 = 32;
 /// How many events of a link end may wait to be polled: twice a window.
 pub const EVENT_PLACES: usize = 2 * WINDOW as usize;
 
-/// How many places for events must be free when a frame arrives: one for `Up`, a window for packets, and one for
-/// `Down`.
+/// How many of the `EVENT_PLACES` must be free for a link end to take a frame; with fewer, the verdict is `Busy`,
+/// unless it is `Foreign`. The value is 34: one for `Up`, a window for packets, and one for `Down`.
 pub const PLACES_OF_A_FRAME: usize = WINDOW as usize + 2;
 
 /// How many packets that arrived out of order are held at most: a window.
 const HELD_PLACES: usize = WINDOW as usize;
 
-/// How many packets of a session may be unacknowledged, transmitted or not.
+/// The most packets of a session that may be unacknowledged, transmitted or not: 256. Submitting one more ends the
+/// session (`Full`).
 pub const QUEUE_PLACES: usize = 256;

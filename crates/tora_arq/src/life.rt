@@ -4,7 +4,7 @@ ghost use Rattle.tora_arq.specs.Lives.{is_same_life, reversed};
 
 use std::fmt;
 
-/// A session of a link: the two numbers that its two ends drew for it, each 1 to 2^62.
+/// A session of a link, named by two numbers, one of each end, from 1 to 2^62.
 ///
 /// The other end writes the same session with the two numbers exchanged.
 #[derive(Clone, Copy, Debug, PartialEq, Eq, Hash)]
@@ -26,7 +26,7 @@ impl Life {
         }
     }
 
-    /// Whether both numbers are equal.
+    /// Whether `other` is the same session: both have the same `own` and the same `peer`.
     pub(crate) fn is_same(self, other: Life) -> bool
         ensures { result ≡ is_same_life other self }
     {

@@ -3,7 +3,8 @@ ghost use Rattle.std.specs.Prelude.{◌≡◌};
 ghost use Rattle.tora_arq.specs.declared.TheConstants.{WINDOW, QUEUE_PLACES, EVENT_PLACES, PLACES_OF_A_FRAME};
 ghost use Rattle.tora_arq.specs.declared.times.TheConstants.Times.{STANDARD};
 
-/// The limits have these values.
+/// `WINDOW` is 32, `QUEUE_PLACES` 256, `EVENT_PLACES` 64 and `PLACES_OF_A_FRAME` 34. `Times::STANDARD` is 10 ticks
+/// between HELLOs, 50 of silence, 5 between tries, and 8 tries.
 pub fn limits_have_their_values()
     ensures window { WINDOW ≡ 32 }
     ensures queue_places { QUEUE_PLACES ≡ 256 }

@@ -28,8 +28,8 @@ use tora_packet::Packet;
 
 /// The end of a link to one neighbour.
 ///
-/// It is closed at first. A caller draws a number that it never drew before and opens the end with it. By HELLOs the
-/// two ends then bind a session, in which each end delivers the other's packets once and in order. When the session
+/// It is closed at first. A caller opens it with a number above all numbers with which it was opened before. By HELLOs
+/// the two ends then bind a session, in which each end delivers the other's packets once and in order. When the session
 /// ends, the link end closes, and the caller opens it with the next number.
 ///
 /// In each turn a caller with the tick `now` makes these calls, in this order:
@@ -40,8 +40,8 @@ use tora_packet::Packet;
 /// 5. `on_frame` with a frame that arrived;
 /// 6. `poll_event` until it returns `None`.
 ///
-/// Any other order is safe. A tick is 100 ms. If a tick is less than an earlier one, no time has passed. Only `new`
-/// takes memory. A bound end always has a place for its `Down` event.
+/// Any other order is safe. A tick is 100 ms. If a tick is less than an earlier one, no time has passed. Only `new` and
+/// `new_v1` take memory. A bound end always has a place for its `Down` event.
 #[derive(Debug, Drop)]
 pub struct LinkEnd {
     settings: Settings,
@@ -62,8 +62,9 @@ impl Model for LinkEnd {
 }
 
 impl LinkEnd {
-    /// A closed end of the link between node `me` and its neighbour `peer`, two different nodes. It speaks version 2,
-    /// and version 1 to a peer that is not known to speak version 2.
+    /// A closed end of the link between node `me` and its neighbour `peer`, two different nodes. It speaks both
+    /// versions of frames: DATA and ACK frames are of version 2 while the peer is known to speak it, and otherwise of
+    /// version 1.
     ///
     /// Every time of `times` is at least 1. The end makes room for `QUEUE_PLACES` unacknowledged packets and for
     /// `EVENT_PLACES` events.
@@ -164,7 +165,7 @@ impl LinkEnd {
         self.state.queue.len()
     }
 
-    /// The own number of the last session, 1 to 2^62; 0 before the first.
+    /// The number with which the end was last opened, 1 to 2^62; 0 before the first `open`.
     pub fn last_life(&self) -> u64
         ensures last { result ≡ self.now.state.last_life }
         ensures within { result ≤ GREATEST_NUMBER }
@@ -234,7 +235,7 @@ impl LinkEnd {
         self.state.on_frame(&self.settings, frame, now)
     }
 
-    /// As `on_frame`, for a HELLO, which is given by its header.
+    /// As `on_frame`, for a HELLO, which is given by its header. The fields of `header` are in their ranges.
     #[inline(always)]
     pub fn on_hello(&mut self, header: &Header, now: u64) -> Verdict
         requires { IsHeader header.now }
@@ -298,9 +299,10 @@ impl LinkEnd {
         self.state.next_due(&self.settings, now)
     }
 
-    /// The first tick at which a frame is due or a tick ends the session. This holds at every later tick too; before
-    /// it, no frame is due and a tick changes nothing. It is valid until another call. It is 0 if a frame is due at
-    /// once, and 2^64 - 1 if there is no such tick, as at a closed end. It reads at most a window of packets.
+    /// The first tick at which a frame is due or a tick ends the session; it may have passed. This holds at every later
+    /// tick too; before it, no frame is due and a tick changes nothing. It is valid until another call. It is 0 if a
+    /// frame is due whatever the tick is, and 2^64 - 1 if no smaller tick is such a tick, as at a closed end. It reads
+    /// at most a window of packets.
     #[inline(always)]
     pub fn deadline(&self) -> u64
         ensures exact { IsStillUntil self.now.settings self.now.state result }
@@ -312,8 +314,8 @@ impl LinkEnd {
     }
 
     /// The fields that HELLOs read, if the end is idle: it is open, has sent a HELLO, owes neither a HELLO at once nor
-    /// an ACK, and has no unacknowledged packet and no event. The caller then uses these fields instead of the end, and
-    /// calls `resume` before any other call.
+    /// an ACK, and has no unacknowledged packet and no event. Otherwise `None`. With `Some` the caller uses these
+    /// fields instead of the end, and calls `resume` before any other call of the end.
     pub fn steady(&self) -> Option<Steady>
         ensures given { result ≡ steady_of self.now.settings self.now.state }
         ensures steady { IfSome result (λ steady. IsSteady steady self.now.settings self.now.state) }
@@ -322,7 +324,8 @@ impl LinkEnd {
         self.state.steady(&self.settings)
     }
 
-    /// Writes the fields of an idle end back into it.
+    /// Writes the fields of an idle end back into it, which its `steady` returned and calls of `Steady` may have
+    /// changed.
     pub fn resume(&mut self, steady: &Steady)
         requires { IsSteady steady.now self.old.settings self.old.state }
         ensures { self.new ≡ record self.old { state = resumed steady.now self.old.state } }
@@ -333,12 +336,12 @@ impl LinkEnd {
     /// Returns the first frame due, which counts as sent; `None` if no frame is due.
     ///
     /// The first of these is due:
-    /// 1. a HELLO of the newest version that the end speaks, if one is owed or `hello` ticks have passed since the last
-    ///    one;
-    /// 2. a HELLO of version 1 after one of version 2, while the peer is not known to speak version 2;
-    /// 3. a DATA frame, if a packet within the window was never transmitted, or was transmitted fewer than `tries`
-    ///    times and the last time `retry` ticks ago;
-    /// 4. an ACK, if one is owed; a DATA frame counts as an owed ACK.
+    /// 1. a HELLO of version 1, if the last HELLO was of version 2 and the peer is not known to speak version 2;
+    /// 2. a HELLO of the newest version that the end speaks, if one is owed or at least `hello` ticks have passed since
+    ///    the last such HELLO;
+    /// 3. at a bound end, a DATA frame, if a packet within the window was never transmitted, or was transmitted fewer
+    ///    than `tries` times and the last time at least `retry` ticks ago;
+    /// 4. at a bound end, an ACK, if one is owed; a DATA frame counts as an owed ACK.
     ///
     /// DATA and ACK are of version 2 if the peer is known to speak it. A DATA frame of version 2 carries the first
     /// packet due and the due packets that follow it directly within the window, at most sixteen in all.

@@ -12,7 +12,7 @@ pub enum LinkEvent {
     Up(Life),
     /// The next packet of the peer in a session.
     Deliver(Life, Packet),
-    /// A session ended: the link is down.
+    /// A bound session ended, for this reason: the link is down.
     Down(Life, Reason),
 }
 

@@ -4,7 +4,7 @@ use crate::Life;
 /// Whether a link end is open, and in which session.
 #[derive(Clone, Copy, Debug, PartialEq, Eq, Hash)]
 pub enum Phase {
-    /// Closed.
+    /// Closed: no session is open, also before the first one.
     Closed,
     /// Open with an own session number, 1 to 2^62, and not bound.
     Unbound(u64),

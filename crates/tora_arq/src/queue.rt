@@ -34,7 +34,7 @@ impl Model for SendQueue {
 }
 
 impl SendQueue {
-    /// An empty queue with room for this many packets.
+    /// An empty queue with room for this many packets. Fails only if memory runs out.
     pub fn new(alloc: Global, places: usize) -> Result<SendQueue, AllocError>
         ensures { IfOk result (λ q. q ≡ buffer [] places) }
     {
@@ -128,8 +128,8 @@ impl SendQueue {
         false
     }
 
-    /// The first due packet within the window, and how many packets are before it. It reads at most a window of
-    /// packets.
+    /// How many packets are before the first due packet within the window, and that packet; `None` if none is due. It
+    /// reads at most a window of packets.
     fn first_ready(&self, times: &Times, now: u64) -> Option<(usize, QueuedPacket)>
         ensures first { MatchOption result (AreLate times.now now WINDOW self.now.items) (λ r.
             IsFirstReady times.now now WINDOW self.now.items r.0 r.1) }
@@ -154,7 +154,8 @@ impl SendQueue {
         }
     }
 
-    /// The first tick at which a packet within the window is due or is given up. It reads at most a window of packets.
+    /// The first tick at which a packet within the window is due or is given up: 0 if one was never transmitted; `None`
+    /// if there is none below 2^64. It reads at most a window of packets.
     #[inline(never)]
     pub fn due_tick(&self, times: &Times) -> Option<u64>
         requires retry { 0 < times.now.retry }
@@ -171,8 +172,8 @@ impl SendQueue {
         first
     }
 
-    /// Appends the packets from a place up to another, stopping at the first that is not due. They count as transmitted
-    /// at `now`.
+    /// Appends to `packets` the packets from the index `place` up to `end`, which is not included, stopping at the
+    /// first that is not due. They count as transmitted at `now`.
     fn take_run(&mut self, times: &Times, now: u64, place: usize, end: usize, packets: &mut Packets)
         requires within { end ≤ length self.old.items }
         requires most { end ≤ place + MOST_PACKETS }
@@ -196,7 +197,7 @@ impl SendQueue {
     /// Replaces the content of `packets` by the first due packet of the window and the due packets that follow it
     /// directly, at most `most` in all. They count as transmitted at `now`.
     ///
-    /// The result is the index of the first of them; `None` if no packet is due.
+    /// The result is the index of the first of them; `None` if no packet is due, and then the queue is unchanged.
     pub fn take_due(
         &mut self,
         times: &Times,

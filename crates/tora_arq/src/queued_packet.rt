@@ -14,7 +14,7 @@ pub struct QueuedPacket {
     pub packet: Packet,
     /// How many times it was transmitted.
     pub tries: u64,
-    /// The tick at which it was transmitted last.
+    /// The tick at which it was transmitted last; 0 before the first time.
     pub last_try: u64,
 }
 
@@ -49,7 +49,8 @@ impl QueuedPacket {
         ticks_passed(self.last_try, now) >= times.retry
     }
 
-    /// Whether the packet is due.
+    /// Whether the packet is due: it was never transmitted, or fewer than `tries` times and the last time at least
+    /// `retry` ticks ago.
     pub fn is_ready(&self, times: &Times, now: u64) -> bool
         ensures ready { result ≡ is_ready times.now now self.now }
         ensures room { IsTrue result → self.now.tries + 1 < 2 ^ 64 }
@@ -64,7 +65,8 @@ impl QueuedPacket {
         self.tries >= times.tries && self.is_retry_time(times, now)
     }
 
-    /// The first tick at which the packet is due or is given up.
+    /// The first tick at which the packet is due or is given up: 0 if it was never transmitted; `None` if that tick
+    /// does not fit into 64 bits.
     pub fn due_tick(&self, times: &Times) -> Option<u64>
         requires retry { 0 < times.now.retry }
         requires tries { 0 < times.now.tries }

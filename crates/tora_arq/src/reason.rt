@@ -7,15 +7,15 @@ use std::fmt;
 /// Why a session ended.
 #[derive(Clone, Copy, Debug, PartialEq, Eq, Hash)]
 pub enum Reason {
-    /// No frame of the peer came, or the peer did not acknowledge a packet.
+    /// No frame of the peer came for `silent` ticks, or a packet was not acknowledged `retry` ticks after its last try.
     Silent,
-    /// The peer began a newer session.
+    /// A frame of the peer came with a greater session number: the peer began a newer session.
     NewPeer,
-    /// The send queue was full.
+    /// A packet was submitted while `QUEUE_PLACES` (256) packets were not acknowledged.
     Full,
-    /// The node cut the session.
+    /// The node called `cut`.
     Cut,
-    /// The packet numbers are used up.
+    /// A packet was submitted after 2^62 packets in the session.
     Spent,
 }
 

@@ -19,7 +19,7 @@ use crate::{Life, Reason, Verdict, WINDOW};
 use tora_frame::{BorrowedBody, BorrowedFrame, Header, Version};
 use tora_packet::Packet;
 
-/// The count that a frame acknowledges.
+/// The count that a frame with this body acknowledges; 0 for a HELLO.
 fn count_of(body: BorrowedBody<'_>) -> u64
     ensures { result ≡ count_of (body_of body.entry) }
 {
@@ -306,7 +306,7 @@ impl State {
         }
     }
 
-    /// Receives a frame.
+    /// As `LinkEnd::on_borrowed_frame`.
     #[tactic(auto, unfolding(crate::specs::LinkEnd::on_frame, crate::specs::LinkEnd::on_frame_in))]
     pub fn on_frame(&mut self, settings: &Settings, frame: &BorrowedFrame<'_>, now: u64) -> Verdict
         requires accepted { self.old.accepted ≤ GREATEST_NUMBER }

@@ -6,7 +6,7 @@ ghost use Rattle.circular_buffer.specs.Buffer.{buffer};
 use circular_buffer::HeapCircularBuffer;
 use std::alloc::AllocError;
 
-/// The fewest places of a ring that is not empty. A ring grows by doubling.
+/// The fewest places that a ring has after it has grown.
 const FEWEST_PLACES: usize = 4;
 
 /// The item at a place.
@@ -52,8 +52,8 @@ pub fn remove_first<T: Drop>(ring: &mut HeapCircularBuffer<T>, count: usize)
     ring.truncate_front(left);
 }
 
-/// Makes room for this many items in all. A ring with less room doubles its places, or gets exactly this many if that
-/// is more.
+/// Makes room for this many items in all. A ring with less room gets twice its places, or `places` if that is more, and
+/// at least `FEWEST_PLACES`.
 ///
 /// # Errors
 /// Out of memory; nothing changes then.

@@ -36,7 +36,8 @@ impl State {
         }
     }
 
-    /// Makes room for this many events, and one place more for the event that the session ended.
+    /// Makes room for `count` more events, one more for `Up`, and one more for the event that the session ended
+    /// (`Down`).
     ///
     /// # Errors
     /// Out of memory; nothing changes then.

@@ -38,7 +38,7 @@ pub fn tick_behind(earlier: u64, ticks: u64) -> Option<u64>
     earlier.checked_add(ticks)
 }
 
-/// The earlier one of two ticks, each of which may be `None`.
+/// The earlier of two ticks, where `None` means never; `None` if both are.
 pub fn earlier(first: Option<u64>, second: Option<u64>) -> Option<u64>
     ensures { (tick : ℕ) → has_begun result tick ≡ has_begun first tick || has_begun second tick }
 {
@@ -95,7 +95,8 @@ fn is_unknown(newest: Version, version: Version) -> bool
 }
 
 impl Settings {
-    /// Whether a HELLO with this header is not from the peer to this node, or is of an unknown version.
+    /// Whether a HELLO with this header is not from the peer to this node, or is of a version that the end does not
+    /// speak.
     pub fn is_foreign_hello(&self, header: &Header) -> bool
         ensures { result ≡ is_foreign (settings_in self.now) (frame_of header.now Body.Hello) }
     {
@@ -104,8 +105,8 @@ impl Settings {
             || is_unknown(self.version, header.version)
     }
 
-    /// Whether the frame is not from the peer to this node, is of an unknown version, or has an update of another node
-    /// than the peer.
+    /// Whether the frame is not from the peer to this node, is of a version that the end does not speak, or has an
+    /// update of another node than the peer.
     pub fn is_foreign(&self, frame: &BorrowedFrame<'_>) -> bool
         ensures value { result ≡ is_foreign (settings_in self.now) frame.now }
         ensures valid { IsFrame frame.now }

@@ -28,19 +28,20 @@ pub struct State {
     /// Whether the last HELLO was of version 2 and no HELLO of version 1 has followed it.
     pub owes_old_hello: bool,
     pub owes_ack: bool,
-    /// The tick of the last HELLO of this session.
+    /// The tick of the last HELLO of this session, not counting HELLOs of version 1 that follow one of version 2;
+    /// `None` before the first.
     pub last_hello: Option<u64>,
-    /// The tick of the last frame of the peer.
+    /// The tick of the peer's last frame in the bound session; before it, the tick of `open`.
     pub last_hearing: u64,
     /// The greatest session number of the peer that was noted, 0 for none.
     pub heard: u64,
-    /// The greatest number of a transmitted packet.
+    /// The greatest number of a packet that was transmitted in this session, 0 for none.
     pub transmitted: u64,
     /// How many packets the peer has acknowledged.
     pub acknowledged: u64,
     /// How many packets of the peer were delivered.
     pub accepted: u64,
-    /// The number of the last session, 0 before the first.
+    /// The own number of the last `open`, 0 before the first.
     pub last_life: u64,
     /// The packets submitted and not acknowledged.
     pub queue: SendQueue,
@@ -52,7 +53,7 @@ pub struct State {
 
 impl State {
     /// A closed end that had no session, with room for this many events, unacknowledged packets, and out-of-order
-    /// packets.
+    /// packets. Fails only if memory runs out.
     pub fn new(
         alloc: Global,
         events: usize,
@@ -106,7 +107,7 @@ impl State {
         }
     }
 
-    /// Writes the fields of an idle end back.
+    /// As `LinkEnd::resume`.
     pub fn resume(&mut self, steady: &Steady)
         ensures state { state_in self.new ≡ resumed steady.now (state_in self.old) }
         ensures rooms { rooms_in self.new ≡ rooms_in self.old }
@@ -116,7 +117,8 @@ impl State {
         self.owes_old_hello = steady.owes_old_hello;
     }
 
-    /// Ends the bound session. It is a separate function because its callers seldom reach it.
+    /// Ends the bound session `life`: closes the end, drops its packets and queues `Down`, for which a place must be
+    /// free. It is a separate function because its callers seldom reach it.
     #[inline(never)]
     pub fn end(&mut self, life: Life, reason: Reason)
         requires { length self.old.events.items < self.old.events.capacity }
@@ -132,7 +134,8 @@ impl State {
         self.owes_ack = false;
     }
 
-    /// Binds a session.
+    /// Binds a session in which nothing was sent or accepted, and queues `Up`, for which a place must be free. A HELLO
+    /// is owed if the peer's number was not the noted one.
     pub fn bind(&mut self, life: Life)
         requires { length self.old.events.items < self.old.events.capacity }
         ensures state { state_in self.new ≡ after_bind (state_in self.old) life }
@@ -151,7 +154,8 @@ impl State {
         self.owes_hello = self.owes_hello || is_changed;
     }
 
-    /// Notes that the peer has accepted this many packets.
+    /// Notes a frame of the peer, which has accepted `count` packets: those up to `count` leave the queue. A `count`
+    /// that has not grown changes only `last_hearing`.
     pub fn acknowledge(&mut self, count: u64, now: u64)
         ensures state { state_in self.new ≡ after_acknowledgement (state_in self.old) count now }
         ensures rooms { rooms_in self.new ≡ rooms_in self.old }
@@ -162,7 +166,7 @@ impl State {
         self.last_hearing = now;
     }
 
-    /// Delivers the next packet.
+    /// Counts the next packet as accepted and queues its `Deliver`, for which a place must be free.
     pub fn deliver(&mut self, life: Life, packet: Packet)
         requires room { length self.old.events.items < self.old.events.capacity }
         requires number { self.old.accepted + 1 < 2 ^ 64 }
@@ -230,7 +234,7 @@ impl State {
         }
     }
 
-    /// Submits a packet for the peer.
+    /// As `LinkEnd::submit`.
     #[tactic(auto, unfolding(crate::specs::LinkEnd::on_submit))]
     pub fn submit(&mut self, life: Life, packet: Packet) -> Result<(), SubmitError>
         requires submitted { self.old.acknowledged + length self.old.queue.items ≤ GREATEST_NUMBER }

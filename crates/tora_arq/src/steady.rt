@@ -16,8 +16,8 @@ use crate::transmit::is_two;
 use tora_frame::{Header, Version};
 use tora_height::Id;
 
-/// The fields of an idle link end that a HELLO reads, in 64 bytes. An end is idle if it is open, owes no HELLO at once
-/// and no ACK, has no unacknowledged packet, and has no event to report.
+/// The fields of an idle link end that a HELLO reads, in 64 bytes. An end is idle if it is open, has sent a HELLO, owes
+/// no HELLO at once and no ACK, has no unacknowledged packet, and has no event to report.
 ///
 /// A caller with many link ends can store these fields close together and the ends elsewhere. `LinkEnd::steady` returns
 /// the fields, the calls here do what the same calls of the end would do, and `LinkEnd::resume` writes the fields back
@@ -26,15 +26,15 @@ use tora_height::Id;
 pub struct Steady {
     /// The tick of the last HELLO, not counting HELLOs of version 1 that follow one of version 2.
     pub said: u64,
-    /// The tick of the last frame of the peer.
+    /// The tick of the peer's last frame in the bound session; before it, the tick of `open`.
     pub heard: u64,
     /// The own number of the session; 0 if the value is `none()`.
     pub own: u64,
     /// The session number of the peer: that of the bound session, or the greatest that was noted; 0 for none.
     pub peer_life: u64,
-    /// How many ticks after a HELLO the next one is due.
+    /// How many ticks of 100 ms after a HELLO the next one is due.
     pub hello: u64,
-    /// After how many ticks without a frame of the peer the bound session ends.
+    /// After how many ticks of 100 ms without a frame of the peer the bound session ends.
     pub silent: u64,
     /// The node of the end.
     pub me: Id,
@@ -71,7 +71,7 @@ impl Steady {
         }
     }
 
-    /// Whether it is the value of `none()`.
+    /// Whether the fields are of no link end: `own` is 0, as in `none()`.
     #[inline(always)]
     pub fn is_none(&self) -> bool
         ensures { result ≡ (self.now.own == 0) }
@@ -109,7 +109,7 @@ impl Steady {
         ticks_passed(self.said, now) >= self.hello
     }
 
-    /// Returns the header of the first HELLO due, which counts as sent.
+    /// Returns the header of the first HELLO due, which counts as sent; `None` if none is due.
     #[inline(always)]
     fn take_hello(&mut self, now: u64) -> Option<Header>
         ensures header { result ≡ (on_send self.old now).0 }
@@ -183,7 +183,7 @@ impl Steady {
         self.owes_old() || self.has_hello(now)
     }
 
-    /// Whether this tick ends no session, and so changes nothing.
+    /// Whether `on_tick` of the end would change nothing at `now`: the session has not timed out.
     #[inline(always)]
     pub fn is_calm(&self, now: u64) -> bool
         ensures same { (s : EndSettings) (e : EndState) → IsSteady self.now s e → result ≡ true
@@ -201,9 +201,9 @@ impl Steady {
         self.is_bound && ticks_passed(self.heard, now) >= self.silent
     }
 
-    /// The first tick at which a HELLO is due or a tick ends the session. This holds at every later tick too; before
-    /// it, no frame is due and a tick changes nothing. It is valid until another call. It is 0 if a HELLO is due at
-    /// once.
+    /// The first tick at which a HELLO is due or a tick ends the session; it may have passed. This holds at every later
+    /// tick too; before it, no frame is due and a tick changes nothing. It is valid until another call. It is 0 if a
+    /// HELLO is due whatever the tick is, and 2^64 - 1 if no smaller tick is such a tick.
     #[inline(always)]
     pub fn deadline(&self) -> u64
         ensures exact { (s : EndSettings) (e : EndState) → IsSteady self.now s e
@@ -264,7 +264,7 @@ impl State {
         }
     }
 
-    /// The fields that HELLOs read, if the end is idle.
+    /// As `LinkEnd::steady`.
     pub fn steady(&self, settings: &Settings) -> Option<Steady>
         ensures { result ≡ steady_of (settings_in settings.now) (state_in self.now) }
     {

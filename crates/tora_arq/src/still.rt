@@ -23,7 +23,7 @@ fn tick_behind(earlier: u64, ticks: u64) -> u64
     earlier.saturating_add(ticks)
 }
 
-/// The earlier one of two ticks; the second may be `None`.
+/// The earlier one of two ticks, where `None` means never.
 fn earliest(first: u64, other: Option<u64>) -> u64
     ensures { (tick : ℕ) → nat_le result tick ≡ nat_le first tick || has_begun other tick }
 {
@@ -60,7 +60,7 @@ impl State {
         self.owes_hello || (self.owes_old_hello && !self.speaks_two)
     }
 
-    /// The first tick at which a HELLO is due.
+    /// The first tick at which a HELLO is due: 0 if one is owed; 2^64 - 1 if no smaller tick is one.
     #[inline(always)]
     fn next_hello(&self, settings: &Settings) -> u64
         requires { 0 < settings.now.times.hello }
@@ -76,7 +76,8 @@ impl State {
         }
     }
 
-    /// The first tick at which a frame of a bound end is due, or its session times out.
+    /// The first tick at which a frame of a bound end is due, or its session times out: 0 if a frame is due whatever
+    /// the tick is; 2^64 - 1 if no smaller tick is one.
     #[inline(always)]
     fn still_in_life(&self, settings: &Settings) -> u64
         requires { IsEndState (settings_in settings.now) (state_in self.now) }
@@ -92,7 +93,7 @@ impl State {
         self.queue.deadline(times, first)
     }
 
-    /// The first tick at which a frame is due, or a session times out.
+    /// Computes `deadline`.
     #[tactic(auto, unfolding(crate::specs::LinkEnd::on_transmit, crate::specs::LinkEnd::on_transmit_in, crate::specs::LinkEnd::after_tick))]
     #[inline(always)]
     fn due_from(&self, settings: &Settings) -> u64
@@ -106,7 +107,7 @@ impl State {
         }
     }
 
-    /// The first tick at which a frame is due or a session times out; before it, no tick changes the end.
+    /// As `LinkEnd::deadline`.
     #[inline(always)]
     pub fn deadline(&self, settings: &Settings) -> u64
         requires { IsEndState (settings_in settings.now) (state_in self.now) }

@@ -9,11 +9,11 @@ use tora_packet::Packet;
 /// Why a packet is not submitted.
 #[derive(Clone, Copy, Debug, PartialEq, Eq, Hash, Error)]
 pub enum SubmitError {
-    /// The session is not the bound one. The packet is returned.
+    /// The end is not bound to this session. Nothing changes, and the packet is returned.
     WrongLife(Packet),
-    /// The send queue is full. The session has ended.
+    /// `QUEUE_PLACES` (256) packets are not acknowledged. The call has ended the session, and the packet is lost.
     Full,
-    /// The packet numbers are used up. The session has ended.
+    /// 2^62 packets were submitted in this session. The call has ended the session, and the packet is lost.
     Spent,
 }
 

@@ -1,11 +1,11 @@
 //! The times of a link end.
 
-/// The times of a link end, each at least 1.
+/// The times of a link end. `LinkEnd::new` and `GrowingEnd::new` require that each is at least 1.
 #[derive(Clone, Copy, Debug, PartialEq, Eq, Hash)]
 pub struct Times {
     /// How many ticks of 100 ms after a HELLO the next one is due.
     pub hello: u64,
-    /// After how many ticks of 100 ms without a frame of the peer a session ends.
+    /// A bound session ends after this many ticks of 100 ms without a frame of the peer in it.
     pub silent: u64,
     /// How many ticks of 100 ms after a try a packet is transmitted again, or is given up after its last try.
     pub retry: u64,
@@ -14,8 +14,8 @@ pub struct Times {
 }
 
 impl Times {
-    /// The times that the program uses: a HELLO each second, a session ends after 5 s without a frame, 0.5 s between
-    /// tries, 8 tries.
+    /// The times that the program uses unless others are set: a HELLO each second, a session ends after 5 s without a
+    /// frame, 0.5 s between tries, 8 tries.
     pub const STANDARD: Times = Times {
         hello: 10,
         silent: 50,
@@ -24,7 +24,7 @@ impl Times {
     };
 }
 
-/// The times that the program uses.
+/// The default is `Times::STANDARD`.
 impl Default for Times {
     ghost use Rattle.std.specs.Prelude.{◌≡◌};
     ghost use Rattle.tora_arq.specs.declared.times.TheConstants.Times.{STANDARD};

@@ -72,7 +72,7 @@ impl State {
         }
     }
 
-    /// Sends a HELLO of the newest version, and returns its header.
+    /// Returns the header of a HELLO of the newest version, which counts as sent.
     fn take_hello(&mut self, settings: &Settings, life: u64, heard: u64, now: u64) -> Header
         requires link { IsLink settings.now.me settings.now.peer }
         requires life { IsLifeNumber life }
@@ -89,7 +89,7 @@ impl State {
         settings.header(settings.version, life, heard)
     }
 
-    /// Sends the HELLO of version 1 after one of version 2, and returns its header.
+    /// Returns the header of the HELLO of version 1 after one of version 2, which counts as sent.
     fn take_old_hello(&mut self, settings: &Settings, life: u64, heard: u64) -> Header
         requires link { IsLink settings.now.me settings.now.peer }
         requires life { IsLifeNumber life }
@@ -104,7 +104,8 @@ impl State {
         settings.header(Version::One, life, heard)
     }
 
-    /// Sends the first packets due, copied into `packets`, or an ACK if one is owed.
+    /// Returns a DATA frame of the first packets due, which replace the content of `packets`, or else an ACK if one is
+    /// owed; it counts as sent. `None` if neither is due.
     fn take_due<'a>(
         &mut self,
         settings: &Settings,
@@ -150,7 +151,7 @@ impl State {
         self.queue.is_due(&settings.times, now) || self.owes_ack
     }
 
-    /// Whether a HELLO is due.
+    /// Whether a HELLO of any version is due.
     fn is_any_hello_due(&self, settings: &Settings, now: u64) -> bool
         ensures { result ≡ is_hello_due (settings_in settings.now) (state_in self.now) now || is_old_hello_due
             (state_in self.now) }
@@ -172,7 +173,7 @@ impl State {
         }
     }
 
-    /// The first tick at which a HELLO is due.
+    /// The first tick at which a HELLO is due: 0 if one is owed; `None` if there is none below 2^64.
     fn hello_tick(&self, settings: &Settings) -> Option<u64>
         requires { 0 < settings.now.times.hello }
         ensures { (tick : ℕ) → tick < 2 ^ 64 → has_begun result tick
@@ -184,7 +185,8 @@ impl State {
         tick_behind(self.last_hello?, settings.times.hello)
     }
 
-    /// The first tick at which a frame of a bound end is due, or its session times out.
+    /// The first tick at which a frame of a bound end is due, or its session times out; `None` if there is none below
+    /// 2^64.
     fn bound_tick(&self, settings: &Settings) -> Option<u64>
         requires { IsEndState (settings_in settings.now) (state_in self.now) }
         ensures { (life : Life) (tick : ℕ) → tick < 2 ^ 64 → has_begun result tick
@@ -199,7 +201,7 @@ impl State {
         earlier(self.hello_tick(settings), earlier(packets, silent))
     }
 
-    /// The first tick at which a frame is due, or a session times out.
+    /// The first tick at which a frame is due, or a session times out; `None` if there is none below 2^64.
     #[tactic(auto, unfolding(crate::specs::LinkEnd::on_transmit, crate::specs::LinkEnd::on_transmit_in, crate::specs::LinkEnd::after_tick))]
     fn due_tick(&self, settings: &Settings) -> Option<u64>
         requires { IsEndState (settings_in settings.now) (state_in self.now) }
@@ -213,7 +215,7 @@ impl State {
         }
     }
 
-    /// The first tick from `now` on at which a frame is due, or a session times out.
+    /// As `LinkEnd::next_due`.
     pub fn next_due(&self, settings: &Settings, now: u64) -> Option<u64>
         requires { IsEndState (settings_in settings.now) (state_in self.now) }
         ensures { IsNextDue (settings_in settings.now) (state_in self.now) now result }
@@ -224,7 +226,7 @@ impl State {
         }
     }
 
-    /// Sends the first HELLO due, and returns its header.
+    /// Returns the header of the first HELLO due, which counts as sent; `None`, and no change, if none is due.
     fn poll_hello(&mut self, settings: &Settings, life: u64, heard: u64, now: u64) -> Option<Header>
         requires link { IsLink settings.now.me settings.now.peer }
         requires life { IsLifeNumber life }
@@ -270,7 +272,7 @@ impl State {
         }
     }
 
-    /// Sends the first frame due. Its packets are copied into `packets`.
+    /// As `LinkEnd::poll_transmit_into`.
     #[tactic(auto, unfolding(crate::specs::LinkEnd::on_transmit, crate::specs::LinkEnd::on_transmit_in))]
     pub fn poll_transmit<'a>(
         &mut self,

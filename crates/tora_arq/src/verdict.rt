@@ -4,17 +4,21 @@ use std::fmt;
 /// The verdict of a link end on a frame.
 #[derive(Clone, Copy, Debug, PartialEq, Eq, Hash)]
 pub enum Verdict {
-    /// The frame brought something new, or is a HELLO of the session.
+    /// The frame brought something new, or is a HELLO that is neither `Stale`, `Foreign` nor `Busy`.
     Accepted,
-    /// The frame brought nothing new: a packet that was accepted before, or a count that did not grow.
+    /// A DATA frame of packets that were all accepted before, or an ACK whose count did not grow and that bound no
+    /// session.
     Repeated,
-    /// The frame's packets arrived before a packet with a smaller number.
+    /// A DATA frame whose packets all come early: a packet with a smaller number is missing.
     Ahead,
-    /// The frame is of another session, or the end is closed.
+    /// The end is closed; or the frame is of an older session of the peer; or it does not carry the end's own number
+    /// back, and is neither a HELLO at an unbound end nor of a newer session at a bound end. Nothing changes.
     Stale,
-    /// The peer would not send this frame to this end.
+    /// The frame is not from the peer to this node, is of version 2 at an end of version 1, has an update of a node
+    /// other than the peer, or acknowledges packets that were not transmitted. Nothing changes.
     Foreign,
-    /// The end did not examine the frame, because too many events are not polled.
+    /// Fewer than `PLACES_OF_A_FRAME` (34) places for events are free, so the end did not take the frame. Nothing
+    /// changes.
     Busy,
 }
 

@@ -136,14 +136,14 @@ impl Destination {
         self.links.downstream()
     }
 
-    /// The entry of a neighbour whose link is up; `None` if it is not up.
+    /// The entry of a neighbour whose link is up: `Some(None)` if the entry is NULL; `None` if the link is not up.
     pub fn entry(&self, k: Id) -> Option<Entry>
         ensures { result ≡ entry_in k self.now.view }
     {
         self.links.entry(k)
     }
 
-    /// The downstream neighbour with the lowest entry.
+    /// The downstream neighbour with the lowest entry; `None` if no neighbour is downstream.
     pub fn next_hop(&self) -> Option<Id>
         ensures { result ≡ next_hop_of self.now.view }
     {

@@ -9,15 +9,16 @@ use tora_height::{Height, Id, Level};
 /// How a node treats erased reference levels, for all its destinations.
 #[derive(Clone, Copy, Debug, Default, PartialEq, Eq, Hash)]
 pub enum Erasure {
-    /// A clear erases heights of its level; an update is accepted whatever its level is.
+    /// No level is remembered: an update replaces its sender's entry whatever its level is.
     #[default]
     Plain,
-    /// A clear also removes the entry of its sender, and an update at the level that was erased last only removes its
-    /// sender's entry.
+    /// The level of the last clear, sent or received, is remembered. A clear also removes its sender's entry and mark,
+    /// and an update at the remembered level removes its sender's entry instead of replacing it; an entry of the
+    /// destination itself stays.
     Remembered,
 }
 
-/// The level that was erased last, after this level was erased.
+/// The remembered level after a clear of `level` was sent or received: `level` under `Remembered`; `old` under `Plain`.
 pub fn erased_after(erasure: Erasure, old: Option<Level>, level: Level) -> Option<Level>
     ensures { result ≡ erased_after erasure old level }
 {
@@ -27,7 +28,8 @@ pub fn erased_after(erasure: Erasure, old: Option<Level>, level: Level) -> Optio
     }
 }
 
-/// Whether an update with this height counts as older than the clear of its level: the level was erased last.
+/// Whether an update with this height counts as older than the clear of its level: its level is the remembered one.
+/// Always `false` under `Plain`.
 fn is_outdated(erasure: Erasure, erased: Option<Level>, height: Height) -> bool
     ensures { result ≡ is_outdated_by erasure erased height }
 {
@@ -41,14 +43,17 @@ fn is_outdated(erasure: Erasure, erased: Option<Level>, height: Height) -> bool
 }
 
 impl Destination {
-    /// Whether an update with this height counts as older than the clear of its level: the level was erased last.
+    /// Whether an update with this height counts as older than the clear of its level: its level is the remembered one.
+    /// Always `false` under `Plain`.
     pub(crate) fn is_outdated(&self, height: Height) -> bool
         ensures { result ≡ is_outdated self.now.view height }
     {
         is_outdated(self.erasure, self.erased, height)
     }
 
-    /// Receives a clear of a level from the neighbour `k`, which has no height and no entries when it sends a clear.
+    /// Notes a clear of a level from the neighbour `k`. Under `Remembered` it remembers the level, and removes the mark
+    /// of `k` and, unless `k` is the destination, its entry: the sender of a clear has no height. Under `Plain` nothing
+    /// changes.
     pub(crate) fn hear_clear(&mut self, k: Id, level: Level)
         ensures view { self.new.view ≡ hearing_clear self.old.view k level }
         ensures neighbours { self.new.neighbours ≡ self.old.neighbours }

@@ -10,10 +10,9 @@ use thiserror::Error;
 pub enum CoreError {
     /// There is not enough memory.
     Memory,
-    /// There are more neighbours or destinations than `MOST_NEIGHBOURS` and `MOST_DESTINATIONS`, or than the given
-    /// limits allow.
+    /// There are more neighbours or destinations than the limits allow: `CoreLimits::STANDARD` unless others are given.
     TooMany,
-    /// A neighbour or a destination is named twice.
+    /// A number occurs twice among the neighbours, or twice among the destinations.
     Repeated,
     /// The node itself is among its neighbours.
     OwnId,
@@ -61,7 +60,7 @@ pub enum StepError {
     AlreadyUp,
     /// The link that goes down, or over which a packet came, is not up.
     NotUp,
-    /// The height in an update is not that of the neighbour that sent it.
+    /// An update carries the height of a node other than the neighbour that it came from.
     WrongSender,
     /// The destination of a need is not in the table.
     UnknownDestination,

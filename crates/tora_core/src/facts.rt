@@ -35,7 +35,8 @@ pub fn links_follow_inputs()
     ensures at_need { (c : CoreView) (d now : ℕ) → (core_after c (Need d) now).up ≡ c.up }
 {}
 
-/// The conditions under which inputs are accepted.
+/// When an input is accepted: `LinkUp` if the neighbour is configured and its link is not up; `LinkDown` and `Packet`
+/// if its link is up, an update only with its sender's height; `Need` if the table has the destination.
 pub fn inputs_are_accepted()
     ensures link_up { (c : CoreView) (k : ℕ) → (refusal_of c (LinkUp k) ≡ None)
         ↔ ((has_number k c.neighbours ≡ true) × (has_number k c.up ≡ false)) }
@@ -52,7 +53,7 @@ pub fn other_views_stay()
         → view_of (core_after c input now) d ≡ view_of c d }
 {}
 
-/// The links that are up are those of configured neighbours, in ascending order.
+/// Each neighbour whose link is up is a configured one, and the list of these neighbours ascends.
 pub fn up_links_are_of_neighbours()
     ensures neighbours { (c : CoreView) (k : ℕ) → IsCore c → has_number k c.up ≡ true
         → has_number k c.neighbours ≡ true }

@@ -31,7 +31,8 @@ impl Destination {
         Some(Broadcast::Query)
     }
 
-    /// Broadcasts the own height in an update, if there is one.
+    /// Broadcasts the own height in an update, and marks every neighbour whose link is up. `None`, and no change, if
+    /// the height is NULL.
     pub(crate) fn broadcast_update(&mut self) -> Option<Broadcast>
         ensures view { self.new.view ≡ (update_broadcast self.old.view).view }
         ensures broadcast { result ≡ (update_broadcast self.old.view).broadcast }
@@ -42,7 +43,8 @@ impl Destination {
         Some(Broadcast::Update(height))
     }
 
-    /// Sets the own height to one above the least entry.
+    /// Sets the own height to the least entry with delta + 1 and the own number, unsets the flag, and broadcasts the
+    /// height. If every entry is NULL or that height is out of range, the height is NULL, and nothing is broadcast.
     #[tactic(auto, unfolding(crate::specs::Rules::after_join))]
     pub(crate) fn join(&mut self) -> Option<Broadcast>
         ensures view { self.new.view ≡ (after_join self.old.view).view }
@@ -64,7 +66,8 @@ impl Destination {
         }
     }
 
-    /// Reacts to the loss of the last downstream link by a link failure or a clear (case 1).
+    /// Reacts to the loss of the last downstream link by a link failure or a clear (case 1): defines a level, or, if
+    /// every entry is NULL, gives up the height without a broadcast.
     #[tactic(auto, unfolding(crate::specs::Rules::after_link_loss))]
     pub(crate) fn after_link_loss(&mut self, now: u64) -> Option<Broadcast>
         ensures view { self.new.view ≡ (after_link_loss self.old.view now).view }
@@ -78,7 +81,8 @@ impl Destination {
         self.define_level(now)
     }
 
-    /// Reacts to the loss of the last downstream link by an update (cases 2 to 5).
+    /// Reacts to the loss of the last downstream link by an update (cases 2 to 5). If every entry is NULL, gives up the
+    /// height without a broadcast.
     #[tactic(auto, unfolding(crate::specs::Rules::after_update_loss))]
     pub(crate) fn after_update_loss(&mut self, now: u64) -> Option<Broadcast>
         ensures view { self.new.view ≡ (after_update_loss self.old.view now).view }
@@ -101,7 +105,8 @@ impl Destination {
         self.define_level(now)
     }
 
-    /// A time tag later than every time tag that the node has generated or knows.
+    /// The greatest of the tick `now`, 1, and one more than each `tau` of the own height, of the entries, and of the
+    /// level that the node defined last.
     fn fresh_time(&self, now: u64) -> u64
         ensures { result ≡ fresh_time self.now.view now }
     {
@@ -114,7 +119,8 @@ impl Destination {
         now.max(1u64.max(later))
     }
 
-    /// Defines a new reference level.
+    /// Defines a new reference level at the fresh time and broadcasts the height. If the time is above 2^62, the height
+    /// becomes NULL, and nothing is broadcast.
     #[tactic(auto, unfolding(crate::specs::Rules::new_level))]
     fn define_level(&mut self, now: u64) -> Option<Broadcast>
         ensures view { self.new.view ≡ (new_level self.old.view now).view }
@@ -129,7 +135,8 @@ impl Destination {
         self.broadcast_update()
     }
 
-    /// Propagates the greatest level of the entries.
+    /// Sets the height to `level`, the greatest level of the entries, with one less than the least delta at it, and
+    /// broadcasts it. If that delta is out of range, the height becomes NULL, and nothing is broadcast.
     fn propagate(&mut self, level: Level) -> Option<Broadcast>
         ensures view { self.new.view ≡ (propagated_level self.old.view level).view }
         ensures broadcast { result ≡ (propagated_level self.old.view level).broadcast }
@@ -143,7 +150,7 @@ impl Destination {
         self.broadcast_update()
     }
 
-    /// Reflects the level at which all entries are.
+    /// Sets the height to the reflection of `level`, the level of all entries, with delta 0, and broadcasts it.
     fn reflect(&mut self, level: Level) -> Option<Broadcast>
         requires { IsLevel level }
         ensures view { self.new.view ≡ (reflected_level self.old.view level).view }
@@ -154,7 +161,8 @@ impl Destination {
         self.broadcast_update()
     }
 
-    /// Gives up the height and every entry except that of the destination.
+    /// Gives up the height and every entry except that of the destination, and broadcasts a clear of `level`, which is
+    /// a reflected level. Under `Erasure::Remembered` the level is remembered.
     #[tactic(auto, unfolding(crate::specs::Rules::after_erase))]
     pub(crate) fn erase(&mut self, level: Level) -> Option<Broadcast>
         ensures view { self.new.view ≡ (after_erase self.old.view level.tau level.oid).view }

@@ -5,8 +5,8 @@
 //! broadcast to every neighbour whose link is up (Park and Corson 1997, section 3). The published texts do not say when
 //! a query is answered and which entries a clear erases; those two rules are this project's choice.
 //!
-//! Only a new core and its text take memory. A core has at most 32 neighbours, or up to 255 with `Core::with_limits`,
-//! and 64 destinations.
+//! Only making a core, copying it and making its text take memory. A core has at most 32 neighbours, or up to 255 with
+//! `Core::with_limits`, and 64 destinations.
 //!
 //! ```rust
 //! let mut core = Core::new(alloc, 3, &[2, 4], &[4])?;

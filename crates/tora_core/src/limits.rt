@@ -26,7 +26,7 @@ impl CoreLimits {
         destinations: MOST_DESTINATIONS,
     };
 
-    /// How many neighbours a core may have.
+    /// How many neighbours a core may have within these limits: `neighbours`, but at most 255.
     pub fn most_neighbours(self) -> usize
         ensures value { result ≡ most_neighbours self }
         ensures bound { result ≤ GREATEST_NEIGHBOURS }
@@ -34,7 +34,7 @@ impl CoreLimits {
         at_most(GREATEST_NEIGHBOURS, self.neighbours)
     }
 
-    /// How many destinations a core's table may have.
+    /// How many destinations a core's table may have within these limits: `destinations`, but at most 64.
     pub fn most_destinations(self) -> usize
         ensures value { result ≡ most_destinations self }
         ensures bound { result ≤ MOST_DESTINATIONS }

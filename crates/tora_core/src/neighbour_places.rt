@@ -66,7 +66,7 @@ pub fn rows_up(alloc: Global, up: &[bool], places: &[Row]) -> Result<Vec<Row>, A
     Ok(rows)
 }
 
-/// Appends an item if its place is marked.
+/// Appends an item if `mark` is set. Fails only if memory runs out.
 fn push_marked<T: Copy>(mark: bool, item: T, items: &mut Vec<T>) -> Result<(), AllocError>
     ensures { OnOk result (items.new.items ≡ items.old.items ++ (if mark then item ∷ [] else [])) }
 {
@@ -91,7 +91,8 @@ fn place_of_row(k: Id, places: &[Row]) -> Option<usize>
     places.iter().position(|row| row.neighbour == k)
 }
 
-/// The entry of a neighbour whose link is up; `None` if it is not up.
+/// The entry of a neighbour whose link is up: `Some(None)` if the entry is NULL; `None` if the link is not up or `k`
+/// has no place.
 pub fn entry_of(k: Id, up: &[bool], places: &[Row]) -> Option<Entry>
     requires ascending { IsAscending (neighbours_of places.now) }
     requires lengths { length up.now ≡ length places.now }

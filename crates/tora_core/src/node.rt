@@ -69,11 +69,11 @@ impl Model for Core {
 }
 
 impl Core {
-    /// The core of node `me`, with its configured neighbours and the destinations of its table. No link is up, and the
-    /// only known height is that of `me` for itself.
+    /// The core of node `me`, with its configured neighbours and the destinations of its table. No link is up, and
+    /// every height is NULL, except that for the destination `me`, which is (0,0,0,0,`me`).
     ///
-    /// There are at most `MOST_NEIGHBOURS` neighbours and `MOST_DESTINATIONS` destinations, in any order, none of them
-    /// 0; `me` may be a destination.
+    /// There are at most `MOST_NEIGHBOURS` neighbours and `MOST_DESTINATIONS` destinations, in any order; `me` may be a
+    /// destination. No number is 0.
     ///
     /// # Errors
     /// In this order: `TooMany` for either list, `Repeated` within one list, `OwnId` if `me` is among the neighbours,
@@ -291,7 +291,8 @@ impl Core {
         }
     }
 
-    /// The cause for which an input is refused, if it is. It requires that the link to `k` is up, or is not (`is_up`).
+    /// The cause for which an input about the link to `k` is refused, if it is. With `is_up` the input requires that
+    /// the link is up, and otherwise that it is not.
     fn fault_of_link(&self, k: Id, is_up: bool) -> Option<StepError>
         ensures { result ≡ link_fault self.now k is_up }
     {
@@ -332,14 +333,15 @@ impl Core {
         view_of(d, self.views.as_slice())
     }
 
-    /// The own height for a destination, `None` if the table does not have it.
+    /// The own height for a destination: `Some(None)` if it is NULL; `None` if the table does not have the destination.
     pub fn height(&self, d: Id) -> Option<Entry>
         ensures { result ≡ height_of self.now d }
     {
         self.view(d).map(|view| view.height())
     }
 
-    /// The height that neighbour `k` sent for a destination; `None` without that destination, or if the link is down.
+    /// The entry of neighbour `k` for a destination, in general the height that `k` sent last: `Some(None)` if it is
+    /// NULL; `None` if the link to `k` is not up, or the table does not have the destination.
     pub fn entry(&self, d: Id, k: Id) -> Option<Entry>
         ensures { result ≡ entry_of self.now d k }
     {

@@ -28,7 +28,8 @@ fn kept(place: usize) -> u8 {
 }
 
 impl PlaceHints {
-    /// The guesses for the numbers of a list. A guess is right unless a later number has the same last bits.
+    /// The guesses for the numbers of a list. A guess is right if the index is at most 255 and no later number has the
+    /// same last six bits.
     pub fn new(numbers: &[Id]) -> PlaceHints {
         let mut hints = PlaceHints { places: [0; 64] };
         for (place, n) in numbers.iter().enumerate() {

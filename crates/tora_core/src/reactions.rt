@@ -1,5 +1,5 @@
-//! The reaction of a view to an input (Park and Corson 1997, section 3): it updates the rows, and then applies its
-//! rule.
+//! The reaction of a view to an input (Park and Corson 1997, section 3): first its rows change, and then the rule of
+//! the input is applied.
 ghost use Rattle.std.specs.Prelude.{◌≡◌, ◌≢◌, ◌==◌, ◌<◌, None, Some, MatchBool, true};
 ghost use Rattle.std.specs.List.{AllByRecursion};
 ghost use Rattle.tora_height.specs.Height.{destination_height};
@@ -146,7 +146,9 @@ impl Destination {
         }
     }
 
-    /// Reacts to an update that counts as older than the clear of its level: it only removes its sender's entry.
+    /// Reacts to an update that counts as older than the clear of its level: removes the entry of its sender `k`,
+    /// unless `k` is the destination. If there is a height and then no neighbour is downstream, reacts as to a link
+    /// failure.
     fn on_outdated(&mut self, k: Id, now: u64) -> Option<Broadcast>
         ensures view { self.new.view ≡ (on_outdated self.old.view k now).view }
         ensures broadcast { result ≡ (on_outdated self.old.view k now).broadcast }

@@ -1,4 +1,4 @@
-//! Why a core or an input is refused. Both depend only on the numbers of nodes.
+//! Why a core is refused, and whether a packet may come from a neighbour.
 ghost use Rattle.std.specs.Prelude.{◌≡◌, ◌≤◌, IfNone, length};
 ghost use Rattle.tora_core.specs.CoreRun.{core_refusal_within, is_from};
 ghost use Rattle.tora_core.specs.Limits.{most_destinations, most_neighbours};
@@ -10,7 +10,8 @@ use crate::{CoreLimits, GREATEST_NEIGHBOURS, MOST_DESTINATIONS};
 use tora_height::Id;
 use tora_packet::Packet;
 
-/// Why a core with these neighbours and destinations cannot be made within the limits, apart from lack of memory.
+/// Why a core with these neighbours and destinations cannot be made within the limits, apart from lack of memory;
+/// `None` if it can. In this order: `TooMany`, `Repeated`, `OwnId`.
 pub fn core_refusal(
     limits: CoreLimits,
     me: Id,
@@ -36,7 +37,7 @@ pub fn core_refusal(
     None
 }
 
-/// Whether the height in an update is that of the neighbour that sent it. Any other packet passes.
+/// Whether neighbour `k` may send this packet: `false` only for an update with the height of another node.
 pub fn is_from(k: Id, packet: &Packet) -> bool
     ensures value { result ≡ is_from k packet.now }
     ensures valid { IsPacket packet.now }

@@ -15,13 +15,14 @@ ghost use Rattle.tora_core.specs.Links.{with_entry_at};
 
 use tora_height::{Entry, Height, Id, Level};
 
-/// The row of one neighbour whose link is up.
+/// What a view has of one neighbour. While its link is not up, the entry is NULL.
 #[derive(Clone, Copy, Debug, Default, PartialEq, Eq, Hash)]
 pub struct Row {
-    /// The height that the neighbour sent last, `None` for NULL.
+    /// The height that the neighbour sent last, or (0,0,0,0,`neighbour`) if it is the destination; `None` for NULL.
     pub entry: Entry,
     pub neighbour: Id,
-    /// Whether an update was broadcast since the link came up.
+    /// The mark: an update was broadcast since the link came up, and no clear from the neighbour has removed the mark
+    /// since.
     pub told: bool,
 }
 
@@ -64,7 +65,7 @@ fn higher_level_of(best: Option<Level>, height: Height) -> Option<Level>
     }
 }
 
-/// The greatest reference level of the entries.
+/// The greatest reference level of the entries; `None` if every entry is NULL.
 pub fn greatest_level(rows: &[Row]) -> Option<Level>
     ensures value { result ≡ greatest_level (heights_of rows.now) }
     ensures ranges { IfSome result IsLevel }
@@ -93,7 +94,7 @@ pub fn all_at(level: Level, rows: &[Row]) -> bool
         .all(|height| is_at(level, height))
 }
 
-/// A time tag later than that of every entry.
+/// One more than the greatest time tag of the entries, in ticks of 100 ms; 0 if every entry is NULL.
 pub fn time_after_all(rows: &[Row]) -> u64
     ensures { result ≡ time_after_all (heights_of rows.now) }
 {
@@ -117,7 +118,7 @@ fn lower_delta_of(best: Option<i32>, delta: i32) -> Option<i32>
     }
 }
 
-/// The least delta at a level.
+/// The least delta of the entries at a level; `None` if no entry is at it.
 pub fn least_delta(level: Level, rows: &[Row]) -> Option<i32>
     ensures value { result ≡ least_delta level (heights_of rows.now) }
     ensures low { IfSome result (λ delta. neg_ℤ (pos (2 ^ 30)) ≤ℤ delta) }

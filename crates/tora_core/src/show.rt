@@ -96,7 +96,7 @@ fn write_view(alloc: Global, out: &mut String, view: &Destination) -> Result<(),
     Ok(())
 }
 
-/// The lines of all views.
+/// The text of `Core::show` for these views. Fails only if memory runs out.
 pub fn text_of(alloc: Global, views: &[Destination]) -> Result<String, AllocError>
     ensures { IfOk result (λ text. string_bytes text ≡ flat_map (λ t. view_text t.view) views.now) }
 {

@@ -20,7 +20,8 @@ use std::alloc::{AllocError, Global};
 use tora_height::Id;
 use tora_packet::Packet;
 
-/// New views of the destinations, each with a place for each of these neighbours, which are in ascending order.
+/// New views of the destinations, each with a place for each of these neighbours, which are in ascending order. Fails
+/// only if memory runs out.
 pub fn first_views(
     alloc: Global,
     erasure: Erasure,
@@ -48,8 +49,8 @@ pub struct TableHints {
     pub destinations: PlaceHints,
 }
 
-/// What the rows and columns of a table are named by, in ascending order: the destinations of its views, and the
-/// neighbours that each view has a place for.
+/// The numbers in a table, in ascending order: the destination of each view, and the neighbour at each place of a view;
+/// and guesses at their places.
 #[derive(Clone, Copy)]
 pub struct TableNames<'a> {
     pub destinations: &'a [Id],
@@ -88,7 +89,7 @@ pub fn step(
     }
 }
 
-/// The place of a neighbour.
+/// The place of the neighbour `k` among the neighbours, of which it is one, counted from 0.
 fn place_in(k: Id, names: TableNames<'_>) -> usize
     requires { IsAscending names.neighbours.now × (has_number k names.neighbours.now ≡ true) }
     ensures { IsOnlyPlace k result names.entry.neighbours.now }
@@ -141,7 +142,7 @@ fn step_need(d: Id, views: &mut [Destination], names: TableNames<'_>, now: u64) 
 }
 
 /// Passes a packet of neighbour `k`, whose rows are at `row` in all views, to the view of its destination only, and
-/// returns the packet to broadcast.
+/// returns the packet to broadcast. `None` if there is none, or if the table does not have the destination.
 fn step_packet(
     k: Id,
     row: usize,

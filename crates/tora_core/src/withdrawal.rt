@@ -7,7 +7,7 @@ use crate::rows::Row;
 use tora_height::Id;
 
 impl Links {
-    /// Removes the entry of neighbour `k`, unless it is the destination.
+    /// Removes the entry of neighbour `k`, unless `k` is the destination.
     pub fn withdraw(&mut self, destination: Id, k: Id)
         ensures { self.new ≡ record self.old { rows = without_entry destination k self.old.rows } }
     {

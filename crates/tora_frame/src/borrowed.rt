@@ -13,7 +13,7 @@ use tora_packet::Packet;
 /// The body of a frame, like `Body`, with borrowed packets.
 #[derive(Clone, Copy, Debug)]
 pub enum BorrowedBody<'a> {
-    /// No content: the frame carries only the session numbers of its header.
+    /// No content: the frame is only its header.
     Hello,
     /// The number of the first packet, the count of packets that the sender has accepted in this session, and the
     /// packets.
@@ -41,7 +41,7 @@ impl<'a> Model for BorrowedFrame<'a> {
 }
 
 impl<'a> BorrowedFrame<'a> {
-    /// The frame of a header and a body that are known to be in their ranges.
+    /// The frame of a header and a body, without checks: the caller ensures their ranges.
     pub(crate) fn of(header: Header, body: BorrowedBody<'a>) -> BorrowedFrame<'a>
         requires { IsFrame (frame_of header (body_of body)) }
         ensures { result ≡ frame_of header (body_of body.entry) }
@@ -49,7 +49,7 @@ impl<'a> BorrowedFrame<'a> {
         BorrowedFrame { header, body }
     }
 
-    /// A HELLO.
+    /// A HELLO. The fields of `header` are in their ranges.
     pub fn hello(header: Header) -> BorrowedFrame<'a>
         requires { IsHeader header }
         ensures { result ≡ frame_of header OwnedBody.Hello }
@@ -57,9 +57,9 @@ impl<'a> BorrowedFrame<'a> {
         BorrowedFrame::of(header, BorrowedBody::Hello)
     }
 
-    /// A DATA frame. `number` is the number of the first packet, and the number of the last packet is at most 2^62.
-    /// `count` is the count of accepted packets, 0 to 2^62. There is one packet in version 1, and one to sixteen in
-    /// version 2.
+    /// A DATA frame. The fields of `header` are in their ranges, and `heard` is not 0. `number` is the number of the
+    /// first packet, at least 1, and the number of the last packet is at most 2^62. `count` is the count of accepted
+    /// packets, 0 to 2^62. There is one packet in version 1, and one to sixteen in version 2.
     pub fn data(header: Header, number: u64, count: u64, packets: &'a [Packet]) -> BorrowedFrame<'a>
         requires header { IsHeader header }
         requires heard { 0 < header.heard }
@@ -73,7 +73,8 @@ impl<'a> BorrowedFrame<'a> {
         BorrowedFrame::of(header, BorrowedBody::Data(number, count, packets))
     }
 
-    /// An ACK. `count` is the count of accepted packets, 0 to 2^62.
+    /// An ACK. The fields of `header` are in their ranges, and `heard` is not 0. `count` is the count of accepted
+    /// packets, 0 to 2^62.
     pub fn ack(header: Header, count: u64) -> BorrowedFrame<'a>
         requires header { IsHeader header }
         requires heard { 0 < header.heard }

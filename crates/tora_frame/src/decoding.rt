@@ -238,8 +238,8 @@ pub fn decode(bytes: &[u8]) -> Result<Frame, FrameError>
     Ok(frame.to_frame())
 }
 
-/// As `decode`, but the frame borrows its packets from `packets`, which is overwritten. After an error `packets` may
-/// have any packets.
+/// As `decode`, but the packets of a DATA frame replace the content of `packets`, from which the frame borrows them.
+/// After any other frame or an error, `packets` may have any packets.
 ///
 /// # Errors
 /// Those of `decode`, in the same order.

@@ -70,7 +70,7 @@ fn data_head_length(version: Version) -> usize
     }
 }
 
-/// Appends the number of packets in the frame, if the version has such a field.
+/// In version 2, appends how many packets the frame has, in one byte, and three zeros; in version 1, nothing.
 fn put_batch_size(version: Version, many: usize, out: &mut Bytes)
     requires many { many ≤ MOST_PACKETS }
     requires room { array_vec_len out.old + 4 ≤ LONGEST_FRAME }
@@ -93,7 +93,7 @@ fn put_packets(packets: &[Packet], out: &mut Bytes)
     }
 }
 
-/// The bytes of a DATA frame.
+/// Writes a DATA frame to `out`, which is empty.
 fn put_data(header: &Header, number: u64, count: u64, packets: &[Packet], out: &mut Bytes)
     requires empty { out.old.items ≡ [] }
     requires many { length packets.now ≤ MOST_PACKETS }
@@ -108,7 +108,7 @@ fn put_data(header: &Header, number: u64, count: u64, packets: &[Packet], out: &
     put_packets(packets, out);
 }
 
-/// The bytes of an ACK.
+/// Writes an ACK to `out`, which is empty.
 fn put_ack(header: &Header, count: u64, out: &mut Bytes)
     requires { out.old.items ≡ [] }
     ensures { out.new.items ≡ frame_spelling (frame_of header.now (Body.Ack count)) }

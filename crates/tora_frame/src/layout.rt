@@ -3,13 +3,13 @@
 use crate::MOST_PACKETS;
 use tora_packet::{LONGEST_PACKET, SHORTEST_PACKET};
 
-/// The kind of a HELLO.
+/// The kind byte of a HELLO, byte 1 of the frame.
 pub(crate) const HELLO: u8 = 1;
 
-/// The kind of a DATA frame.
+/// The kind byte of a DATA frame.
 pub(crate) const DATA: u8 = 2;
 
-/// The kind of an ACK.
+/// The kind byte of an ACK.
 pub(crate) const ACK: u8 = 3;
 
 /// The length of the header in bytes.

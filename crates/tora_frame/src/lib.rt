@@ -1,9 +1,9 @@
 //! The frames of a neighbour link and their bytes.
 //!
-//! A frame carries two session numbers: the sender's, and the one that the sender heard from the receiver. A HELLO
-//! carries nothing else. DATA frames carry numbered packets, and DATA and ACK frames carry a count of accepted packets.
-//! In version 1 a DATA frame carries one packet, in version 2 one to sixteen. Numbers are in network byte order. No
-//! call of this crate takes memory.
+//! A frame names its version, its sender and its receiver, and carries two session numbers: the sender's, and the one
+//! that the sender heard from the receiver. A HELLO has no other content. DATA frames carry numbered packets, and DATA
+//! and ACK frames carry a count of accepted packets. In version 1 a DATA frame carries one packet, in version 2 one to
+//! sixteen. Numbers are in network byte order. No call of this crate takes memory.
 //!
 //! ```rust
 //! let header = Header { version: Version::Two, sender: 1, receiver: 2, life: 5, heard: 9 };
@@ -36,7 +36,7 @@ use tora_packet::PacketError;
 /// Why bytes are not a frame.
 #[derive(Clone, Copy, Debug, PartialEq, Eq, Hash, Error)]
 pub enum FrameError {
-    /// The bytes end before the frame does.
+    /// There are fewer than 28 bytes, or fewer than the payload length says.
     #[error("too few bytes")]
     Short,
     /// There are bytes after the frame.
@@ -54,17 +54,18 @@ pub enum FrameError {
     /// The sender or the receiver is 0, or the two are equal.
     #[error("the sender or the receiver is 0, or the two are equal")]
     Id,
-    /// A session number is out of its range.
+    /// The sender's session number is not 1 to 2^62, the one that it heard is above 2^62, or that one is 0 in a DATA
+    /// frame or an ACK.
     #[error("a life is out of its range")]
     Life,
-    /// The number of a packet, or the count of accepted packets, is out of its range.
+    /// The number of the first packet is not 1 to 2^62, or the count of accepted packets is above 2^62.
     #[error("a number or a count is out of its range")]
     Number,
-    /// The bytes of a packet are not a packet, for this reason.
+    /// A packet in the frame is refused for this reason; `Long` also if bytes are left after the last packet.
     #[error("the packet is refused: {0}")]
     Packet(#[source] PacketError),
     /// The number of packets in a frame of version 2 is 0 or above 16, is not followed by three zero bytes, or makes
-    /// the number of the last packet too great.
+    /// the number of the last packet exceed 2^62.
     #[error("how many packets there are is out of its range")]
     Count,
 }

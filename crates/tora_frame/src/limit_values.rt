@@ -4,7 +4,8 @@ ghost use Rattle.tora_frame.specs.declared.parts.TheConstants.{GREATEST_NUMBER, 
 ghost use Rattle.tora_frame.specs.declared.layout.TheConstants.{HEADER_LENGTH, PACKET_HEAD, BATCH_HEAD};
 ghost use Rattle.tora_frame.specs.declared.encoding.TheConstants.{LONGEST_FRAME};
 
-/// The limits have these values.
+/// `GREATEST_NUMBER` is 2^62, `MOST_PACKETS` 16 and `LONGEST_FRAME` 560 bytes. A header has 28 bytes, and the part of a
+/// DATA frame between its header and its packets 16 in version 1 and 20 in version 2.
 pub fn limits_have_their_values()
     ensures greatest_number { GREATEST_NUMBER ≡ 2 ^ 62 }
     ensures most_packets { MOST_PACKETS ≡ 16 }

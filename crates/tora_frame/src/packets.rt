@@ -14,7 +14,7 @@ use crate::layout::{BATCH_OFFSET, PACKET_OFFSET};
 use crate::{FrameError, GREATEST_NUMBER, MOST_PACKETS, Packets, Version};
 use tora_packet::{Packet, PacketError, cut_packet};
 
-/// Decodes a packet that takes up all of the bytes.
+/// Decodes a packet that takes up all of the bytes. The only error is `Packet`, with the cause.
 #[inline(always)]
 fn read_packet(bytes: &[u8]) -> Result<Packet, FrameError>
     ensures exact { MatchOption (whole_packet_fault bytes.now) (result ≡ Ok (whole_packet_at bytes.now)) (λ e.
@@ -36,8 +36,9 @@ fn behind(bytes: &[u8], offset: usize) -> &[u8]
     rest
 }
 
-/// Decodes exactly `many` packets, one after another, which take up all of the bytes. After an error, `packets` may
-/// have some of them.
+/// Decodes exactly `many` packets, one after another, which take up all of the bytes, into `packets`, which is empty.
+/// The only error is `Packet`, with the cause, which is `Long` if bytes are left. After an error, `packets` may have
+/// some of them.
 fn read_list(bytes: &[u8], many: usize, packets: &mut Packets) -> Result<(), FrameError>
     requires many { many ≤ MOST_PACKETS }
     requires empty { packets.old.items ≡ [] }
@@ -58,7 +59,8 @@ fn read_list(bytes: &[u8], many: usize, packets: &mut Packets) -> Result<(), Fra
     Ok(())
 }
 
-/// Reads and checks the number of packets in a frame of version 2 whose first packet has this number.
+/// Reads how many packets a DATA frame of version 2 has. `number` is the number of the first one. The only error is
+/// `Count`: it has none or over 16, three zeros do not follow, or the last number is above 2^62.
 fn read_batch_size(bytes: &[u8], number: u64) -> Result<usize, FrameError>
     requires len { 48 ≤ length bytes.now }
     requires number { number ≡ u64_at 28 bytes.now }

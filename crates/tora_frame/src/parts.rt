@@ -41,7 +41,8 @@ impl Version {
     }
 }
 
-/// The header of a frame: its version, its two nodes, and a session number of each end.
+/// The header of a frame: its version, its two nodes, and a session number of each end. The header of a `Frame` is in
+/// the ranges below; the type `Header` checks nothing.
 #[derive(Clone, Copy, Debug, PartialEq, Eq, Hash)]
 pub struct Header {
     /// The version of the frame.
@@ -56,10 +57,10 @@ pub struct Header {
     pub heard: u64,
 }
 
-/// The body of a frame, after its header.
+/// The body of a frame, after its header. The body of a `Frame` is in the ranges below; the type `Body` checks nothing.
 #[derive(Debug, PartialEq, Eq, Hash, Drop)]
 pub enum Body {
-    /// No content: the frame carries only the session numbers of its header.
+    /// No content: the frame is only its header.
     Hello,
     /// The number of the first packet, 1 to 2^62; the count of packets that the sender has accepted in this session, 0
     /// to 2^62; and the packets, numbered on from the first: one in version 1, one to sixteen in version 2.
@@ -89,7 +90,7 @@ impl Model for Frame {
     ghost inverse = { λ p. record { header = p.header; body = p.body } };
 }
 
-/// Every packet has its parts in range, because its type ensures it.
+/// Does nothing: it shows in proofs that every packet has its parts in range, which the type `Packet` ensures.
 pub(crate) fn know(packets: &[Packet])
     ensures { AllByRecursion IsPacket packets.now }
 {
@@ -99,7 +100,7 @@ pub(crate) fn know(packets: &[Packet])
 }
 
 impl Frame {
-    /// The frame of a header and a body that are known to be in their ranges.
+    /// The frame of a header and a body, without checks: the caller ensures their ranges.
     pub(crate) fn of(header: Header, body: Body) -> Frame
         requires { IsFrame (frame_of header body) }
         ensures { result ≡ frame_of header body }
@@ -107,7 +108,7 @@ impl Frame {
         Frame { header, body }
     }
 
-    /// A HELLO.
+    /// A HELLO. The fields of `header` are in their ranges.
     pub fn hello(header: Header) -> Frame
         requires { IsHeader header }
         ensures { result ≡ frame_of header Body.Hello }
@@ -115,9 +116,9 @@ impl Frame {
         Frame::of(header, Body::Hello)
     }
 
-    /// A DATA frame. `number` is the number of the first packet, and the number of the last packet is at most 2^62.
-    /// `count` is the count of accepted packets, 0 to 2^62. There is one packet in version 1, and one to sixteen in
-    /// version 2.
+    /// A DATA frame. The fields of `header` are in their ranges, and `heard` is not 0. `number` is the number of the
+    /// first packet, at least 1, and the number of the last packet is at most 2^62. `count` is the count of accepted
+    /// packets, 0 to 2^62. There is one packet in version 1, and one to sixteen in version 2.
     pub fn data(header: Header, number: u64, count: u64, packets: Packets) -> Frame
         requires header { IsHeader header }
         requires heard { 0 < header.heard }
@@ -131,8 +132,8 @@ impl Frame {
         Frame::of(header, Body::Data(number, count, packets))
     }
 
-    /// A DATA frame of either version with one packet. `number` is the packet's number, 1 to 2^62, and `count` is the
-    /// count of accepted packets, 0 to 2^62.
+    /// A DATA frame of either version with one packet. The fields of `header` are in their ranges, and `heard` is not
+    /// 0. `number` is the packet's number, 1 to 2^62, and `count` is the count of accepted packets, 0 to 2^62.
     pub fn one(header: Header, number: u64, count: u64, packet: Packet) -> Frame
         requires header { IsHeader header }
         requires heard { 0 < header.heard }
@@ -145,7 +146,8 @@ impl Frame {
         Frame::data(header, number, count, packets)
     }
 
-    /// An ACK. `count` is the count of accepted packets, 0 to 2^62.
+    /// An ACK. The fields of `header` are in their ranges, and `heard` is not 0. `count` is the count of accepted
+    /// packets, 0 to 2^62.
     pub fn ack(header: Header, count: u64) -> Frame
         requires header { IsHeader header }
         requires heard { 0 < header.heard }

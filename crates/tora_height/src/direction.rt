@@ -5,7 +5,7 @@
 pub enum Direction {
     /// Upstream: the neighbour is higher.
     Up,
-    /// Downstream: the neighbour is lower.
+    /// Downstream: the neighbour is lower, or only the own height is NULL.
     Down,
     /// The neighbour's height is not known, or the two heights are equal.
     #[default]

@@ -41,7 +41,8 @@ impl Height {
     /// order within the level, and `id` the node whose height it is.
     ///
     /// # Errors
-    /// In this order: `Tau`, `Delta`, `Level`, `Id`.
+    /// In this order: `Tau` if `tau` is above 2^62; `Delta` if `delta` is not within -2^30 to 2^30; `Level` if `r` is
+    /// above 1, exactly one of `tau` and `oid` is 0, or `delta` is negative at level (0,0,0); `Id` if `id` is 0.
     #[tactic(auto, unfolding(crate::specs::Height::height_fault))]
     pub fn new(tau: u64, oid: u32, r: u8, delta: i32, id: Id) -> Result<Height, HeightError>
         ensures exact { MatchOption (height_fault (quintuple tau oid r delta id))
@@ -70,6 +71,7 @@ impl Height {
     }
 
     /// The height of every destination for itself: (0,0,0,0,`destination`) (Park and Corson 1997, section 3.1).
+    /// `destination` is not 0.
     pub fn zero(destination: Id) -> Height
         requires { 0 < destination }
         ensures { result ≡ destination_height destination }
@@ -83,7 +85,7 @@ impl Height {
         }
     }
 
-    /// The time tag of the reference level, in ticks of 100 ms.
+    /// The time tag of the reference level, in ticks of 100 ms, 0 to 2^62.
     pub fn tau(&self) -> u64
         ensures value { result ≡ self.now.tau }
         ensures ranges { IsHeight self.now }
@@ -91,7 +93,7 @@ impl Height {
         self.tau
     }
 
-    /// The node that defined the reference level; 0 at the levels of time 0.
+    /// The node that defined the reference level; 0 exactly if `tau` is 0.
     pub fn oid(&self) -> u32
         ensures value { result ≡ self.now.oid }
         ensures ranges { IsHeight self.now }
@@ -107,7 +109,8 @@ impl Height {
         self.r
     }
 
-    /// The order within the reference level.
+    /// The order within the reference level, -2^30 to 2^30: of two heights at one level, the one with less delta is
+    /// lower.
     pub fn delta(&self) -> i32
         ensures value { result ≡ self.now.delta }
         ensures ranges { IsHeight self.now }

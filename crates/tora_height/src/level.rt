@@ -1,7 +1,8 @@
 //! A reference level.
 use std::fmt;
 
-/// A reference level: the first three parts of a height (Park and Corson 1997, section 3.1).
+/// A reference level: the first three parts of a height (Park and Corson 1997, section 3.1). The level of a `Height` is
+/// in the ranges below; the type `Level` checks nothing.
 ///
 /// Levels are ordered by `tau`, then `oid`, then `r`; the derived `Ord` does this.
 #[derive(Clone, Copy, Debug, PartialEq, Eq, PartialOrd, Ord, Hash)]

@@ -33,7 +33,7 @@ use std::cmp::Ordering;
 /// The number of a node, from 1 to 2^32 - 1.
 pub type Id = u32;
 
-/// The greatest time tag, 2^62.
+/// The greatest time tag of a height: 2^62 ticks of 100 ms.
 pub const GREATEST_TAU: u64 = 0x4000_0000_0000_0000;
 
 /// The greatest delta, 2^30; the least is its negative.
@@ -71,7 +71,8 @@ pub fn heights_are_totally_ordered()
     ensures level_same { (a b : AnyLevel) → level_cmp a b ≡ Equal → a ≡ b }
 {}
 
-/// The parts of a height are refused exactly if one of them is out of range.
+/// `Height::new` refuses five parts exactly if they are not a height: a part is out of range, exactly one of `tau` and
+/// `oid` is 0, or `delta` is negative at level (0,0,0).
 pub fn ranges_are_tested()
     ensures accepted { (h : Quintuple) → IsHeight h → height_fault h ≡ None }
     ensures refused { (h : Quintuple) → h.oid < 2 ^ 32 → h.id < 2 ^ 32 → height_fault h ≡ None → IsHeight h }

@@ -135,7 +135,7 @@ pub fn hmac(key: &[u8], message: &[u8]) -> [u8; 32]
     Key::new(key).hmac(message)
 }
 
-/// Whether two tags are equal. It reads all bytes of both, wherever the first difference is.
+/// Whether two tags of 16 bytes each are equal. It reads all bytes of both, wherever the first difference is.
 pub fn is_same(a: &[u8], b: &[u8]) -> bool
     requires a { length a.now ≡ TAG }
     requires b { length b.now ≡ TAG }

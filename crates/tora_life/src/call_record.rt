@@ -6,7 +6,7 @@ ghost use Rattle.tora_life.specs.declared.state.State.{State};
 use crate::state::State;
 use std::marker::Model;
 
-/// The states of a disk before each of its calls, oldest first. It takes no memory.
+/// The states of a disk before each of its calls and crashes, oldest first. It takes no memory.
 #[derive(Debug, Drop)]
 pub(crate) struct CallRecord {
     pub ghost states: { List State },

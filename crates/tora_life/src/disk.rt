@@ -15,7 +15,7 @@ pub struct DiskError;
 /// A disk may make its bytes visible to contracts, as `MemDisk` does and `FileDisk` does not. Contracts then know what
 /// a read returns, and which files a crash may leave (the images): between two syncs each written range may hold any
 /// bytes, and may be cut anywhere past the old end of the file; all other bytes stay. After a successful sync the only
-/// image is what a read returns. A failed call may have had its whole effect, or a part of it.
+/// image is what a read returns. A failed call may have had its whole effect, a part of it, or none.
 ///
 /// A crash may come at any moment, also inside a call. `left_since` describes the files that a crash at some moment
 /// since an earlier moment may have left.
@@ -31,7 +31,7 @@ pub trait Disk {
     /// The images: the files that a crash at this moment may leave.
     ghost may_leave: { Self → List ℕ → Type 0 };
 
-    /// The moment, a number that never falls.
+    /// The present moment, as a number: a call never makes it smaller.
     ghost moment: { Self → ℕ };
 
     /// The files that a crash at some moment since the given one may have left, during a call or between two calls.
@@ -40,17 +40,18 @@ pub trait Disk {
     /// How many calls have failed; the count stops at 2^64 - 1.
     ghost failures: { Self → ℕ };
 
-    /// A read: old disk, offset, buffer, result, new buffer, new disk.
+    /// Whether a read may do this: old disk, offset, old buffer, result, new buffer, new disk.
     ghost reads: { Self → ℕ → List ℕ → Result ℕ DiskError → List ℕ → Self → Type 0 };
 
-    /// A write: old disk, offset, bytes, result, new disk.
+    /// Whether a write may do this: old disk, offset, bytes, result, new disk.
     ghost writes: { Self → ℕ → List ℕ → Result (Unit {0}) DiskError → Self → Type 0 };
 
-    /// A sync: old disk, result, new disk.
+    /// Whether a sync may do this: old disk, result, new disk.
     ghost syncs: { Self → Result (Unit {0}) DiskError → Self → Type 0 };
 
     /// Reads from the offset `at` on into the front of `buf`, as many bytes as there are and fit. Returns their count,
-    /// which is 0 at or past the end of the file. The rest of `buf` is unchanged.
+    /// which is 0 at or past the end of the file. The rest of `buf` is unchanged. After `DiskError`, `buf` may hold any
+    /// bytes.
     fn read(&mut self, at: usize, buf: &mut [u8]) -> Result<usize, DiskError>
         ensures call { reads self.old at buf.old result buf.new self.new }
         ensures failures { failures self.new ≡ failures_after result (failures self.old) }
@@ -80,7 +81,8 @@ pub trait Disk {
             → Elapses (moment self.old) (moment self.new) (left_since self.old) (left_since self.new)
             (may_leave self.new) };
 
-    /// Makes all written bytes durable: after `Ok` a crash leaves what a read returns.
+    /// Makes all written bytes durable: after `Ok` a crash leaves what a read returns. After `DiskError` a crash leaves
+    /// one of the files that it could leave before the call.
     fn sync(&mut self) -> Result<(), DiskError>
         ensures call { syncs self.old result self.new }
         ensures failures { failures self.new ≡ failures_after result (failures self.old) }

@@ -31,7 +31,7 @@ impl<F> Model for FileDisk<F> {
     ghost view = { λ d. record { file = d.file; failures = d.failures } };
 }
 
-/// The folder of the file at a path; `.` if the path has no folder.
+/// The directory of the file at a path; `.` if the path names none.
 fn folder_of(path: &str) -> &str
     ensures { result.now ≡ folder_of path.now }
 {
@@ -42,12 +42,13 @@ fn folder_of(path: &str) -> &str
 }
 
 impl<F: SystemFile> FileDisk<F> {
-    /// Opens the file at this path for reading and writing. A missing file is created empty, and its folder is synced,
-    /// so that the file exists after a crash.
+    /// Opens the file at this path for reading and writing. A missing file is created empty. The file is locked, and it
+    /// and then its directory are synced, so that it exists after a crash.
     ///
     /// # Errors
     ///
-    /// Those of the operating system, and `WouldBlock` if this or another process has the file open as a disk.
+    /// Those of the operating system, in the order of these steps; `WouldBlock` if this or another process has locked
+    /// the file.
     pub fn open<S: SystemFiles<File = F>>(files: S, path: &str) -> io::Result<FileDisk<F>>
         ensures { OpensFile S.did_open_file S.did_open_folder S.did_lock S.did_sync_all files path.now result }
     {
@@ -66,7 +67,11 @@ impl<F: SystemFile> FileDisk<F> {
         }
     }
 
-    /// Syncs the folder at this path, in which a file was created. Returns the disk over that file.
+    /// Syncs the directory at this path, which has the file `file`, and returns the disk over that file.
+    ///
+    /// # Errors
+    ///
+    /// Those of the operating system, if the directory is not opened or not synced.
     fn in_folder<S: SystemFiles<File = F>>(files: S, path: &str, file: F) -> io::Result<FileDisk<F>>
         ensures { SyncsFolder S.did_open_folder S.did_sync_all files path.now file result }
     {
@@ -81,7 +86,7 @@ impl<F: SystemFile> FileDisk<F> {
         }
     }
 
-    /// Counts a call that failed, and returns its result.
+    /// Returns the result of a call, with `DiskError` for any error, and counts a call that failed.
     fn counted<T: Drop>(&mut self, answer: io::Result<T>) -> Result<T, DiskError>
         ensures failures { self.new ≡ record self.old { failures = failures_after result self.old.failures } }
         ensures value { Answers answer result }

@@ -2,12 +2,12 @@
 ghost use Rattle.std.specs.Prelude.{◌≡◌, ◌-◌, not, Some};
 ghost use Rattle.tora_life.specs.Fuse.{is_blown, after_call};
 
-/// How many calls of a blown fuse fail.
+/// How many calls fail after the calls that a `Fuse` lets succeed.
 #[derive(Clone, Copy, Debug, PartialEq, Eq, Hash)]
 pub enum FuseMode {
-    /// One call fails.
+    /// One call fails, and all calls after it succeed.
     Once,
-    /// Each call fails from the first failure on.
+    /// Every later call fails.
     Always,
 }
 
@@ -20,7 +20,7 @@ pub struct Fuse {
 }
 
 impl Fuse {
-    /// A fuse that lets `k` calls succeed.
+    /// A fuse that lets `k` calls succeed; then one call fails, or all do, by `mode`.
     pub fn new(k: u64, mode: FuseMode) -> Fuse
         ensures { result ≡ record { mode = mode; left = Some k } }
     {

@@ -1,9 +1,9 @@
 //! Session numbers (life numbers) that rise across crashes.
 //!
-//! Each end of a link has its own life file. A number drawn from it is greater than every number drawn before, also
-//! after a crash at any moment that tears any unsynced bytes. The file stores a bound, and no number above the bound is
-//! drawn before a greater bound is on the disk. Numbers are reserved 16 at a time, so 15 of 16 draws make no call of
-//! the disk.
+//! Each end of a link has its own life file. To draw a number is to take the next one: it is greater than every number
+//! drawn before, also after a crash at any moment that tears any unsynced bytes. The file stores a bound, and no number
+//! above the bound is drawn before a greater bound is on the disk. Numbers are reserved 16 at a time, so 15 of 16 draws
+//! make no call of the disk.
 //!
 //! `LifeFile` is generic over `Disk`, whose clauses say what a read returns and what a crash may leave at each moment.
 //! `MemDisk` makes its bytes visible to contracts, so all clauses apply to it, and tests can tear its bytes. `FileDisk`

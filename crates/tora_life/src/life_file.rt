@@ -158,8 +158,9 @@ impl<D: Disk> LifeFile<D> {
     ///
     /// # Errors
     ///
-    /// In this order: `Failed` if an earlier draw returned `Disk`, `Spent` if the numbers up to 2^62 are used up,
-    /// `Disk` if the write or the sync fails. An error draws no number. After `Disk` every further draw fails.
+    /// In this order: `Failed` if an earlier draw returned `Disk`, `Spent` if sixteen more numbers must be reserved and
+    /// would exceed 2^62, `Disk` if the write or the sync fails. An error draws no number. After `Disk` every further
+    /// draw returns `Failed`.
     pub fn draw(&mut self) -> Result<u64, LifeError>
         ensures drawn { IfOk result (λ n. n ≡ self.old.numbers.drawn + 1) }
         ensures numbers { self.new.numbers ≡ numbers_after result self.old.numbers }

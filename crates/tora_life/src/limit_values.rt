@@ -4,7 +4,8 @@ ghost use Rattle.tora_life.specs.declared.lengths.TheConstants.{SLOT_LENGTH, SLO
 ghost use Rattle.tora_life.specs.declared.lengths.TheConstants.{DISK_LENGTH};
 ghost use Rattle.tora_life.specs.declared.numbers.TheConstants.{LAST_NUMBER, RESERVED};
 
-/// The limits have these values.
+/// In bytes: a slot has 16, both slots 32, a life file 64, the first read 65, and a `MemDisk` at most 80. Numbers go up
+/// to 2^62, and a write reserves 16 of them.
 pub fn limits_have_their_values()
     ensures slot_length { SLOT_LENGTH ≡ 16 }
     ensures slots_length { SLOTS_LENGTH ≡ 32 }

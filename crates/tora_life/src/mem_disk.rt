@@ -73,8 +73,9 @@ impl MemDisk {
         self.state.arm(call);
     }
 
-    /// Crashes: each byte that was written since the last sync becomes the torn byte at its offset modulo 16, and the
-    /// file ends after the last of them. For `None` the bytes and the length are those of the last sync.
+    /// Crashes. With `Some`, each byte that was written since the last sync becomes the torn byte at its offset modulo
+    /// 16, and the others are as at the last sync. The length becomes that of the last sync, or the end of the furthest
+    /// write since if that is greater. With `None`, the bytes and the length are as at the last sync.
     pub fn crash(&mut self, torn: Option<[u8; 16]>)
         ensures after { self.new.state ≡ after_crash torn self.old.state }
         ensures left { MayLeave self.old.state (seen_of self.new.state) }

@@ -34,7 +34,8 @@ pub fn found_version(owner: Owner, file: &[u8]) -> Result<Version, LifeError>
     version_by_tag(Tag::read(tag))
 }
 
-/// The version, or the error, for a file with this tag.
+/// The version of a file that has at most 64 bytes and not its owner's tag: `Untagged` for `Absent`. The error is
+/// `Damaged` for `Strange`, and `Foreign` for the tag of any owner.
 fn version_by_tag(tag: Tag) -> Result<Version, LifeError>
     ensures { result ≡ version_by tag }
 {
@@ -45,7 +46,8 @@ fn version_by_tag(tag: Tag) -> Result<Version, LifeError>
     }
 }
 
-/// A slot filled up to sixteen bytes, so that it counts as 0. A complete slot is unchanged.
+/// A slot, at most sixteen bytes. An incomplete one is filled up to sixteen bytes so that it still counts as 0; a
+/// complete one is unchanged.
 #[tactic(auto, unfolding(crate::specs::Migration::slot_filled))]
 fn filled_slot(slot: &[u8]) -> [u8; SLOT_LENGTH]
     requires { length slot.now ≤ SLOT_LENGTH }

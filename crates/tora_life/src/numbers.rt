@@ -14,10 +14,11 @@ pub enum LifeError {
     /// An earlier draw returned `Disk`. Nothing changes.
     #[error("an earlier draw failed: the file is to be opened again")]
     Failed,
-    /// The numbers up to 2^62 are used up: the value plus 16 is above 2^62. Nothing changes.
+    /// All numbers up to the file's value are drawn, and 16 more would exceed 2^62. Nothing changes.
     #[error("no number is left")]
     Spent,
-    /// The file is longer than the 64 bytes of its two slots and its tag, or has a tag of another kind.
+    /// The file is longer than the 64 bytes of its two slots and its tag, or has a tag of another kind. Nothing was
+    /// written.
     #[error("the file is no life file")]
     Damaged,
     /// The file has the tag of another node or of another peer. Nothing was written.
@@ -77,7 +78,7 @@ impl Numbers {
         }
     }
 
-    /// The greater bound.
+    /// The value of the file: the greater of the two bounds.
     pub fn value(self) -> u64
         ensures { result ≡ value_of self }
     {
@@ -95,7 +96,8 @@ impl Numbers {
         }
     }
 
-    /// The numbers after sixteen more were reserved and the new bound is on the disk.
+    /// The numbers after sixteen more are reserved: the lesser slot has the bound `value` + 16, which must be at most
+    /// 2^62. The last number drawn stays.
     pub fn with_more(self) -> Numbers
         requires { value_of self + RESERVED ≤ LAST_NUMBER }
         ensures { result ≡ reserved self }

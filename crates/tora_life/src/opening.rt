@@ -15,6 +15,11 @@ use crate::writing::migrate;
 
 /// Opens the life file of an owner on a disk, and returns its numbers: a sync, then one read of 65 bytes, and then, if
 /// there is no tag, one write and a sync.
+///
+/// # Errors
+///
+/// In this order: `Disk` if the first sync or the read fails; `Damaged`; `Foreign`; `Disk` if the write or the second
+/// sync fails.
 pub fn open_file<D: Disk>(disk: &mut D, owner: Owner) -> Result<Numbers, LifeError>
     ensures numbers { IsTrue (D.tells disk.old) → IfOk result (λ numbers. numbers ≡ numbers_of (D.seen disk.old)) }
     ensures used { IfOk result (λ numbers. numbers.drawn ≡ value_of numbers) }
@@ -47,7 +52,7 @@ pub fn open_file<D: Disk>(disk: &mut D, owner: Owner) -> Result<Numbers, LifeErr
     }
 }
 
-/// Opens a life file of this version after it was read.
+/// Opens a life file of this version after it was read: an `Untagged` file is migrated. The only error is `Disk`.
 fn open_version<D: Disk>(
     disk: &mut D,
     owner: Owner,

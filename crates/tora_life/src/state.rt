@@ -15,8 +15,8 @@ pub enum DiskCall {
 }
 
 /// The state of a disk in memory. The file is the first `len` bytes of `bytes`; at the last sync it was the first
-/// `synced_len` bytes of `synced`. `written` marks the bytes that were written since, up to `reach`, the end of the
-/// furthest write.
+/// `synced_len` bytes of `synced`. `written` marks the bytes that were written since, up to `reach`: the end of the
+/// furthest write since, or the length at the last sync if that is greater.
 #[derive(Clone, Copy, Debug)]
 pub struct State {
     pub bytes: [u8; DISK_LENGTH],

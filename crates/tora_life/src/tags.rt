@@ -17,7 +17,7 @@ pub enum Tag {
     /// No tag: fewer than 32 bytes, or the second 16 are not the complement of the first 16. The file is of version 1,
     /// or was torn while it was migrated.
     Absent,
-    /// A tag of another kind: complementary bytes that begin differently.
+    /// A tag of another kind: complementary halves that do not begin with "TORALIF2".
     Strange,
     /// The tag of this owner.
     Of(Owner),

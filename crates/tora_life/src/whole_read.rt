@@ -1,4 +1,4 @@
-//! Reads a file until its end, or until the buffer is full.
+//! Reads the bytes of a file until none is left or the buffer is full.
 ghost use Rattle.std.specs.Prelude.{◌≡◌, ◌<◌, ◌≤◌, ◌^◌, ℕ, Bool, List, Result, length, IfOk, OnErr, IsTrue};
 ghost use Rattle.std.specs.declared.io.Error.{Error};
 ghost use Rattle.tora_life.specs.Disk.{IsRead, IsReadInPart};
@@ -8,7 +8,7 @@ use std::fs::File;
 use std::io::{self, ErrorKind};
 use std::os::unix::fs::FileExt;
 
-/// Bytes that are read from an offset on, any number of them at a time.
+/// A source of bytes, read from any offset on. One read may return fewer bytes than are left and fit.
 ///
 /// Contracts may see the bytes, but not those of a file of the operating system. They always see the calls.
 pub trait ReadFrom {
@@ -18,15 +18,15 @@ pub trait ReadFrom {
     /// The bytes that can be read.
     ghost bytes: { Self → List ℕ };
 
-    /// A read: old reader, offset, buffer, result, new buffer, new reader.
+    /// Whether this read was made: old reader, offset, old buffer, result, new buffer, new reader.
     ghost did_read_at: { Self → ℕ → List ℕ → Result ℕ Error → List ℕ → Self → Type 0 };
 
     /// Reads some of the bytes from the offset `at` on into the front of `buf`; at least one, if there is one and it
-    /// fits. Returns their count. The rest of `buf` is unchanged.
+    /// fits. Returns their count, 0 if none is left or `buf` is empty. The rest of `buf` is unchanged.
     ///
     /// # Errors
     ///
-    /// Those of the operating system. Then nothing was read.
+    /// Those of the operating system, among them `Interrupted`. Then nothing was read.
     fn read_from(&mut self, at: u64, buf: &mut [u8]) -> io::Result<usize>
         ensures call { did_read_at self.old at buf.old result buf.new self.new }
         ensures tells { tells self.new ≡ tells self.old }
@@ -51,12 +51,12 @@ impl ReadFrom for File {
     }
 }
 
-/// Reads until the buffer is full or nothing is left, and returns how many bytes were read. An interrupted read is
-/// repeated.
+/// Reads from the offset `at` on until the buffer is full or nothing is left, and returns how many bytes were read. A
+/// read with the error `Interrupted` is repeated.
 ///
 /// # Errors
 ///
-/// The first other error of a read.
+/// The first other error of a read, or `Other` after 2^64 - 1 reads. Then `buf` may hold some of the bytes.
 pub fn read_whole<F: ReadFrom>(reader: &mut F, at: usize, buf: &mut [u8]) -> io::Result<usize>
     ensures count { IfOk result (λ n. n ≤ length buf.old) }
     ensures read { IsTrue (F.tells reader.old) → IfOk result (λ n. IsRead (F.bytes reader.old) at buf.old n buf.new) }

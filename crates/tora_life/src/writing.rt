@@ -14,7 +14,7 @@ use crate::migration::migrated_bytes;
 use crate::slots::{Slot, slot_bytes};
 use crate::tags::Owner;
 
-/// Writes bytes at an offset of the disk: one write, and then a sync.
+/// Writes bytes at an offset of the disk: one write, and then, if it succeeded, a sync.
 fn write_through<D: Disk>(disk: &mut D, at: usize, bytes: &[u8]) -> Result<(), DiskError>
     requires { IsTrue (D.tells disk.old) → at ≤ length (D.seen disk.old) }
     ensures held { IsTrue (D.tells disk.old) → OnOk result (Holds (D.seen disk.old) at bytes.now (D.seen disk.new)) }
@@ -34,8 +34,8 @@ fn write_through<D: Disk>(disk: &mut D, at: usize, bytes: &[u8]) -> Result<(), D
     }
 }
 
-/// Writes a bound to a slot on the disk: one write, and then a sync. The other slot and the tag are unchanged, even if
-/// a call fails.
+/// Writes a bound to a slot on the disk: one write, and then, if it succeeded, a sync. The other slot and the tag are
+/// unchanged, even if a call fails.
 pub fn replace_slot<D: Disk>(disk: &mut D, slot: Slot, bound: u64) -> Result<(), DiskError>
     requires only { IsTrue (D.tells disk.old) → IsOnlyImage (D.seen disk.old) (D.may_leave disk.old) }
     requires place { IsTrue (D.tells disk.old) → place_of slot ≤ length (D.seen disk.old) }

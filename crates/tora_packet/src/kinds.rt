@@ -103,7 +103,7 @@ impl Update {
         })
     }
 
-    /// The update of a height whose node is not the destination. The caller ensures the ranges.
+    /// The update of a height, without checks: the caller ensures what `new` checks.
     pub fn of(destination: Id, height: Height) -> Update
         requires { IsUpdate (update_of destination height) }
         ensures { result ≡ update_of destination height }
@@ -114,7 +114,7 @@ impl Update {
         }
     }
 
-    /// The destination of the height.
+    /// The destination for which the sender has this height.
     pub fn destination(&self) -> Id
         ensures value { result ≡ self.now.destination }
         ensures valid { IsUpdate self.now }
@@ -173,7 +173,7 @@ impl Clear {
         })
     }
 
-    /// The clear of a reflected level. The caller ensures the ranges.
+    /// The clear of a reflected level, without checks: the caller ensures what `new` checks.
     pub fn of(destination: Id, tau: u64, oid: Id) -> Clear
         requires { IsClear (clear_of destination tau oid) }
         ensures { result ≡ clear_of destination tau oid }
@@ -185,7 +185,7 @@ impl Clear {
         }
     }
 
-    /// The destination whose heights are erased.
+    /// The destination for which heights at the level are erased.
     pub fn destination(&self) -> Id
         ensures value { result ≡ self.now.destination }
         ensures valid { IsClear self.now }

@@ -32,7 +32,7 @@ pub fn encoded_length(packet: &Packet) -> usize
     }
 }
 
-/// Whether packets of some kind have this length.
+/// Whether a kind of packet has this length in bytes: 8, 20 or 32.
 #[inline(always)]
 pub fn is_packet_length(len: usize) -> bool
     ensures { result ≡ is_packet_length len }
@@ -40,8 +40,8 @@ pub fn is_packet_length(len: usize) -> bool
     len == QUERY_LENGTH || len == UPDATE_LENGTH || len == CLEAR_LENGTH
 }
 
-/// The length in bytes of the first packet. If the bytes begin as a packet does, it is at most the length of the
-/// packet's kind; otherwise all bytes count.
+/// The length in bytes of the first packet: the length of its kind, if the bytes begin with version 1 and a known kind
+/// and are at least as many; otherwise the length of all bytes.
 #[inline(always)]
 #[tactic(auto, unfolding(crate::specs::PacketGrammar::first_packet))]
 fn first_length(bytes: &[u8]) -> usize
@@ -61,8 +61,9 @@ fn first_length(bytes: &[u8]) -> usize
     }
 }
 
-/// Splits off the first of several packets, by the length of its kind. If the bytes do not begin as a packet does, or
-/// are too few, all of them count as the first packet.
+/// Splits bytes into the first packet and the bytes after it, by the length of its kind; it does not check the packet.
+/// If the bytes do not begin with version 1 and a known kind, or are fewer than the kind has, the first part is all
+/// bytes.
 #[inline(always)]
 pub fn cut_packet(bytes: &[u8]) -> (&[u8], &[u8])
     ensures first { result.0.now ≡ first_packet bytes.now }

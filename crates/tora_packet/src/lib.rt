@@ -37,7 +37,7 @@ use tora_height::Id;
 /// Why bytes or parts are not a packet.
 #[derive(Clone, Copy, Debug, PartialEq, Eq, Hash, Error)]
 pub enum PacketError {
-    /// The bytes end before the packet does.
+    /// There are fewer than 2 bytes, or fewer than the kind has.
     #[error("too few bytes")]
     Short,
     /// There are bytes after the packet.
@@ -52,7 +52,8 @@ pub enum PacketError {
     /// A byte that has to be zero is not zero.
     #[error("a byte that has to be zero is not")]
     Reserved,
-    /// The destination, the height or the level is out of range.
+    /// The destination is 0; an update's height is out of range, is the destination's own, or has a delta below 1 at
+    /// level (0,0,0); or a clear's `tau` or `oid` is out of range.
     #[error("the destination, the height or the level is out of range")]
     Height,
 }
@@ -141,7 +142,7 @@ impl fmt::Display for Packet {
     }
 }
 
-/// The query for destination 1.
+/// The query for destination 1: a placeholder for types that require a default.
 impl Default for Packet {
     ghost use Rattle.tora_packet.specs.declared.Packet.TheVariants.{Qry};
     ghost use Rattle.std.specs.Prelude.{◌≡◌};
