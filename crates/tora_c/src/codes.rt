@@ -13,7 +13,7 @@ pub const OK: u32 = 0;
 /// Memory ran out.
 pub const MEMORY: u32 = 1;
 
-/// There are too many neighbours or destinations.
+/// There are more neighbours or destinations than the greatest limits allow: 255 and 64.
 pub const TOO_MANY: u32 = 2;
 
 /// A neighbour or a destination is named twice.
@@ -25,16 +25,17 @@ pub const OWN_ID: u32 = 4;
 /// The handle is null.
 pub const NULL: u32 = 5;
 
-/// The number of a node is 0.
+/// The number of the node, of a neighbour or of a destination is 0.
 pub const ZERO: u32 = 6;
 
 /// The number of a choice of limits or of erasure is unknown.
 pub const CHOICE: u32 = 7;
 
-/// There is nothing to return: the height is NULL, there is no next hop, or no packet has this index.
+/// There is nothing to return: the height is NULL, there is no next hop, no packet has this index, no datagram is due,
+/// or no change is left to poll.
 pub const ABSENT: u32 = 8;
 
-/// The buffer is too short.
+/// The buffer is too short. The length that is needed was written.
 pub const ROOM: u32 = 9;
 
 /// The table does not have the destination, or the link to the neighbour is not up.
@@ -43,7 +44,7 @@ pub const UNKNOWN: u32 = 10;
 /// The node is no neighbour.
 pub const UNKNOWN_NEIGHBOUR: u32 = 11;
 
-/// The first life number is out of range.
+/// The first session number of a router, `first_life`, is 0 or above 2^62.
 pub const LIFE: u32 = 16;
 
 /// The code of a refused input is this plus the number of its cause.

@@ -12,7 +12,9 @@ use std::alloc::Global;
 use tora_core::Input;
 use tora_packet::decode;
 
-/// Replaces the core at `core` by a new one of node `me`, with no link up.
+/// Replaces the core at `core` by a new one of node `me`, with no link up. `erasure` is 0 for `Plain` and 1 for
+/// `Remembered`. Codes in this order: `CHOICE`, `ZERO`, `TOO_MANY`, `REPEATED`, `OWN_ID`, `MEMORY`; then the old core
+/// stays.
 #[unsafe(no_mangle)]
 pub extern "C" fn tora_core_new(
     alloc: Global,
@@ -62,7 +64,7 @@ fn cloned(alloc: Global, node: &CoreNode) -> Result<Box<CoreNode, Global>, u32>
     }
 }
 
-/// Replaces the core at `out` by a copy of `core`.
+/// Replaces the core at `out` by a copy of `core`. `NULL` if `core` is null, `MEMORY`; then the core at `out` stays.
 #[unsafe(no_mangle)]
 pub extern "C" fn tora_core_clone(alloc: Global, core: &mut CoreHandle, out: &mut CoreHandle) -> u32
     ensures same { core.new.held ≡ core.old.held }
@@ -96,7 +98,8 @@ fn step(alloc: Global, core: &mut CoreHandle, input: Input, now: u64) -> u32
     code
 }
 
-/// Reports that the link to neighbour `k` came up at the tick `now`.
+/// Reports that the link to neighbour `k` came up at the tick `now`. `NULL` for a null handle, 11 if `k` is no
+/// neighbour, 12 if the link is already up.
 #[unsafe(no_mangle)]
 pub extern "C" fn tora_core_link_up(alloc: Global, core: &mut CoreHandle, k: u32, now: u64) -> u32
     ensures code { result ≡ held_code core.old.held (Input.LinkUp k) }
@@ -105,7 +108,8 @@ pub extern "C" fn tora_core_link_up(alloc: Global, core: &mut CoreHandle, k: u32
     step(alloc, core, Input::LinkUp(k), now)
 }
 
-/// Reports that the link to neighbour `k` went down at the tick `now`.
+/// Reports that the link to neighbour `k` went down at the tick `now`. `NULL` for a null handle, 11 if `k` is no
+/// neighbour, 13 if the link is not up.
 #[unsafe(no_mangle)]
 pub extern "C" fn tora_core_link_down(alloc: Global, core: &mut CoreHandle, k: u32, now: u64) -> u32
     ensures code { result ≡ held_code core.old.held (Input.LinkDown k) }
@@ -114,7 +118,8 @@ pub extern "C" fn tora_core_link_down(alloc: Global, core: &mut CoreHandle, k: u
     step(alloc, core, Input::LinkDown(k), now)
 }
 
-/// Reports that a route to destination `d` is needed at the tick `now`.
+/// Reports that a route to destination `d` is needed at the tick `now`. `NULL` for a null handle, 15 if the table does
+/// not have `d`.
 #[unsafe(no_mangle)]
 pub extern "C" fn tora_core_need(alloc: Global, core: &mut CoreHandle, d: u32, now: u64) -> u32
     ensures code { result ≡ held_code core.old.held (Input.Need d) }
@@ -123,7 +128,9 @@ pub extern "C" fn tora_core_need(alloc: Global, core: &mut CoreHandle, d: u32, n
     step(alloc, core, Input::Need(d), now)
 }
 
-/// Reports that these bytes came from neighbour `k` at the tick `now`.
+/// Reports that these bytes came from neighbour `k` at the tick `now`. `NULL` for a null handle, 21 to 26 if they are
+/// not a packet (`packet_code`), 11 if `k` is no neighbour, 13 if its link is not up, 14 if the height in an update is
+/// not the height of `k`.
 #[unsafe(no_mangle)]
 pub extern "C" fn tora_core_packet(
     alloc: Global,

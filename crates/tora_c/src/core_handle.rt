@@ -57,7 +57,7 @@ impl CoreHandle {
         })
     }
 
-    /// Takes the core out of the handle, which is null afterwards.
+    /// Takes the core out of the handle, which is null afterwards. `None` if it was null before.
     pub fn take(&mut self, alloc: Global) -> Option<Box<CoreNode, Global>>
         ensures null { self.new.held ≡ None }
         ensures node { MatchOption result (self.old.held ≡ None) (λ node. self.old.held ≡ Some node.value) }
@@ -68,7 +68,7 @@ impl CoreHandle {
         }
     }
 
-    /// Replaces the core that the handle holds, and frees the old one.
+    /// Puts a core into the handle, and frees the one that the handle held, if there was one.
     pub fn put(&mut self, alloc: Global, node: Box<CoreNode, Global>)
         ensures { self.new.held ≡ Some node.value }
     {

@@ -30,7 +30,7 @@ impl Model for CoreNode {
     ghost view = { λ n. record { core = n.core; sent = if n.is_second then n.second.items else n.first.items } };
 }
 
-/// The choice of erasure for a number: 0 is `Plain`, 1 is `Remembered`.
+/// The choice of erasure for a number: 0 is `Plain`, 1 is `Remembered`; `None` for any other number.
 pub fn erasure_of(choice: u32) -> Option<Erasure>
     ensures { result ≡ erasure_of choice }
 {
@@ -44,8 +44,8 @@ pub fn erasure_of(choice: u32) -> Option<Erasure>
 }
 
 impl CoreNode {
-    /// A new core within the greatest limits, which has sent nothing. The error is the code of the refusal, or
-    /// `MEMORY`.
+    /// A new core within the greatest limits, which has sent nothing. The error is a code, in this order: `CHOICE`,
+    /// `ZERO`, `TOO_MANY`, `REPEATED`, `OWN_ID`, `MEMORY`.
     pub fn new(
         alloc: Global,
         me: u32,
@@ -113,7 +113,8 @@ impl CoreNode {
         }
     }
 
-    /// Steps the core with an input at a tick, and returns the code. A refused input changes nothing.
+    /// Steps the core with an input at the tick `now`, and returns `OK` or the code of the refusal (`refused_code`). A
+    /// refused input changes nothing.
     pub fn step(&mut self, input: Input, now: u64) -> u32
         ensures code { result ≡ step_code self.old input }
         ensures node { self.new ≡ node_after self.old input now }

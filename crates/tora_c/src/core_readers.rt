@@ -14,7 +14,8 @@ use crate::heights::{HeightParts, write_entry};
 use std::alloc::Global;
 use tora_packet::encode;
 
-/// The own height for destination `d`.
+/// Writes the node's own height for destination `d`. `NULL` for a null handle, `UNKNOWN` if the table does not have
+/// `d`, `ABSENT` if the height is NULL; then nothing is written.
 #[unsafe(no_mangle)]
 pub extern "C" fn tora_core_height(
     alloc: Global,
@@ -34,7 +35,8 @@ pub extern "C" fn tora_core_height(
     write_entry(entry, height)
 }
 
-/// The height that neighbour `k` sent for destination `d`.
+/// Writes the height that neighbour `k` sent for destination `d`. `NULL` for a null handle, `UNKNOWN` if the table does
+/// not have `d` or the link to `k` is not up, `ABSENT` if the height is NULL; then nothing is written.
 #[unsafe(no_mangle)]
 pub extern "C" fn tora_core_entry(
     alloc: Global,
@@ -55,7 +57,8 @@ pub extern "C" fn tora_core_entry(
     write_entry(entry, height)
 }
 
-/// The next hop to destination `d`.
+/// Writes the next hop to destination `d`. `NULL` for a null handle, `ABSENT` if there is none or the table does not
+/// have `d`; then nothing is written.
 #[unsafe(no_mangle)]
 pub extern "C" fn tora_core_next_hop(
     alloc: Global,
@@ -81,7 +84,8 @@ pub extern "C" fn tora_core_next_hop(
     }
 }
 
-/// Whether a route to destination `d` is required: 1, or 0.
+/// Writes 1 if a route to destination `d` is required, and otherwise 0, also if the table does not have `d`. `NULL` for
+/// a null handle.
 #[unsafe(no_mangle)]
 pub extern "C" fn tora_core_flag(
     alloc: Global,
@@ -101,7 +105,7 @@ pub extern "C" fn tora_core_flag(
     OK
 }
 
-/// Whether the link to neighbour `k` is up: 1, or 0.
+/// Writes 1 if the link to neighbour `k` is up, and otherwise 0, also if `k` is no neighbour. `NULL` for a null handle.
 #[unsafe(no_mangle)]
 pub extern "C" fn tora_core_is_up(alloc: Global, core: &mut CoreHandle, k: u32, up: &mut u32) -> u32
     ensures same { core.new.held ≡ core.old.held }
@@ -116,7 +120,7 @@ pub extern "C" fn tora_core_is_up(alloc: Global, core: &mut CoreHandle, k: u32, 
     OK
 }
 
-/// How many packets the last accepted step broadcast.
+/// Writes how many packets the last accepted step broadcast; 0 before the first step. `NULL` for a null handle.
 #[unsafe(no_mangle)]
 pub extern "C" fn tora_core_sent_count(
     alloc: Global,
@@ -135,7 +139,9 @@ pub extern "C" fn tora_core_sent_count(
     OK
 }
 
-/// The bytes of a packet that the last accepted step broadcast, by its index, counted from 0.
+/// Writes the bytes of a packet that the last accepted step broadcast, and their count to `len`. `place` is the index
+/// of the packet, from 0. `NULL` for a null handle, `ABSENT` if no packet has this index, `ROOM` if `bytes` is too
+/// short. At `ROOM` only `len` is written, and at the others nothing.
 #[unsafe(no_mangle)]
 pub extern "C" fn tora_core_sent(
     alloc: Global,
@@ -163,7 +169,8 @@ pub extern "C" fn tora_core_sent(
     }
 }
 
-/// The whole core as text.
+/// Writes the whole core as text, as `Core::show` has it, and its length in bytes to `len`. `NULL` for a null handle,
+/// `MEMORY`, `ROOM` if `text` is too short. At `ROOM` only `len` is written, and at the others nothing.
 #[unsafe(no_mangle)]
 pub extern "C" fn tora_core_show(
     alloc: Global,

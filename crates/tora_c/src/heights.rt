@@ -9,9 +9,9 @@ use tora_height::{Entry, Height};
 #[derive(Clone, Copy, Debug)]
 #[repr(C)]
 pub struct HeightParts {
-    /// When the reference level was defined, in ticks of 100 ms.
+    /// When the reference level was defined, in ticks of 100 ms; 0 for the level of the destination.
     pub tau: u64,
-    /// The node that defined it.
+    /// The node that defined the reference level; 0 exactly if `tau` is 0.
     pub oid: u32,
     /// 0 for an original level, 1 for a reflected one.
     pub r: u32,
@@ -33,7 +33,7 @@ fn parts_of(height: &Height) -> HeightParts
     }
 }
 
-/// Writes a height, unless it is unknown or NULL, and returns the code: `OK`, `UNKNOWN` or `ABSENT`.
+/// Writes a height and returns `OK`. `UNKNOWN` for `None`, and `ABSENT` for the height NULL; then nothing is written.
 pub fn write_entry(entry: Option<Entry>, out: &mut HeightParts) -> u32
     ensures code { result ≡ entry_code entry }
     ensures parts { out.new ≡ parts_after entry out.old }

@@ -1,8 +1,9 @@
 //! TORA for C and other languages. `include/tora.h` is the header.
 //!
 //! C holds a core, a router or a world by a handle: a struct with one pointer, which is null at first. Each call checks
-//! its arguments, returns a code, and changes nothing unless the code is `OK`. There is one exception: if memory runs
-//! out for a line of a world, the world is as it was made.
+//! its arguments, returns a code, and changes nothing unless the code is `OK`. There are two exceptions: at `ROOM` the
+//! length that is needed is written, and if memory runs out for a line of a world, the world is as it was made. A call
+//! that frees returns nothing, and `tora_abi_version` a version.
 //!
 //! C must ensure two things only: each pointer leads to what its type says, and no two calls use one handle at once.
 #![tactic(auto)]
@@ -46,7 +47,8 @@ pub extern "C" fn tora_abi_version() -> u32
     ABI_VERSION
 }
 
-/// The version of the library as text.
+/// Writes the version of the library as text to `text`, and its length in bytes to `len`. `ROOM` if `text` is shorter;
+/// then only the length is written.
 #[unsafe(no_mangle)]
 pub extern "C" fn tora_version(text: &mut [u8], len: &mut usize) -> u32
     ensures code { result ≡ room_code version_text text.old }
@@ -111,7 +113,7 @@ mod tests {
         true
     }
 
-    // Times of which each is the standard one.
+    // Times that all stand for the standard values.
     fn standard() -> TimesParts {
         TimesParts {
             hello: 0,

@@ -6,7 +6,7 @@ ghost use Rattle.tora_c.specs.declared.codes.TheConstants.{ROOM, UNKNOWN, UNKNOW
 ghost use Rattle.tora_c.specs.declared.codes.TheConstants.{NO_PACKET, NO_FRAME, NO_NEIGHBOUR};
 ghost use Rattle.tora_c.specs.declared.TheConstants.{ABI_VERSION};
 
-/// The codes have these values.
+/// The values of the codes and of `ABI_VERSION`. The function does nothing: its contract is a law.
 pub fn codes_have_their_values()
     ensures ok { OK ≡ 0 }
     ensures memory { MEMORY ≡ 1 }

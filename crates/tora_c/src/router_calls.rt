@@ -18,7 +18,7 @@ use std::alloc::Global;
 use tora_core::CoreLimits;
 use tora_router::{Config, Router};
 
-/// The configuration of a router within the greatest limits; `None` if there is no such choice.
+/// The configuration of a router within the greatest limits; `None` if `choice` is no choice of erasure.
 fn configured(me: u32, choice: u32, times: &TimesParts) -> Option<Config>
     ensures { result ≡ configured me choice times.now }
 {
@@ -31,7 +31,7 @@ fn configured(me: u32, choice: u32, times: &TimesParts) -> Option<Config>
     })
 }
 
-/// A new router. An error is its code.
+/// A new router. The error is the code of the refusal (`router_code`).
 fn made(
     alloc: Global,
     config: &Config,
@@ -52,7 +52,11 @@ fn made(
     }
 }
 
-/// Replaces the router at `router` by a new one of node `me`, whose links are all closed.
+/// Replaces the router at `router` by a new one of node `me`, whose links are all closed. Their sessions get the
+/// numbers `first_life` (1 to 2^62) and those above it. `erasure` is 0 for `Plain` and 1 for `Remembered`.
+///
+/// Codes in this order: `CHOICE`, `ZERO`, `LIFE`, `TOO_MANY`, `REPEATED`, `OWN_ID`, `MEMORY`; then the old router
+/// stays.
 #[unsafe(no_mangle)]
 pub extern "C" fn tora_router_new(
     alloc: Global,
@@ -96,7 +100,8 @@ pub extern "C" fn tora_router_free(alloc: Global, router: &mut RouterHandle)
     }
 }
 
-/// Passes bytes that came from node `peer` at the tick `now` to the router. `intake` receives the outcome.
+/// Passes bytes that came from node `peer` at the tick `now` to the router. `intake` receives the outcome, a number of
+/// `intake_code`. `NULL` for a null handle.
 #[unsafe(no_mangle)]
 pub extern "C" fn tora_router_datagram(
     alloc: Global,
@@ -119,7 +124,8 @@ pub extern "C" fn tora_router_datagram(
     OK
 }
 
-/// Passes the tick `now` to the router.
+/// Passes the tick `now` to the router: each closed link opens with the next session number, and sessions that have
+/// timed out end. `NULL` for a null handle.
 #[unsafe(no_mangle)]
 pub extern "C" fn tora_router_tick(alloc: Global, router: &mut RouterHandle, now: u64) -> u32
     ensures code { result ≡ of_held (λ r. OK) router.old.held NULL }
@@ -133,7 +139,8 @@ pub extern "C" fn tora_router_tick(alloc: Global, router: &mut RouterHandle, now
     OK
 }
 
-/// Reports that a route to destination `d` is needed at the tick `now`.
+/// Reports that a route to destination `d` is needed at the tick `now`. `NULL` for a null handle, 15 if the table does
+/// not have `d`.
 #[unsafe(no_mangle)]
 pub extern "C" fn tora_router_need(
     alloc: Global,
@@ -155,7 +162,8 @@ pub extern "C" fn tora_router_need(
     }
 }
 
-/// Reports that the link to neighbour `peer` was lost at the tick `now`.
+/// Reports that the link to neighbour `peer` was lost at the tick `now`: its session ends, if it has one. `NULL` for a
+/// null handle, `UNKNOWN_NEIGHBOUR` if `peer` is no neighbour.
 #[unsafe(no_mangle)]
 pub extern "C" fn tora_router_cut(
     alloc: Global,

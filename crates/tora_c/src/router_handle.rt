@@ -57,7 +57,7 @@ impl RouterHandle {
         })
     }
 
-    /// Takes the router out of the handle, which is null afterwards.
+    /// Takes the router out of the handle, which is null afterwards. `None` if it was null before.
     pub fn take(&mut self, alloc: Global) -> Option<Box<Router, Global>>
         ensures null { self.new.held ≡ None }
         ensures router { MatchOption result (self.old.held ≡ None) (λ router. self.old.held ≡ Some router.value) }
@@ -68,7 +68,7 @@ impl RouterHandle {
         }
     }
 
-    /// Replaces the router that the handle holds, and frees the old one.
+    /// Puts a router into the handle, and frees the one that the handle held, if there was one.
     pub fn put(&mut self, alloc: Global, router: Box<Router, Global>)
         ensures { self.new.held ≡ Some router.value }
     {

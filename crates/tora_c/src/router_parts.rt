@@ -6,7 +6,8 @@ ghost use Rattle.tora_c.specs.RouterParts.{change_parts, next_hop_parts, or_stan
 use tora_arq::Times;
 use tora_router::{Change, Tally};
 
-/// The times of a router's links, as `tora_times` of the header. A field of 0 means the standard value.
+/// The times of the links of a router or a world, with the fields of `Times`, as `tora_times` of the header. `tries` is
+/// a count, the others are in ticks of 100 ms. A field of 0 means the standard value: 10, 50, 5 and 8.
 #[derive(Clone, Copy, Debug)]
 #[repr(C)]
 pub struct TimesParts {
@@ -22,15 +23,16 @@ pub struct TimesParts {
 pub struct ChangeParts {
     /// 1 for a link that is up, 2 for one that is down, 3 for a next hop.
     pub kind: u32,
-    /// The neighbour, or the destination.
+    /// The neighbour of the link, or for a next hop the destination.
     pub node: u32,
-    /// The next hop; 0 if there is none.
+    /// The next hop; 0 if there is none, and for a link.
     pub hop: u32,
-    /// Why the link is down.
+    /// Why the link is down, as `Reason::number` gives it, from 1 to 5; otherwise 0.
     pub reason: u32,
 }
 
-/// The counts of a neighbour's datagrams by outcome, as `tora_tally` of the header.
+/// The counts of a neighbour's datagrams by outcome, as `tora_tally` of the header: six verdicts on frames, and `bad`
+/// for bytes that are not a frame. A count stops at 2^64 - 1.
 #[derive(Clone, Copy, Debug)]
 #[repr(C)]
 pub struct TallyParts {

@@ -11,8 +11,8 @@ use std::alloc::Global;
 use tora_frame::LONGEST_FRAME;
 use tora_router::Router;
 
-/// Writes the next datagram of a router. A buffer shorter than `LONGEST_FRAME` is refused, and `len` receives that
-/// length.
+/// Writes the next datagram of a router. `ROOM` if `bytes` is shorter than `LONGEST_FRAME`, which `len` receives, even
+/// if no datagram is due; `ABSENT` if none is due.
 fn poll(router: &mut Router, now: u64, peer: &mut u32, bytes: &mut [u8], len: &mut usize) -> u32
     ensures code { result ≡ poll_code now bytes.old (router_of router.old) }
     ensures router { router_of router.new ≡ after_poll now bytes.old (router_of router.old) }
@@ -34,7 +34,9 @@ fn poll(router: &mut Router, now: u64, peer: &mut u32, bytes: &mut [u8], len: &m
     }
 }
 
-/// The next datagram to be sent at the tick `now`, and the neighbour that it is for.
+/// Writes the next datagram to be sent at the tick `now`, its length in bytes, and the neighbour that it is for. It
+/// counts as sent. `NULL` for a null handle; `ROOM` if `bytes` is shorter than `LONGEST_FRAME`, which `len` receives,
+/// even if no datagram is due; `ABSENT` if none is due.
 #[unsafe(no_mangle)]
 pub extern "C" fn tora_router_poll_datagram(
     alloc: Global,
@@ -58,7 +60,7 @@ pub extern "C" fn tora_router_poll_datagram(
     code
 }
 
-/// Returns the next change that the host has not polled yet.
+/// Writes the next change that the host has not polled yet. `NULL` for a null handle, `ABSENT` if there is none.
 #[unsafe(no_mangle)]
 pub extern "C" fn tora_router_poll_change(
     alloc: Global,

@@ -15,7 +15,8 @@ use crate::router_handle::RouterHandle;
 use crate::router_parts::{TallyParts, tally_parts};
 use std::alloc::Global;
 
-/// The tick before which nothing is due.
+/// Writes the tick from which on a datagram is due or a tick changes something, unless another call changes the router:
+/// 0 if at once, 2^64 - 1 if never. `NULL` for a null handle.
 #[unsafe(no_mangle)]
 pub extern "C" fn tora_router_next_due(
     alloc: Global,
@@ -34,7 +35,7 @@ pub extern "C" fn tora_router_next_due(
     OK
 }
 
-/// The next life number.
+/// Writes the next session number: this one and those above it were given to no link. `NULL` for a null handle.
 #[unsafe(no_mangle)]
 pub extern "C" fn tora_router_next_life(
     alloc: Global,
@@ -53,7 +54,8 @@ pub extern "C" fn tora_router_next_life(
     OK
 }
 
-/// The own height for destination `d`.
+/// Writes the node's own height for destination `d`. `NULL` for a null handle, `UNKNOWN` if the table does not have
+/// `d`, `ABSENT` if the height is NULL; then nothing is written.
 #[unsafe(no_mangle)]
 pub extern "C" fn tora_router_height(
     alloc: Global,
@@ -73,7 +75,8 @@ pub extern "C" fn tora_router_height(
     write_entry(entry, height)
 }
 
-/// The height that neighbour `k` sent for destination `d`.
+/// Writes the height that neighbour `k` sent for destination `d`. `NULL` for a null handle, `UNKNOWN` if the table does
+/// not have `d` or the link to `k` is not up, `ABSENT` if the height is NULL; then nothing is written.
 #[unsafe(no_mangle)]
 pub extern "C" fn tora_router_entry(
     alloc: Global,
@@ -94,7 +97,8 @@ pub extern "C" fn tora_router_entry(
     write_entry(entry, height)
 }
 
-/// The next hop to destination `d`.
+/// Writes the next hop to destination `d`. `NULL` for a null handle, `ABSENT` if there is none or the table does not
+/// have `d`; then nothing is written.
 #[unsafe(no_mangle)]
 pub extern "C" fn tora_router_next_hop(
     alloc: Global,
@@ -120,7 +124,8 @@ pub extern "C" fn tora_router_next_hop(
     }
 }
 
-/// Whether a route to destination `d` is required: 1, or 0.
+/// Writes 1 if a route to destination `d` is required, and otherwise 0, also if the table does not have `d`. `NULL` for
+/// a null handle.
 #[unsafe(no_mangle)]
 pub extern "C" fn tora_router_flag(
     alloc: Global,
@@ -140,7 +145,7 @@ pub extern "C" fn tora_router_flag(
     OK
 }
 
-/// Whether the link to neighbour `k` is up: 1, or 0.
+/// Writes 1 if the link to neighbour `k` is up, and otherwise 0, also if `k` is no neighbour. `NULL` for a null handle.
 #[unsafe(no_mangle)]
 pub extern "C" fn tora_router_is_up(
     alloc: Global,
@@ -160,7 +165,8 @@ pub extern "C" fn tora_router_is_up(
     OK
 }
 
-/// The counts of the datagrams of neighbour `k`, by outcome.
+/// Writes the counts of the datagrams of neighbour `k`, by outcome. `NULL` for a null handle, `UNKNOWN_NEIGHBOUR` if
+/// `k` is no neighbour; then nothing is written.
 #[unsafe(no_mangle)]
 pub extern "C" fn tora_router_tally(
     alloc: Global,
@@ -186,7 +192,8 @@ pub extern "C" fn tora_router_tally(
     }
 }
 
-/// The core of the router as text.
+/// Writes the core of the router as text, as `Core::show` has it, and its length in bytes to `len`. `NULL` for a null
+/// handle, `MEMORY`, `ROOM` if `text` is too short. At `ROOM` only `len` is written, and at the others nothing.
 #[unsafe(no_mangle)]
 pub extern "C" fn tora_router_show(
     alloc: Global,

@@ -13,7 +13,9 @@ use crate::world_node::{WorldNode, options_of};
 use std::alloc::Global;
 use tora_drive::DriveSetup;
 
-/// Replaces the world at `world` by a new one that has taken no line.
+/// Replaces the world at `world` by a new one that has taken no line. `limits` is 0 for `STANDARD` and 1 for
+/// `GREATEST`, `erasure` 0 for `Plain` and 1 for `Remembered`; `CHOICE` for other numbers, then `MEMORY`. Then the old
+/// world stays.
 #[unsafe(no_mangle)]
 pub extern "C" fn tora_world_new(
     alloc: Global,
@@ -56,8 +58,8 @@ pub extern "C" fn tora_world_free(alloc: Global, world: &mut WorldHandle)
     }
 }
 
-/// Passes a line to the world, stores the answer, and writes its length to `len`. If memory runs out, the world is as
-/// it was made.
+/// Passes a line, without its LF, to the world, stores the answer, and writes the answer's length in bytes to `len`.
+/// `NULL` for a null handle. `MEMORY`: the world is as it was made, without an answer.
 #[unsafe(no_mangle)]
 pub extern "C" fn tora_world_line(
     alloc: Global,
@@ -85,7 +87,8 @@ pub extern "C" fn tora_world_line(
     code
 }
 
-/// The answer to the last line.
+/// Writes the answer to the last line, empty before the first one, and its length in bytes to `len`. `NULL` for a null
+/// handle, `ROOM` if `text` is too short. At `ROOM` only `len` is written, and at `NULL` nothing.
 #[unsafe(no_mangle)]
 pub extern "C" fn tora_world_answer(
     alloc: Global,

@@ -57,7 +57,7 @@ impl WorldHandle {
         })
     }
 
-    /// Takes the world out of the handle, which is null afterwards.
+    /// Takes the world out of the handle, which is null afterwards. `None` if it was null before.
     pub fn take(&mut self, alloc: Global) -> Option<Box<WorldNode, Global>>
         ensures null { self.new.held ≡ None }
         ensures node { MatchOption result (self.old.held ≡ None) (λ node. self.old.held ≡ Some node.value) }
@@ -68,7 +68,7 @@ impl WorldHandle {
         }
     }
 
-    /// Replaces the world that the handle holds, and frees the old one.
+    /// Puts a world into the handle, and frees the one that the handle held, if there was one.
     pub fn put(&mut self, alloc: Global, node: Box<WorldNode, Global>)
         ensures { self.new.held ≡ Some node.value }
     {

@@ -18,7 +18,7 @@ pub struct WorldNode {
     pub answer: String,
 }
 
-/// The limits of a world: 0 is `STANDARD`, 1 is `GREATEST`.
+/// The limits of a world: 0 is `STANDARD`, 1 is `GREATEST`; `None` for any other number.
 fn limits_of(choice: u32) -> Option<Limits>
     ensures { result ≡ limits_of choice }
 {
@@ -31,7 +31,7 @@ fn limits_of(choice: u32) -> Option<Limits>
     }
 }
 
-/// The options of a world for two choices; `None` if there is no such choice.
+/// The options of a world for two choices; `None` if one of the numbers is not 0 or 1.
 pub fn options_of(limits: u32, erasure: u32) -> Option<WorldOptions>
     ensures { result ≡ options_of limits erasure }
 {
@@ -52,7 +52,8 @@ impl WorldNode {
         }
     }
 
-    /// Takes a line, and stores the answer. If memory runs out, the world is as it was made.
+    /// Takes a line, without its LF, stores the answer, and returns `OK`. `MEMORY`: the world is as it was made,
+    /// without an answer.
     pub fn take_line(&mut self, alloc: Global, line: &[u8]) -> u32
         ensures code { (result ≡ OK) ⊎ (result ≡ MEMORY) }
         ensures done { result ≡ OK → world_view self.new ≡ after_line line.now (world_view self.old) }

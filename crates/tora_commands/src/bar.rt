@@ -66,13 +66,13 @@ impl<T: Eprint> Eprint for Wiping<'_, T> {
 struct Bar<'a, T> {
     rt: &'a T,
     count: RoundCount,
-    /// The last round.
+    /// The number of rounds after which the simulation stops; `None` if there is no such limit.
     until: Option<u64>,
-    /// The number of rounds in all, if it is known.
+    /// The number of rounds in all; `None` if it is not known.
     total: Option<u64>,
     /// The clock in milliseconds when the simulation began.
     begun: u64,
-    /// The clock at the last drawing.
+    /// The clock in milliseconds at the last drawing.
     drawn: u64,
 }
 
@@ -89,7 +89,7 @@ impl<T: Eprint + Clock> Bar<'_, T> {
         let _ = self.rt.eprint(format_args!("{wipe}{progress}"));
     }
 
-    /// Draws the progress, if the last drawing was long enough ago.
+    /// Draws the progress, if the last drawing was at least `PAUSE` ago.
     fn show(&mut self) {
         let now = millis(self.rt);
         if now.saturating_sub(self.drawn) >= PAUSE {
@@ -97,7 +97,7 @@ impl<T: Eprint + Clock> Bar<'_, T> {
         }
     }
 
-    /// Draws the progress at the end of the file, and ends the line.
+    /// Draws the progress at the end of the file, and ends the line of the terminal.
     fn end(&mut self) {
         self.count.end_line();
         let now = millis(self.rt);
@@ -106,7 +106,8 @@ impl<T: Eprint + Clock> Bar<'_, T> {
     }
 }
 
-/// Reads at most one piece.
+/// Reads once, at most `PIECE` bytes, into the front of `buf`. Returns their count, which is 0 at the end of the input.
+/// Errors of the reader are passed on.
 fn read_piece<R: Input>(reader: &mut R, buf: &mut [u8]) -> io::Result<usize>
     ensures call { R.did_read reader.old (given_by result buf.new) reader.new }
     ensures bound { ReadsAtMost result buf.new }

@@ -32,7 +32,7 @@ impl ChannelFile {
     }
 }
 
-/// Reports the line of a channel file that is wrong, and why.
+/// Reports which line of a channel file is at fault, counted from 1, and why. Returns the status 1.
 fn refuse_line<T: Eprint>(rt: &T, path: &str, number: u64, cause: LineCause) -> ExitCode
     ensures { exit_status result ≡ 1 }
 {

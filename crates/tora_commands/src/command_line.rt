@@ -149,7 +149,7 @@ fn erasure<'a>(alloc: Global) -> Arg<'a> {
         )
 }
 
-/// `replay`.
+/// The subcommand `replay`.
 fn replay<'a>(alloc: Global) -> Result<Command<'a>, AllocError> {
     Command::new(alloc, "replay")
         .about("Replays the inputs of one node, from standard input to standard output")
@@ -157,7 +157,7 @@ fn replay<'a>(alloc: Global) -> Result<Command<'a>, AllocError> {
         .arg(erasure(alloc))
 }
 
-/// `--times` of `sim`.
+/// `--times` of `sim` and `drive`.
 fn times<'a>(alloc: Global) -> Arg<'a> {
     Arg::new(alloc, "times")
         .long("times")
@@ -242,12 +242,12 @@ fn flag<'a>(alloc: Global, name: &'a str, help: &'a str) -> Arg<'a> {
         .help(help)
 }
 
-/// A word that has to follow a command.
+/// A required argument of a subcommand.
 fn required<'a>(alloc: Global, name: &'a str, help: &'a str) -> Arg<'a> {
     Arg::new(alloc, name).required(true).help(help)
 }
 
-/// `sim`.
+/// The subcommand `sim`.
 fn sim<'a>(alloc: Global) -> Result<Command<'a>, AllocError> {
     let file = required(alloc, "FILE", "The simulation file");
     Command::new(alloc, "sim")
@@ -313,7 +313,7 @@ Exit statuses:
   2  usage
   5  out of memory";
 
-/// `drive`.
+/// The subcommand `drive`.
 fn drive<'a>(alloc: Global) -> Result<Command<'a>, AllocError> {
     Command::new(alloc, "drive")
         .about("Simulates a world that another program drives by lines on standard input")
@@ -336,7 +336,7 @@ fn level<'a>(alloc: Global) -> Arg<'a> {
         .help("Logs messages of this level and above on standard error. The default is info")
 }
 
-/// `node`.
+/// The subcommand `node`.
 fn node<'a>(alloc: Global) -> Result<Command<'a>, AllocError> {
     let config = required(alloc, "CONFIG", "The configuration, a TOML file");
     let check = flag(
@@ -358,7 +358,7 @@ fn node<'a>(alloc: Global) -> Result<Command<'a>, AllocError> {
         .arg(time)
 }
 
-/// `key`.
+/// The subcommand `key`.
 fn key<'a>(alloc: Global) -> Command<'a> {
     Command::new(alloc, "key").about("Prints a new key for the two ends of a link")
 }

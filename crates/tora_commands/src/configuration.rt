@@ -54,7 +54,7 @@ pub struct NodeConfig {
     pub node: Id,
     /// The destinations of its table, each once and not 0, in the order of the text.
     pub dests: Vec<Id>,
-    /// The folder of the node's life files, as written.
+    /// The directory of the node's life files, as written in the text.
     pub life_dir: String,
     /// How the node treats erased levels.
     pub erasure: Erasure,

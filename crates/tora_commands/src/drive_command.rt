@@ -61,7 +61,7 @@ fn drive_and_flush<S: Driven, R: Input, W: Output>(
     flushed(writer, result)
 }
 
-/// Drives a world with these settings.
+/// Writes the greeting, and drives a world with these settings. Returns the exit status, as `run` does.
 fn run_with<T: AllocGlobal + Eprint, R: Input + Drop, W: Output>(
     rt: &T,
     setup: DriveSetup,

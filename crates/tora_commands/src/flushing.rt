@@ -1,4 +1,4 @@
-//! The engines, each followed by a flush of the writer.
+//! Replays and simulations, each followed by a flush of the writer.
 ghost use Rattle.std.specs.Prelude.{◌≡◌, ◌≢◌, Bool, Ok, IfOk, IfErr, IfSome};
 ghost use Rattle.std.specs.Io.KnownBytes.{IsAtEnd, Keeps};
 ghost use Rattle.tora_arq.specs.Settings.{IsTimes};

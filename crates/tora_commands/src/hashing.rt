@@ -6,7 +6,7 @@ use std::alloc::{AllocError, Global};
 use std::io;
 use tora_lines::Input;
 
-/// Passes on what a reader gives, and computes its SHA-256.
+/// A reader that passes on what another reader gives, and computes the SHA-256 of all that was read.
 #[derive(Drop)]
 pub struct Hashing<R> {
     pub reader: R,

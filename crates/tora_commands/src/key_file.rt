@@ -18,7 +18,8 @@ const READ_BY_OTHERS: u32 = 0o044;
 /// The message about a file without a key.
 const NO_KEY: &str = "is no key: a key is 64 hexadecimal digits on one line";
 
-/// Reads as much of a file as fits the buffer.
+/// Reads from a file until the buffer is full or the file is at its end. Returns the count of bytes. Errors, including
+/// `Interrupted`, are passed on.
 fn read_front(file: &mut File, buf: &mut [u8]) -> io::Result<usize> {
     let mut count = 0;
     for _ in 0..buf.len() {
@@ -44,8 +45,8 @@ fn warn_of_readers(rt: &impl Eprint, file: &File, path: &str) {
     }
 }
 
-/// The key in the file at a path. Reports on standard error what is wrong, but never the content of the file. The
-/// buffer into which the file was read is overwritten at the end.
+/// The key in the file at a path. Reports on standard error what is wrong, but never the content of the file; the error
+/// is always `Config`. The buffer into which the file was read is overwritten at the end.
 pub(crate) fn key_at<R: Paths + Files<File = File> + Eprint>(
     rt: &R,
     path: &str,
@@ -58,7 +59,7 @@ pub(crate) fn key_at<R: Paths + Files<File = File> + Eprint>(
     key
 }
 
-/// Reads the file at a path into a buffer, and makes the key in it.
+/// Reads the file at a path into a buffer, and returns the key in it. Reports as `key_at` does.
 fn read_key<R: Paths + Files<File = File> + Eprint>(
     rt: &R,
     path: &str,
@@ -81,7 +82,7 @@ fn read_key<R: Paths + Files<File = File> + Eprint>(
     }
 }
 
-/// Reports on standard error what is wrong with the file at a path.
+/// Reports on standard error what is wrong with the key file at a path. Returns `Config`.
 fn report_key_fault<D: Display>(rt: &impl Eprint, path: &str, cause: &D) -> Fault
     ensures { result ≡ Fault.Config }
 {

@@ -57,7 +57,7 @@ pub use tora_simulate::{
 };
 use tora_simulate::{Paths, report, report_at};
 
-/// Reports which words of the command line are not a setup, and why.
+/// Reports which words of the command line are not a setup, and why. Returns the status 2.
 fn refuse_setup<T: Eprint>(rt: &T, fault: SetupFault<'_>) -> ExitCode
     ensures { exit_status result ≡ 2 }
 {
@@ -71,7 +71,7 @@ fn refuse_setup<T: Eprint>(rt: &T, fault: SetupFault<'_>) -> ExitCode
     ExitCode::from(USAGE)
 }
 
-/// Reports that the trace would replace a file that is read.
+/// Reports that the trace would replace the file at `path`, which is read. Returns the status 1.
 fn refuse_place<T: Eprint>(rt: &T, path: &str) -> ExitCode
     ensures { exit_status result ≡ 1 }
 {
@@ -80,7 +80,8 @@ fn refuse_place<T: Eprint>(rt: &T, path: &str) -> ExitCode
     code
 }
 
-/// The content of the channel file. The status if it cannot be read, or if the trace would replace it.
+/// The content of the channel file at `path`; an empty table without a path. The error is the exit status: 1 if the
+/// trace would replace the file, or if the file cannot be read or has a line at fault; 5 if memory ran out.
 fn asked_file<T: Paths + AllocGlobal + Eprint>(
     rt: &T,
     path: Option<&str>,
@@ -104,7 +105,7 @@ fn asked_file<T: Paths + AllocGlobal + Eprint>(
 }
 
 /// Simulates the lines of the file at a path as asked, and writes a trace if there is a path for one; with or without a
-/// bar.
+/// bar. Returns the exit status.
 fn simulate_over<T: Paths + AllocGlobal + Eprint + Clock, W: Output>(
     rt: &T,
     asked: SimulationOptions,
@@ -133,7 +134,9 @@ fn simulate_over<T: Paths + AllocGlobal + Eprint + Clock, W: Output>(
 }
 
 /// Simulates the lines of the file at a path with the settings that words of the command line ask for, and writes a
-/// trace if there is a path for one. If a word is malformed, or the channel file cannot be read, nothing is written.
+/// trace if there is a path for one. Returns the exit status: 2 if a word is malformed, then that of the channel file
+/// if it cannot be used, and otherwise that of the simulation, as `traced_command::run` or `sim_command::run` returns
+/// it. In the first two cases nothing is written.
 pub fn simulate_file<T: Paths + AllocGlobal + Eprint + Clock, W: Output>(
     rt: &T,
     words: SetupWords<'_>,
@@ -165,7 +168,8 @@ pub fn simulate_file<T: Paths + AllocGlobal + Eprint + Clock, W: Output>(
     }
 }
 
-/// Prints help, a version or a fault of usage.
+/// Prints help, a version or a fault of usage, and returns the exit status: 0 for help or a version, 1 if these cannot
+/// be printed, 2 for a fault of usage, 5 if memory ran out.
 pub fn usage<R: Print + Eprint>(rt: &R, error: &clap::Error) -> ExitCode
     ensures memory { kind_of error.now ≡ ErrorKind.OutOfMemory → exit_status result ≡ 5 }
     ensures mistake { kind_of error.now ≢ ErrorKind.OutOfMemory → kind_of error.now ≢ ErrorKind.DisplayHelp

@@ -27,7 +27,9 @@ fn life_path(alloc: Global, folder: &str, peer: Id) -> Result<String, AllocError
     format!(in alloc; "{folder}/life-{peer}")
 }
 
-/// Opens the file of each link, by ascending neighbour.
+/// Creates the directory `folder` if it is missing, and opens the life file of each link in it, in the order of
+/// `links`. `Life` at the first file that cannot be opened, `Memory` at any point; the cause is reported on standard
+/// error.
 pub(crate) fn open<R: Files<File = File> + Eprint>(
     rt: &R,
     alloc: Global,
@@ -60,7 +62,7 @@ pub(crate) fn open<R: Files<File = File> + Eprint>(
     Ok(disks)
 }
 
-/// The owner of a life file, if its tag names one.
+/// The owner that the tag of a life file names; `None` if it has no such tag, or cannot be opened or read.
 fn owner_in<R: Files<File = File>>(rt: &R, path: &str) -> Option<Owner> {
     let Ok(mut disk) = FileDisk::open(rt, path) else {
         return None;

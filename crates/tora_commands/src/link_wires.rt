@@ -33,7 +33,7 @@ pub(crate) type ProgramWire<'a, R, L> = LinkWire<'a, WakingWire<'a, &'a R>, Unix
 /// The waker of a link of the program, which ends its waits.
 pub(crate) type ProgramWaker<'a, R> = SocketWaker<'a, &'a R>;
 
-/// The key of a link, if it has one.
+/// The key of a link; `None` if it has no key file. `Config` if the file cannot be read or has no key.
 fn key_of<R: Paths + Files<File = File> + Eprint>(
     rt: &R,
     endpoint: &LinkEndpoint,
@@ -51,7 +51,7 @@ fn key_of<R: Paths + Files<File = File> + Eprint>(
 }
 
 /// The addresses of each link, by ascending neighbour, from the configuration text at a path, and the keys from their
-/// files. Reports on standard error what is wrong.
+/// files. Reports on standard error what is wrong; the error is `Memory` if memory ran out, otherwise `Config`.
 pub(crate) fn endpoints_in<R: Paths + Files<File = File> + AllocGlobal + Eprint>(
     rt: &R,
     path: &str,
@@ -73,7 +73,8 @@ pub(crate) fn endpoints_in<R: Paths + Files<File = File> + AllocGlobal + Eprint>
     with_keys(rt, endpoints)
 }
 
-/// The addresses by ascending neighbour, with the keys from their files. Reports on standard error what is wrong.
+/// The addresses by ascending neighbour, with the keys from their files. Reports on standard error what is wrong:
+/// `Config` if a key file cannot be read or has no key, `Memory`.
 fn with_keys<R: Paths + Files<File = File> + AllocGlobal + Eprint>(
     rt: &R,
     endpoints: Vec<LinkEndpoint>,
@@ -106,6 +107,7 @@ fn report_socket(rt: &impl Eprint, endpoint: &LinkEndpoint, error: &impl Display
 type Woken<'a, R, L> = (ProgramWire<'a, R, L>, ProgramWaker<'a, R>);
 
 /// Binds the socket of a link and wraps it as a wire, with the link's key if it has one. The wire logs to `log`.
+/// `Memory` if memory ran out, otherwise `Socket`; the cause is reported on standard error.
 fn wire_of<'a, R: Net + Eprint + Clock, L: Log>(
     rt: &'a R,
     log: &'a L,
@@ -132,7 +134,8 @@ fn wire_of<'a, R: Net + Eprint + Clock, L: Log>(
     }
 }
 
-/// Binds the socket of each link, in this order. Returns the wires and their wakers.
+/// Binds the socket of each link, in the order of `endpoints`. Returns the wires and their wakers. The errors are those
+/// of `wire_of`, at the first link that has one.
 pub(crate) fn bind<'a, R: Net + Eprint + Clock, L: Log>(
     rt: &'a R,
     log: &'a L,

@@ -12,7 +12,7 @@ use std::time::Clock;
 ///
 /// With `has_time` each line begins with the time: in UTC, by RFC 3339, with thousandths of a second and a blank, such
 /// as `2026-11-25T15:00:02.125Z `. If the clock cannot be read, or its time is outside the range of dates, the line has
-/// no time. The rest of the line has the form of the crate `log`: `[INFO  tora_node::log_hub] link 2 up`.
+/// no time. The rest of the line has the form of the crate `log`: `[INFO  tora_node::log_hub] link 2 up 5 9`.
 #[derive(Clone, Copy, Debug, Drop)]
 pub struct LogLines<R> {
     rt: R,
@@ -29,7 +29,7 @@ impl<R> LogLines<R> {
 }
 
 impl<R: Eprint + Clock> LogLines<R> {
-    /// The time before a line.
+    /// The time to write before a line; `None` if no time is wanted, or the clock gives none.
     fn time(&self) -> Option<Timestamp> {
         if self.has_time {
             Timestamp::now(&self.rt).ok()

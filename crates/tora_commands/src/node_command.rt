@@ -34,7 +34,7 @@ use tora_simulate::{Paths, report};
 pub enum Fault {
     /// Memory ran out.
     Memory,
-    /// The configuration cannot be read, or is at fault.
+    /// The configuration or a key file cannot be read, or is at fault.
     Config,
     /// A socket cannot be bound.
     Socket,

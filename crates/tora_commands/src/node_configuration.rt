@@ -11,7 +11,8 @@ use std::io::{ErrorKind, Read};
 use std::rt::Files;
 use tora_simulate::{Paths, report_at, text_at};
 
-/// The text at a path. Reports on standard error why it cannot be read.
+/// The text at a path. If it cannot be read, reports why on standard error; the error is `Memory` if memory ran out,
+/// otherwise `Config`.
 fn text_of<R: Paths + AllocGlobal + Eprint>(rt: &R, path: &str) -> Result<String, Fault>
     ensures read { IfOk result (λ text. IsRead (R.did_open rt.now path.now) R.did_read R.File.remaining
         (string_bytes text)) }
@@ -31,7 +32,8 @@ fn text_of<R: Paths + AllocGlobal + Eprint>(rt: &R, path: &str) -> Result<String
     }
 }
 
-/// The configuration in the text at a path. Reports on standard error what is wrong.
+/// The configuration in a text that was read at a path. Reports on standard error what is wrong; the error is `Memory`
+/// if memory ran out, otherwise `Config`.
 fn config_of<R: AllocGlobal + Eprint>(rt: &R, path: &str, text: &str) -> Result<NodeConfig, Fault>
     ensures says { IfOk result (IsConfigOf text.now) }
     ensures refused { IfErr result (λ fault. IsNoConfig text.now (status_of_fault fault)
@@ -48,7 +50,8 @@ fn config_of<R: AllocGlobal + Eprint>(rt: &R, path: &str, text: &str) -> Result<
     }
 }
 
-/// Reads the configuration at a path, and the keys of its links. Reports on standard error what is wrong.
+/// Reads the configuration at a path, and then the keys of its links. Reports on standard error what is wrong; the
+/// error is `Memory` if memory ran out, otherwise `Config`.
 pub(crate) fn read<R: Paths + Files<File = File> + AllocGlobal + Eprint>(
     rt: &R,
     path: &str,

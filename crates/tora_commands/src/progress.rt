@@ -8,7 +8,7 @@ use tora_script::{SimulationLine, simulation_line};
 /// One byte more than the longest line `rounds R`: a line with this many stored bytes is not such a line.
 const FRONT: usize = 13;
 
-/// The most reads of a file.
+/// The most reads in which the rounds of a file are counted: 2^32.
 const MOST_READS: u64 = 0x1_0000_0000;
 
 /// How many rounds the lines of a simulation file ask for, counted while its bytes are read.
@@ -32,7 +32,7 @@ impl RoundCount {
         }
     }
 
-    /// Ends a line, and adds its rounds.
+    /// Ends the unfinished line, and adds its rounds if it is `rounds R`. The count stops at 2^64 - 1.
     pub fn end_line(&mut self) {
         let line = self.front.get(..self.len).unwrap_or(&[]);
         if let Some(SimulationLine::Rounds(count)) = simulation_line(line) {
@@ -41,7 +41,7 @@ impl RoundCount {
         self.len = 0;
     }
 
-    /// Takes a byte of a line.
+    /// Adds a byte to the unfinished line; bytes after the first `FRONT` are not stored.
     fn put(&mut self, byte: u8) {
         if self.len < FRONT {
             self.front[self.len] = byte;
@@ -61,8 +61,8 @@ impl RoundCount {
     }
 }
 
-/// How many rounds the file at a path asks for. `None` if it cannot be read, or is not a regular file, which could not
-/// be read again.
+/// How many rounds the file at a path asks for. `None` if it cannot be read in `MOST_READS` reads, or is not a regular
+/// file, which could not be read again.
 pub(crate) fn rounds_of<T: Files>(rt: &T, path: &str) -> Option<u64> {
     let about = rt.metadata(path).ok()?;
     if !about.is_file() {
@@ -82,7 +82,7 @@ pub(crate) fn rounds_of<T: Files>(rt: &T, path: &str) -> Option<u64> {
     None
 }
 
-/// A number, but at most `most`, if that is given.
+/// The smaller one of `number` and `most`; `number` if `most` is `None`.
 pub(crate) fn within(number: u64, most: Option<u64>) -> u64 {
     match most {
         None => number,
@@ -95,13 +95,13 @@ pub(crate) fn within(number: u64, most: Option<u64>) -> u64 {
 pub struct Progress {
     /// The rounds that are done.
     pub done: u64,
-    /// The number of rounds in all, if it is known.
+    /// The number of rounds in all; `None` if it is not known.
     pub total: Option<u64>,
     /// The milliseconds since it began.
     pub millis: u64,
 }
 
-/// A bar for each tenth.
+/// The bars for 0 to 9 tenths of the rounds.
 const BARS: &[&str] = &[
     "[          ]",
     "[#         ]",
@@ -119,13 +119,13 @@ const BARS: &[&str] = &[
 const WHOLE: &str = "[##########]";
 
 impl Progress {
-    /// The rounds per second.
+    /// The rounds per second, rounded down; 0 if no millisecond has passed.
     fn rate(&self) -> u64 {
         let thousandths = self.done.saturating_mul(1000);
         thousandths.checked_div(self.millis).unwrap_or(0)
     }
 
-    /// The bar for `done` of `total` rounds.
+    /// The bar for `done` of `total` rounds; the whole bar if `total` is 0.
     fn bar(&self, total: u64) -> &'static str {
         let tenths = self.done.saturating_mul(10).checked_div(total);
         match tenths {
@@ -134,7 +134,8 @@ impl Progress {
         }
     }
 
-    /// The seconds until the end, if each remaining round takes as long as those done.
+    /// The seconds until the end, rounded up, if each remaining round takes as long as those done. `None` if none is
+    /// done.
     fn left(&self, total: u64) -> Option<u64> {
         let rest = total.saturating_sub(self.done);
         let millis = rest.saturating_mul(self.millis).checked_div(self.done)?;

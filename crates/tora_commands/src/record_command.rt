@@ -48,7 +48,8 @@ fn drive_and_flush<S: Driven, R: Input, W: Output, V: Output>(
     flushed(writer, result)
 }
 
-/// Drives a world with these settings, writes the record to the file at a path, and flushes both.
+/// Drives a world with these settings, writes the record to `out`, and flushes both. `path` only names the record in
+/// reports. Returns the exit status, as `run` does.
 pub fn run_over<T: AllocGlobal + Eprint, R: Input + Drop, W: Output, V: Output>(
     rt: &T,
     setup: DriveSetup,
@@ -73,7 +74,8 @@ pub fn run_over<T: AllocGlobal + Eprint, R: Input + Drop, W: Output, V: Output>(
     traced_status(rt, result, out, path)
 }
 
-/// Drives a world with these settings, and writes the record to the file at a path.
+/// Drives a world with these settings, and writes the record to the file at a path, which is created or emptied first.
+/// Returns the exit status, as `run` does.
 fn run_with<T: Paths + AllocGlobal + Eprint, R: Input + Drop, W: Output>(
     rt: &T,
     setup: DriveSetup,

@@ -23,7 +23,7 @@ pub struct SetupWords<'a> {
     pub has_notice: bool,
     /// Whether `--large` is given.
     pub is_large: bool,
-    /// The last round.
+    /// The number of rounds after which the simulation stops.
     pub until: Option<&'a str>,
     /// The choice of erasure of the nodes.
     pub erasure: Option<&'a str>,
@@ -34,17 +34,17 @@ pub struct SetupWords<'a> {
 /// Why words are not the settings of a simulation.
 #[derive(Clone, Copy)]
 pub enum SetupFault<'a> {
-    /// The word after `--times` is not `HELLO,SILENCE,RETRY,TRIES`.
+    /// The word after `--times` is not four numbers from 1 to 2^64 - 1, separated by commas.
     Times,
-    /// The word after `--seed` is no number.
+    /// The word after `--seed` is not a number below 2^64.
     Seed,
     /// There is a seed, but no channel and no channel file.
     SeedAlone,
-    /// The word after `--until` is no number.
+    /// The word after `--until` is not a number below 2^64.
     Until,
     /// The word after `--erasure` is neither `plain` nor `remembered`.
     Erasure,
-    /// The text is not a part of a channel.
+    /// This text, among the parts after `--channel`, is not a part of a channel, or repeats one.
     Part(&'a [u8]),
 }
 
@@ -66,7 +66,7 @@ impl SetupFault<'_> {
     }
 }
 
-/// The seed in a word.
+/// The seed in a word; 0 without a word, `None` if the word is not a number below 2^64.
 fn seed(word: Option<&str>) -> Option<u64>
     ensures { result ≡ asked_seed (option_map (λ w. w.now) word.entry) }
 {
@@ -76,7 +76,7 @@ fn seed(word: Option<&str>) -> Option<u64>
     }
 }
 
-/// The channel in a word, with the seed in another.
+/// The channel in a word, with the seed in another, or the seed 0. `Seed`, then `Part`.
 #[tactic(auto, unfolding(crate::specs::SetupWords::channel_asked))]
 fn channel_of<'a>(channel: &'a str, seeded: Option<&str>) -> Result<Channel, SetupFault<'a>>
     ensures { result_ok result ≡ channel_asked channel.now (option_map (λ w. w.now) seeded.entry) }
@@ -90,7 +90,7 @@ fn channel_of<'a>(channel: &'a str, seeded: Option<&str>) -> Result<Channel, Set
     }
 }
 
-/// The channel of a seed, for the lines of a channel file.
+/// The clear channel with the seed in a word, for the lines of a channel file. `Seed` if the word is no seed.
 fn seeded<'a>(seed: &str) -> Result<Channel, SetupFault<'a>>
     ensures { result_ok result ≡ option_map (channel_by no_parts) (number_of seed.now) }
 {
@@ -103,7 +103,8 @@ fn seeded<'a>(seed: &str) -> Result<Channel, SetupFault<'a>>
     }
 }
 
-/// The channel that the words of `--channel` and `--seed` give.
+/// The channel that the words of `--channel` and `--seed` give; the clear channel without these words. `SeedAlone` if
+/// there is a seed but neither a channel nor a channel file, otherwise `Seed`, then `Part`.
 fn channel<'a>(
     channel: Option<&'a str>,
     seed: Option<&str>,
@@ -159,7 +160,7 @@ pub(crate) fn asked_options(is_large: bool, erasure: Option<&str>) -> Option<Wor
     Some(options(is_large, erasure))
 }
 
-/// The last round in a word.
+/// The number of rounds in a word; `None` without a word. `Until` if the word is not a number below 2^64.
 fn until<'a>(word: Option<&str>) -> Result<Option<u64>, SetupFault<'a>>
     ensures { result_ok result ≡ asked_until (option_map (λ w. w.now) word.entry) }
 {

@@ -6,7 +6,7 @@ ghost use Rattle.tora_commands.specs.TimesWord.{positive_of, times_of, asked_tim
 use tora_arq::{Times, standard_times};
 use tora_lines::words;
 
-/// A number that is at least 1.
+/// The number in a text, without leading zeros; `None` if the text is not a number from 1 to 2^64 - 1.
 #[tactic(auto, unfolding(crate::specs::TimesWord::positive_of))]
 fn positive(text: &[u8]) -> Option<u64>
     ensures value { result ≡ positive_of text.now }
@@ -17,6 +17,7 @@ fn positive(text: &[u8]) -> Option<u64>
 }
 
 /// The times in `HELLO,SILENCE,RETRY,TRIES`: four numbers, each at least 1 and below 2^64, without leading zeros.
+/// `None` for any other text.
 #[tactic(auto, unfolding(crate::specs::TimesWord::times_of))]
 fn times(text: &[u8]) -> Option<Times>
     ensures value { result ≡ times_of text.now }

@@ -27,7 +27,8 @@ use tora_lines::{Ended, Input, Output, ReplayError, flushed};
 use tora_script::{ChannelTable, FaultReports, Setup, TraceOut, Watched, simulate_traced};
 use tora_simulate::{Opened, Paths, Recent, report_at};
 
-/// Reports which path cannot be that of the trace or the record, and why, and returns the status of the cause.
+/// Reports why the file of the trace or the record cannot be created at `path`, and returns the exit status: 5 if
+/// memory ran out, otherwise 1.
 pub fn refuse_trace<T: Eprint>(rt: &T, path: &str, error: &io::Error) -> ExitCode
     ensures { IsStatusOfError error.now (exit_status result) }
 {
@@ -39,7 +40,8 @@ pub fn refuse_trace<T: Eprint>(rt: &T, path: &str, error: &io::Error) -> ExitCod
     code
 }
 
-/// Returns the status of the simulation, or 1 if that is 0 and the trace or the record could not be written.
+/// Returns the status of the simulation, or 1 if that is 0 and the trace or the record could not be written. Reports
+/// what failed; `path` names the trace or the record.
 pub fn traced_status<T: Eprint, V: Output>(
     rt: &T,
     ended: Result<Ended, ReplayError>,
@@ -102,7 +104,8 @@ fn finish<R: Input + Drop, V: Output>(
     }
 }
 
-/// Simulates the lines of a reader as asked, writes the trace to the file at a path, and flushes both.
+/// Simulates the lines of a reader as asked, writes the trace to `out`, and flushes both. `path` only names the trace
+/// in reports. Returns the exit status, as `traced_status` does.
 pub fn run_over<S: Watched, T: AllocGlobal + Eprint, R: Input + Drop, W: Output, V: Output>(
     reports: FaultReports<'_, T>,
     asked: SimulationOptions,
@@ -139,7 +142,8 @@ pub fn run_over<S: Watched, T: AllocGlobal + Eprint, R: Input + Drop, W: Output,
     traced_status(rt, result, out, path)
 }
 
-/// Creates or empties the file of a trace at a path. Returns the status if that fails, after lines on standard error.
+/// Creates or empties the file of a trace at a path. If that fails, reports why, and the error is the exit status: 5 if
+/// memory ran out, otherwise 1.
 fn make_trace<T: Paths + AllocGlobal + Eprint>(
     rt: &T,
     path: &str,

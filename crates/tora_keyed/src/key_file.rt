@@ -12,7 +12,7 @@ pub const KEY: usize = 32;
 /// The length in bytes of the longest key file: two digits for each byte of the key, and a line feed.
 pub const LONGEST_KEY_FILE: usize = 2 * KEY + 1;
 
-// The bytes without a line feed at the end.
+// The bytes without the last one, if that is a line feed.
 fn digits_in(bytes: &[u8]) -> &[u8]
     ensures { result.now ≡ digits_in bytes.now }
 {

@@ -2,7 +2,7 @@
 ghost use Rattle.std.specs.Prelude.{◌≡◌};
 ghost use Rattle.tora_keyed.specs.declared.key_file.TheConstants.{KEY, LONGEST_KEY_FILE};
 
-/// The limits have these values.
+/// The values of the limits. The function does nothing: its contract is a law.
 pub fn limits_have_their_values()
     ensures key { KEY ≡ 32 }
     ensures longest_key_file { LONGEST_KEY_FILE ≡ 65 }

@@ -20,11 +20,11 @@ const ROOM: usize = LONGEST_FRAME + 1 + TAG;
 /// The rest holds with a key. A datagram of more than 560 bytes, which is not a frame, is not sent: the call fails, and
 /// from then on contracts no longer say which datagrams were sent and received. A receive returns an authentic datagram
 /// without its tag; it counts any other datagram, and returns `None`. Failed calls are counted, too. The counts begin
-/// at 0 and stay at 2^64 - 1. No call allocates memory.
+/// at 0 and stop at 2^64 - 1. No call allocates memory.
 ///
-/// If datagrams arrive that are not authentic, the log has a line at most once a minute: `link 2 unauthenticated
-/// datagrams 17`, with the count since the wire was made. At the end of the link, `close` logs the last count and
-/// overwrites the key.
+/// If datagrams arrive that are not authentic, the log has a line at most once a minute, or sooner if the clock goes
+/// back: `link 2 unauthenticated datagrams 17`, with the count since the wire was made. At the end of the link, `close`
+/// logs the last count and overwrites the key.
 #[derive(Drop)]
 pub struct LinkWire<'a, W: Wire, C, L> {
     wire: W,
@@ -49,7 +49,8 @@ impl<'a, W: Wire, C, L> Model for LinkWire<'a, W, C, L> {
 }
 
 impl<'a, W: Wire, C: Clock, L: Log> LinkWire<'a, W, C, L> {
-    /// The wire of the link to `peer` over `wire`. It logs to `log`, and `clock` limits how often.
+    /// The wire of the link to `peer` over `wire`, with this key, or without one if `key` is `None`. It logs to `log`,
+    /// and `clock` limits how often.
     pub fn new(wire: W, key: Option<Key>, peer: Id, clock: C, log: &'a L) -> LinkWire<'a, W, C, L>
         ensures { result ≡ over wire key }
     {
@@ -73,7 +74,7 @@ impl<'a, W: Wire, C: Clock, L: Log> LinkWire<'a, W, C, L> {
     }
 
     /// Closes a link with a key: logs how many datagrams were not authentic, and overwrites the key and the buffer with
-    /// zeros. From then on the block of the key is zeros. Without a key nothing happens.
+    /// zeros. A later call uses a key of zeros. Without a key nothing happens.
     pub fn close(&mut self)
         ensures { self.new ≡ cleared self.old }
     {
@@ -104,7 +105,7 @@ impl<'a, W: Wire, C: Clock, L: Log> LinkWire<'a, W, C, L> {
         }
     }
 
-    /// Logs the count if a line is due.
+    /// Logs the count of datagrams that were not authentic, if a line is due: see `Notices::notice`.
     fn notice(&mut self)
         ensures { self.new ≡ self.old }
     {

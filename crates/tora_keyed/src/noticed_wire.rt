@@ -10,7 +10,8 @@ use tora_neighbour::Clock;
 /// The ticks in a minute, of 100 ms each.
 const MINUTE: u64 = 600;
 
-/// The log of the link to `peer`. It logs a count if the count is new, at most once a minute.
+/// The log of the link to `peer`. It logs a count that differs from the last one logged, at most once a minute, or
+/// sooner if the clock goes back.
 #[derive(Drop)]
 pub(crate) struct Notices<'a, C, L> {
     peer: Id,
@@ -42,7 +43,7 @@ impl<'a, C: Clock, L: Log> Notices<'a, C, L> {
         }
     }
 
-    /// Logs a count if a line is due.
+    /// Logs `count` as a warning if `is_told` says that it is due now.
     pub(crate) fn notice(&mut self, count: u64) {
         if !self.is_new(count) {
             return;
@@ -54,7 +55,7 @@ impl<'a, C: Clock, L: Log> Notices<'a, C, L> {
         }
     }
 
-    /// Logs the final count.
+    /// Logs `count`, the last one of the link, in any case.
     pub(crate) fn close(&self, count: u64) {
         let peer = self.peer;
         info!(self.log; "link {peer} unauthenticated datagrams {count}");
@@ -67,8 +68,8 @@ impl<'a, C: Clock, L: Log> Notices<'a, C, L> {
         count != self.told
     }
 
-    /// Whether a count is due at this tick: it differs from the last one that was logged, and a minute has passed since
-    /// that one or the clock has gone back. If so, it becomes the last one.
+    /// Whether a count is due at this tick: it differs from the last one that was logged (0 at first), and there was no
+    /// line yet, a minute has passed since the last line, or the clock has gone back. If so, it becomes the last one.
     fn is_told(&mut self, count: u64, now: u64) -> bool
         ensures told { result ≡ is_told self.old count now }
         ensures after { self.new ≡ after_count self.old count now }

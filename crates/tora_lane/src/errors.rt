@@ -1,10 +1,10 @@
-//! Why lanes cannot be made.
+//! Why the queues of a node cannot be made.
 ghost use Rattle.std.specs.Prelude.{◌≡◌};
 ghost use Rattle.tora_lane.specs.Errors.{lane_error_number};
 
 use thiserror::Error;
 
-/// Why lanes cannot be made.
+/// Why `lanes` cannot make the queues of a node.
 #[derive(Clone, Copy, Debug, PartialEq, Eq, Hash, Error)]
 pub enum LaneError {
     /// There is not enough memory.

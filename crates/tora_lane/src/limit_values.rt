@@ -2,7 +2,7 @@
 ghost use Rattle.std.specs.Prelude.{◌≡◌, ◌^◌};
 ghost use Rattle.tora_lane.specs.declared.limits.TheConstants.{MOST_LINKS, CORE_LANE_ROOM, OUT_LANE_ROOM, MOST_IN_ALL};
 
-/// The limits have these values.
+/// The values of the limits. The function does nothing: its contract is a law.
 pub fn limits_have_their_values()
     ensures most_links { MOST_LINKS ≡ 32 }
     ensures core_lane_room { CORE_LANE_ROOM ≡ 1024 }

@@ -11,5 +11,6 @@ pub const CORE_LANE_ROOM: usize = MOST_ITEMS;
 /// How many outbound messages the queue to a neighbour can hold.
 pub const OUT_LANE_ROOM: usize = MOST_CARGOES;
 
-/// The most items that a seat ever puts, and the most outbound messages that a queue to a neighbour ever takes: 2^61.
+/// The most items that one seat can put, and the most outbound messages that can be sent through one queue to a
+/// neighbour, since the queues were made: 2^61. Every put or send after that fails.
 pub const MOST_IN_ALL: u64 = 1 << 61;

@@ -1,4 +1,4 @@
-//! All lanes of a node.
+//! All queues of a node.
 use crate::out::{OutPut, OutTake};
 use crate::ports::{CorePort, InPort};
 

@@ -32,8 +32,8 @@ impl Model for OutPut {
         × (o.count ≡ length (sent o.producer)) × (o.count ≤ MOST_IN_ALL) };
 }
 
-/// The neighbour's end of the queue from the core. Contracts see all that it has received, oldest first, and which of
-/// the following outbound messages it has seen in the queue.
+/// The neighbour's end of the queue from the core. Contracts see all that it has received, oldest first, and the
+/// messages after these that it has already seen in the queue.
 #[derive(Drop)]
 pub struct OutTake {
     consumer: Consumer<Cargo>,
@@ -58,7 +58,7 @@ pub struct OutEnd {
     pub waiting: u64,
 }
 
-// An empty queue to a neighbour.
+// Makes an empty queue to a neighbour: the core's end and the neighbour's end.
 pub(crate) fn out_lane(alloc: Global) -> Result<(OutPut, OutTake), AllocError>
     ensures { IfOk result (λ r. AreEndsOf r.0 r.1 × (r.0.sent ≡ []) × (r.1.received ≡ []) × (r.1.found ≡ [])) }
 {
@@ -72,8 +72,8 @@ impl OutPut {
     ///
     /// # Errors
     ///
-    /// The message is returned and nothing changes if the queue is full. It is never full before `OUT_LANE_ROOM`
-    /// messages were sent, and always once `MOST_IN_ALL` were sent.
+    /// The message is returned, and nothing changes, if this end sees no free slot in the queue, or once `MOST_IN_ALL`
+    /// messages were sent. The first `OUT_LANE_ROOM` messages are never returned.
     pub fn send(&mut self, cargo: Cargo) -> Result<(), Cargo>
         ensures put { OnOk result (self.new ≡ with_sent self.old cargo) }
         ensures back { IfErr result (λ c. (c ≡ cargo) × (self.new ≡ self.old)) }
@@ -112,9 +112,9 @@ impl OutTake {
     }
 }
 
-/// Closes a queue whose two threads have ended, and returns the counts of its outbound messages. The messages received,
-/// followed by those left in the queue, are all that were sent. Messages that were seen but not received are the first
-/// ones left.
+/// Closes a queue to a neighbour after the threads of its two ends, `put` and `take`, have ended. Returns the counts of
+/// its outbound messages. The messages received, followed by those left in the queue, are all that were sent. Messages
+/// that were seen but not received are the first ones left.
 pub fn settle_out(put: OutPut, take: OutTake) -> OutEnd
     requires { AreEndsOf put take }
     ensures { (waiting : List Cargo) × (take.received ++ waiting ≡ put.sent) × IsPrefix take.found waiting

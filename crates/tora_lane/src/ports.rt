@@ -15,8 +15,8 @@ use std::sync::Wait;
 use thiserror::Error;
 use tora_seat::{Item, What};
 
-/// The other side of the queue has ended, or the seat has put all the items that it may put. A port that has returned
-/// `Gone` always returns it.
+/// From `put`: the core's port has ended, or this port has put `MOST_IN_ALL` items. From `take`: the ports of all seats
+/// have ended, and no item is left. A port that has returned `Gone` returns it at every later call.
 #[derive(Clone, Copy, Debug, PartialEq, Eq, Hash, Error)]
 #[error("the lane has ended")]
 pub struct Gone;
@@ -122,7 +122,7 @@ impl Model for Settling {
         ≡ length (items_of s (took_of (lane_view p.pass)))) };
 }
 
-/// The counts of a seat's items.
+/// How many items a seat has put, when its port is closed: `put` is `taken` plus `left`.
 #[derive(Clone, Copy, Debug, PartialEq, Eq, Hash)]
 pub struct Settled {
     /// The seat.
@@ -136,7 +136,8 @@ pub struct Settled {
 }
 
 impl InPort {
-    /// Puts an item at the back of the queue into the core, with the next number of the seat. It may wait.
+    /// Puts an item at the back of the queue into the core, with the next number of the seat. It may wait, for instance
+    /// while the queue is full.
     ///
     /// `now` is the tick of 100 ms at which it is put.
     ///
@@ -175,7 +176,7 @@ impl InPort {
     }
 }
 
-// A queue with no seat, and its sender.
+// Makes an empty queue into the core, without a seat: the core's port, and the sender with which ports are made.
 pub(crate) fn core_lane(alloc: Global) -> Result<(CorePort, Sender), AllocError>
     ensures { IfOk result (λ r. (r.0 ≡ new_core r.0.lane 0) × IsChannelOf r.0.lane (sends_on r.1)) }
 {
@@ -214,11 +215,12 @@ impl CorePort {
         })
     }
 
-    /// Takes the first item of the queue into the core, which has the next number of its seat. It may wait.
+    /// Takes the first item of the queue into the core, which has the next number of its seat. It may wait, for
+    /// instance while the queue is empty.
     ///
     /// # Errors
     ///
-    /// `Gone` if the ports of all seats have ended. Then nothing is taken.
+    /// `Gone` if the ports of all seats have ended and no item is left. Then nothing is taken.
     pub fn take<R: Wait>(&mut self, rt: &R) -> Result<Item, Gone>
         ensures lane { (self.new.lane ≡ self.old.lane) × (self.new.seats ≡ self.old.seats) }
         ensures taken { IfOk result (λ x. (self.new.taken ≡ self.old.taken ++ x ∷ []) × (x.seat < self.old.seats)

@@ -3,7 +3,8 @@ use crossbeam_channel::protocol::{Join, Lesson, Outcome, Protocol, Split};
 use std::collections::LinkedList;
 use tora_seat::Item;
 
-/// What the holder of a pass knows. It has no values at run time.
+/// For proofs only: what the holder of a pass knows. A pass is the right to use one end of the queue. No value of this
+/// type exists at run time.
 pub enum LaneView {
     /// A seat, and what it has put.
     Seat(usize, LinkedList<Item>),
@@ -13,7 +14,8 @@ pub enum LaneView {
     Spent,
 }
 
-/// The rule of the queue: for each seat, the items taken, followed by those in the queue, are the items put.
+/// The rule of the queue into the core, for proofs only: for each seat, the items taken, followed by those in the
+/// queue, are the items put.
 pub struct LaneRule;
 
 impl Protocol<Item, LaneView> for LaneRule {
@@ -26,7 +28,7 @@ impl Protocol<Item, LaneView> for LaneRule {
     ghost first = { Core 0 [] [] };
 }
 
-/// A seat puts an item.
+/// For proofs only: the step in which a seat puts an item.
 pub struct Puts;
 
 impl Outcome<Item, LaneView> for Puts {
@@ -40,7 +42,7 @@ impl Lesson<Item, LaneView> for Puts {
     ghost fact = { λ v items. Unit {0} };
 }
 
-/// The core takes an item.
+/// For proofs only: the step in which the core takes an item.
 pub struct Takes;
 
 impl Outcome<Item, LaneView> for Takes {
@@ -54,7 +56,7 @@ impl Lesson<Item, LaneView> for Takes {
     ghost fact = { λ v items. Unit {0} };
 }
 
-/// The core makes the next seat.
+/// For proofs only: the step in which the core makes the next seat.
 pub struct NewSeat;
 
 impl Split<LaneView> for NewSeat {
@@ -65,7 +67,8 @@ impl Split<LaneView> for NewSeat {
     ghost right = { new_seat };
 }
 
-/// The core closes the port of a seat, and learns which of its items were taken and which are left.
+/// For proofs only: the step in which the core closes the port of a seat, and learns which items of this seat were
+/// taken and which are left.
 pub struct Settles;
 
 impl Join<LaneView> for Settles {

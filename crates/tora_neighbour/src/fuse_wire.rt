@@ -27,7 +27,8 @@ impl<W: Wire> Model for FuseWire<W> {
 }
 
 impl<W: Wire> FuseWire<W> {
-    /// A wire around `wire` that lets `k` calls pass, sends and receives together.
+    /// A wire around `wire` that lets `k` calls pass, sends and receives together. Then one call fails, or all
+    /// following calls, by `mode`.
     pub fn new(wire: W, k: u64, mode: FuseMode) -> FuseWire<W>
         ensures { result
             ≡ record { wire = wire; fuse = record { mode = mode; left = Some k }; told = true; failures = 0 } }

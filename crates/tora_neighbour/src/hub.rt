@@ -37,7 +37,8 @@ pub trait Hub {
     /// A take: old hub, result, new hub.
     ghost did_take: { Self → Option Cargo → Self → Type 0 };
 
-    /// Puts an item. It may wait. Once it has returned `Gone`, nothing is put any more.
+    /// Puts an item at the tick `now` of 100 ms. It may wait. `Gone` if the hub takes no more items; then nothing is
+    /// put.
     fn put<R: Wait>(&mut self, rt: &R, now: u64, what: What) -> Result<(), Gone>
         ensures call { did_put self.old now what result self.new }
         ensures put { OnOk result (puts self.new ≡ puts self.old ++ put_of now what ∷ []) }
@@ -46,7 +47,7 @@ pub trait Hub {
         ensures gone { OnErr result (gone self.new ≡ true) }
         ensures takes { takes self.new ≡ takes self.old };
 
-    /// Takes the next outbound message, if there is one.
+    /// Takes the next outbound message; `None` if the hub sees none now.
     fn take<R: Wait>(&mut self, rt: &R) -> Option<Cargo>
         ensures call { did_take self.old result self.new }
         ensures taken { takes self.new ≡ takes self.old ++ list_of result }

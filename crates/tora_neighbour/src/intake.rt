@@ -20,7 +20,7 @@ pub enum Intake {
 /// Passes a datagram of any bytes to the end at the tick `now`, in units of 100 ms.
 ///
 /// If the bytes are a frame, the effect on the end is that of `LinkEnd::on_frame`; otherwise the end is unchanged.
-/// Exactly one count of the tally rises by 1. It takes no memory.
+/// Exactly one count of the tally rises by 1, unless it is 2^64 - 1. It takes no memory.
 pub fn take_in(end: &mut LinkEnd, tally: &mut Tally, datagram: &[u8], now: u64) -> Intake
     ensures intake { result ≡ intake_of end.old.settings end.old.state now (frame_reading datagram.now) }
     ensures end { end.new

@@ -1,10 +1,10 @@
-//! The hub of a neighbour's thread over its lanes.
+//! The hub of a neighbour's thread over its queues.
 use crate::hub::Hub;
 use std::sync::Wait;
 use tora_lane::{Cargo, Gone, InPort, OutTake, What};
 
-/// The hub over the lanes: the port of the link's seat, and the queue of its outbound messages. It never waits for an
-/// outbound message.
+/// The hub over the queues of a link: the port of the link's seat, and the queue of its outbound messages. It never
+/// waits for an outbound message.
 #[derive(Drop)]
 pub struct LaneHub {
     /// The port of the link's seat.

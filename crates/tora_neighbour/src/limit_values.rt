@@ -4,7 +4,7 @@ ghost use Rattle.tora_neighbour.specs.declared.clock.TheConstants.{TICK};
 ghost use Rattle.tora_neighbour.specs.declared.turn_stages.TheConstants.{BEAT_TICKS};
 ghost use Rattle.tora_neighbour.specs.declared.turn_parts.TheConstants.{MOST_BYTES, MOST_FAILURES};
 
-/// The limits have these values.
+/// The values of the limits. The function does nothing: its contract is a law.
 pub fn limits_have_their_values()
     ensures tick { TICK ≡ 100 }
     ensures beat_ticks { BEAT_TICKS ≡ 10 }

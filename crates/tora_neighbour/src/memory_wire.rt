@@ -11,7 +11,7 @@ use tora_frame::LONGEST_FRAME;
 /// The greatest length of a datagram that a wire in memory stores, in bytes.
 pub const LONGEST: usize = LONGEST_FRAME;
 
-/// A datagram that was sent.
+/// A copy of a datagram that was sent, of at most `LONGEST` bytes.
 #[derive(Clone, Copy, Debug)]
 pub struct Sent {
     bytes: [u8; LONGEST],

@@ -19,7 +19,7 @@ use crate::wire::Wire;
 use std::sync::Wait;
 use tora_life::Disk;
 
-/// The fault that the thread returns.
+/// The fault that the thread returns for its ending; `None` if the hub refused an item.
 fn fault_of(ending: Ending) -> Option<LinkFault>
     ensures { result ≡ fault_of ending }
 {
@@ -34,7 +34,7 @@ fn fault_of(ending: Ending) -> Option<LinkFault>
 /// and no clause says that it returns.
 ///
 /// In each turn, with one tick of 100 ms, it
-/// 1. draws a number for a closed end, and opens the end;
+/// 1. draws a session number from the life file for a closed end, and opens the end;
 /// 2. passes the tick to the end;
 /// 3. takes the waiting outbound messages, at most as many as a queue holds, and submits or cuts each in its own
 ///    session (a packet of a session that is not bound is dropped);

@@ -14,7 +14,8 @@ fn rest_of_tick(moment: u128) -> u64
     (TICK - moment % TICK) as u64
 }
 
-/// The clock of a node: Unix time in ticks of 100 ms, and the last tick, 2^64 - 1, once the core has ended.
+/// The clock of a node: Unix time in ticks of 100 ms (0 if it cannot be read or is before 1970), and the last tick,
+/// 2^64 - 1, once the core has ended.
 ///
 /// A link's thread ends when a put is refused because the core takes no more items. At the last tick a beat is due, so
 /// the thread's next turn is its last one. All threads of a node share the clock by reference, and each reference is a
@@ -40,7 +41,8 @@ impl<R: SystemClock> NodeClock<R> {
         self.has_ended.store(true, Ordering::SeqCst);
     }
 
-    /// The time until the next tick begins: at most 100 ms, and 0 once the core has ended.
+    /// The time until the next tick begins: at most 100 ms; 100 ms if the time cannot be read or is before 1970; 0 once
+    /// the core has ended.
     pub fn until_next_tick(&self) -> Duration
         ensures { as_nanos result ≤ 100_000_000 }
     {

@@ -21,15 +21,17 @@ use tora_life::Disk;
 /// What a thread carries from one turn to the next.
 #[derive(Clone, Copy, Debug, PartialEq, Eq, Hash)]
 pub struct Course {
-    /// The number of the wire's last calls in a row that failed.
+    /// How many calls of the wire have failed since the last one that succeeded, or since the start: below 100 before a
+    /// turn.
     pub row: u64,
-    /// The tick of the last beat.
+    /// The tick of the last beat that was put; `None` if there was none.
     pub last_beat: Option<u64>,
     /// The counts of the received datagrams.
     pub tally: Tally,
 }
 
-/// Makes one turn at one tick.
+/// Makes one turn of `run_neighbour` at the tick `now` of 100 ms. An error says that the thread ends with this turn,
+/// and why.
 pub fn turn<R: Wait, D: Disk, W: Wire, H: Hub>(
     rt: &R,
     now: u64,

@@ -39,7 +39,8 @@ pub const MOST_FAILURES: u64 = 100;
 #[derive(Clone, Copy, Debug, PartialEq, Eq, Hash)]
 pub struct Broken;
 
-/// Opens a closed end with the next number of its file.
+/// Opens a closed end with the next session number of its life file; leaves any other end as it is. If the file gives
+/// no number, the error is that of `draw`, and the end stays closed.
 pub fn open_closed<D: Disk>(
     end: &mut LinkEnd,
     file: &mut LifeFile<D>,
@@ -71,7 +72,8 @@ pub fn open_closed<D: Disk>(
     }
 }
 
-/// Takes the waiting outbound messages, at most as many as a queue holds (`MOST_CARGOES`).
+/// Takes the waiting outbound messages from the hub, at most as many as a queue holds (`MOST_CARGOES`), and passes each
+/// to the end.
 pub fn take_cargoes<R: Wait, H: Hub>(rt: &R, end: &mut LinkEnd, hub: &mut H)
     ensures taken { (cargoes : List Cargo) × (length cargoes ≤ MOST_CARGOES)
         × (end.new ≡ record end.old { state = after_cargoes end.old.state cargoes })
@@ -87,7 +89,8 @@ pub fn take_cargoes<R: Wait, H: Hub>(rt: &R, end: &mut LinkEnd, hub: &mut H)
     }
 }
 
-/// Puts the events of the end until one is refused.
+/// Puts the events of the link end into the hub, oldest first. `Gone` if the hub refuses one: that event is lost, and
+/// those after it stay in the link end.
 pub fn put_events<R: Wait, H: Hub>(
     rt: &R,
     end: &mut LinkEnd,
@@ -110,7 +113,7 @@ pub fn put_events<R: Wait, H: Hub>(
     Ok(())
 }
 
-/// Adds 1 to the count of failures in a row.
+/// Adds 1 to the count of failures in a row. `Broken` if it is `MOST_FAILURES` then.
 pub fn count_failure(row: &mut u64) -> Result<(), Broken>
     requires { row.old < MOST_FAILURES }
     ensures ok { OnOk result (row.new < MOST_FAILURES) }
@@ -125,6 +128,7 @@ pub fn count_failure(row: &mut u64) -> Result<(), Broken>
 }
 
 /// Sends a datagram. A failed send adds 1 to the count of failures in a row, and a successful one resets it to 0.
+/// `Broken` only if the count is `MOST_FAILURES` then.
 pub fn try_send<W: Wire>(wire: &mut W, row: &mut u64, bytes: &[u8]) -> Result<(), Broken>
     requires { row.old < MOST_FAILURES }
     ensures call { (answer : Result (Unit {0}) WireError) × W.did_send wire.old bytes.now answer wire.new
@@ -146,7 +150,8 @@ pub fn try_send<W: Wire>(wire: &mut W, row: &mut u64, bytes: &[u8]) -> Result<()
     }
 }
 
-/// Sends each due frame. All frames use the same list of packets and the same buffer of bytes.
+/// Sends due frames until none is due, each as `try_send` does; ends early at `Broken`. All frames use the same list of
+/// packets and the same buffer of bytes.
 pub fn send_frames<R: Wait, W: Wire>(
     rt: &R,
     end: &mut LinkEnd,
@@ -187,7 +192,8 @@ pub fn send_frames<R: Wait, W: Wire>(
     unreachable!()
 }
 
-/// Receives once, and passes a received datagram to the end.
+/// Receives once, and passes a received datagram to the end. A failed receive adds 1 to the count of failures in a row,
+/// any other resets it to 0. `Broken` only if the count is `MOST_FAILURES` then.
 pub fn receive<W: Wire>(
     end: &mut LinkEnd,
     wire: &mut W,

@@ -39,7 +39,8 @@ use tora_seat::cut_bound;
 /// The number of ticks of 100 ms after which the next beat is due.
 pub const BEAT_TICKS: u64 = 10;
 
-/// Opens a closed end, passes the tick to it, and takes the outbound messages for it.
+/// Opens a closed end, passes the tick to it, and takes the outbound messages for it. If the life file gives no number,
+/// the error is that of `draw`, and nothing else is done.
 pub fn begin<R: Wait, D: Disk, H: Hub>(
     rt: &R,
     end: &mut LinkEnd,
@@ -72,7 +73,8 @@ pub fn begin<R: Wait, D: Disk, H: Hub>(
     Ok(())
 }
 
-/// Sends each due frame, and then receives once.
+/// Sends each due frame, and then receives once. The error names the call that was the hundredth failure in a row;
+/// after `Send` nothing is received.
 pub fn exchange<R: Wait, W: Wire>(
     rt: &R,
     end: &mut LinkEnd,
@@ -110,7 +112,7 @@ pub fn exchange<R: Wait, W: Wire>(
     Ok(())
 }
 
-/// Cuts the bound session, and puts the events that are left.
+/// Cuts the bound session, if there is one, and puts the events that are left, until the hub refuses one.
 pub fn give_up<R: Wait, H: Hub>(rt: &R, end: &mut LinkEnd, hub: &mut H, now: u64)
     ensures settings { end.new.settings ≡ end.old.settings }
     ensures takes { H.takes hub.new ≡ H.takes hub.old }
@@ -126,7 +128,7 @@ pub fn give_up<R: Wait, H: Hub>(rt: &R, end: &mut LinkEnd, hub: &mut H, now: u64
     }
 }
 
-/// Puts a beat if one is due.
+/// Puts a beat if none was put before, or at least `BEAT_TICKS` ticks after the last one. `Gone` if the hub refuses it.
 pub fn put_beat<R: Wait, H: Hub>(
     rt: &R,
     hub: &mut H,
@@ -153,7 +155,8 @@ pub fn put_beat<R: Wait, H: Hub>(
     Ok(())
 }
 
-/// Puts the events of the end, and then a beat if one is due.
+/// Puts the events of the end, and then a beat if one is due, as `put_beat` does. `Gone` at the first that the hub
+/// refuses.
 pub fn tell<R: Wait, H: Hub>(
     rt: &R,
     end: &mut LinkEnd,

@@ -36,12 +36,13 @@ pub trait WaitedSocket {
         ensures { did_send_to self.old bytes.now to result self.new };
 
     /// Receives a datagram into the front of a buffer, cut to the buffer's size, and returns the count of bytes and the
-    /// sender. It does not wait.
+    /// sender. It does not wait: if there is no datagram, the error is `WouldBlock`.
     fn receive_datagram(&mut self, buf: &mut [u8]) -> io::Result<(usize, SocketAddr)>
         ensures call { did_receive_from self.old buf.old result buf.new self.new }
         ensures count { IfOk result (λ came. came.0 ≤ length buf.old) };
 
-    /// Waits for a datagram or a wake-up, at most `longest`. Returns whether a datagram may have come.
+    /// Waits for a datagram or a wake-up, at most `longest`. Returns whether a datagram may have come; `false` if only
+    /// a wake-up came, or nothing.
     fn wait(&mut self, longest: Duration) -> io::Result<bool>
         ensures { did_wait self.old result self.new };
 }

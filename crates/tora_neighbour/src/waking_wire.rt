@@ -41,7 +41,7 @@ impl<'a, R: SystemClock> Wake for SocketWaker<'a, R> {
 ///
 /// A send never waits. It fails if fewer bytes are sent than were given. If the system has no room for the datagram, or
 /// has no route to the other end, for instance because an interface is down, the datagram is lost and the send
-/// succeeds.
+/// succeeds. Any other error of the system is a failed call.
 #[derive(Drop)]
 pub struct WakingWire<'a, R, S = PolledSocket> {
     socket: S,
@@ -114,7 +114,7 @@ impl<'a, R: SystemClock, S: WaitedSocket> WakingWire<'a, R, S> {
         self.failures = self.failures.saturating_add(1);
     }
 
-    /// Receives a datagram that has come, if there is one.
+    /// Receives a datagram that has come, without waiting; `None` if there is none, or if the call was interrupted.
     fn take(&mut self, buf: &mut [u8]) -> Result<Option<usize>, WireError>
         ensures takes { Takes S.did_receive_from self.old result buf.new self.new }
         ensures count { IfOk result (λ n. IfSome n (λ k. k ≤ length buf.old)) }
@@ -135,7 +135,8 @@ impl<'a, R: SystemClock, S: WaitedSocket> WakingWire<'a, R, S> {
         }
     }
 
-    /// Waits for a datagram or a wake-up, and then receives a datagram if one may have come.
+    /// Waits for a datagram or a wake-up, at most until the next tick, and then receives a datagram if one may have
+    /// come. `None` if none came.
     fn wait(&mut self, buf: &mut [u8]) -> Result<Option<usize>, WireError>
         ensures waits { Waits S.did_receive_from S.did_wait self.old result buf.new self.new }
         ensures count { IfOk result (λ n. IfSome n (λ k. k ≤ length buf.old)) }

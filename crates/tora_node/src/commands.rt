@@ -42,7 +42,7 @@ pub enum Command {
     Status(Status),
     /// The end of the node.
     Quit,
-    /// Nothing, as the line is not a command.
+    /// Nothing: the line is `help`, or no command.
     Unknown,
 }
 
@@ -97,13 +97,13 @@ pub enum CommandsEnd {
     Quit,
     /// The input is at its end.
     End,
-    /// A read failed.
+    /// A read failed, other than by an interruption.
     Read,
-    /// The core no longer takes items.
+    /// The core no longer takes items, or the port has put `MOST_IN_ALL` of them.
     Gone,
 }
 
-/// The line that is being read, without its bytes if there are more than 4,096.
+/// The line that is being read: at most its first 4,096 bytes, and whether it has more.
 #[derive(Drop)]
 struct Line {
     bytes: ArrayVec<u8, LONGEST_COMMAND>,
@@ -128,7 +128,7 @@ impl Line {
         self.bytes.is_empty() && !self.is_too_long
     }
 
-    /// Adds the next byte of the line.
+    /// Adds the next byte of the line. A byte after the first 4,096 only marks the line as too long.
     fn push(&mut self, byte: u8)
         ensures { (text : List ℕ) → Holds self.old text → Holds self.new (text ++ byte ∷ []) }
     {
@@ -155,7 +155,7 @@ impl Line {
         }
     }
 
-    /// The command of the line. The next line begins.
+    /// Returns the command of the line, `Unknown` if the line is too long, and begins the next line.
     fn take(&mut self) -> Command
         ensures asked { (text : List ℕ) → Holds self.old text → result ≡ asked_in text }
         ensures next { Holds self.new [] }
@@ -176,8 +176,8 @@ fn log_unknown<R: Log, D: Display + Drop>(rt: &R, what: D) {
     warn!(rt; "{what} is no command; {COMMANDS}");
 }
 
-/// Puts the item of a command into the queue of the core. Returns why no further command follows: after `quit`, and if
-/// the core no longer takes items.
+/// Puts the item of a command into the queue of the core; there is none for `Unknown`. Returns `Gone` if the port
+/// refused the item, `Quit` after a `quit`, and otherwise `None`: further commands may follow.
 fn put<R: Wait + Log, C: Clock>(
     rt: &R,
     clock: &mut C,
@@ -229,8 +229,8 @@ fn read<Rd: Input>(reader: &mut Rd, chunk: &mut [u8; CHUNK]) -> Result<usize, Co
     }
 }
 
-/// Puts the items of the lines that end in these bytes, and keeps the rest. Returns why no further command follows, as
-/// `put` does.
+/// Puts the items of the lines that end in these bytes, and keeps the rest in `line`. Stops at the first `Quit` or
+/// `Gone` that `put` returns, and returns it; otherwise `None`.
 fn put_all<R: Wait + Log, C: Clock>(
     rt: &R,
     clock: &mut C,
@@ -255,7 +255,8 @@ fn put_all<R: Wait + Log, C: Clock>(
     None
 }
 
-/// Puts the item of the last line, which has no LF, and then `Quit`.
+/// Puts the item of a last line without LF, if there is one, and then `Quit`. Returns `Quit`, or `Gone` if the port
+/// refused an item.
 fn put_last<R: Wait + Log, C: Clock>(
     rt: &R,
     clock: &mut C,
@@ -275,7 +276,7 @@ fn put_last<R: Wait + Log, C: Clock>(
     put(rt, clock, port, Command::Quit)
 }
 
-/// Whether the core no longer takes items.
+/// Whether this is `Gone`.
 fn is_gone(end: Option<CommandsEnd>) -> bool
     ensures { result ≡ is_gone end }
 {

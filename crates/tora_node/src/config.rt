@@ -29,7 +29,8 @@ impl Config {
     /// Node `me` with these neighbours and destinations, in any order, none of them 0.
     ///
     /// # Errors
-    /// Those of `Core::new`, in its order.
+    /// In this order: `TooMany` for more than 32 neighbours or 64 destinations, `Repeated` within one list, `OwnId` if
+    /// `me` is among the neighbours, `Memory`.
     pub fn new(alloc: Global, me: Id, peers: &[Id], dests: &[Id]) -> Result<Config, CoreError>
         requires me { 0 < me }
         requires peers { All (λ n. 0 < n) peers.now }
@@ -45,7 +46,7 @@ impl Config {
     /// As `new`, with this treatment of erased levels.
     ///
     /// # Errors
-    /// Those of `Core::new`, in its order.
+    /// Those of `new`, in the same order.
     pub fn with_erasure(
         alloc: Global,
         erasure: Erasure,

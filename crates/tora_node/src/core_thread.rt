@@ -59,7 +59,7 @@ fn write_some<W: Write>(writer: &mut W, text: &[u8]) -> Result<(), NodeError>
     write(writer, text)
 }
 
-/// Prints the table of the core.
+/// Prints the table of the core. `Memory`; `Output` if writing or flushing fails.
 fn print_core<W: Write>(alloc: Global, seat: &CoreSeat, writer: &mut W) -> Result<(), NodeError>
     ensures ok { OnOk result (Appends (W.contents writer.old) (W.contents writer.new) (show_text seat.now.core)) }
     ensures err { IfErr result IsTextFault }
@@ -70,7 +70,7 @@ fn print_core<W: Write>(alloc: Global, seat: &CoreSeat, writer: &mut W) -> Resul
     write(writer, text.as_bytes())
 }
 
-/// Prints the state of the node at a tick as a line of JSON.
+/// Prints the state of the node at the tick `now` of 100 ms as a line of JSON. `Memory`; `Output`.
 fn print_json<W: Write>(
     alloc: Global,
     seat: &CoreSeat,
@@ -87,7 +87,7 @@ fn print_json<W: Write>(
     write(writer, text.as_bytes())
 }
 
-/// Prints `refused N`, if the answer is the refusal of a need.
+/// Prints `refused N`, with the number of the cause, if the answer is the refusal of a need; otherwise nothing.
 fn print_refusal<W: Write>(answer: &Answer, writer: &mut W) -> Result<(), NodeError>
     ensures ok { OnOk result (Appends (W.contents writer.old) (W.contents writer.new) (refused_text answer.now)) }
     ensures err { IfErr result (λ e. e ≡ NodeError.Output) }
@@ -100,7 +100,8 @@ fn print_refusal<W: Write>(answer: &Answer, writer: &mut W) -> Result<(), NodeEr
     write(writer, text.as_slice())
 }
 
-/// Prints all heights and next hops; from then on, changes are printed.
+/// Prints all heights and next hops, and stores them in `watch`, so that changes are printed from then on. `Memory`;
+/// `Output`.
 fn begin_watch<W: Write>(
     alloc: Global,
     seat: &CoreSeat,
@@ -121,7 +122,8 @@ fn begin_watch<W: Write>(
     write(writer, text.as_bytes())
 }
 
-/// Prints what has changed since it was last printed, and stores what is printed.
+/// Prints the heights and next hops that differ from those printed last, `told`, and stores the new ones there.
+/// `Memory`; `Output`.
 fn print_changes<W: Write>(
     alloc: Global,
     seat: &CoreSeat,
@@ -143,7 +145,7 @@ fn print_changes<W: Write>(
     write_some(writer, text.as_bytes())
 }
 
-/// Prints what has changed, if the core is watched.
+/// Prints the heights and next hops that have changed, if the core is watched; otherwise nothing. `Memory`; `Output`.
 fn print_news<W: Write>(
     alloc: Global,
     seat: &CoreSeat,

@@ -12,7 +12,7 @@ pub enum NodeError {
     /// Memory ran out, or a thread could not be started.
     #[error("out of memory")]
     Memory,
-    /// There are no links, or more than there can be queues for.
+    /// There are no links, or more than `MOST_LINKS`.
     #[error("there are no lanes for so many links")]
     Lane,
     /// The life file of the link to this neighbour did not open, or no session number could be drawn.
@@ -21,7 +21,7 @@ pub enum NodeError {
     /// A hundred calls in a row of the wire to this neighbour failed.
     #[error("a hundred calls in a row of the wire to {0} failed")]
     Wire(Id),
-    /// Writing the output of the commands failed.
+    /// Writing or flushing the output of the commands failed.
     #[error("the output failed")]
     Output,
 }

@@ -58,7 +58,7 @@ impl Ended {
         self.seat.core()
     }
 
-    /// The counts of datagrams from a neighbour, by outcome; `None` if there is no such neighbour.
+    /// The counts of datagrams from a neighbour, by verdict or error; `None` if there is no such neighbour.
     pub fn tally(&self, peer: Id) -> Option<Tally>
         ensures { result ≡ tally_of self.now peer }
     {
@@ -67,7 +67,7 @@ impl Ended {
     }
 }
 
-/// The index of a neighbour, in ascending order.
+/// The index of `peer` among the neighbours, from 0; `None` if it is not one of them.
 fn place_of(neighbours: &[Id], peer: Id) -> Option<usize>
     ensures { result ≡ place_of neighbours.now peer }
 {
@@ -84,7 +84,7 @@ fn fault_of(peer: Id, fault: LinkFault) -> NodeError
     }
 }
 
-/// The fault of the lowest neighbour that has one.
+/// The fault of the lowest neighbour whose thread ended by one; `None` if there is none.
 #[tactic(auto, using(crate::proofs::Faults::fault_here, crate::proofs::Faults::fault_behind, crate::proofs::Faults::no_fault_behind, crate::proofs::Faults::no_outcome))]
 fn first_link_fault(neighbours: &[Id], outcomes: &[Outcome]) -> Option<NodeError>
     ensures { result ≡ first_link_fault neighbours.now outcomes.now }
@@ -101,7 +101,7 @@ fn first_link_fault(neighbours: &[Id], outcomes: &[Outcome]) -> Option<NodeError
     None
 }
 
-/// The first fault: the core's, otherwise the fault of the lowest neighbour that has one.
+/// The first fault: the core's, otherwise that of the lowest neighbour that has one; `None` if there is none.
 fn first_fault(
     core: Option<NodeError>,
     neighbours: &[Id],

@@ -16,7 +16,7 @@ use tora_lane::{InPort, LaneError, Lanes, MOST_LINKS, OutTake, lanes};
 use tora_life::{Disk, LifeError, LifeFile};
 use tora_neighbour::{LaneHub, Link, Wire};
 
-/// The link ends of a node, in ascending order of the neighbours, never opened.
+/// The link ends of a node, in ascending order of the neighbours, never opened. `None` if memory runs out.
 pub(crate) fn new_ends(alloc: Global, core: &Core) -> Option<Vec<NewEnd>>
     ensures { IfSome result (λ ends. map link_ended ends.items ≡ map (name_of core.now.me) core.now.neighbours) }
 {
@@ -33,7 +33,7 @@ pub(crate) fn new_ends(alloc: Global, core: &Core) -> Option<Vec<NewEnd>>
     Some(ends)
 }
 
-/// The queues of a node with this many links.
+/// The queues of a node with this many links. `Lane` if `links` is 0 or over `MOST_LINKS`; `Memory`.
 pub(crate) fn new_lanes<R: Wait>(rt: &R, alloc: Global, links: usize) -> Result<Lanes, NodeError>
     ensures made { IfOk result (λ l. AreLanes links l.core l.command l.links.items l.outs.items × (0 < links)
         × (links ≤ MOST_LINKS)) }
@@ -47,7 +47,8 @@ pub(crate) fn new_lanes<R: Wait>(rt: &R, alloc: Global, links: usize) -> Result<
     }
 }
 
-/// Opens the life files in the order of the ends, and puts the parts of each link together.
+/// Opens the life files in the order of the ends, and puts the parts of each link together. `Life` with the neighbour
+/// at the first file that does not open; `Memory` at any point.
 pub(crate) fn new_links<D: Disk + Drop, W: Wire + Drop>(
     alloc: Global,
     ends: Vec<NewEnd>,
@@ -87,7 +88,7 @@ pub(crate) fn new_links<D: Disk + Drop, W: Wire + Drop>(
     Ok(links)
 }
 
-/// Opens the life file of a link, and puts its parts together.
+/// Opens the life file of a link, and puts its parts together. The errors are those of `LifeFile::open`.
 fn new_link<D: Disk + Drop, W: Wire + Drop>(
     new: NewEnd,
     disk: D,
@@ -107,7 +108,7 @@ fn new_link<D: Disk + Drop, W: Wire + Drop>(
     }
 }
 
-/// Puts the work of each neighbour's thread together.
+/// Puts the work of each neighbour's thread together. `None` if memory runs out.
 pub(crate) fn new_starts<D: Disk + Drop, W: Wire + Drop, C: Drop>(
     alloc: Global,
     links: Vec<NewLink<D, W>>,

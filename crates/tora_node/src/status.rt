@@ -24,14 +24,15 @@ fn or_null(entry: Option<Entry>) -> Entry
     }
 }
 
-/// The node's height for a destination.
+/// The node's height for a destination; NULL, too, if the table does not have it.
 pub fn own_height(core: &Core, d: Id) -> Entry
     ensures { result ≡ own_height core.now d }
 {
     or_null(core.height(d))
 }
 
-/// The height that a neighbour last sent for a destination.
+/// The height that a neighbour last sent for a destination; NULL, too, if its link is not up or the table does not have
+/// the destination.
 fn entry_height(core: &Core, d: Id, k: Id) -> Entry
     ensures { result ≡ entry_height core.now d k }
 {
@@ -44,7 +45,7 @@ fn truth(flag: bool) -> &'static str
     if flag { "true" } else { "false" }
 }
 
-/// The direction of the link to a neighbour.
+/// The direction of the link to neighbour `k` for destination `d`: `up`, `down` or `none`.
 fn direction(core: &Core, d: Id, k: Id) -> &'static str
     ensures { result.now ≡ direction_text (link_status (own_height core.now d) (entry_height core.now d k)) }
 {
@@ -55,7 +56,7 @@ fn direction(core: &Core, d: Id, k: Id) -> &'static str
     }
 }
 
-/// Appends a height to a text, by its five parts.
+/// Appends a height to a text, as a list of its five parts; `null` for NULL.
 fn write_height(out: &mut String, height: Entry) -> Result<(), AllocError>
     ensures { OnOk result (string_bytes out.new ≡ string_bytes out.old ++ height_json height) }
 {
@@ -219,7 +220,7 @@ fn write_erasure(out: &mut String, erasure: Erasure) -> Result<(), AllocError>
     }
 }
 
-/// The state of a node at a tick, as a line of JSON.
+/// The state of a node at the tick `now` of 100 ms, as a line of JSON with its LF.
 #[tactic(auto, unfolding(crate::specs::StatusJson::json_text))]
 pub fn json(alloc: Global, seat: &CoreSeat, now: u64) -> Result<String, AllocError>
     ensures { IfOk result (λ text. string_bytes text ≡ json_text now (state_of seat.now)) }

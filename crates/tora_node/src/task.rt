@@ -6,15 +6,15 @@ use std::thread::Promise;
 
 /// The work of a thread.
 pub(crate) trait Task<O> {
-    /// What the work can leave as its result.
+    /// Which results this work may return.
     ghost leaves: { Self → O → Type 0 };
 
-    /// Does the work.
+    /// Does the work in the calling thread, and returns its result.
     fn run<R: Wait + Log>(self, rt: &R) -> O
         ensures { leaves self result };
 }
 
-/// The promise that a thread does this work.
+/// The promise that a thread does this work, and returns a result that `leaves` allows.
 #[derive(Drop)]
 pub(crate) struct Does<T>(pub(crate) Snapshot<T>);
 

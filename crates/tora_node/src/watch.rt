@@ -9,17 +9,17 @@ use std::alloc::{AllocError, Global};
 use tora_core::Core;
 use tora_height::{Entry, Id};
 
-/// The last printed state of a destination.
+/// The height and next hop of the node for a destination, as they were last printed.
 #[derive(Clone, Copy, Debug)]
 pub(crate) struct Told {
     pub(crate) to: Id,
-    /// The node's height.
+    /// The node's height; `None` is NULL.
     pub(crate) height: Entry,
-    /// The next hop.
+    /// The next hop; `None` if there is none.
     pub(crate) hop: Option<Id>,
 }
 
-/// The printed state of a destination.
+/// The node's height and next hop for destination `d` now.
 fn told_of(core: &Core, d: Id) -> Told
     ensures { result ≡ told_of core.now d }
 {
@@ -30,7 +30,7 @@ fn told_of(core: &Core, d: Id) -> Told
     }
 }
 
-/// The printed state of each destination.
+/// The node's height and next hop for each destination now, in the order of the table.
 pub(crate) fn all_told(alloc: Global, core: &Core) -> Result<Vec<Told>, AllocError>
     ensures { IfOk result (λ told. told.items ≡ all_told core.now) }
 {
@@ -40,7 +40,7 @@ pub(crate) fn all_told(alloc: Global, core: &Core) -> Result<Vec<Told>, AllocErr
         .collect(alloc)
 }
 
-/// Appends `height D H` to a text.
+/// Appends a line `height D H` to a text; H is `-` for NULL.
 #[tactic(auto, unfolding(crate::specs::StatusLines::height_line))]
 fn write_height(out: &mut String, told: &Told) -> Result<(), AllocError>
     ensures { OnOk result (string_bytes out.new ≡ string_bytes out.old ++ height_line told.now) }
@@ -52,7 +52,7 @@ fn write_height(out: &mut String, told: &Told) -> Result<(), AllocError>
     }
 }
 
-/// Appends `hop D K` to a text.
+/// Appends a line `hop D K` to a text; K is `-` if there is no next hop.
 #[tactic(auto, unfolding(crate::specs::StatusLines::hop_line))]
 fn write_hop(out: &mut String, told: &Told) -> Result<(), AllocError>
     ensures { OnOk result (string_bytes out.new ≡ string_bytes out.old ++ hop_line told.now) }

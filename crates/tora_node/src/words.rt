@@ -14,8 +14,8 @@ pub fn is_word(word: &[u8], text: &[u8]) -> bool
     text.len() == word.len() && after(word, text).is_some()
 }
 
-/// A line is `need D` exactly if it is `need ` and the printed form of D. The lines `show` and `quit` have exactly
-/// these letters.
+/// A text is read as the number n exactly if it is n in decimal digits, without a sign or leading zeros, and n is below
+/// 2^64. The function does nothing: its contract is a law.
 pub fn commands_are_read_as_written()
     ensures prints { (text : List ℕ) (n : ℕ) → number_of text ≡ Some n → (text ≡ decimal n) × (n < 2 ^ 64) }
     ensures again { (n : ℕ) → n < 2 ^ 64 → number_of (decimal n) ≡ Some n }

@@ -9,7 +9,8 @@ use crate::configuration::reason::Reason;
 use std::net::{Ipv4Addr, SocketAddr, SocketAddrV4};
 use toml::Value;
 
-/// The address in a text, as the standard library reads it: `10.0.0.1:7001`, `[::1]:7001`, `[fe80::1%2]:7001`.
+/// The address in a text, as the standard library reads it: `10.0.0.1:7001`, `[::1]:7001`, `[fe80::1%2]:7001`. `None`
+/// for any other text.
 fn address_of(text: &str) -> Option<SocketAddr>
     ensures { result ≡ address_in text.now }
 {
@@ -27,7 +28,8 @@ fn on_loopback(port: u16) -> SocketAddr
 /// 127.0.0.1.
 ///
 /// # Errors
-/// Those of `port_of` for a number. `NoNumber` for a text that is not an address, or one with the port 0.
+/// `NoNumber` for a text that is not an address or has the port 0, and for a value that is neither a text nor a whole
+/// number. `NoPort` for a whole number that is not from 1 to 65535.
 #[tactic(auto, unfolding(crate::specs::ConfigAddresses::end_in))]
 pub fn end_of(value: &Value) -> Result<SocketAddr, Reason>
     ensures above { IfOk result (λ address. 0 < socket_port address) }

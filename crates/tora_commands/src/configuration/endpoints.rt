@@ -44,7 +44,7 @@ fn key_file_at(alloc: Global, table: &Table, n: usize) -> Result<Option<String>,
     }
 }
 
-// Whether a link without a key would leave the loopback.
+// Whether the link has no key file, and one of its addresses is not on the loopback.
 fn is_open(local: &SocketAddr, remote: &SocketAddr, key_file: &Option<String>) -> bool
     ensures { result ≡ is_open local.now remote.now (option_map string_bytes key_file.now) }
 {
@@ -104,9 +104,9 @@ fn endpoints_of(alloc: Global, table: &Table) -> Result<Vec<LinkEndpoint>, Confi
 /// `[::1]:7001`. `key_file` is the path of the file with the link's key. `read_config` checks the other keys.
 ///
 /// # Errors
-/// The first of these: `Syntax` if the text is not TOML, and then for each link in turn: faults at `peer`, `local`,
-/// `remote` and `key_file`, and then `Unkeyed` if it has no `key_file` and one of its addresses is not on the loopback.
-/// `Memory` may come at any point.
+/// The first of these: `Syntax` if the text is not TOML; a fault at `link` if it is missing or not a list; and then for
+/// each link in turn: that it is not a table, faults at `peer`, `local`, `remote` and `key_file`, and then `Unkeyed` if
+/// it has no `key_file` and one of its addresses is not on the loopback. `Memory` may come at any point.
 pub fn read_endpoints(alloc: Global, text: &str) -> Result<Vec<LinkEndpoint>, ConfigError>
     ensures exact { (table : Members) → parse_document text.now ≡ Some table
         → Gives (λ endpoints. map said_endpoint endpoints.items) result (endpoints_in table) }

@@ -9,17 +9,17 @@ use tora_core::CoreError;
 /// A key of a configuration. Links and destinations are counted from 1, in the order of the text.
 #[derive(Clone, Copy, Debug, PartialEq, Eq, Hash)]
 pub enum Place {
-    /// `node`.
+    /// The key `node`.
     Node,
-    /// `dests`.
+    /// The key `dests`.
     Dests,
     /// The destination with this number.
     Dest(usize),
-    /// `life_dir`.
+    /// The key `life_dir`.
     LifeDir,
-    /// `erasure`.
+    /// The key `erasure`.
     Erasure,
-    /// `link`.
+    /// The key `link`.
     Links,
     /// The link with this number.
     Link(usize),
@@ -80,16 +80,16 @@ pub enum ConfigError {
     /// The text is not TOML.
     #[error("the configuration is no TOML: {0}")]
     Syntax(toml::de::Error),
-    /// There is an unknown key.
+    /// The table of the configuration has this key, which is unknown.
     #[error("`{0}` is no key of a configuration")]
     UnknownKey(String),
-    /// The link with this number, from 1 on, has an unknown key.
+    /// The link with this number, from 1 on, has this key, which is unknown.
     #[error("`{1}` of link {0} is no key of a link")]
     UnknownLinkKey(usize, String),
     /// A key is missing, or its value is refused.
     #[error("{0} {1}")]
     Value(Place, Reason),
-    /// The core refuses these links or destinations.
+    /// The core refuses these links or destinations, for this cause. `read_config` returns it only with `TooMany`.
     #[error("there is no such node: {0}")]
     Core(CoreError),
 }

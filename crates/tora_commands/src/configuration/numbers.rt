@@ -10,7 +10,8 @@ use crate::configuration::reason::Reason;
 use toml::Value;
 use tora_height::Id;
 
-/// The value of a key as the number of a node.
+/// The value of a key as the number of a node. `NoNumber` if it is not a whole number, `NoId` if it is not from 1 to
+/// 2^32 - 1.
 pub fn id_of(value: &Value) -> Result<Id, Reason>
     ensures above { IfOk result (λ n. 0 < n) }
     ensures exact { IfOk result (λ n. as_integer (view value.now) ≡ Some (pos n)) }
@@ -30,7 +31,8 @@ pub fn id_of(value: &Value) -> Result<Id, Reason>
     }
 }
 
-/// The value of a key as a port, given as a number.
+/// The value of a key as a port, given as a number. `NoNumber` if it is not a whole number, `NoPort` if it is not from
+/// 1 to 65535.
 pub(crate) fn number_of_port(value: &Value) -> Result<u16, Reason>
     ensures above { IfOk result (λ n. 0 < n) }
     ensures all { result ≡ port_in (as_integer (view value.now)) }
@@ -49,7 +51,7 @@ pub(crate) fn number_of_port(value: &Value) -> Result<u16, Reason>
     }
 }
 
-/// The value of a key as a port, given as a number or in the text of an address.
+/// The value of a key as a port, given as a number or in the text of an address. The errors are those of `end_of`.
 pub fn port_of(value: &Value) -> Result<u16, Reason>
     ensures above { IfOk result (λ n. 0 < n) }
     ensures all { result ≡ port_of_end (end_in (view value.now)) }

@@ -1,4 +1,4 @@
-//! Texts to configurations.
+//! Reads configurations from texts.
 ghost use Rattle.std.specs.Prelude.{codes, bytes_eq, ◌≡◌, ◌+◌, ◌<◌, ℕ, pos, List, map, length, All, Some, None, IfOk};
 ghost use Rattle.std.specs.Prelude.{OnOk, IfErr, IsPermutation, IsTrue, Option};
 ghost use Rattle.std.specs.List.{list_any};

@@ -5,27 +5,28 @@ use std::fmt::{Display, Formatter};
 /// Why the value of a key is refused.
 #[derive(Clone, Copy, Debug, PartialEq, Eq, Hash)]
 pub enum Reason {
-    /// The key is missing.
+    /// The key is missing, or `link` is an empty list.
     Missing,
-    /// The value is not a whole number.
+    /// The value is not a whole number; at `local` and `remote`, it is not the text of an address with a port above 0
+    /// either.
     NoNumber,
-    /// The value is not the number of a node.
+    /// The value is a whole number, but not from 1 to 2^32 - 1.
     NoId,
-    /// The value is not the number of a port.
+    /// The value is a whole number, but not from 1 to 65535.
     NoPort,
     /// The value is not a text.
     NoText,
-    /// The value is not a word for a treatment of erased levels.
+    /// The text is neither `plain` nor `remembered`.
     NoErasure,
     /// The value is not a list.
     NoList,
     /// The value is not a table.
     NoTable,
-    /// The value is repeated.
+    /// An earlier destination, or this key of an earlier link, has the same value.
     Repeated,
-    /// The value is the node itself.
+    /// The peer of a link is the node itself.
     OwnId,
-    /// The key is missing, and the link leaves the loopback.
+    /// `key_file` is missing, and an address of the link is not on the loopback.
     Unkeyed,
 }
 

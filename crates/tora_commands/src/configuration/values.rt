@@ -17,7 +17,7 @@ use toml::{Table, Value};
 use tora_core::Erasure;
 use tora_height::Id;
 
-/// The value at a key, which is required.
+/// The value at a key of a table. `Missing`, at `place`, if the table does not have the key.
 pub fn value_at<'a>(table: &'a Table, key: &str, place: Place) -> Result<&'a Value, ConfigError>
     ensures found { IfOk result (λ v. get_member key.now (table_view table.now) ≡ Some (view v.now)) }
     ensures missing { IfErr result (λ e. (get_member key.now (table_view table.now) ≡ None)
@@ -29,7 +29,7 @@ pub fn value_at<'a>(table: &'a Table, key: &str, place: Place) -> Result<&'a Val
     }
 }
 
-/// The number of a node at a key.
+/// The number of a node at a key. An error is at `place`: `Missing`, `NoNumber`, `NoId`.
 pub fn id_at(table: &Table, key: &str, place: Place) -> Result<Id, ConfigError>
     ensures above { IfOk result (λ n. 0 < n) }
     ensures exact { IfOk result (λ n. number_at key.now (table_view table.now) ≡ Some (pos n)) }
@@ -43,7 +43,7 @@ pub fn id_at(table: &Table, key: &str, place: Place) -> Result<Id, ConfigError>
     }
 }
 
-/// A port at a key.
+/// A port at a key, from a number or an address. An error is at `place`: `Missing`, `NoNumber`, `NoPort`.
 pub fn port_at(table: &Table, key: &str, place: Place) -> Result<u16, ConfigError>
     ensures above { IfOk result (λ n. 0 < n) }
     ensures exact { IfOk result (λ n. port_said_at key.now (table_view table.now) ≡ Some n) }
@@ -57,7 +57,7 @@ pub fn port_at(table: &Table, key: &str, place: Place) -> Result<u16, ConfigErro
     }
 }
 
-/// An end of a link at a key.
+/// The address of a link end at a key. An error is at `place`: `Missing`, `NoNumber`, `NoPort`.
 pub fn end_at(table: &Table, key: &str, place: Place) -> Result<SocketAddr, ConfigError>
     ensures { Gives (λ address. address) result (at_place place (end_at (get_member key.now (table_view table.now)))) }
 {
@@ -68,7 +68,7 @@ pub fn end_at(table: &Table, key: &str, place: Place) -> Result<SocketAddr, Conf
     }
 }
 
-/// A text at a key.
+/// A text at a key. An error is at `place`: `Missing`, `NoText`; or it is `Memory`.
 pub fn text_at(alloc: Global, table: &Table, key: &str, place: Place) -> Result<String, ConfigError>
     ensures exact { IfOk result (λ text. text_at key.now (table_view table.now) ≡ Some (string_bytes text)) }
     ensures gives { Gives string_bytes result (at_place place (text_said (get_member key.now (table_view table.now)))) }
@@ -80,7 +80,7 @@ pub fn text_at(alloc: Global, table: &Table, key: &str, place: Place) -> Result<
     }
 }
 
-/// The values of a list at a key.
+/// The values of a list at a key, which may be empty. An error is at `place`: `Missing`, `NoList`.
 pub fn list_at<'a>(table: &'a Table, key: &str, place: Place) -> Result<&'a [Value], ConfigError>
     ensures exact { IfOk result (λ values. IsListAt key.now (table_view table.now) (map view values.now)) }
     ensures gives { Gives (λ values. items_view values.now) result
@@ -94,7 +94,7 @@ pub fn list_at<'a>(table: &'a Table, key: &str, place: Place) -> Result<&'a [Val
     }
 }
 
-/// The choice of erasure that a word names.
+/// The choice of erasure that `plain` or `remembered` names; `None` for any other word.
 fn erasure_of(word: &str) -> Option<Erasure>
     ensures { result ≡ erasure_of word.now }
 {
@@ -105,7 +105,7 @@ fn erasure_of(word: &str) -> Option<Erasure>
     }
 }
 
-/// The choice of erasure that a value gives, or its fault.
+/// The choice of erasure that a value gives. `NoText`, `NoErasure`.
 fn erasure_in(value: &Value) -> Result<Erasure, ConfigError>
     ensures { Gives (λ e. e) result (at_place Place.Erasure (erasure_said (as_str (view value.now)))) }
 {
@@ -118,7 +118,7 @@ fn erasure_in(value: &Value) -> Result<Erasure, ConfigError>
     }
 }
 
-/// The treatment of erased levels; plain if the key is missing.
+/// The choice of erasure at the key `erasure`; `Plain` if the key is missing. `NoText`, `NoErasure`.
 pub fn erasure_at(table: &Table) -> Result<Erasure, ConfigError>
     ensures { Gives (λ e. e) result (at_place Place.Erasure
         (erasure_at (get_member (codes "erasure") (table_view table.now)))) }
