@@ -76,7 +76,8 @@ fn seed(word: Option<&str>) -> Option<u64>
     }
 }
 
-/// The channel in a word, with the seed in another, or the seed 0. `Seed`, then `Part`.
+/// The channel in a word, with the seed in another, or the seed 0. The error is `Seed` for a bad seed, otherwise `Part`
+/// for a bad part of the channel.
 #[tactic(auto, unfolding(crate::specs::SetupWords::channel_asked))]
 fn channel_of<'a>(channel: &'a str, seeded: Option<&str>) -> Result<Channel, SetupFault<'a>>
     ensures { result_ok result ≡ channel_asked channel.now (option_map (λ w. w.now) seeded.entry) }
@@ -104,7 +105,7 @@ fn seeded<'a>(seed: &str) -> Result<Channel, SetupFault<'a>>
 }
 
 /// The channel that the words of `--channel` and `--seed` give; the clear channel without these words. `SeedAlone` if
-/// there is a seed but neither a channel nor a channel file, otherwise `Seed`, then `Part`.
+/// there is a seed but neither a channel nor a channel file; otherwise the errors of `channel_of`.
 fn channel<'a>(
     channel: Option<&'a str>,
     seed: Option<&str>,

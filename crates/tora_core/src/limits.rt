@@ -20,7 +20,7 @@ impl CoreLimits {
         destinations: MOST_DESTINATIONS,
     };
 
-    /// The greatest limits: 255 neighbours and 64 destinations.
+    /// The greatest limits that have effect: 255 neighbours and 64 destinations. Greater ones count as these.
     pub const GREATEST: CoreLimits = CoreLimits {
         neighbours: GREATEST_NEIGHBOURS,
         destinations: MOST_DESTINATIONS,

@@ -1,5 +1,5 @@
-//! What a link end and the seat of a core pass to each other. The simulator, the routers and the threads of a node call
-//! these functions.
+//! What a link end and the seat of a core pass to each other. Routers and the threads of a node call these functions.
+//! The simulator calls `what_of`, and has the other two for its own link ends.
 ghost use Rattle.std.specs.Prelude.{◌≡◌};
 ghost use Rattle.tora_arq.specs.LinkEnd.{bound_life};
 ghost use Rattle.tora_seat.specs.Between.{what_of, after_cargo, after_cut_of_bound};

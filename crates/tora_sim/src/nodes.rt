@@ -269,7 +269,7 @@ fn make_room(inputs: &mut Vec<(Input, u64)>, most: usize) -> Result<(), AllocErr
     inputs.reserve(most.max(more))
 }
 
-/// Records the inputs that a core accepted at a tick.
+/// Appends the inputs that a core accepted at the tick `now`, each with that tick. The list has room for them.
 fn note_inputs(inputs: &mut Vec<(Input, u64)>, accepted: &[Input], now: u64)
     requires { vec_len inputs.old + length accepted.now ≤ vec_capacity inputs.old }
     ensures { inputs.new.items ≡ inputs.old.items ++ map (λ input. (input, now)) accepted.now }

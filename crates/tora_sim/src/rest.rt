@@ -71,8 +71,8 @@ impl Sim {
         self.first_item(n).is_none()
     }
 
-    /// Whether nothing waits at the end of `n` towards `k`, and the link is up at both cores in one session or at
-    /// neither.
+    /// Whether the end of `n` towards `k` is idle (`is_idle_end`), and the link is up at both cores in one session, to
+    /// which the end is bound, or at neither.
     fn is_link_at_rest(&self, n: Id, k: Id) -> bool
         ensures { result ≡ is_link_at_rest (world_of self.now) n k }
     {
@@ -84,7 +84,8 @@ impl Sim {
         idle && one
     }
 
-    /// Whether nothing waits at the end of `n` towards `k`.
+    /// Whether no outbound message waits for the end of `n` towards `k`, it has no event, and all that was submitted is
+    /// acknowledged. Owed HELLOs and ACKs do not count. `true` if there is no such link.
     fn is_idle_end(&self, n: Id, k: Id) -> bool
         ensures { result ≡ is_idle_end (world_of self.now) n k }
     {

@@ -30,6 +30,8 @@ pub struct LinkEndpoint {
     pub key_file: Option<String>,
 }
 
+/// The path of the key file of link `n`, from 1 on; `None` if the key is absent. The error is `NoText` at this key if
+/// its value is no text, or `Memory`.
 fn key_file_at(alloc: Global, table: &Table, n: usize) -> Result<Option<String>, ConfigError>
     ensures { Gives (option_map string_bytes) result (at_place (Place.KeyFile n)
         (key_file_at (get_member (codes "key_file") (table_view table.now)))) }
