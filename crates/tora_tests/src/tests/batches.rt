@@ -10,8 +10,8 @@ use super::link_turns::ends_do;
 use tora_arq::Verdict::{Accepted, Ahead, Foreign, Repeated};
 use tora_frame::Version;
 
-/// Both ends speak version 2, and each knows it of the other. They are bound at tick 0; no HELLO or ACK is owed, and
-/// all events are polled.
+/// HELLOs at tick 0 bind two ends that speak version 2; then each knows that the other does, no frame is due, and all
+/// events are polled.
 const NEW_LINK: &[(End, Step)] = &[
     (First, Sends(Version::Two, 5, 0, Hello)),
     (Second, Gets(0, Accepted)),
@@ -27,7 +27,7 @@ const NEW_LINK: &[(End, Step)] = &[
     (Second, Tells(Up(REVERSED))),
 ];
 
-/// The end of node 2 speaks version 1, and frames of version 2 are foreign to it. The ends are bound as in `NEW_LINK`.
+/// As `NEW_LINK`, with an end of node 2 that speaks version 1, whose verdict on each HELLO of version 2 is `Foreign`.
 const LINK_WITH_AN_OLD_PEER: &[(End, Step)] = &[
     (First, Sends(Version::Two, 5, 0, Hello)),
     (Old, Gets(0, Foreign)),
@@ -141,7 +141,8 @@ fn old_peer_gets_a_frame_for_each_packet(rt: HostRuntime) {
     );
 }
 
-/// The batch of sixteen is lost, and the batch of four is not acknowledged.
+/// Of 20 packets, the frame with the first sixteen is lost, and the frame with the last four arrives but is not
+/// acknowledged: both are sent again at tick 5.
 const LOST_BATCH: &[(End, Step)] = &[
     (First, Submits(1, 20)),
     (First, Sends(Version::Two, 5, 9, Queries(1, 16))),
@@ -162,7 +163,8 @@ fn lost_packets_of_a_batch_are_due_together(rt: HostRuntime) {
     ends_do(&rt, rt.alloc(), Version::Two, &[NEW_LINK, LOST_BATCH]);
 }
 
-/// A HELLO of version 1 arrives at tick 0, and then one of version 2.
+/// The first end sends each HELLO in both versions, also after a HELLO of version 1 arrives, until one of version 2
+/// arrives. Both arrive at tick 0.
 const HELLOS_OF_BOTH: &[(End, Step)] = &[
     (First, Sends(Version::Two, 5, 0, Hello)),
     (First, Sends(Version::One, 5, 0, Hello)),

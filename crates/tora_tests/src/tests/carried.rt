@@ -11,14 +11,14 @@ use tora_packet::Packet;
 pub enum Parts {
     /// The query for a destination.
     Query(Id),
-    /// The update for 4 with a height.
+    /// The update for destination 4 with the height of this tau, oid, r, delta and id.
     Update(u64, Id, u8, i32, Id),
-    /// The clear for 4 of a reference level.
+    /// The clear for destination 4 of the reference level with this tau and oid, and r 1.
     Clear(u64, Id),
 }
 
 impl Parts {
-    /// The packet with these parts.
+    /// The packet with these parts; the test fails if there is no such packet.
     pub fn packet(self, rt: &impl Abort) -> Packet {
         match self {
             Parts::Query(destination) => query_for(rt, destination),
@@ -35,15 +35,16 @@ pub enum Carried {
     Hello,
     /// An ACK with this count of packets accepted.
     Ack(u64),
-    /// The query for a number, as the packet with this number, with 0 packets accepted.
+    /// DATA with one packet, which is `query_of` this number and has this packet number, and with 0 packets accepted.
     Query(u64),
-    /// The queries for these numbers, first to last, as the packets with these numbers, with 0 packets accepted.
+    /// DATA with the packets of the numbers from the first to the last, each `query_of` its own number, and with 0
+    /// packets accepted.
     Queries(u64, u64),
-    /// The number of the first packet, the count of packets accepted, and the packets.
+    /// DATA: the number of the first packet, the count of packets accepted, and the packets.
     Data(u64, u64, &'static [Parts]),
 }
 
-/// The packets with these parts.
+/// The packets with these parts; the test fails if there are more than 16.
 pub fn packets_of(rt: &impl Abort, parts: &[Parts]) -> Packets {
     let mut packets = Packets::new();
     for one in parts {
@@ -52,7 +53,7 @@ pub fn packets_of(rt: &impl Abort, parts: &[Parts]) -> Packets {
     packets
 }
 
-/// The queries for these numbers, first to last.
+/// The packets `query_of` each number from `first` to `last`; the test fails if there are more than 16.
 fn queries(rt: &impl Abort, first: u64, last: u64) -> Packets {
     let mut packets = Packets::new();
     for number in first..=last {
@@ -61,7 +62,7 @@ fn queries(rt: &impl Abort, first: u64, last: u64) -> Packets {
     packets
 }
 
-/// Appends a packet to a list with room for it.
+/// Appends a packet to a list; the test fails if the list is full.
 fn push(rt: &impl Abort, packets: &mut Packets, packet: Packet) {
     sees(rt, packets.try_push(packet).is_ok(), "room for a packet");
 }
@@ -77,7 +78,8 @@ pub fn body_of(rt: &impl Abort, carried: Carried) -> Body {
     }
 }
 
-/// The frame with this header and this content.
+/// The frame with this header and this content; DATA without packets gives an ACK. The test fails if a field is out of
+/// its range, or if a frame of version 1 would have several packets.
 pub fn frame_of(rt: &impl Abort, header: Header, carried: Carried) -> Frame {
     let Header {
         sender,

@@ -99,7 +99,8 @@ fn example_of_the_documentation(rt: HostRuntime) {
     runs(&rt, rt.alloc(), tables::NEXT, &steps);
 }
 
-/// The core of a node with these neighbours and destinations.
+/// The core of node `me` with these neighbours and destinations, or the error of `Core::new`; the error is `Memory`
+/// also if memory runs out for the lists. The test fails if a number is 0.
 fn made(
     rt: &impl Abort,
     alloc: Global,
@@ -119,7 +120,8 @@ fn made(
 /// The neighbours and the destinations of node 1, the error for them, if any, and what the row tests.
 type Made = (Numbers, Numbers, Option<CoreError>, &'static str);
 
-/// Makes the core of each row, and checks its error, if any.
+/// Makes the core of node 1 for each row, and checks that it is refused with the error of the row, or made if that is
+/// `None`.
 fn makes(rt: &impl Abort, alloc: Global, rows: &[Made]) {
     for (neighbours, destinations, error, what) in rows {
         let found = made(rt, alloc, 1, *neighbours, *destinations).err();
@@ -157,7 +159,7 @@ fn numbers_of_the_errors(rt: HostRuntime) {
     makes(&rt, rt.alloc(), FAULTS);
 }
 
-/// The greatest numbers of neighbours and destinations, and one more of either.
+/// The greatest numbers of neighbours (32) and of destinations (64), one more of either, and one more of both.
 const LIMITS: &[Made] = &[
     (Counted(2, 33), These(&[4]), Some(TooMany), "33 neighbours"),
     (
@@ -196,7 +198,8 @@ fn tables_are_taken_up_to_their_limits(rt: HostRuntime) -> Result<(), Fail> {
     Ok(())
 }
 
-/// The text of a core; `None` if memory runs out.
+/// The text of the core of node `me` with these neighbours and destinations; `None` after an error, which must be
+/// `Memory`.
 fn text_of(
     rt: &impl Abort,
     alloc: Global,
@@ -217,7 +220,7 @@ fn text_of(
     }
 }
 
-// With each request for memory refused in turn, the only error is `Memory`.
+// `bench/refused-memory.sh` runs this with each request for memory refused in turn: the only error is `Memory`.
 #[test]
 fn want_of_memory_is_answered(rt: HostRuntime) {
     if let Some(text) = text_of(&rt, rt.alloc(), 3, These(&[2, 4]), These(&[4])) {
@@ -229,7 +232,7 @@ fn want_of_memory_is_answered(rt: HostRuntime) {
     }
 }
 
-/// Steps an input at time 1, which is accepted.
+/// Steps an input at tick 1, and checks that it is accepted.
 fn is_taken(rt: &impl Abort, core: &mut Core, input: Input) {
     same_at(rt, &core.step(input, 1).err(), &None, "the refusal", &input);
 }

@@ -13,7 +13,7 @@ use tora_frame::{
 };
 use tora_packet::PacketError;
 
-/// The header of a frame of version 1 from 1 to 2, before a HELLO of the peer.
+/// The header of a frame of version 1 from node 1 (session number 5) to node 2, before a HELLO of node 2 has come.
 const FIRST: Header = Header {
     version: Version::One,
     sender: 1,
@@ -22,7 +22,7 @@ const FIRST: Header = Header {
     heard: 0,
 };
 
-/// The header of a frame of version 1 from 1 to 2.
+/// The header of a frame of version 1 from node 1 (session number 5) to node 2 (session number 9).
 const FROM_ONE: Header = Header {
     version: Version::One,
     sender: 1,
@@ -31,7 +31,7 @@ const FROM_ONE: Header = Header {
     heard: 9,
 };
 
-/// The header of a frame of version 1 from 2 to 1.
+/// The header of a frame of version 1 from node 2 (session number 9) to node 1 (session number 5).
 const FROM_TWO: Header = Header {
     version: Version::One,
     sender: 2,
@@ -40,29 +40,30 @@ const FROM_TWO: Header = Header {
     heard: 5,
 };
 
-/// The header of a frame of version 2 from 1 to 2, before a HELLO of the peer.
+/// As `FIRST`, of version 2.
 const NEW_FIRST: Header = Header {
     version: Version::Two,
     ..FIRST
 };
 
-/// The header of a frame of version 2 from 1 to 2.
+/// As `FROM_ONE`, of version 2.
 const NEW_FROM_ONE: Header = Header {
     version: Version::Two,
     ..FROM_ONE
 };
 
-/// The header of a frame of version 2 from 2 to 1.
+/// As `FROM_TWO`, of version 2.
 const NEW_FROM_TWO: Header = Header {
     version: Version::Two,
     ..FROM_TWO
 };
 
-/// The query for 4, and the clear for 4 of the reference level (7,3,1).
+/// The query for destination 4, and the clear for 4 of the reference level (7,3,1).
 const QUERY_AND_CLEAR: &[Parts] = &[Parts::Query(4), Parts::Clear(7, 3)];
 
-/// The frames of the document on formats, and more frames from its tables: in version 1 DATA frames with an update and
-/// with a clear; in version 2 a HELLO, an ACK, and a DATA frame with an update.
+/// The header, the content and the hexadecimal digits of each frame of the document on formats, and of more frames from
+/// its tables: in version 1 DATA frames with an update and with a clear; in version 2 a HELLO, an ACK, and a DATA frame
+/// with an update.
 const VECTORS: &[(Header, Carried, &str)] = &[
     (
         FIRST,
@@ -116,17 +117,17 @@ const VECTORS: &[(Header, Carried, &str)] = &[
     ),
 ];
 
-/// A DATA frame of version 2 with a query and a clear.
+/// The hexadecimal digits of a DATA frame of version 2 with a query and a clear.
 const BATCH: &str =
     "0202003000000001000000020000000000000005000000000000000900000000000000010000000000000000\
      0200000001010000000000040103000000000004000000000000000700000003";
 
-/// Checks the result of decoding bytes.
+/// Decodes `bytes`, and checks that the result is `wanted`; `place` names the row.
 fn reads<P: Debug>(rt: &impl Abort, bytes: &[u8], wanted: &Result<Frame, FrameError>, place: &P) {
     same_at(rt, &decode(bytes), wanted, "the frame", place);
 }
 
-/// Checks that these digits are the bytes of a frame.
+/// Checks that a frame is encoded as the bytes with these hexadecimal digits, and that decoding them gives the frame.
 fn spells(rt: &impl Abort, alloc: Global, frame: Frame, digits: &str) {
     let bytes = bytes_of(rt, alloc, digits);
     let out = encode(&frame);
@@ -134,7 +135,7 @@ fn spells(rt: &impl Abort, alloc: Global, frame: Frame, digits: &str) {
     reads(rt, &bytes, &Ok(frame), &digits);
 }
 
-/// Checks the length of a frame's bytes, and that decoding them gives the frame.
+/// Encodes a frame, and checks that it has `len` bytes, and that decoding them gives the frame.
 fn reads_back(rt: &impl Abort, frame: Frame, len: usize) {
     let bytes = encode(&frame);
     same(rt, &bytes.len(), &len, "the length");
@@ -152,7 +153,8 @@ fn frame_vectors(rt: HostRuntime) {
     same(&rt, ack.body(), &Body::Ack(1), "the body");
 }
 
-/// Checks the bytes that a frame has in a buffer, and that decoding them puts its packets into another buffer.
+/// Encodes a frame into `out`, and checks that the bytes are those with these hexadecimal digits. Decodes them, with
+/// `packets` as the buffer for the packets, and checks that this gives the frame.
 fn spells_into(
     rt: &impl Abort,
     alloc: Global,
@@ -183,7 +185,8 @@ fn kept_buffers_hold_one_frame_after_another(rt: HostRuntime) {
     }
 }
 
-/// Checks the number, the count and the packets of a borrowed DATA frame.
+/// Checks that `data` is a DATA frame whose first packet has the number 1, with 0 packets accepted, and that its
+/// packets are `packets`.
 fn carries(rt: &impl Abort, data: &BorrowedFrame<'_>, packets: &Packets) {
     match data.body() {
         BorrowedBody::Data(1, 0, borrowed) => {
@@ -221,13 +224,14 @@ fn borrowed_frames_are_the_frames_of_the_same_parts(rt: HostRuntime) {
     }
 }
 
-/// Checks that bytes are not a frame, and the error.
+/// Decodes `bytes`, and checks that they are refused with `error`, and that this error has the number `number`; `place`
+/// names the row.
 fn refuses<P: Debug>(rt: &impl Abort, bytes: &[u8], error: FrameError, number: u8, place: &P) {
     reads(rt, bytes, &Err(error), place);
     same_at(rt, &error.number(), &number, "its number", place);
 }
 
-/// Digits of bytes that are not a frame, the error, and its number.
+/// Hexadecimal digits of bytes that are not a frame, the error of `decode`, and the number of that error.
 const REFUSED: &[(&str, FrameError, u8)] = &[
     ("", FrameError::Short, 1),
     (
@@ -289,7 +293,7 @@ fn refused_frames(rt: HostRuntime) {
     }
 }
 
-/// The index and the new value of a changed byte of the batch, the error, and its number.
+/// A change of one byte of `BATCH`: its index, its new value, the error of `decode`, and the number of that error.
 const FAULTS: &[(usize, u8, FrameError, u8)] = &[
     (44, 0, FrameError::Count, 10),
     (44, 1, FrameError::Packet(PacketError::Long), 9),
@@ -317,7 +321,8 @@ fn batch_frame_vector_and_its_faults(rt: HostRuntime) {
     }
 }
 
-/// A batch of two packets, of which the last would have too great a number.
+/// The hexadecimal digits of a DATA frame with two packets, of which the first has the greatest number, 2^62, and the
+/// second would have a greater one.
 const ONE_PACKET_MORE: &str =
     "0202003000000001000000020000000000000005000000000000000940000000000000000000000000000000\
      0200000001010000000000040103000000000004000000000000000700000003";
@@ -331,7 +336,7 @@ fn last_number_of_a_batch_is_in_its_range(rt: HostRuntime) {
     refuses(&rt, &bytes, FrameError::Count, 10, &"one packet more");
 }
 
-/// The greatest number of the longest packets in a frame.
+/// As many packets as a frame can have (16), each of the longest kind, an update.
 const MOST: &[Parts] = &[Parts::Update(7, 3, 1, -1, 2); MOST_PACKETS];
 
 #[test]

@@ -1,4 +1,4 @@
-//! The example of the documentation, and texts.
+//! The example in the documentation of `tora_height`, and the texts of its errors.
 use super::made::height;
 use super::sees::{prints_each, same, sees};
 use std::test::*;

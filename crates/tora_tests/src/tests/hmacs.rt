@@ -1,4 +1,4 @@
-//! The test vectors of RFC 4231, sections 4.2 to 4.8.
+//! The test vectors of RFC 4231, sections 4.2 to 4.8, the comparison of tags, and a key that is cleared.
 use super::sees::{same_bytes_at, sees};
 use std::process::Abort;
 use tora_key::{Key, TAG, hmac, is_same};
@@ -107,7 +107,8 @@ fn tags_are_compared_to_the_end(rt: HostRuntime) {
 
 const MESSAGE: &[u8] = b"a datagram";
 
-// A message and its tag open under the key, but not after the key is cleared; a cleared key equals that of no bytes.
+// Seals a message into `room`, and checks that the key opens it, that the cleared key does not, and that the cleared
+// key gives the same tag as the key of no bytes.
 fn cleared_key_opens_nothing(rt: &impl Abort, mut key: Key, room: &mut [u8; 26]) {
     let end = key.seal(MESSAGE, room);
     sees(rt, key.open(&room[..end]).is_some(), "the key opens");

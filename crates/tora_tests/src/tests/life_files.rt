@@ -1,4 +1,5 @@
-//! The worked rows of the life file, and a crash at each call of the disk.
+//! Life files on a disk in memory: the bytes of slots, the numbers drawn, writes that a crash tears, files with unusual
+//! bytes, and texts.
 use super::sees::{same_at, same_bytes, same_text, sees};
 use std::alloc::Global;
 use std::process::Abort;
@@ -28,7 +29,7 @@ const SLOT_OF_900: [u8; 16] = [
 /// Slots, and the bound in each.
 const SLOTS: &[([u8; 16], u64)] = &[(SLOT_OF_16, 16), (SLOT_OF_32, 32), (SLOT_OF_900, 900)];
 
-/// Checks the bound in each slot.
+/// Checks for each row that the slot of the bound has these bytes, and that the bound is read from them.
 fn each_spells(rt: &impl Abort, rows: &[([u8; 16], u64)]) {
     for (slot, bound) in rows {
         same_at(rt, &slot_bytes(*bound), slot, "the slot", bound);
@@ -41,7 +42,8 @@ fn slots_spell_their_bounds(rt: HostRuntime) {
     each_spells(&rt, SLOTS);
 }
 
-/// In the second and the third row, a write is torn after sixteen draws.
+/// The name of each row, the bytes of its file and its steps. In the second and the third row a write fails after
+/// sixteen draws, and a crash tears it.
 const TORN: &[(&str, &[u8], &[Step])] = &[
     ("closed", &[], &[Draws(1, 4), Reopens, Draws(17, 18)]),
     (
@@ -84,7 +86,7 @@ fn drawn_numbers_survive_torn_slots(rt: HostRuntime) {
     each_goes(&rt, TORN);
 }
 
-/// Files with unusual bytes, and the first number drawn.
+/// The name of each row, the bytes of its file, which are unusual, and the first number drawn from it or the error.
 const ODD: &[(&str, &[u8], Result<u64, LifeError>)] = &[
     ("no byte", &[], Ok(1)),
     ("15 zeros", &[0; 15], Ok(1)),
@@ -117,7 +119,7 @@ const ODD: &[(&str, &[u8], Result<u64, LifeError>)] = &[
     ),
 ];
 
-/// The last session numbers, and the error after them.
+/// A file from which the last sixteen session numbers are drawn, 2^62 - 15 to 2^62; then each draw fails with `Spent`.
 const LAST: &[(&str, &[u8], &[Step])] = &[(
     "the last numbers",
     &[

@@ -15,14 +15,16 @@ use tora_arq::Verdict::{Accepted, Ahead, Busy, Foreign, Repeated, Stale};
 use tora_arq::{Life, Reason};
 use tora_frame::Version;
 
-/// Makes the steps at the end of node 1.
+/// Makes the steps of `BOUND` and then `steps` at a new end of node 1, which speaks version 1. The tick is 0 before
+/// `steps`.
 pub fn first_does(rt: &impl Abort, alloc: Global, steps: &[Step]) {
     let mut end = first_end(rt, alloc, Version::One);
     does(rt, alloc, &mut end, BOUND);
     does(rt, alloc, &mut end, steps);
 }
 
-/// Node 1's end is bound to the session {5, 9} at tick 0; its HELLO is sent and its event is polled.
+/// A HELLO of node 2 at tick 0 binds the end of node 1 to the session `LIFE`; the event is polled, and the HELLO that
+/// answers is sent.
 pub const BOUND: &[Step] = &[
     Hears(9, 5, Hello, Accepted),
     Tells(Up(LIFE)),
@@ -30,7 +32,7 @@ pub const BOUND: &[Step] = &[
     SendsNone,
 ];
 
-/// Both ends are bound at tick 0; all HELLOs are sent and all events are polled.
+/// Three HELLOs at tick 0 bind the first end and then the second; all events are polled.
 const THREE_HELLOS: &[(End, Step)] = &[
     (First, Sends(Version::One, 5, 0, Hello)),
     (Second, Gets(0, Accepted)),
@@ -115,7 +117,8 @@ fn packets_are_held_up_to_the_window(rt: HostRuntime) {
     first_does(&rt, rt.alloc(), WINDOW);
 }
 
-/// The packet with the number 2 arrives twice, as the query for 7 and for 8.
+/// Packet 2 arrives before packet 1, as the query for destination 7, and then again as the query for 8: it is delivered
+/// once, as the query for 7.
 const HELD_FIRST: &[Step] = &[
     Hears(9, 5, Data(2, 0, &[Parts::Query(7)]), Ahead),
     Hears(9, 5, Data(2, 0, &[Parts::Query(8)]), Ahead),
@@ -189,7 +192,8 @@ fn frames_that_no_peer_sends(rt: HostRuntime) {
     first_does(&rt, rt.alloc(), NOT_SENT);
 }
 
-/// The HELLOs are between other nodes, and the update is from another node.
+/// The end of node 1 refuses as `Foreign` HELLOs from 3 to 1, from 2 to 3 and from 1 to 2, and a frame of node 2 with
+/// an update whose height is that of node 3.
 const OTHER_NODES: &[Step] = &[
     IsForeign(3, 1),
     IsForeign(2, 3),

@@ -18,7 +18,8 @@ use tora_arq::Verdict::{Accepted, Ahead};
 use tora_arq::{ArqError, Life, LinkEnd, Reason, Times, Verdict};
 use tora_frame::Version;
 
-/// A DATA frame is due every 5 ticks, and before it a HELLO every 10 ticks except at the first.
+/// A packet is never acknowledged: its DATA frame is due at tick 0 and every 5 ticks up to 35, after a HELLO at ticks
+/// 10, 20 and 30. At tick 40 the session ends as `Silent`.
 const UNANSWERED: &[Step] = &[
     Submits(1, 1),
     Ticks(0),
@@ -97,8 +98,9 @@ fn clock_that_goes_back_counts_as_no_time(rt: HostRuntime) {
     first_does(&rt, rt.alloc(), CLOCK);
 }
 
-/// Steps; and then, for each of some ticks, the first tick from it on at which a frame is due or the session ends. The
-/// times are those of the program: a HELLO after 10 ticks, a retransmission after 5.
+/// The steps of all rows are made at one end. After those of a row, each pair has a tick and what `next_due` returns
+/// for it: the first tick from it on at which a frame is due or the session ends, or `None`. The times are those of the
+/// program: a HELLO after 10 ticks, a retransmission after 5.
 const DUE: &[(&[Step], &[(u64, Option<u64>)])] = &[
     (&[], &[(0, Some(0)), (7, Some(7))]),
     (BOUND, &[(0, Some(10)), (9, Some(10)), (12, Some(12))]),
@@ -136,8 +138,8 @@ fn an_end_is_printed(rt: HostRuntime) -> Result<(), Fail> {
     Ok(())
 }
 
-/// An end needs no memory after it was made: a session is opened and bound, packets wait until the queue is full, and
-/// the session ends.
+/// A session is opened and bound, 256 packets fill the send queue, and the next one ends the session. An end needs no
+/// memory for these steps.
 const LIVES: &[Step] = &[
     Waits(0),
     Opens(5),
@@ -150,7 +152,7 @@ const LIVES: &[Step] = &[
     Tells(Down(LIFE, Reason::Full)),
 ];
 
-/// Makes the steps of `LIVES` at an end, unless memory ran out for it.
+/// Makes the steps of `LIVES` at the end of node 1 on the link to node 2; for an error, checks that it is `Memory`.
 fn lives(rt: &impl Abort, alloc: Global, made: Result<LinkEnd, ArqError>) {
     match made {
         Err(error) => same(rt, &error, &ArqError::Memory, "the error"),
@@ -161,8 +163,8 @@ fn lives(rt: &impl Abort, alloc: Global, made: Result<LinkEnd, ArqError>) {
     }
 }
 
-// With each request for memory refused in turn, the only error is `Memory`, and a later end can be made. An end that
-// was made needs no memory.
+// Makes ends of both versions twice. `bench/refused-memory.sh` runs this with each request for memory refused in turn:
+// the only error is `Memory`, and an end that was made needs no memory.
 #[test]
 fn want_of_memory_is_answered(rt: HostRuntime) {
     for _ in 0..2 {

@@ -13,11 +13,11 @@ pub const REVERSED: Life = Life { own: 9, peer: 5 };
 /// An end of a link between the nodes 1 and 2.
 #[derive(Clone, Copy)]
 pub enum End {
-    /// The end of node 1, opened with 5.
+    /// The end of node 1, opened with the session number 5.
     First,
-    /// The end of node 2, opened with 9.
+    /// The end of node 2, opened with the session number 9.
     Second,
-    /// An end of node 2 that speaks version 1, opened with 9.
+    /// An end of node 2 that speaks version 1, opened with the session number 9.
     Old,
 }
 
@@ -28,49 +28,53 @@ pub enum Step {
     Opens(u64),
     /// Sets the tick of the following steps; it is 0 at first.
     At(u64),
-    /// Ticks the end, and sets the tick of the following steps.
+    /// Sets the tick of the following steps, and passes it to the end (`on_tick`).
     Ticks(u64),
-    /// Passes to the end a frame of version 1 from node 2 to node 1, with the session number of node 2 and the one of
-    /// node 1 that it heard; the verdict is this one.
+    /// Passes to the end a frame of version 1 from node 2 to node 1, with the session number of node 2, the one of node
+    /// 1 that it heard (0 if none) and this content. The verdict is the last field.
     Hears(u64, u64, Carried, Verdict),
-    /// Passes to the end a frame for each of the queries with the numbers from the first to the second, all with this
-    /// verdict.
+    /// Passes to the end of node 1, in the session `LIFE`, a DATA frame for each packet number from the first to the
+    /// second: the query for the destination of the same number. Each verdict is the last field.
     HearsEach(u64, u64, Verdict),
-    /// Passes to the end a HELLO between two nodes, which is foreign.
+    /// Passes to the end a HELLO from the first node to the second; the verdict is `Foreign`.
     IsForeign(Id, Id),
-    /// Passes to the end a frame that the table sent, with this verdict. The first frame is 0.
+    /// Passes to the end the frame that was sent in this table with this index, counted from 0; the verdict is the last
+    /// field.
     Gets(usize, Verdict),
-    /// Passes to the end the bytes of a frame that the table sent, with this length and this verdict.
+    /// As `Gets`, but the frame is encoded, which gives this many bytes, and decoded before it is passed to the end.
     GetsBytes(usize, usize, Verdict),
-    /// Sends the next frame: with this version, the session number of the sender and the one that it heard.
+    /// Sends the first frame due. It has this version, the session number of the sender, the one that it heard (0 if
+    /// none), and this content.
     Sends(Version, u64, u64, Carried),
-    /// Sends no further frame.
+    /// No frame is due.
     SendsNone,
-    /// From here on lends a buffer for the packets of frames that are sent.
+    /// From here on, frames are sent with `poll_transmit_into`, which puts their packets into a buffer of the table.
     Lends,
-    /// Sends no further frame, now and at the ticks up to this one, which are handled.
+    /// No frame is due, now and at each tick up to this one; each of these ticks is passed to the end.
     Rests(u64),
-    /// Submits the queries for the numbers from the first to the second, all of which are accepted.
+    /// Submits in the session `LIFE` the queries for the destinations from the first to the second; all are accepted.
     Submits(u64, u64),
-    /// Submits the query for a number this many times, all of which are accepted.
+    /// Submits in the session `LIFE`, as many times as the first field says, the query for the destination in the
+    /// second; all are accepted.
     SubmitsTimes(u64, u64),
-    /// Submits the query for a number in a session, which is refused.
+    /// Submits the query for a destination in a session, which is refused for this reason.
     IsRefused(Life, u64, Refusal),
     /// The next event is this one, and there is no further one.
     Tells(Told),
-    /// The next events deliver in a session the queries for the numbers from the first to the second.
+    /// The next events deliver in a session the queries for the destinations from the first to the second, in this
+    /// order.
     Delivers(Life, u64, u64),
     /// There is no event.
     TellsNone,
-    /// Cuts a session.
+    /// Ends a session; nothing changes if the end is not bound to it.
     Cuts(Life),
     /// The end is bound to this session, or to none.
     LivesIn(Option<Life>),
-    /// The number of packets in the send queue.
+    /// This many packets are in the send queue, sent or not, and not acknowledged.
     Waits(usize),
 }
 
-/// An event of an end without a packet.
+/// An event of a link end other than `Deliver`.
 #[derive(Clone, Copy)]
 pub enum Told {
     /// A session was bound.

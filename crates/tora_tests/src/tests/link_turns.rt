@@ -19,7 +19,7 @@ struct Course {
     now: u64,
     /// The frames that were sent, in order.
     sent: Vec<Frame>,
-    /// Whether `packets` is lent to the frames that are sent.
+    /// Whether frames are sent with `poll_transmit_into`, which puts their packets into `packets`.
     is_lent: bool,
     /// The packets of the last frame that used this list.
     packets: Packets,
@@ -37,13 +37,14 @@ impl Course {
         }
     }
 
-    /// The frame that was sent with this index.
+    /// The frame that was sent with this index, counted from 0; the test fails if there is none.
     fn frame(&self, rt: &impl Abort, place: usize) -> &Frame {
         self.sent.get(place).expect(rt, "a frame that was sent")
     }
 }
 
-/// The end of a link of node `me` to `peer` that speaks this version, opened with a session number at tick 0.
+/// The end of node `me` on the link to `peer` that speaks this version, opened with the session number `life` at tick
+/// 0. The test fails if memory runs out, or if a number, a time or `life` is out of its range.
 pub fn open_end(
     rt: &impl Abort,
     alloc: Global,
@@ -66,7 +67,8 @@ pub fn open_end(
     end
 }
 
-/// Opens a closed end at a tick.
+/// Opens an end with the session number `life` at tick `now`. The test fails if the end is not closed, or if `life` is
+/// not above its last number or is above 2^62.
 fn opens(rt: &impl Abort, end: &mut LinkEnd, life: u64, now: u64) {
     assert!(rt; end.is_closed());
     assert!(rt; end.last_life() < life && life <= GREATEST_NUMBER);
@@ -74,12 +76,12 @@ fn opens(rt: &impl Abort, end: &mut LinkEnd, life: u64, now: u64) {
     same(rt, &end.last_life(), &life, "the last life");
 }
 
-/// The end of node 1 of the link to 2, opened with 5.
+/// The end of node 1 on the link to node 2, with the standard times, opened with the session number 5.
 pub fn first_end(rt: &impl Abort, alloc: Global, version: Version) -> LinkEnd {
     open_end(rt, alloc, version, (1, 2), Times::STANDARD, 5)
 }
 
-/// The end of node 2 of the link to 1, opened with 9.
+/// The end of node 2 on the link to node 1, with the standard times, opened with the session number 9.
 fn second_end(rt: &impl Abort, alloc: Global, version: Version) -> LinkEnd {
     open_end(rt, alloc, version, (2, 1), Times::STANDARD, 9)
 }
@@ -101,7 +103,7 @@ fn header_of((sender, receiver): (Id, Id), (life, heard): (u64, u64)) -> Header 
     }
 }
 
-/// Passes a frame with this header to an end, and checks the verdict.
+/// Passes a frame with this header and content to an end, and checks the verdict.
 fn hears_made(
     rt: &impl Abort,
     end: &mut LinkEnd,
@@ -114,7 +116,8 @@ fn hears_made(
     hears(rt, end, course, &frame, verdict);
 }
 
-/// Passes a frame for each of the queries with these numbers to an end, and checks the verdicts.
+/// Passes DATA frames `first` to `last` of the session `LIFE` to the end of node 1, and checks each verdict. Frame n
+/// has one packet, `query_of` n, with the packet number n.
 fn hears_each(
     rt: &impl Abort,
     end: &mut LinkEnd,
@@ -129,7 +132,8 @@ fn hears_each(
     }
 }
 
-/// Passes the bytes of the frame that was sent with this index to an end, and checks their length and the verdict.
+/// Encodes the frame that was sent with this index, checks that it has `len` bytes, decodes it, passes it to an end,
+/// and checks the verdict.
 fn gets_bytes(
     rt: &impl Abort,
     end: &mut LinkEnd,
@@ -146,7 +150,7 @@ fn gets_bytes(
     same_at(rt, &heard, &verdict, "the verdict", &course.row);
 }
 
-/// The next frame that is due.
+/// Takes the first frame due from an end, which counts it as sent; `None` if no frame is due.
 fn due(end: &mut LinkEnd, course: &mut Course) -> Option<Frame> {
     if course.is_lent {
         let frame = end.poll_transmit_into(course.now, &mut course.packets)?;
@@ -155,7 +159,8 @@ fn due(end: &mut LinkEnd, course: &mut Course) -> Option<Frame> {
     end.poll_transmit(course.now)
 }
 
-/// Sends the next frame, checks that it is this one, and stores it.
+/// Takes the first frame due, checks its version, its two session numbers (`wanted`) and its content, and stores it for
+/// `Gets`. The test fails if no frame is due.
 fn sends(
     rt: &impl Abort,
     end: &mut LinkEnd,
@@ -178,7 +183,7 @@ fn sends_none(rt: &impl Abort, end: &mut LinkEnd, course: &mut Course) {
     same_at(rt, &frame, &None, "no frame", &course.row);
 }
 
-/// Checks that no frame is due, now and at the ticks up to this one.
+/// Checks that no frame is due, now and at each tick up to `last`; each of these ticks is passed to the end.
 fn rests(rt: &impl Abort, end: &mut LinkEnd, course: &mut Course, last: u64) {
     sends_none(rt, end, course);
     for tick in course.now.saturating_add(1)..=last {
@@ -188,7 +193,8 @@ fn rests(rt: &impl Abort, end: &mut LinkEnd, course: &mut Course, last: u64) {
     }
 }
 
-/// Submits the query for a number in a session, and checks the result.
+/// Submits `query_of` a number in a session, and checks that it is refused with `refusal`, or accepted if that is
+/// `None`.
 fn submits(
     rt: &impl Abort,
     end: &mut LinkEnd,
@@ -205,7 +211,7 @@ fn submits(
     same_at(rt, &answer, &wanted, "the answer", &course.row);
 }
 
-/// The error for a refusal of a packet.
+/// The error of `submit` for a refusal; `WrongLife` has the packet.
 pub fn error_of(refusal: Refusal, packet: Packet) -> SubmitError {
     match refusal {
         Refusal::WrongLife => SubmitError::WrongLife(packet),
@@ -214,26 +220,27 @@ pub fn error_of(refusal: Refusal, packet: Packet) -> SubmitError {
     }
 }
 
-/// Submits the queries for these numbers, and checks that all are accepted.
+/// Submits in the session `LIFE` `query_of` each number from `first` to `last`, and checks that all are accepted.
 fn submits_each(rt: &impl Abort, end: &mut LinkEnd, course: &Course, first: u64, last: u64) {
     for number in first..=last {
         submits(rt, end, course, LIFE, number, None);
     }
 }
 
-/// Submits the query for a number this many times, and checks that all are accepted.
+/// Submits in the session `LIFE` `query_of` a number this many times, and checks that all are accepted.
 fn submits_times(rt: &impl Abort, end: &mut LinkEnd, course: &Course, times: u64, number: u64) {
     for _ in 0..times {
         submits(rt, end, course, LIFE, number, None);
     }
 }
 
-/// Checks the next event, or that there is none.
+/// Takes the next event, and checks that it is `event`, or that there is none for `None`.
 fn tells(rt: &impl Abort, end: &mut LinkEnd, course: &Course, event: Option<LinkEvent>) {
     same_at(rt, &end.poll_event(), &event, "the event", &course.row);
 }
 
-/// Checks that the next events deliver in a session the queries for these numbers.
+/// Takes an event for each number from `first` to `last`, and checks that it delivers `query_of` the number in a
+/// session.
 fn delivers(
     rt: &impl Abort,
     end: &mut LinkEnd,
@@ -299,7 +306,7 @@ fn turn(rt: &impl Abort, end: &mut LinkEnd, course: &mut Course, step: &Step) {
     }
 }
 
-/// Makes the steps at one end.
+/// Makes the steps of a table at one end. The tick is 0 at first, and frames are counted anew.
 pub fn does(rt: &impl Abort, alloc: Global, end: &mut LinkEnd, steps: &[Step]) {
     let mut course = Course::new(alloc);
     for step in steps {
@@ -308,7 +315,7 @@ pub fn does(rt: &impl Abort, alloc: Global, end: &mut LinkEnd, steps: &[Step]) {
     }
 }
 
-/// The ends of a link.
+/// The end of node 1, and two ends of node 2, of which `old` speaks version 1.
 #[derive(Drop)]
 struct Ends {
     first: LinkEnd,
@@ -316,7 +323,7 @@ struct Ends {
     old: LinkEnd,
 }
 
-/// Makes the steps, each at its end.
+/// Makes the steps of a table, each at its end. The tick is 0 at first, and frames are counted anew.
 fn each_does(rt: &impl Abort, alloc: Global, ends: &mut Ends, steps: &[(End, Step)]) {
     let mut course = Course::new(alloc);
     for (end, step) in steps {
@@ -330,8 +337,8 @@ fn each_does(rt: &impl Abort, alloc: Global, ends: &mut Ends, steps: &[(End, Ste
     }
 }
 
-/// Makes the steps of tables, one table after the other, at the ends of a link: both of this version, and a third one
-/// of version 1.
+/// Makes the steps of tables, one table after the other, at three new ends: `First` and `Second` speak this version,
+/// and `Old` speaks version 1.
 pub fn ends_do(rt: &impl Abort, alloc: Global, version: Version, tables: &[&[(End, Step)]]) {
     let mut ends = Ends {
         first: first_end(rt, alloc, version),

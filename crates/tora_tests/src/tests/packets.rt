@@ -1,16 +1,17 @@
-//! The byte vectors of the document on formats, and the refused packets.
+//! The packets of the document on formats as bytes, bytes that are refused, and the texts of packets and errors.
 use super::carried::Parts;
 use super::sees::{bytes_of, prints, prints_each, same, same_at};
 use std::alloc::Global;
 use std::process::Abort;
 use tora_packet::*;
 
-/// Checks the result of decoding bytes.
+/// Decodes `bytes`, and checks that the result is `wanted`; `what` names the row.
 fn reads(rt: &impl Abort, bytes: &[u8], wanted: &Result<Packet, PacketError>, what: &str) {
     same_at(rt, &decode(bytes), wanted, "the packet", &what);
 }
 
-/// Checks that these digits are the bytes of a packet for 4.
+/// Checks that a packet for destination 4 is encoded as the bytes with these hexadecimal digits, that the length
+/// functions agree with them, and that decoding them gives the packet.
 fn spells(rt: &impl Abort, alloc: Global, packet: Packet, digits: &str) {
     let bytes = bytes_of(rt, alloc, digits);
     let out = encode(&packet);
@@ -22,7 +23,8 @@ fn spells(rt: &impl Abort, alloc: Global, packet: Packet, digits: &str) {
     reads(rt, &bytes, &Ok(packet), digits);
 }
 
-/// Checks that the first of several packets has these digits, with this many bytes after it.
+/// Cuts the first packet off the bytes with the hexadecimal digits `digits`, and checks that it has the digits `first`
+/// and that `behind` bytes follow it.
 fn cuts(rt: &impl Abort, alloc: Global, digits: &str, first: &str, behind: usize) {
     let bytes = bytes_of(rt, alloc, digits);
     let wanted = bytes_of(rt, alloc, first);
@@ -82,7 +84,8 @@ fn packet_vectors(rt: HostRuntime) {
     }
 }
 
-/// Digits of several packets, those of the first one, and how many bytes follow it.
+/// Hexadecimal digits of bytes, those of the part that `cut_packet` cuts off, and how many bytes follow it. Bytes that
+/// are too few for their kind, or of no known version or kind, are one part.
 const FIRST: &[(&str, &str, usize)] = &[
     ("", "", 0),
     ("01010000000000040103", "0101000000000004", 2),
@@ -103,7 +106,7 @@ fn first_packets_are_cut_off(rt: HostRuntime) {
     }
 }
 
-/// Digits of bytes that are not a packet, the error, and its number.
+/// Hexadecimal digits of bytes that are not a packet, the error of `decode`, and the number of that error.
 const REFUSED: &[(&str, PacketError, u8)] = &[
     ("", PacketError::Short, 1),
     ("02", PacketError::Short, 1),

@@ -1,5 +1,5 @@
-//! A plain implementation of the rules, which stores only the rows and searches them for everything. The tests compare
-//! the core with it.
+//! A plain implementation of the rules: for each destination it stores a row for each neighbour, and searches the rows
+//! at each step. The tests compare the core with it.
 use std::alloc::{AllocError, Global};
 use tora_core::{Input, StepError};
 use tora_height::Id;
@@ -14,7 +14,8 @@ pub type Level = (u64, u32, u8);
 /// A height, compared from left to right: its reference level, its delta and its id.
 pub type Parts = (Level, i64, Id);
 
-/// The packet that is broadcast.
+/// A packet to broadcast: a query with its destination, an update with its destination and height, or a clear with its
+/// destination, tau and oid.
 #[derive(Clone, Copy, Debug, PartialEq, Eq)]
 pub enum Told {
     Query(Id),
@@ -30,7 +31,7 @@ pub struct Plain {
     views: Vec<PlainView>,
 }
 
-/// The parts of a packet.
+/// The `Told` for a packet.
 pub fn told_by(packet: &Packet) -> Told {
     match packet {
         Packet::Qry(query) => Told::Query(query.destination()),
@@ -46,7 +47,8 @@ fn parts_of(update: &Update) -> Parts {
 }
 
 impl Plain {
-    /// A core with no link up. Both lists are in ascending order.
+    /// A core with no link up, which remembers erased levels if `remembers`. Both lists must be in ascending order. The
+    /// error says that memory ran out.
     pub fn new(
         alloc: Global,
         remembers: bool,
@@ -117,7 +119,8 @@ impl Plain {
         }
     }
 
-    /// Steps an input, and returns what is broadcast.
+    /// Steps an input at tick `now`, and returns the packets to broadcast, or why the input is refused. The outer error
+    /// says that memory ran out.
     pub fn step(
         &mut self,
         alloc: Global,
@@ -141,7 +144,7 @@ impl Plain {
         Ok(Ok(sends))
     }
 
-    /// The text of the core's table.
+    /// The text of the table, as `Core::show` writes it; the error says that memory ran out.
     pub fn show(&self, alloc: Global) -> Result<String, AllocError> {
         let mut text = String::new(alloc);
         for view in self.views.iter() {

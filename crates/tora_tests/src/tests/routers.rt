@@ -9,7 +9,7 @@ use tora_arq::{Reason, Times};
 use tora_core::StepError;
 use tora_router::{Change, Config, GREATEST_LIFE, RouterError};
 
-/// Checks that the first router reports exactly these changes.
+/// Checks that the router of node 1 reports exactly these changes, in this order.
 fn tells(rt: &impl Abort, pair: &mut Pair, changes: &[Change]) {
     for change in changes {
         same(rt, &pair.one.poll_change(), &Some(*change), "a change");
@@ -17,7 +17,8 @@ fn tells(rt: &impl Abort, pair: &mut Pair, changes: &[Change]) {
     same(rt, &pair.one.poll_change(), &None, "no change is left");
 }
 
-/// The two routers find a route.
+/// Node 1 asks for a route to 2, and both routers run for the ticks 0 to 5: checks that the link came up and that node
+/// 2 is the next hop of node 1.
 fn finds(rt: &impl Abort, pair: &mut Pair) {
     same(rt, &pair.one.need(2, 0), &Ok(()), "need");
     sees(rt, pair.one.flag(2), "a route is required");
@@ -27,7 +28,8 @@ fn finds(rt: &impl Abort, pair: &mut Pair) {
     sees(rt, !pair.one.flag(2), "the route is there");
 }
 
-/// The two routers lose the route.
+/// Cuts the link at node 1 at tick 6: checks that the link went down there, that node 1 has no next hop, and that its
+/// link end is to be opened with the session number 6.
 fn loses(rt: &impl Abort, pair: &mut Pair) {
     sees(rt, pair.one.cut(2, 6), "a neighbour is cut");
     let changes = [Change::LinkDown(2, Reason::Cut), Change::NextHop(2, None)];
@@ -37,7 +39,8 @@ fn loses(rt: &impl Abort, pair: &mut Pair) {
     same(rt, &pair.one.next_life(), &6, "one number was given");
 }
 
-/// Checks for which reason a router with this configuration is refused, if it is.
+/// Checks that a router with this configuration, these neighbours and the destination 2 is refused with `wanted`, or
+/// made if that is `None`.
 fn refused(
     rt: &impl Abort,
     alloc: Global,

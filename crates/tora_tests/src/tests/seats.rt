@@ -1,4 +1,4 @@
-//! Items that are served over queues that fill up.
+//! A core's seat that serves items while its outbound queues fill up.
 
 use super::sees::{prints_each, same_at, same_text};
 use std::alloc::Global;
@@ -49,7 +49,8 @@ impl TestLanes {
         }
     }
 
-    /// Puts a message into a queue, if there is room.
+    /// Counts a message into the first queue (index 0) or the second (any other index), and returns true. Returns false
+    /// if the queue is full.
     fn put(&mut self, place: usize) -> bool {
         if place == 0 {
             if self.first >= ROOM {
@@ -82,7 +83,7 @@ impl OutLanes for TestLanes {
     }
 }
 
-/// Node 1 needs a route to each of 4 to 8, and the link to 2 is up.
+/// Node 1 needs a route to each of 4 to 8, and then the link to 2 comes up: five packets are offered to its queue.
 const NEEDING: &[Step] = &[
     Serves(2, Need(4)),
     Serves(2, Need(5)),
@@ -101,7 +102,8 @@ fn needing(rt: &impl Abort, alloc: Global, waiting: usize) -> (CoreSeat, TestLan
     (seat, lanes)
 }
 
-/// The link to 3 comes up while the queue to 2 fills.
+/// The link to 3 comes up while the queue to 2 has room for two packets: a third is refused, so the session to 2 is
+/// cut, and the cut is pending while that queue is full.
 const HANDED_BACK: &[Step] = &[
     Serves(1, Told::Up(SECOND)),
     Offers(&[
@@ -130,7 +132,8 @@ fn handed_back_packet_cuts_its_life(rt: HostRuntime) {
     runs(&rt, &mut seat, &mut lanes, HANDED_BACK);
 }
 
-/// There is room again in the queue to 2 when the next item is served.
+/// After a session was cut as in `HANDED_BACK`, the queue to 2 has room again: the next item puts the pending cut,
+/// once.
 const CUT_ONCE: &[Step] = &[
     Serves(1, Told::Up(SECOND)),
     Counts(8),
@@ -148,7 +151,7 @@ fn pending_cut_is_put_once_there_is_room(rt: HostRuntime) {
     runs(&rt, &mut seat, &mut lanes, CUT_ONCE);
 }
 
-/// How many messages were put into the first queue.
+/// How many of the offered messages were put into the first queue.
 fn put_first(lanes: &TestLanes) -> usize {
     let mut put = 0usize;
     for offered in lanes.offers.iter() {
@@ -159,7 +162,8 @@ fn put_first(lanes: &TestLanes) -> usize {
     put
 }
 
-/// Checks whether the session of the first link is cut, if this many messages waited.
+/// Checks whether the session to 2 is cut: then it has no current session, a cut is pending and the core has the link
+/// as down. Otherwise none of the three may hold. `waiting` names the turn.
 fn is_cut_first(rt: &impl Abort, seat: &CoreSeat, is_cut: bool, waiting: usize) {
     let found = (
         seat.current(0).is_none(),
@@ -211,7 +215,8 @@ fn cut_that_is_asked_for_ends_its_life_at_once(rt: HostRuntime) {
     runs(&rt, &mut seat, &mut lanes, CUT_NOW);
 }
 
-/// The same requests if the queue to 2 is full: the link is down, and the cut is pending until there is room.
+/// The cut of the session to 2 is requested while the queue to 2 is full: the link is down, and the cut is pending
+/// until there is room.
 const CUT_LATER: &[Step] = &[
     Serves(2, Told::Cut(2)),
     Offers(&[(0, Given::Cut(FIRST), false)]),
@@ -230,7 +235,7 @@ fn cut_that_is_asked_for_waits_for_room(rt: HostRuntime) {
     runs(&rt, &mut seat, &mut lanes, CUT_LATER);
 }
 
-/// A packet of the current session, and one of another session.
+/// A packet of the current session is passed to the core, and one of another session is not.
 const STEPPED: &[Step] = &[
     Serves(0, Told::Packet(FIRST, 4)),
     Steps(Some((2, FIRST, 4))),
@@ -245,7 +250,8 @@ fn packet_of_the_current_life_is_handed_to_the_core(rt: HostRuntime) {
     runs(&rt, &mut seat, &mut lanes, STEPPED);
 }
 
-/// The steps that a seat serves without memory.
+/// Steps that need no memory: the link to 2 comes up, a route to 4 is required, and a new session replaces that of the
+/// link.
 const SERVED: &[Step] = &[
     Serves(0, Told::Up(FIRST)),
     Hands(&[Handed::Up(2)]),
@@ -257,7 +263,8 @@ const SERVED: &[Step] = &[
     Lives(0, Some(SECOND)),
 ];
 
-// With each request for memory refused in turn, there is no seat, or one that serves without memory.
+// `bench/refused-memory.sh` runs this with each request for memory refused in turn: there is no seat, or one that
+// serves items without memory.
 #[test]
 fn want_of_memory_is_answered(rt: HostRuntime) {
     if let Some((mut seat, mut lanes)) = made(&rt, rt.alloc(), &[4]) {

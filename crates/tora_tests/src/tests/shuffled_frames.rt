@@ -1,4 +1,4 @@
-//! Two ends over datagrams that are lost, repeated and reordered.
+//! Two link ends whose frames are lost, repeated and reordered.
 
 use super::link_turns::open_end;
 use super::made::query_of;
@@ -8,7 +8,7 @@ use std::process::Abort;
 use tora_arq::{LinkEnd, LinkEvent, Times};
 use tora_frame::{Frame, Version};
 
-/// A generator of numbers with a fixed seed.
+/// A generator of pseudo-random numbers; `seed` is its state.
 #[derive(Drop)]
 struct Dice {
     seed: u64,
@@ -33,7 +33,8 @@ const PATIENT: Times = Times {
     tries: 1_000_000,
 };
 
-/// Two ends, and the frames in flight to each.
+/// The ends of nodes 1 and 2, the frames in flight in both directions, and the generator that decides what is lost,
+/// repeated and reordered.
 #[derive(Drop)]
 struct Network {
     one: LinkEnd,
@@ -43,7 +44,8 @@ struct Network {
 }
 
 impl Network {
-    /// Two ends; the first speaks version 2, and the second this version.
+    /// The ends of nodes 1 and 2, opened with the session numbers 5 and 9, with no frame in flight. That of node 1
+    /// speaks version 2, and that of node 2 the version `second`.
     fn new(rt: &impl Abort, alloc: Global, second: Version) -> Network {
         Network {
             one: open_end(rt, alloc, Version::Two, (1, 2), PATIENT, 5),
@@ -53,7 +55,8 @@ impl Network {
         }
     }
 
-    /// Puts the first due frame of one end in flight, if there is room. One of eight is lost.
+    /// Takes the first frame due of the first end (`is_first`) or of the second, and puts it in flight, or loses it
+    /// with probability 1/8. Nothing happens if no frame is due, or if 64 frames are in flight.
     fn transmit(&mut self, rt: &impl Abort, is_first: bool, now: u64) {
         if self.frames.len() >= 64 {
             return;
@@ -70,7 +73,8 @@ impl Network {
         }
     }
 
-    /// Delivers one of the frames in flight, in any order. One of eight stays in flight, and arrives again.
+    /// Delivers a frame in flight, chosen by the generator, to its receiver; with probability 1/8 it also stays in
+    /// flight. Returns false if no frame is in flight.
     fn hand(&mut self, now: u64) -> bool {
         let place = self.dice.roll(self.frames.len() as u64) as usize;
         let Some(frame) = self.frames.get(place) else {
@@ -88,7 +92,8 @@ impl Network {
     }
 }
 
-/// Submits the next packet at an end, if it is bound and few packets wait.
+/// Submits the query for destination `submitted` + 1 at an end, checks that it is accepted, and returns that number. If
+/// the end is not bound, or 100 packets or more are not acknowledged, submits nothing and returns `submitted`.
 fn submit_next(rt: &impl Abort, end: &mut LinkEnd, submitted: u64) -> u64 {
     let Some(life) = end.life() else {
         return submitted;
@@ -102,7 +107,8 @@ fn submit_next(rt: &impl Abort, end: &mut LinkEnd, submitted: u64) -> u64 {
     next
 }
 
-/// Polls the events of an end, and checks that after `Up` the packets come in order, each once.
+/// Polls an end 64 times, and returns `delivered` plus the count of packets delivered. Checks that packet n is the
+/// query for n, that no packet comes before `Up`, and that no `Down` comes.
 fn count_delivered(rt: &impl Abort, end: &mut LinkEnd, delivered: u64) -> u64 {
     let mut delivered = delivered;
     for _ in 0..64 {
@@ -119,7 +125,8 @@ fn count_delivered(rt: &impl Abort, end: &mut LinkEnd, delivered: u64) -> u64 {
     delivered
 }
 
-/// Checks that 10,000 frames deliver the packets once each and in order.
+/// Delivers 10,000 frames, with eight turns in each tick, and checks that each end delivers the other's packets in
+/// order, each once, and more than 1,000 of them.
 fn packets_come_out(rt: &impl Abort, mut network: Network) {
     let mut sent = 0;
     let mut came = 0;

@@ -20,7 +20,7 @@ mod rest;
 mod steps;
 mod topologies;
 
-/// Links to a node from both sides.
+/// The links of nodes 1, 2 and 3 in a row.
 const ROW: &[(Id, Id)] = &[(3, 2), (1, 2)];
 
 /// The link ends of nodes 1, 2 and 3 in a row.
@@ -218,12 +218,13 @@ fn old_node_is_met(rt: HostRuntime) {
 /// The link ends of nodes 1 to 4 in a row.
 const ENDS: &[(Id, Id)] = &[(1, 2), (2, 1), (2, 3), (3, 2), (3, 4), (4, 3)];
 
-/// Makes an event happen if it is possible, and returns whether it was.
+/// Makes an event happen if it is possible, and returns whether it happened.
 fn tries(sim: &mut Sim, event: Event) -> bool {
     sim.step(&event).is_ok()
 }
 
-/// Makes the possible events happen once at each end, and delivers each datagram at once.
+/// At each end of `ENDS` in order: opens it, pulls a message, sends a frame and delivers it, pumps an event, and makes
+/// a turn of the node's core, each once and only if it is possible.
 pub fn pass(sim: &mut Sim) {
     for end in ENDS {
         let (n, k) = *end;
@@ -270,7 +271,7 @@ pub const TIMES: Times = Times {
     tries: 2,
 };
 
-/// A HELLO in both versions, and the next ones two ticks later.
+/// The end of node 1 sends a HELLO in both versions, and the next HELLO two ticks later, as `TIMES` says.
 const HELLOS: &[Step] = &[
     Does(Event::Open(1, 2)),
     Does(Event::Transmit(1, 2)),

@@ -29,7 +29,7 @@ fn made(
     core_within(rt, alloc, limits, 1, &neighbours, &destinations)
 }
 
-/// Few neighbours, and one destination.
+/// Limits of 2 neighbours and 1 destination.
 const SMALL: CoreLimits = CoreLimits {
     neighbours: 2,
     destinations: 1,
@@ -98,8 +98,8 @@ fn cores_are_taken_up_to_the_limits_that_are_asked(rt: HostRuntime) {
     }
 }
 
-// 255 neighbours come up, one of them the destination. Another one asks for the route and gets the answer. All others
-// go down.
+// The links of node 1 to 255 neighbours come up, one of them the destination 256. Neighbour 2 sends a query, and one
+// packet answers it. The links to all neighbours but 256 go down, and 256 is still the next hop.
 #[test]
 fn core_of_255_neighbours_finds_a_route(rt: HostRuntime) -> Result<(), Fail> {
     let (limits, alloc) = (CoreLimits::GREATEST, rt.alloc());

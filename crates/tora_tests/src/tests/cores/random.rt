@@ -9,7 +9,7 @@ use tora_core::{Core, CoreLimits, Erasure, Input, Sends};
 use tora_height::{Height, Id};
 use tora_packet::{Clear, Packet, Update};
 
-/// A generator of numbers: xorshift on 64 bits.
+/// A generator of pseudo-random numbers: xorshift on 64 bits.
 #[derive(Drop)]
 struct Random {
     state: u64,
@@ -25,7 +25,7 @@ impl Random {
         x
     }
 
-    /// A number from 0 to `most`, at most 255.
+    /// A pseudo-random number from 0 to `most`.
     fn up_to(&mut self, most: u8) -> u32
         ensures { result ≤ most }
     {
@@ -34,8 +34,8 @@ impl Random {
     }
 }
 
-/// A packet of neighbour `k` for a destination, sometimes with the height of another node, and often at a reference
-/// level of time 7, so that levels occur again.
+/// A random packet of neighbour `k` for destination `d`; `None` if its parts are out of range. An update sometimes has
+/// the height of node `k` + 1. The time of a reference level is often 7, so that levels occur again.
 fn any_packet(random: &mut Random, now: u64, k: Id, d: Id) -> Option<Packet> {
     let tau = if random.up_to(1) == 0 {
         7
@@ -60,7 +60,8 @@ fn any_packet(random: &mut Random, now: u64, k: Id, d: Id) -> Option<Packet> {
     }
 }
 
-/// An input, refused or not: neighbour 9 and destination 20 do not exist.
+/// A random input, which may be refused: neighbour 9 and destination 20 do not exist. `None` if `any_packet` returns
+/// `None`.
 fn any_input(random: &mut Random, now: u64) -> Option<Input> {
     let k = 1 + random.up_to(8);
     let d = 5 + random.up_to(15);
@@ -116,7 +117,8 @@ fn same_tables(rt: &impl Abort, alloc: Global, both: &Both, turn: u32) {
     same_at(rt, &shown.as_str(), &other.as_str(), "the tables", &turn);
 }
 
-/// Checks that both implementations agree on ten thousand inputs.
+/// Steps a random input in each of 10,000 turns, unless `any_input` gives none, at node 100 in both implementations.
+/// Checks that the results agree, and the tables after every 100th turn.
 fn answer_alike(rt: &impl Abort, alloc: Global, erasure: Erasure) {
     let neighbours = [1, 2, 3, 4, 5, 6, 7, 8];
     let destinations = [5, 6, 7, 8, 9, 10, 11, 12, 13, 14, 15, 16, 17, 18, 19, 100];

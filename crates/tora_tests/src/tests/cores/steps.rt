@@ -10,7 +10,8 @@ use tora_packet::Packet;
 /// A node, its neighbours and the destinations of its table.
 pub type Node = (Id, &'static [Id], &'static [Id]);
 
-/// A packet; an update or a clear is one for 4.
+/// A packet: a query for a destination; an update for destination 4 with tau, oid, r, delta and id; or a clear for
+/// destination 4 with tau and oid.
 #[derive(Clone, Copy, Debug)]
 pub enum Sent {
     Qry(Id),
@@ -18,7 +19,8 @@ pub enum Sent {
     Clr(u64, Id),
 }
 
-/// An input: a link, a need, or a packet of a neighbour.
+/// An input: the link to a neighbour comes up or goes down, a route to a destination is required, or a packet of a
+/// neighbour arrives.
 #[derive(Clone, Copy, Debug)]
 pub enum Given {
     Up(Id),
@@ -30,13 +32,13 @@ pub enum Given {
 /// A step of a run: an action of a node at a tick, or an observation.
 #[derive(Clone, Copy, Debug)]
 pub enum Step {
-    /// The node accepts an input, and broadcasts exactly these packets.
+    /// The node accepts an input at a tick, and broadcasts exactly these packets, in this order.
     Takes(Id, u64, Given, &'static [Sent]),
-    /// The node refuses an input, with this number.
+    /// The node refuses an input at a tick, with the error of this number.
     Refuses(Id, u64, Given, u8),
-    /// The node has this height for 4, or NULL.
+    /// The node has this height for destination 4; `None` is NULL.
     Has(Id, Option<Parts>),
-    /// The node has this next hop to 4, or none.
+    /// The node has this next hop to destination 4, or none.
     Goes(Id, Option<Id>),
     /// The node's table prints this text.
     Shows(Id, &'static str),
@@ -61,7 +63,8 @@ pub fn input_of(rt: &impl Abort, given: Given) -> Input {
     }
 }
 
-/// Steps an input at a core, and checks the packets that are sent, or the number of its refusal.
+/// Steps an input at a core at tick `now`. Checks that exactly the packets of `Ok` are broadcast, or that the input is
+/// refused with the error number of `Err` and nothing is broadcast.
 fn steps(
     rt: &impl Abort,
     core: &mut Core,
@@ -84,7 +87,7 @@ fn steps(
     }
 }
 
-/// The core of a node.
+/// The core of node `node` among `cores`; the test fails if there is none.
 fn core_in<'a>(rt: &impl Abort, cores: &'a mut [Core], node: Id) -> &'a mut Core {
     let found = cores.iter_mut().find(|core| core.me() == node);
     found.expect(rt, "a node")
@@ -135,7 +138,7 @@ fn cores_of(rt: &impl Abort, alloc: Global, nodes: &[Node]) -> Vec<Core> {
     cores
 }
 
-/// Makes the steps of each table, one table after the other.
+/// Makes the steps of each table, one table after the other, at new cores of these nodes.
 pub fn runs(rt: &impl Abort, alloc: Global, nodes: &[Node], tables: &[&[Step]]) {
     let mut cores = cores_of(rt, alloc, nodes);
     for table in tables {

@@ -4,7 +4,7 @@ use super::steps::Sent::{Clr, Qry, Upd};
 use super::steps::Step::{Goes, Has, Refuses, Shows, Takes};
 use super::steps::{Node, Step};
 
-/// The line 1 - 2 - 3 - 4.
+/// The nodes of the line 1 - 2 - 3 - 4, with the destination 4.
 pub const LINE: &[Node] = &[
     (1, &[2], &[4]),
     (2, &[1, 3], &[4]),
@@ -22,7 +22,7 @@ pub const LINE_UP: &[Step] = &[
     Takes(4, 1, Up(3), &[]),
 ];
 
-/// Node 1 needs 4.
+/// Node 1 needs a route to 4: its query goes along the line to 3, and updates come back to 1.
 pub const JOINING: &[Step] = &[
     Takes(1, 2, Need(4), &[Qry(4)]),
     Takes(2, 2, From(1, Qry(4)), &[Qry(4)]),
@@ -35,7 +35,7 @@ pub const JOINING: &[Step] = &[
     Takes(2, 2, From(1, Upd(0, 0, 0, 3, 1)), &[]),
 ];
 
-/// Every node has a route.
+/// The heights and next hops of the nodes once every node has a route to 4; node 4 itself has no next hop.
 pub const JOINED: &[Step] = &[
     Has(1, Some((0, 0, 0, 3, 1))),
     Goes(1, Some(2)),
@@ -67,7 +67,7 @@ pub const ERASING: &[Step] = &[
     Takes(2, 7, From(1, Clr(7, 3)), &[]),
 ];
 
-/// No node but the destination has a height.
+/// No node but the destination has a height, and no node has a next hop.
 pub const ERASED: &[Step] = &[
     Has(1, None),
     Goes(1, None),
@@ -79,10 +79,11 @@ pub const ERASED: &[Step] = &[
     Goes(4, None),
 ];
 
-/// Node 2 between 1 and 3.
+/// Node 2 with the neighbours 1 and 3 and the destination 4.
 pub const MIDDLE: &[Node] = &[(2, &[1, 3], &[4])];
 
-/// Node 2 has a route by 3, and loses it to the reflected level (7,9,1), which another node defined.
+/// Node 2 gets a route through 3. It loses the route when both neighbours have the reflected level (7,9,1), which node
+/// 9 defined, and defines the level (8,2,0).
 pub const FOREIGN_REFLECTION: &[Step] = &[
     Takes(2, 1, Up(1), &[]),
     Takes(2, 1, Up(3), &[]),
@@ -92,19 +93,19 @@ pub const FOREIGN_REFLECTION: &[Step] = &[
     Takes(2, 8, From(3, Upd(7, 9, 1, -1, 3)), &[Upd(8, 2, 0, 0, 2)]),
 ];
 
-/// Node 2 has defined a reference level.
+/// Node 2 has the height of the level (8,2,0), which it defined.
 pub const NEW_LEVEL: &[Step] = &[Has(2, Some((8, 2, 0, 0, 2)))];
 
-/// The foreign level is cleared while node 1 has a height at another level.
+/// After an update of node 1 at the level (9,1,0), node 3 clears the foreign level: node 2 defines the level (10,2,0).
 pub const CLEARED_BESIDE_ANOTHER: &[Step] = &[
     Takes(2, 9, From(1, Upd(9, 1, 0, 0, 1)), &[]),
     Takes(2, 9, From(3, Clr(7, 9)), &[Upd(10, 2, 0, 0, 2)]),
 ];
 
-/// The foreign level is cleared while there is no other entry.
+/// Node 3 clears the foreign level while both entries are at it: node 2 has no height left.
 pub const CLEARED_ALONE: &[Step] = &[Takes(2, 9, From(3, Clr(7, 9)), &[]), Has(2, None)];
 
-/// Node 3 between 2 and 4.
+/// Node 3 with the neighbours 2 and 4 and the destination 4.
 pub const NEXT: &[Node] = &[(3, &[2, 4], &[4])];
 
 /// Node 3 answers a query of 2 for 4.
@@ -120,7 +121,8 @@ pub const CLOCK_BEHIND: &[Step] = &[
     Takes(3, 3, Down(4), &[Upd(8, 3, 0, 0, 3)]),
 ];
 
-/// Node 2 sends an update, and asks twice: before its link goes down and after it.
+/// Node 2 asks again and gets no answer, since the update was broadcast while its link was up. After the link went down
+/// and came up, it asks and gets an answer.
 pub const TOLD: &[Step] = &[
     Takes(3, 3, From(2, Upd(0, 0, 0, 2, 2)), &[]),
     Takes(3, 4, From(2, Qry(4)), &[]),
@@ -129,13 +131,13 @@ pub const TOLD: &[Step] = &[
     Takes(3, 6, From(2, Qry(4)), &[Upd(0, 0, 0, 1, 3)]),
 ];
 
-/// The table of node 3, which is below 2 and above 4.
+/// The text of the table of node 3, which is below 2 and above 4.
 const BETWEEN: &str = "to 4 height (0,0,0,1,3) flag 0 hop 4
 via 2 (0,0,0,2,2) up
 via 4 (0,0,0,0,4) down
 ";
 
-/// Node 3 is below 2 and above 4.
+/// An update of node 2 puts it above node 3; the table shows the link to 2 as upstream and that to 4 as downstream.
 pub const DIRECTIONS: &[Step] = &[
     Takes(3, 3, From(2, Upd(0, 0, 0, 2, 2)), &[]),
     Shows(3, BETWEEN),
@@ -144,20 +146,21 @@ pub const DIRECTIONS: &[Step] = &[
 /// Node 3 has the next hop 4 to destination 4.
 pub const HOP: &[Step] = &[Goes(3, Some(4))];
 
-/// Node 4 beside 3.
+/// Node 4 with the neighbour 3 and the destination 4, itself.
 pub const DESTINATION: &[Node] = &[(4, &[3], &[4])];
 
-/// The destination stores no entries.
+/// The destination stores no entry for an update of its neighbour.
 pub const OWN_TEXT: &[Step] = &[
     Takes(4, 1, Up(3), &[]),
     Takes(4, 3, From(3, Upd(0, 0, 0, 1, 3)), &[]),
     Shows(4, "to 4 height (0,0,0,0,4) flag 0 hop -\nvia 3 - none\n"),
 ];
 
-/// Node 2 beside 3.
+/// Node 2 with the neighbour 3 and the destination 4.
 pub const LEAF: &[Node] = &[(2, &[3], &[4])];
 
-/// Node 3 sends a height with the greatest delta, above which there is none.
+/// Node 3 sends a height with the greatest delta, 2^30. Node 2 would need a greater one, so its height is NULL, but 3
+/// is its next hop.
 pub const GREATEST_DELTA: &[Step] = &[
     Takes(2, 1, Up(3), &[]),
     Takes(2, 2, Need(4), &[Qry(4)]),
@@ -168,7 +171,7 @@ pub const GREATEST_DELTA: &[Step] = &[
     ),
 ];
 
-/// Each refusal, at node 3 with the link to 2 up.
+/// Each refusal, by the number of its error, at node 3 with the link to 2 up; the table does not change.
 pub const REFUSALS: &[Step] = &[
     Takes(3, 1, Up(2), &[]),
     Refuses(3, 2, Up(9), 1),
@@ -183,10 +186,10 @@ pub const REFUSALS: &[Step] = &[
     Shows(3, "to 4 height - flag 0 hop -\nvia 2 - none\n"),
 ];
 
-/// Node 3 between 2 and 4, with the destinations 5 and 4.
+/// Node 3 with the neighbours 2 and 4 and the destinations 5 and 4.
 pub const TWO_DESTINATIONS: &[Node] = &[(3, &[2, 4], &[5, 4])];
 
-/// A link comes up while a route to each destination is required.
+/// The link to 4 comes up while routes to 5 and 4 are required: a packet for each is broadcast, first that for 4.
 pub const TWO_PACKETS: &[Step] = &[
     Takes(3, 1, Up(2), &[]),
     Takes(3, 1, Need(5), &[Qry(5)]),
@@ -194,10 +197,11 @@ pub const TWO_PACKETS: &[Step] = &[
     Takes(3, 2, Up(4), &[Upd(0, 0, 0, 1, 3), Qry(5)]),
 ];
 
-/// Node 2 between 1, 3 and 5.
+/// Node 2 with the neighbours 1, 3 and 5 and the destination 4.
 pub const FORK: &[Node] = &[(2, &[1, 3, 5], &[4])];
 
-/// Two entries are at the greatest level, and the lowest of their deltas counts.
+/// The entries of 1 and 5 are at the greatest level, with the deltas 5 and 3: node 2 takes this level, with the delta
+/// 2, one below the lower of both.
 pub const LEAST_DELTA: &[Step] = &[
     Takes(2, 1, Up(1), &[]),
     Takes(2, 1, Up(3), &[]),

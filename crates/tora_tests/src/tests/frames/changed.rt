@@ -18,7 +18,8 @@ fn plain_number(bytes: &[u8], from: usize, count: usize) -> u64 {
     number
 }
 
-/// The number of the fault in the layout (header and length), if there is one.
+/// The number of the error for the length, the version, the kind or the payload length of a frame; `None` if these are
+/// right.
 fn plain_layout(bytes: &[u8]) -> Option<u8> {
     if bytes.len() < 28 {
         return Some(1);
@@ -44,7 +45,8 @@ fn plain_layout(bytes: &[u8]) -> Option<u8> {
     }
 }
 
-/// The number of the fault in the ranges of the fields, if there is one.
+/// The number of the error for a node, a session number, a packet number or a count in a frame whose layout is right;
+/// `None` if all are in range.
 fn plain_fields(bytes: &[u8]) -> Option<u8> {
     let most = 1u64 << 62;
     let kind = plain_number(bytes, 1, 1);
@@ -66,7 +68,8 @@ fn plain_fields(bytes: &[u8]) -> Option<u8> {
     }
 }
 
-/// The number of the fault in the number of packets in a frame of version 2, if there is one.
+/// The number of the error (10) for the count of packets in a DATA frame of version 2; `None` if it is 1 to 16, three
+/// zero bytes follow it, and no packet number exceeds 2^62. `first` is the number of the first packet.
 fn plain_count(bytes: &[u8], first: u64) -> Option<u8> {
     let many = plain_number(bytes, 44, 1);
     let is_zero = plain_number(bytes, 45, 3) == 0;
@@ -76,7 +79,8 @@ fn plain_count(bytes: &[u8], first: u64) -> Option<u8> {
     None
 }
 
-/// The length of the first packet in `bytes`: that of its kind, but at most all bytes.
+/// The length of the first packet in `bytes`, by its kind, but at most the length of `bytes`, which is also the answer
+/// if they do not begin with version 1 and a known kind.
 fn plain_cut(bytes: &[u8]) -> usize
     ensures { result ≤ length bytes.now }
 {
@@ -89,7 +93,8 @@ fn plain_cut(bytes: &[u8]) -> usize
     kind.min(bytes.len())
 }
 
-/// Why the packets of a frame are refused, if they are.
+/// The error of the first refused packet of a DATA frame, or `Long` if bytes follow its last packet; `None` if neither
+/// applies.
 fn plain_packets(bytes: &[u8]) -> Option<PacketError> {
     if plain_number(bytes, 0, 1) == 1 {
         return tora_packet::decode(bytes.get(44..).unwrap_or(&[])).err();
@@ -109,7 +114,8 @@ fn plain_packets(bytes: &[u8]) -> Option<PacketError> {
     }
 }
 
-/// Checks that decoding any bytes agrees with the plain decoder, and that a decoded frame has these bytes.
+/// Decodes `bytes`. If the plain decoder finds a fault in the layout or the fields, checks that the error has its
+/// number; otherwise checks that encoding the frame gives `bytes` again, or that the error is that of `plain_packets`.
 fn check(rt: &impl Abort, bytes: &[u8]) {
     let fault = plain_layout(bytes).or(plain_fields(bytes));
     match (fault, decode(bytes)) {
@@ -125,14 +131,14 @@ fn check(rt: &impl Abort, bytes: &[u8]) {
     }
 }
 
-/// Checks each prefix of the bytes.
+/// Runs `check` with each prefix of the bytes, from the empty one to all bytes.
 fn check_cut(rt: &impl Abort, bytes: &[u8]) {
     for end in 0..=bytes.len() {
         check(rt, &bytes[..end]);
     }
 }
 
-/// Checks the bytes with each of them changed to each of some values.
+/// Runs `check` with one byte at a time set to 0, 1, 2, 3 and 255, and restores the bytes.
 fn check_changed(rt: &impl Abort, bytes: &mut [u8]) {
     for index in 0..bytes.len() {
         let old = bytes[index];

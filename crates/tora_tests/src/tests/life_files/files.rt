@@ -1,4 +1,4 @@
-//! Life files in a real folder.
+//! Life files in a real directory.
 use super::super::sees::{same, same_at, sees};
 use super::steps::refused;
 use std::fs::{self, File, Files};
@@ -23,13 +23,14 @@ fn opened<R: Files<File = File>>(rt: &R) -> Result<LifeFile<FileDisk>, Fail> {
     Ok(LifeFile::open(FileDisk::open(rt, PATH)?, 1, 2)?)
 }
 
-// Makes a new folder.
+// Removes the directory at this path, if there is one, and makes an empty one.
 fn make_folder<R: Alloc + Files<File = File>>(rt: &R, folder: &str) -> Result<(), Fail> {
     let _ = fs::remove_dir_all(rt, folder);
     Ok(fs::create_dir(rt, folder)?)
 }
 
-// Draws this many numbers, each greater than all earlier ones, and returns the last one.
+// Draws `count` numbers, checks that each is greater than `greatest` and all before it, and returns the last one;
+// `greatest` if `count` is 0.
 fn draw_on(rt: &impl Abort, file: &mut LifeFile<FileDisk>, count: u64, greatest: u64) -> u64 {
     let mut greatest = greatest;
     for _ in 0..count {
@@ -44,7 +45,8 @@ fn draw_on(rt: &impl Abort, file: &mut LifeFile<FileDisk>, count: u64, greatest:
     greatest
 }
 
-// Each of these files is dropped without a close, as if the process were killed between two calls.
+// Opens the file 20 times, and draws no number after the first opening, one after the second, and so on up to 19; all
+// numbers rise. Each time the file is dropped without a close, as if the process were killed between two calls.
 #[test]
 fn drawn_numbers_rise_in_a_real_folder(rt: HostRuntime) -> Result<(), Fail> {
     make_folder(&rt, FOLDER)?;
@@ -64,15 +66,15 @@ fn drawn_numbers_rise_in_a_real_folder(rt: HostRuntime) -> Result<(), Fail> {
 
 /// A call of a disk, and its result.
 enum Call {
-    /// A read at this offset into six bytes, and the bytes afterwards.
+    /// A read at this offset into a buffer of six bytes, its result, and the buffer afterwards.
     Reads(usize, Result<usize, DiskError>, [u8; 6]),
-    /// A write at this offset.
+    /// A write of bytes at this offset, and its result.
     Writes(usize, &'static [u8], Result<(), DiskError>),
     /// A sync that succeeds.
     Syncs,
 }
 
-/// The calls of a new file, to which up to 65 bytes are written. Each read uses the buffer of the read before it.
+/// The calls of a new file, which has 65 bytes in the end. All reads use one buffer, which has ones at first.
 const PLACES: &[Call] = &[
     Call::Reads(0, Ok(0), [1; 6]),
     Call::Writes(0, b"abcd", Ok(())),
@@ -85,7 +87,7 @@ const PLACES: &[Call] = &[
     Call::Writes(5, &[0; 60], Ok(())),
 ];
 
-/// Makes each call of a row.
+/// Makes the calls in order, and checks the result of each.
 fn each_answers(rt: &impl Abort, disk: &mut FileDisk, calls: &[Call]) {
     let mut bytes = [1; 6];
     for (at, call) in calls.iter().enumerate() {
@@ -115,7 +117,8 @@ fn a_file_is_read_and_written_at_places(rt: HostRuntime) -> Result<(), Fail> {
     Ok(())
 }
 
-/// Whether a file can be opened; it is closed at once.
+/// Whether the file at `LOCKED_PATH` can be opened, in which case it is closed at once; false at `WouldBlock`. Other
+/// errors are returned.
 fn is_free<R: Files<File = File>>(rt: &R) -> Result<bool, Fail> {
     match FileDisk::open(rt, LOCKED_PATH) {
         Ok(_) => Ok(true),

@@ -4,8 +4,8 @@ use super::steps::{draws, fails, opened, refused};
 use std::process::Abort;
 use tora_life::{DiskCall, FuseDisk, FuseMode, LifeError, MemDisk};
 
-/// How many calls of a new disk succeed before all fail, and how many numbers can then be drawn. `None` if the file
-/// does not open.
+/// How many calls of a new disk succeed before all fail, and how many numbers are drawn before a draw fails. `None` if
+/// the file does not open.
 const FUSED: &[(u64, Option<u64>)] = &[
     (0, None),
     (1, None),
@@ -20,13 +20,15 @@ fn fused(k: u64, mode: FuseMode) -> FuseDisk<MemDisk> {
     FuseDisk::new(MemDisk::new(), k, mode)
 }
 
-/// Checks that the file does not open on a disk whose calls fail from this one on.
+/// Checks that the file does not open, with the error `Disk`, on a disk of which `k` calls succeed and all later ones
+/// fail.
 fn gives_none(rt: &impl Abort, k: u64) {
     let fault = refused(rt, fused(k, FuseMode::Always));
     same_at(rt, &fault.error, &LifeError::Disk, "the fault", &k);
 }
 
-/// Checks that the file opens on a disk whose calls fail from this one on, and that this many numbers can be drawn.
+/// Opens the file on a disk of which `k` calls succeed and all later ones fail, and checks that `count` numbers are
+/// drawn and that the next two draws fail with `Disk` and `Failed`.
 fn gives_some(rt: &impl Abort, k: u64, count: u64) {
     let mut file = opened(rt, fused(k, FuseMode::Always));
     draws(rt, &mut file, 1, count.saturating_add(1), "a draw");

@@ -35,7 +35,8 @@ fn draw_in_memory(file: &mut LifeFile<MemDisk>) -> Result<u64, LifeError>
     file.draw()
 }
 
-// A crash with any torn write: no number is drawn again, and the file opens unless a call of the disk fails.
+// Closes the file, crashes its disk, with `torn` in place of the bytes that were not synced, and opens it again. No
+// number is drawn again, and the only error is `Disk`, if a call of the disk fails.
 fn restart(
     file: LifeFile<MemDisk>,
     torn: Option<[u8; 16]>,

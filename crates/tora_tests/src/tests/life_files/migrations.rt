@@ -42,7 +42,8 @@ fn file_of(tag: [u8; 32]) -> [u8; 64] {
     file
 }
 
-/// Checks why a file with these bytes is refused, and that it does not change.
+/// Opens a file with these bytes for `owner`, and checks that it is refused with `wanted`, and that its bytes do not
+/// change.
 fn refusal_is(rt: &impl Abort, bytes: &[u8], owner: Owner, wanted: LifeError, what: &str)
     requires me { 0 < owner.node }
     requires peer { 0 < owner.peer }
@@ -61,13 +62,13 @@ fn owner_of(node: u32, peer: u32) -> Owner
     Owner { node, peer }
 }
 
-/// Checks the result of reading a tag.
+/// Reads a tag from `bytes`, and checks that the result is `wanted`; `what` and `place` name the case.
 fn reads_as(rt: &impl Abort, bytes: &[u8], wanted: Tag, what: &str, place: usize) {
     same_at(rt, &Tag::read(bytes), &wanted, what, &place);
 }
 
-/// The file with these bytes after a crash while it was opened: all calls of the disk failed from this one on, and the
-/// bytes that were not synced are zeros.
+/// Opens a file with these bytes on a disk of which `k` calls succeed and all later ones fail, and checks that it does
+/// not open. Then crashes the disk, with zeros in place of the bytes that were not synced, and opens the file.
 fn torn_while_opened(rt: &impl Abort, bytes: &[u8], k: u64) -> LifeFile<MemDisk> {
     let fused = FuseDisk::new(disk_of(rt, bytes), k, FuseMode::Always);
     let mut disk = refused(rt, fused).disk.into_inner();
@@ -81,7 +82,7 @@ const OF_ITS_OWNER: &[(&str, &[u8], Result<u64, LifeError>)] = &[(
     Ok(33),
 )];
 
-/// A file of version 1 after the draws 1 to 3.
+/// A file of version 1 with the slot of 16: the next number is 17, and then the file has the bytes `TAGGED`.
 const MIGRATED: &[(&str, &[u8], &[Step])] = &[(
     "the migrated file",
     &SLOT_OF_16,
@@ -114,7 +115,7 @@ fn life_file_is_tagged_and_migrated(rt: HostRuntime) {
     draws(&rt, &mut file, 17, 18, "the draw after the crash");
 }
 
-/// The tag with a changed byte at this index.
+/// `TAG_OF_1_AND_2` with the lowest bit of the byte at this index inverted.
 fn changed(place: usize) -> [u8; 32]
     requires { place < 32 }
 {
@@ -123,7 +124,8 @@ fn changed(place: usize) -> [u8; 32]
     tag
 }
 
-/// The tag with a changed byte at this index of its first half, and at the same index of its second half.
+/// `TAG_OF_1_AND_2` with the lowest bit inverted in the byte at this index of its first half and of its second half, so
+/// that the second half is still the complement.
 fn changed_twice(place: usize) -> [u8; 32]
     requires { place < 16 }
 {
@@ -132,8 +134,8 @@ fn changed_twice(place: usize) -> [u8; 32]
     tag
 }
 
-/// Checks why a file is refused if a byte of its tag is changed at this index, and the complement with it: for its
-/// beginning, or for its numbers.
+/// Checks that a file with the tag `changed_twice(place)` is refused: as `Damaged` if `place` is below 8, in the
+/// beginning of the tag, and otherwise as `Foreign`, since a number of the owner differs.
 fn tag_is_refused(rt: &impl Abort, place: usize)
     requires { place < 16 }
 {
@@ -194,7 +196,8 @@ const HALF_TAGGED: [u8; 64] = [
     0xfe, 0xff, 0xff, 0xff, 0xfd,
 ];
 
-/// Checks the first number drawn from a file with these bytes, and the same after the file is closed and opened again.
+/// Checks that the first number drawn from a file with these bytes is `wanted`, also if the file is opened and closed
+/// once before.
 fn goes_on(rt: &impl Abort, bytes: &[u8], wanted: u64) {
     let length = bytes.len();
     let number = first_draw(rt, bytes);
@@ -237,7 +240,8 @@ fn run<D: Disk + Drop>(disk: D, drawn: u64) -> (D, u64) {
     (file.close(), greatest)
 }
 
-/// As `run`, with a call that is armed before the file is opened (`stop` 0) or before a draw.
+/// As `run`, with a call of this kind armed to fail: before the file is opened (`stop` 0), before the draw with the
+/// number `stop` (1 to 40), or never (above 40).
 fn run_armed(mut disk: MemDisk, stop: u64, call: DiskCall, drawn: u64) -> (MemDisk, u64) {
     if stop == 0 {
         disk.arm(call);
@@ -259,13 +263,14 @@ fn run_armed(mut disk: MemDisk, stop: u64, call: DiskCall, drawn: u64) -> (MemDi
     (file.close(), greatest)
 }
 
-/// As `run`, on a disk whose calls all fail from the call `stop` on. Returns the wrapped disk.
+/// As `run`, on a disk of which `stop` calls succeed and all later ones fail. Returns the wrapped disk.
 fn run_fused(disk: MemDisk, stop: u64, drawn: u64) -> (MemDisk, u64) {
     let (fused, greatest) = run(FuseDisk::new(disk, stop, FuseMode::Always), drawn);
     (fused.into_inner(), greatest)
 }
 
-/// Opens the file again and draws. A call that is still armed may fail first.
+/// Opens the file and draws a number, up to five times, since a call that is still armed may fail. The test fails if no
+/// number is drawn.
 fn next_number(rt: &impl Abort, mut disk: MemDisk) -> u64 {
     for _ in 0..5 {
         match LifeFile::open(disk, 1, 2) {
@@ -285,8 +290,8 @@ const HALF_MIGRATED: [u8; 40] = [
     0x20, 0xff, 0xff, 0xff, 0xff, 0xff, 0xff, 0xff, 0xdf, 0, 0, 0, 0, 0, 0, 0, 0,
 ];
 
-/// Files that a crash may hit (new, of version 1, partly migrated, and tagged), and the greatest number drawn from
-/// each.
+/// Files that a crash may hit (new, of version 1, partly migrated, and tagged), and the greatest number that may have
+/// been drawn from each.
 const OLD: &[(&[u8], u64)] = &[
     (&[], 0),
     (&SLOT_OF_16, 16),
@@ -295,13 +300,12 @@ const OLD: &[(&[u8], u64)] = &[
     (&TAGGED, 32),
 ];
 
-/// The bytes that a crash leaves in place of those that were not synced.
+/// The bytes that a crash leaves in place of those that were not synced; with `None` the file is as at its last sync.
 const PATTERNS: &[Option<[u8; 16]>] = &[None, Some([0; 16]), Some(SLOT_OF_32), Some(SLOT_OF_900)];
 
-/// Checks that the next number is above those that were drawn, after the disk fails and then crashes. The call of this
-/// kind fails before the file is opened (0) or before the draw with this number; without a kind, all calls fail from
-/// the one with this number on. With `twice`, this call of the disk fails while the file is opened again, and the disk
-/// crashes once more.
+/// Draws up to 40 numbers until the disk fails, crashes it, and checks that the next number is above these and `drawn`.
+/// The failure is that of `run_armed` with this call and `stop`, or for `None` that of `run_fused`. With `twice`, the
+/// file is opened once more on a disk of which this many calls succeed, and the disk crashes again.
 fn goes_on_after(
     rt: &impl Abort,
     (bytes, drawn): &(&[u8], u64),
@@ -324,7 +328,7 @@ fn goes_on_after(
     sees_at(rt, is_above, "above all before", &place);
 }
 
-/// Calls `goes_on_after` for each file of `OLD`, each pattern, and each call that fails while the file is opened again.
+/// Calls `goes_on_after` for each file of `OLD`, each of `PATTERNS`, and each of `twice`.
 fn each_goes_on_after(rt: &impl Abort, fault: (Option<DiskCall>, u64), twice: &[Option<u64>]) {
     for old in OLD {
         for torn in PATTERNS {
@@ -343,7 +347,8 @@ fn each_crash(rt: HostRuntime) {
     }
 }
 
-// A failed write may have written a part of its bytes.
+// A call of each kind is armed to fail before the opening, before each of 40 draws, or not at all, and then the disk
+// crashes. A failed write may have written a part of its bytes.
 #[test]
 fn each_failed_call_and_crash(rt: HostRuntime) {
     for call in [DiskCall::Read, DiskCall::Write, DiskCall::Sync] {

@@ -6,8 +6,8 @@ use std::io::{self, ErrorKind};
 use std::process::Abort;
 use tora_life::{ReadFrom, read_whole};
 
-/// A reader of five bytes that returns one byte per call. Every second call is interrupted, and all calls fail from one
-/// on.
+/// A reader of five bytes that returns one byte per call. Every second call is interrupted. All calls fail from the
+/// call with the number `fails_from` on, counted from 1.
 #[derive(Drop)]
 struct Dripping {
     bytes: [u8; 5],
@@ -48,8 +48,9 @@ fn five_bytes(fails_from: u64) -> Dripping {
     }
 }
 
-/// A read of five bytes: the call from which on the reader fails, the offset and the length of the read, how many bytes
-/// it reads, and seven bytes afterwards that were 9. `None` if the read fails.
+/// A read from the reader of five bytes: the number of the call from which on the reader fails, the offset and the
+/// length of the read, and the result: how many bytes are read, and the buffer afterwards, which had seven bytes of 9.
+/// `None` if the read fails.
 const READS: &[(u64, usize, usize, Option<(usize, &[u8])>)] = &[
     (100, 1, 7, Some((4, &[2, 3, 4, 5, 9, 9, 9]))),
     (100, 0, 3, Some((3, &[1, 2, 3, 9, 9, 9, 9]))),

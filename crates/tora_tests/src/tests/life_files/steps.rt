@@ -13,9 +13,10 @@ pub enum Step {
     Arms(DiskCall),
     /// Closes the file and opens it again.
     Reopens,
-    /// Closes the file, crashes its disk with these bytes in place of those that were not synced, and opens it again.
+    /// Closes the file, crashes its disk, and opens it again. These bytes take the place of those that were not synced;
+    /// with `None` the file is as at its last sync.
     Crashes(Option<[u8; 16]>),
-    /// Closes the file, writes these bytes to the disk, and opens it again.
+    /// Closes the file, checks that the disk has exactly these bytes, and opens it again.
     Holds(&'static [u8]),
 }
 
@@ -57,7 +58,7 @@ fn goes(
     file
 }
 
-/// Draws the numbers from the first to below the second.
+/// Draws from a file, and checks that the numbers are those from `from` to `to` - 1.
 pub fn draws<D: Disk + Drop>(
     rt: &impl Abort,
     file: &mut LifeFile<D>,
@@ -77,7 +78,7 @@ pub fn fails<D: Disk + Drop>(rt: &impl Abort, file: &mut LifeFile<D>, k: u64) {
     }
 }
 
-/// The disk with a file of these bytes.
+/// The disk with a file of these bytes; the test fails if there are more than 80.
 pub fn disk_of(rt: &impl Abort, bytes: &[u8]) -> MemDisk {
     MemDisk::of(bytes).expect(rt, "80 bytes at most")
 }
@@ -87,7 +88,7 @@ pub fn not_opened(rt: &impl Abort, error: LifeError) -> ! {
     panic!(rt; "not opened: {error:?}")
 }
 
-/// The file of an opening that succeeded.
+/// The file that was opened; the test fails if it was not.
 pub fn file_in<D: Disk + Drop>(
     rt: &impl Abort,
     answer: Result<LifeFile<D>, OpenFault<D>>,
@@ -98,7 +99,7 @@ pub fn file_in<D: Disk + Drop>(
     }
 }
 
-/// The fault of an opening that failed.
+/// Why a file did not open, with its disk; the test fails if it opened.
 pub fn fault_in<D: Disk + Drop>(
     rt: &impl Abort,
     answer: Result<LifeFile<D>, OpenFault<D>>,
@@ -109,17 +110,17 @@ pub fn fault_in<D: Disk + Drop>(
     }
 }
 
-/// The file of node 1 and peer 2 on this disk.
+/// Opens the file of node 1 and peer 2 on this disk; the test fails if it does not open.
 pub fn opened<D: Disk + Drop>(rt: &impl Abort, disk: D) -> LifeFile<D> {
     file_in(rt, LifeFile::open(disk, 1, 2))
 }
 
-/// Why the file of node 1 and peer 2 on this disk did not open.
+/// Why the file of node 1 and peer 2 on this disk does not open; the test fails if it opens.
 pub fn refused<D: Disk + Drop>(rt: &impl Abort, disk: D) -> OpenFault<D> {
     fault_in(rt, LifeFile::open(disk, 1, 2))
 }
 
-/// The first number that is drawn from a file with these bytes.
+/// The first number that is drawn from a file with these bytes, or the error at its opening or its draw.
 pub fn first_draw(rt: &impl Abort, bytes: &[u8]) -> Result<u64, LifeError> {
     match LifeFile::open(disk_of(rt, bytes), 1, 2) {
         Ok(mut file) => file.draw(),
@@ -127,7 +128,7 @@ pub fn first_draw(rt: &impl Abort, bytes: &[u8]) -> Result<u64, LifeError> {
     }
 }
 
-/// Checks the first draw from the file of each row.
+/// Checks the first number drawn from the file of each row, or the error.
 pub fn first_draws(rt: &impl Abort, rows: &[(&str, &[u8], Result<u64, LifeError>)]) {
     for (row, bytes, wanted) in rows {
         same_at(rt, &first_draw(rt, bytes), wanted, "the first draw", row);

@@ -5,7 +5,8 @@ use tora_core::Input;
 use tora_height::{GREATEST_DELTA, GREATEST_TAU, Id};
 use tora_packet::Packet;
 
-/// The state for one neighbour; empty while its link is down.
+/// The state for one neighbour. `entry` is `None` if it is NULL or the link is down. `told` says whether an update was
+/// broadcast since the link last changed and, if erased levels are remembered, since the neighbour's last clear.
 #[derive(Clone, Copy)]
 struct PlainRow {
     neighbour: Id,
@@ -14,7 +15,8 @@ struct PlainRow {
     told: bool,
 }
 
-/// The state for one destination, with a row for each neighbour in ascending order.
+/// The state for one destination, with a row for each neighbour in ascending order. `flag` says whether a route is
+/// required; `last` is the time of the level that the node defined last, 0 at first.
 #[derive(Drop)]
 pub struct PlainView {
     me: Id,
@@ -33,7 +35,7 @@ fn zero(destination: Id) -> Parts {
     ((0, 0, 0), 0, destination)
 }
 
-/// The height with these parts, if they are in range.
+/// The height with these parts; `None` if tau or delta is out of range.
 fn fit(level: Level, delta: i64, id: Id) -> Option<Parts> {
     let most = i64::from(GREATEST_DELTA);
     if level.0 <= GREATEST_TAU && delta <= most && delta >= -most {
@@ -44,7 +46,7 @@ fn fit(level: Level, delta: i64, id: Id) -> Option<Parts> {
 }
 
 impl PlainView {
-    /// The lowest entry.
+    /// The lowest entry; `None` if each is NULL.
     fn least(&self) -> Option<Parts> {
         let mut least: Option<Parts> = None;
         for row in self.rows.iter() {
@@ -57,7 +59,7 @@ impl PlainView {
         least
     }
 
-    /// An entry at the greatest level, with the least delta there.
+    /// Of the entries at the greatest reference level, the first with the least delta; `None` if each entry is NULL.
     fn greatest(&self) -> Option<Parts> {
         let mut greatest: Option<Parts> = None;
         for row in self.rows.iter() {
@@ -74,7 +76,7 @@ impl PlainView {
         greatest
     }
 
-    /// Whether an entry is below the node's height.
+    /// Whether an entry is below the node's height; each entry is below NULL.
     fn is_below(&self, entry: Parts) -> bool {
         match self.height {
             None => true,
@@ -82,7 +84,7 @@ impl PlainView {
         }
     }
 
-    /// The neighbour with the lowest entry, if that is below the node's height.
+    /// The neighbour with the lowest entry; `None` if there is no entry, or the lowest is not below the node's height.
     fn next_hop(&self) -> Option<Id> {
         let low = self.least()?;
         if self.is_below(low) {
@@ -109,7 +111,8 @@ impl PlainView {
         Some(Told::Update(self.destination, height))
     }
 
-    /// Takes the height with these parts, or NULL if they are out of range, and returns its broadcast.
+    /// Sets the node's height to these parts, or to NULL if they are out of range. Returns the update to broadcast;
+    /// `None` for NULL.
     fn take(&mut self, level: Level, delta: i64) -> Option<Told> {
         self.height = fit(level, delta, self.me);
         self.tell()
@@ -163,7 +166,8 @@ impl PlainView {
         self.define(now)
     }
 
-    /// Erases the node's height, and each entry except that of the destination.
+    /// Sets the node's height and each entry to NULL, except the entry of the destination, notes the level (`tau`,
+    /// `oid`, 1) as erased, and returns the clear to broadcast.
     fn erase(&mut self, tau: u64, oid: u32) -> Option<Told> {
         self.height = None;
         self.erased = Some((tau, oid, 1));
@@ -242,7 +246,7 @@ impl PlainView {
         self.tell()
     }
 
-    /// Forgets the entry of a neighbour, unless it is the destination.
+    /// Sets the entry of a neighbour to NULL, unless that neighbour is the destination.
     fn withdraw(&mut self, k: Id) {
         for row in self.rows.iter_mut() {
             if row.neighbour == k && k != self.destination {
@@ -301,7 +305,8 @@ impl PlainView {
         self.after_loss(now)
     }
 
-    /// Steps an input, and returns what is broadcast.
+    /// Steps an input that is not refused, and returns the packet to broadcast; `None` if there is none, also because
+    /// the input is about another destination.
     pub fn step(&mut self, input: &Input, now: u64) -> Option<Told> {
         match input {
             Input::LinkUp(k) => self.link_up(*k),
@@ -314,7 +319,7 @@ impl PlainView {
         }
     }
 
-    /// Writes the lines of the view.
+    /// Appends the lines of this destination to the text of the table; the error says that memory ran out.
     pub fn write(&self, text: &mut String) -> Result<(), AllocError> {
         let destination = self.destination;
         write!(text, "to {destination} height ")?;

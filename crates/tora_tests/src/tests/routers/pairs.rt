@@ -1,4 +1,4 @@
-//! Two routers, and the array that holds their datagrams.
+//! Two routers, and the functions that pass the datagrams of each to the other.
 use crate::tests::sees::sees;
 use std::alloc::Global;
 use std::process::Abort;
@@ -23,21 +23,21 @@ const CONFIG_OF_TWO: Config = Config {
     limits: CoreLimits::STANDARD,
 };
 
-/// The routers of the nodes 1 and 2, which are neighbours; 2 is a destination.
+/// The routers of the nodes 1 and 2, which are neighbours; 2 is the only destination.
 #[derive(Drop)]
 pub struct Pair {
     pub one: Router,
     pub two: Router,
 }
 
-/// The pair, with session numbers that begin at 5 and 9.
+/// The pair, with session numbers that begin at 5 and 9; an error means that memory ran out.
 pub fn made(alloc: Global) -> Result<Pair, RouterError> {
     let one = Router::new(alloc, &CONFIG_OF_ONE, &[2], &[2], 5)?;
     let two = Router::new(alloc, &CONFIG_OF_TWO, &[1], &[2], 9)?;
     Ok(Pair { one, two })
 }
 
-/// Why a router with this configuration is refused, if it is.
+/// The error of `Router::new` with these arguments; `None` if the router is made.
 pub fn refusal(
     alloc: Global,
     config: &Config,
@@ -51,7 +51,8 @@ pub fn refusal(
     }
 }
 
-/// Sends the first due datagram of a router to the other one. Returns false if none is due.
+/// Passes the first datagram due of the router `from`, which is that of node `me`, to the router `to`. Returns false if
+/// none is due.
 fn passes(rt: &impl Abort, from: &mut Router, to: &mut Router, me: u32, now: u64) -> bool {
     let mut room = [0u8; LONGEST_FRAME];
     let Some((_, length)) = from.poll_datagram(now, &mut room) else {
@@ -67,7 +68,8 @@ fn passes(rt: &impl Abort, from: &mut Router, to: &mut Router, me: u32, now: u64
 }
 
 impl Pair {
-    /// Runs the ticks from `first` to below `behind`, with all datagrams that are due.
+    /// Passes each tick from `first` to `behind` - 1 to both routers and, at each tick, up to 16 datagrams of each to
+    /// the other.
     pub fn runs(&mut self, rt: &impl Abort, first: u64, behind: u64) {
         for now in first..behind {
             self.one.on_tick(now);

@@ -1,4 +1,5 @@
-//! The line of four nodes, 1 - 2 - 3 - 4, with items made by the test: what one seat offers is passed to the next one.
+//! The line of four nodes, 1 - 2 - 3 - 4, with items made by the test: the packets that a seat offers to a neighbour
+//! are passed to that neighbour's seat.
 use super::super::made::{Parts, core_of, entry_of};
 use super::super::sees::{same, same_at, sees};
 use super::TestLanes;
@@ -30,7 +31,7 @@ impl Node {
         })
     }
 
-    /// The index of a neighbour.
+    /// The index of neighbour `k` among the neighbours, counted from 0; the test fails if it is no neighbour.
     fn place(&self, rt: &impl Abort, k: Id) -> usize {
         let mut place = 0usize;
         for n in self.seat.core().neighbours() {
@@ -43,7 +44,8 @@ impl Node {
         place
     }
 
-    /// Serves an item of a seat, and checks that its answer is `Nothing`.
+    /// Serves an item at tick `now`, and checks that the answer is `Nothing`. `seat` is the index of the neighbour
+    /// whose link the item is from, or the number of neighbours for a command.
     fn serves(&mut self, rt: &impl Abort, seat: usize, now: u64, what: What) {
         assert!(rt; self.seat.core().neighbours().len() <= 2);
         let item = Item {
@@ -62,13 +64,14 @@ impl Node {
         );
     }
 
-    /// Serves an item of the link to a neighbour.
+    /// Serves an item of the link to neighbour `from` at tick `now`, as `serves` does.
     fn hears(&mut self, rt: &impl Abort, from: Id, now: u64, what: What) {
         let place = self.place(rt, from);
         self.serves(rt, place, now, what);
     }
 
-    /// The first message that was offered and not passed on, and the neighbour that it is for.
+    /// Removes the first message that was offered, and returns it with the neighbour that it is for; `None` if there is
+    /// none.
     fn gives(&mut self, rt: &impl Abort) -> Option<(Id, Cargo)> {
         if self.lanes.offers.is_empty() {
             return None;
@@ -79,7 +82,8 @@ impl Node {
     }
 }
 
-/// Passes on messages until none is left.
+/// Passes on the packets that were offered, in 100 rounds of one message of each node, and checks that none is left. A
+/// cut is dropped.
 fn hands_on(rt: &impl Abort, line: &mut [Node], now: u64) {
     for _ in 0..100 {
         for i in 0..line.len() {
@@ -120,7 +124,7 @@ fn joined(rt: &impl Abort, alloc: Global) -> Result<[Node; 4], Fail> {
     Ok(line)
 }
 
-/// Checks the height and the next hop of a node.
+/// Checks the height of a node for destination 4 (`None` is NULL) and its next hop.
 fn has(rt: &impl Abort, node: &Node, parts: Option<Parts>, hop: Option<Id>) {
     let core = node.seat.core();
     let wanted = Some(entry_of(rt, parts));
@@ -134,7 +138,7 @@ fn has(rt: &impl Abort, node: &Node, parts: Option<Parts>, hop: Option<Id>) {
     );
 }
 
-/// Checks the height and the next hop of each node.
+/// Checks the height for destination 4 (`None` is NULL) and the next hop of each node, one row a node.
 fn have(rt: &impl Abort, line: &[Node], rows: &[(Option<Parts>, Option<Id>)]) {
     same(rt, &line.len(), &rows.len(), "how many nodes");
     for (node, (parts, hop)) in line.iter().zip(rows.iter()) {
@@ -142,7 +146,7 @@ fn have(rt: &impl Abort, line: &[Node], rows: &[(Option<Parts>, Option<Id>)]) {
     }
 }
 
-/// Every node has a route.
+/// The height and the next hop of each node if every node has a route to 4.
 const JOINED: &[(Option<Parts>, Option<Id>)] = &[
     (Some((0, 0, 0, 3, 1)), Some(2)),
     (Some((0, 0, 0, 2, 2)), Some(3)),
@@ -156,7 +160,7 @@ fn line_of_four_joins(rt: HostRuntime) -> Result<(), Fail> {
     Ok(())
 }
 
-/// No node but the destination has a height.
+/// The height and the next hop of each node after the partition: no node but the destination has a height.
 const PARTED: &[(Option<Parts>, Option<Id>)] = &[
     (None, None),
     (None, None),

@@ -19,14 +19,14 @@ pub enum Told {
     Cut(Id),
 }
 
-/// A message; a packet is the query for a destination.
+/// An outbound message: a packet of a session, which is the query for a destination, or the cut of a session.
 #[derive(Clone, Copy, Debug)]
 pub enum Given {
     Packet(Life, Id),
     Cut(Life),
 }
 
-/// An input of the core; a packet is the query for a destination.
+/// An input of the core; a packet has the neighbour and the destination of its query.
 #[derive(Clone, Copy, Debug)]
 pub enum Handed {
     Up(Id),
@@ -35,10 +35,11 @@ pub enum Handed {
     Packet(Id, Id),
 }
 
-/// A step of a run.
+/// A step of a run: an action, or an observation with its expected result.
 #[derive(Clone, Copy, Debug)]
 pub enum Step {
-    /// An item of a seat is served, and its answer is `Nothing`.
+    /// An item is served, and the answer is `Nothing`. The index is 0 for the link to 2, 1 for the link to 3, and 2 for
+    /// a command.
     Serves(usize, Told),
     /// Exactly these messages were offered since the last check, each with the index of its queue and whether it was
     /// put.
@@ -47,15 +48,16 @@ pub enum Step {
     Counts(usize),
     /// Sets how many messages wait in the first queue.
     Fills(usize),
-    /// The number of messages that wait in the first queue.
+    /// This many messages wait in the first queue.
     Waits(usize),
-    /// The inputs that were passed to the core at the last item.
+    /// The core accepted exactly these inputs for the item served last, in this order.
     Hands(&'static [Handed]),
-    /// The query that the core stepped at the last item: its sender, its session and its destination.
+    /// The query that was passed to the core for the item served last: its sender, its session and its destination;
+    /// `None` if there was none.
     Steps(Option<(Id, Life, Id)>),
-    /// The current session of the link at an index.
+    /// The current session of the link at an index; `None` if there is none.
     Lives(usize, Option<Life>),
-    /// The session at an index whose cut is pending.
+    /// The session of the link at an index whose cut is not in the queue yet; `None` if there is none.
     Cuts(usize, Option<Life>),
 }
 
@@ -66,7 +68,7 @@ pub fn made(rt: &impl Abort, alloc: Global, destinations: &[Id]) -> Option<(Core
     Some((seat, TestLanes::new(alloc)))
 }
 
-/// Serves an item of a seat, and checks that its answer is `Nothing`.
+/// Serves an item of the source with index `at` (see `Step::Serves`), and checks that the answer is `Nothing`.
 fn serves(rt: &impl Abort, seat: &mut CoreSeat, lanes: &mut TestLanes, at: usize, told: Told) {
     let what = match told {
         Told::Up(life) => What::Up(life),
@@ -86,7 +88,7 @@ fn serves(rt: &impl Abort, seat: &mut CoreSeat, lanes: &mut TestLanes, at: usize
     same_at(rt, &answer, &Answer::Nothing, "the answer", &item);
 }
 
-/// Checks that exactly these messages were offered.
+/// Checks that exactly these messages were offered since the last check, in this order.
 fn offers(rt: &impl Abort, lanes: &TestLanes, rows: &[(usize, Given, bool)], row: &Step) {
     same_at(
         rt,
@@ -109,7 +111,7 @@ fn offers(rt: &impl Abort, lanes: &TestLanes, rows: &[(usize, Given, bool)], row
     }
 }
 
-/// Checks the inputs that were passed to the core at the last item.
+/// Checks that the core accepted exactly these inputs for the item served last, in this order.
 fn hands(rt: &impl Abort, seat: &CoreSeat, rows: &[Handed], row: &Step) {
     same_at(
         rt,
@@ -129,7 +131,7 @@ fn hands(rt: &impl Abort, seat: &CoreSeat, rows: &[Handed], row: &Step) {
     }
 }
 
-/// Checks the packet that the core stepped at the last item.
+/// Checks which query was passed to the core for the item served last, or for `None` that there was none.
 fn steps(rt: &impl Abort, seat: &CoreSeat, stepped: Option<(Id, Life, Id)>, row: &Step) {
     let wanted = match stepped {
         None => None,

@@ -1,5 +1,5 @@
-//! The state after memory runs out: for a topology, for a first world, and at an event. Each test accepts that error or
-//! success, so it passes whichever request for memory is refused.
+//! The state after memory runs out: for a topology, for a first world, and at an event. Each test accepts `Memory` or
+//! success, so it passes whichever request for memory `bench/refused-memory.sh` refuses.
 use super::super::sees::{same, sees};
 use super::steps::Step::{Clock, Datagrams, Route};
 use super::steps::{Step, runs};
@@ -11,7 +11,7 @@ use tora_core::CoreError;
 use tora_height::Id;
 use tora_sim::{Event, Limits, Sim, SimError, Topology};
 
-/// A topology; `None` if memory runs out.
+/// The topology with these links and destinations; `None` after an error, which must be `Memory`.
 fn made_or_refused(
     rt: &impl Abort,
     alloc: Global,
@@ -27,7 +27,7 @@ fn made_or_refused(
     }
 }
 
-/// If memory runs out for a topology, that is the error. Another fault is reported without memory.
+/// If memory runs out for a topology, the error is `Memory`. Another fault is reported without memory.
 #[test]
 fn want_of_memory_for_a_topology(rt: HostRuntime) {
     let alloc = rt.alloc();
@@ -46,7 +46,7 @@ const FIRST: &[Step] = &[
     Route(1, 3, Some(None), None),
 ];
 
-/// Checks the first world of nodes 1, 2 and 3 in a row, or that memory ran out for it.
+/// Checks the first world of nodes 1, 2 and 3 in a row; for an error, checks that it is `Memory`.
 fn sees_first(rt: &impl Abort, alloc: Global, found: Result<Sim, SimError>) {
     match found {
         Err(error) => same(rt, &error, &SimError::Memory, "the error"),
@@ -62,7 +62,7 @@ fn sees_first(rt: &impl Abort, alloc: Global, found: Result<Sim, SimError>) {
     }
 }
 
-/// If memory runs out for a first world, that is the error, and the topology does not change.
+/// If memory runs out for a first world, the error is `Memory`, and the topology does not change.
 #[test]
 fn want_of_memory_for_a_first_world(rt: HostRuntime) {
     let alloc = rt.alloc();
@@ -76,7 +76,7 @@ fn want_of_memory_for_a_first_world(rt: HostRuntime) {
     same(&rt, &topology.olds(), &[1].as_slice(), "the old nodes");
 }
 
-/// Makes one event happen. Returns false if memory runs out.
+/// Makes one event happen, and returns true. Returns false after an error, which must be `Memory`.
 fn happens(rt: &impl Abort, sim: &mut Sim, event: &Event) -> bool {
     match sim.step(event) {
         Ok(()) => true,
@@ -101,7 +101,8 @@ fn world_after(rt: &impl Abort, alloc: Global, events: &[Event]) -> Option<Sim> 
     Some(sim)
 }
 
-/// Whether two worlds have the same clock, and as many datagrams between the same nodes.
+/// Whether two worlds have the same clock, as many datagrams, and for each of the first nine the same sender and
+/// receiver.
 fn are_datagrams_same(one: &Sim, other: &Sim) -> bool {
     let mut are_same = one.clock() == other.clock() && one.datagrams() == other.datagrams();
     for i in 0..10 {
@@ -110,7 +111,8 @@ fn are_datagrams_same(one: &Sim, other: &Sim) -> bool {
     are_same
 }
 
-/// Whether two worlds agree on a node and its core.
+/// Whether node `n` has in both worlds the same height and next hop for destination 2, the same first item, and as many
+/// accepted inputs.
 fn is_node_same(one: &Sim, other: &Sim, n: Id) -> bool {
     one.height(n, 2) == other.height(n, 2)
         && one.next_hop(n, 2) == other.next_hop(n, 2)
@@ -124,7 +126,8 @@ fn is_lane_same(one: &Sim, other: &Sim, n: Id, k: Id) -> bool {
         && one.taken_count(n, k, LIFE) == other.taken_count(n, k, LIFE)
 }
 
-/// Whether the same events are possible in two worlds at the link end with this index.
+/// Whether `is_lane_same` holds for the link end of `n` to `k`, which has the index `place`, and whether the same
+/// events may be possible at it in both worlds.
 fn is_end_same(one: &Sim, other: &Sim, place: usize, n: Id, k: Id) -> bool {
     let events = [
         Event::Open(n, k),
@@ -148,7 +151,7 @@ fn are_same(one: &Sim, other: &Sim) -> bool {
         && is_end_same(one, other, 1, 2, 1)
 }
 
-/// Whether an event can need memory.
+/// Whether an event can need memory in a world with as few packets as `sees_run` sends.
 fn takes_memory(event: &Event) -> bool {
     match event {
         Event::Need(_, _) => true,
@@ -197,7 +200,7 @@ fn sees_run(rt: &impl Abort, alloc: Global, before: &[Event], events: &[Event]) 
     );
 }
 
-/// Memory runs out at the events of a first link: its meeting, and its packets.
+/// Memory may run out for the world of nodes 1 and 2, or at an event of `MEETING`.
 #[test]
 fn want_of_memory_at_a_meeting(rt: HostRuntime) {
     sees_run(&rt, rt.alloc(), &[], MEETING);
@@ -227,7 +230,7 @@ fn want_of_memory_at_a_restart(rt: HostRuntime) {
     sees_run(&rt, rt.alloc(), MEETING, RESTARTING);
 }
 
-/// The topology of a line of 200 nodes, with the destination 200; `None` if memory runs out.
+/// The topology of a line of 200 nodes, with the destination 200; `None` after an error, which must be `Memory`.
 fn wide_or_refused(rt: &impl Abort, alloc: Global) -> Option<Topology> {
     let Ok(links) = links_of(alloc, Links::Chain(200)) else {
         return None;
@@ -268,7 +271,8 @@ const LAST_MET: &[Step] = &[
     Route(200, 200, Some(Some((0, 0, 0, 0, 200))), None),
 ];
 
-/// Makes an event happen, at the second attempt if memory ran out at the first.
+/// Makes an event happen, at the second attempt if memory ran out at the first; the test fails if it then does not
+/// happen.
 fn happens_at_last(rt: &impl Abort, sim: &mut Sim, event: &Event) {
     if !happens(rt, sim, event) {
         let has_memory = happens(rt, sim, event);
@@ -276,7 +280,8 @@ fn happens_at_last(rt: &impl Abort, sim: &mut Sim, event: &Event) {
     }
 }
 
-/// Checks that the last two nodes of the line meet in its first world, or that memory ran out for it.
+/// Makes the events of `LAST_MEETING` in the first world of the line, and checks `LAST_MET`; for an error, checks that
+/// it is `Memory`.
 fn sees_last_meet(rt: &impl Abort, alloc: Global, found: Result<Sim, SimError>) {
     match found {
         Err(error) => same(rt, &error, &SimError::Memory, "the error"),
@@ -289,7 +294,7 @@ fn sees_last_meet(rt: &impl Abort, alloc: Global, found: Result<Sim, SimError>) 
     }
 }
 
-/// If memory runs out for a world of 200 nodes, or at an event in it, that is the error. The event can then happen,
+/// If memory runs out for a world of 200 nodes, or at an event in it, the error is `Memory`. The event can then happen,
 /// with the same effect as without the error.
 #[test]
 fn want_of_memory_in_a_world_of_200_nodes(rt: HostRuntime) {
@@ -343,7 +348,8 @@ const ASKING: &[Event] = &[
     Event::CoreTurn(2),
 ];
 
-/// Checks that all queries arrive, if each event happens at last.
+/// Makes each event of `ASKING`, at the second attempt if memory ran out, and checks that 4 datagrams and 5 packets
+/// were sent, and that the core of node 2 stepped all 5. For an error, checks that it is `Memory`.
 fn sees_asked(rt: &impl Abort, found: Result<Sim, SimError>) {
     match found {
         Err(error) => same(rt, &error, &SimError::Memory, "the error"),
@@ -358,7 +364,7 @@ fn sees_asked(rt: &impl Abort, found: Result<Sim, SimError>) {
     }
 }
 
-/// If memory runs out for the lists of a queue or a link end, that is the error, and nothing is lost: the event can
+/// If memory runs out for the lists of a queue or a link end, the error is `Memory`, and nothing is lost: the event can
 /// then happen.
 #[test]
 fn want_of_memory_for_lists(rt: HostRuntime) {

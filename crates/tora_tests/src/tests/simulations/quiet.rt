@@ -1,4 +1,4 @@
-//! The tick before which nothing is to be done.
+//! Whether a simulated world has nothing to do, and which of its link ends may have something to do.
 use super::steps::Step::{Cannot, Does, HandsOver, HasEnds, NextDue, Quiet, Settles, Tells};
 use super::steps::{Step, first_world, runs};
 use super::topologies::topology_of;
@@ -7,7 +7,7 @@ use std::alloc::Global;
 use std::process::Abort;
 use tora_sim::{Event, Sim};
 
-/// Two ends that are closed.
+/// Two closed ends: they can be opened, so the world is not quiet, and each end is due.
 const CLOSED: &[Step] = &[
     Quiet(false),
     Settles,
@@ -20,7 +20,8 @@ const CLOSED: &[Step] = &[
     NextDue(3, 3),
 ];
 
-/// Two bound ends that have sent their HELLOs, two ticks before the next ones.
+/// Two bound ends that have sent their HELLOs: the world is quiet once it is settled, until the next HELLOs are due
+/// after two ticks, and again after they are sent. A need ends the quiet until the core has served it.
 const BOUND: &[Step] = &[
     Quiet(false),
     Settles,
@@ -79,7 +80,8 @@ const WAITING: &[Step] = &[
     Quiet(false),
 ];
 
-/// After three ticks without a HELLO, both ends of a link end their session, and each has an event.
+/// The HELLOs of both ends of a link are sent at tick 2 and not delivered. At tick 3 no frame has come for three ticks:
+/// the session ends, and node 1's end has an event and can then be opened.
 const SILENT: &[Step] = &[
     Settles,
     Quiet(true),
@@ -97,7 +99,8 @@ const SILENT: &[Step] = &[
     Does(Event::Open(1, 2)),
 ];
 
-/// Makes the first steps in a world of one link, and the others once its ends are bound.
+/// Makes the steps `first` in a new world of nodes 1 and 2 with `TIMES`, calls `pass` ten times, which binds the ends
+/// unless they are bound, and makes the steps `then`.
 fn bound(rt: &impl Abort, alloc: Global, first: &[Step], then: &[Step]) {
     let topology = topology_of(rt, alloc, &[(1, 2)], &[2]);
     let mut sim = Sim::with_times(alloc, &topology, TIMES).expect(rt, "a simulator");

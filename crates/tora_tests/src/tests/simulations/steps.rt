@@ -18,28 +18,31 @@ pub enum Step {
     Cannot(Event),
     /// The due frame of the first node to the second is sent and delivered.
     HandsOver(Id, Id),
-    /// The core of a node serves the events of its link end to the second node.
+    /// The next event of the first node's link end to the second is put into the queue into the node's core, and the
+    /// core serves the first item of that queue.
     Tells(Id, Id),
     /// Whether an event may be possible, by the index of its node or end.
     MayHappen(usize, Event, bool),
-    /// The clock.
+    /// The clock, in ticks.
     Clock(u64),
     /// How many datagrams were sent.
     Datagrams(u64),
-    /// The sender and the receiver of a datagram, if there is one.
+    /// The sender and the receiver of the datagram with this number, counted from 1; `None` if there is none.
     Datagram(u64, Option<(Id, Id)>),
-    /// The height of a node for a destination, if both exist, and its next hop.
+    /// A node, a destination, the height there and the next hop. The height is `Some(None)` if it is NULL, and `None`
+    /// if there is no such node or destination.
     Route(Id, Id, Option<Option<Parts>>, Option<Id>),
-    /// The heights, for 2, of the updates that the first node sent to the second in a session, as the first writes it.
+    /// The core of the first node put exactly these packets into the queue to the second in a session, as the first
+    /// writes it: updates for destination 2 with these heights.
     Sent(Id, Id, Life, &'static [Parts]),
-    /// The heights, for 2, of the updates of the second node that the first one stepped in a session, as the first
-    /// writes it.
+    /// The core of the first node stepped exactly these packets of the second in a session, as the first writes it:
+    /// updates for destination 2 with these heights.
     Taken(Id, Id, Life, &'static [Parts]),
     /// Whether the entries for a destination are exact.
     Exact(Id, bool),
-    /// The walk of a node to a destination, if there is one.
+    /// The walk of a node to a destination, with both; `None` if there is none.
     Walk(Id, Id, Option<&'static [Id]>),
-    /// There is no such node, or no such destination.
+    /// The walk of this node to this destination is refused with `NoNode`: one of the two does not exist.
     NoNode(Id, Id),
     /// Whether the world is at rest.
     Rests(bool),
@@ -49,11 +52,13 @@ pub enum Step {
     Quiet(bool),
     /// Whether the world has exactly these link ends, in this order.
     HasEnds(&'static [(Id, Id)], bool),
-    /// The index from which a search for an end that may have something to do begins, and the index that it finds.
+    /// The index from which a search for an end that may have something to do begins, and the index that it finds. If
+    /// there is no such end, it finds the number of ends, or the first index if that is greater.
     NextDue(usize, usize),
 }
 
-/// The simulator of a topology at its start.
+/// The simulator of a topology with these links and destinations at its start; the test fails if one of the two is not
+/// made.
 pub fn first_world(rt: &impl Abort, alloc: Global, links: &[(Id, Id)], destinations: &[Id]) -> Sim {
     let topology = topology_of(rt, alloc, links, destinations);
     Sim::new(alloc, &topology).expect(rt, "a simulator")
@@ -74,12 +79,12 @@ fn are_updates(rt: &impl Abort, packets: &[Packet], heights: &[Parts], row: &Ste
     }
 }
 
-/// Checks a count of packets.
+/// Checks that `count` is the number of `heights`.
 fn are_as_many(rt: &impl Abort, count: usize, heights: &[Parts], row: &Step) {
     same_at(rt, &count, &heights.len(), "the count of packets", row);
 }
 
-/// Checks that a walk of a node to a destination visits these nodes.
+/// Checks that a walk visits exactly these nodes, in this order, or for `None` that there is no walk.
 fn visits(rt: &impl Abort, walk: Option<Vec<Id>>, nodes: Option<&[Id]>, row: &Step) {
     match walk {
         Some(walk) => same_at(rt, &Some(walk.as_slice()), &nodes, "the walk", row),

@@ -26,7 +26,7 @@ fn are_links(links: &[(Id, Id)]) -> bool
     true
 }
 
-/// A topology with numbers that are not 0.
+/// The topology with these links and destinations, or the error of `Topology::new`. The test fails if a number is 0.
 pub fn made(
     rt: &impl Abort,
     alloc: Global,
@@ -39,7 +39,8 @@ pub fn made(
     Topology::new(alloc, links, destinations)
 }
 
-/// A topology with numbers that are not 0, within these limits.
+/// The topology with these limits, links and destinations, or the error of `Topology::with_limits`. The test fails if a
+/// number is 0.
 pub fn made_within(
     rt: &impl Abort,
     alloc: Global,
@@ -63,7 +64,7 @@ pub enum Links {
     Often(u32, (Id, Id)),
 }
 
-/// The list of links.
+/// The links as a vector; the error says that memory ran out.
 pub fn links_of(alloc: Global, links: Links) -> Result<Vec<(Id, Id)>, AllocError> {
     let mut list = Vec::new(alloc);
     match links {
@@ -90,7 +91,8 @@ pub fn links_of(alloc: Global, links: Links) -> Result<Vec<(Id, Id)>, AllocError
     Ok(list)
 }
 
-/// Checks that a topology is refused for this reason, or is made.
+/// Checks that `topology_fault` and the making of the topology both give `cause`, or that the topology is made if that
+/// is `None`; `row` names the row.
 pub fn refused(
     rt: &impl Abort,
     alloc: Global,
@@ -108,7 +110,7 @@ pub fn refused(
 /// The links and the destinations of a topology, and the reason for its refusal, if any.
 type Row = (Links, Numbers, Option<CoreError>);
 
-/// Checks of each row that it is refused for its reason, or is made.
+/// Checks for each row that its topology is refused for its reason, or is made if that is `None`.
 fn refuses(rt: &impl Abort, alloc: Global, rows: &[Row]) {
     for (i, (links, destinations, cause)) in rows.iter().enumerate() {
         let links = links_of(alloc, *links).expect(rt, "memory");
@@ -135,7 +137,7 @@ fn too_many_are_refused(rt: HostRuntime) {
     refuses(&rt, rt.alloc(), LIMITS);
 }
 
-/// Few nodes, links of a node and destinations.
+/// Limits of 3 nodes, 2 links of a node and 1 destination.
 const SMALL: Limits = Limits {
     neighbours: 2,
     destinations: 1,
@@ -272,7 +274,7 @@ fn repeats_and_own_links_are_refused(rt: HostRuntime) {
     refuses(&rt, rt.alloc(), REPEATS);
 }
 
-/// Topologies with more than one reason for a refusal.
+/// Topologies with more than one reason for a refusal: the first of `TooMany`, `Repeated` and `OwnId` is reported.
 const CAUSES: &[Row] = &[
     (
         Links::Star(33, &[(1, 1), (1, 1)]),
@@ -304,7 +306,7 @@ fn long_list_is_refused_soon(rt: HostRuntime) {
     refuses(&rt, rt.alloc(), LONG);
 }
 
-/// Checks the lists of a topology.
+/// Checks that a topology has these links and these destinations, both in this order.
 pub fn keeps(rt: &impl Abort, topology: &Topology, links: &[(Id, Id)], destinations: &[Id]) {
     same(rt, &topology.links(), &links, "the links");
     same(
@@ -315,7 +317,7 @@ pub fn keeps(rt: &impl Abort, topology: &Topology, links: &[(Id, Id)], destinati
     );
 }
 
-/// A topology that is accepted.
+/// The topology with these links and destinations; the test fails if it is not made.
 pub fn topology_of(
     rt: &impl Abort,
     alloc: Global,
