@@ -37,7 +37,8 @@ impl Coded {
         }
     }
 
-    /// Encodes and decodes until the steps are done. Returns a number that depends on every result.
+    /// Encodes and decodes `count(steps)` updates or frames. Returns a number that depends on each decoded one; `None`
+    /// if memory runs out.
     pub fn run(self, alloc: Global, steps: u32) -> Option<u64> {
         match self {
             Coded::Packet => run_packets(alloc, steps),
@@ -46,12 +47,13 @@ impl Coded {
     }
 }
 
-/// How many operations a run has.
+/// How many updates or frames a run encodes and decodes: `steps`, rounded down to a multiple of `BATCH`.
 pub fn count(steps: u32) -> u64 {
     u64::from(steps / BATCH * BATCH)
 }
 
-/// The `i`th DATA frame.
+/// The `i`th DATA frame: of version 2 with the packet sixteen times for `Batch`, otherwise of version 1 with the packet
+/// once.
 fn data_frame(i: u32, packet: Packet, coded: Coded) -> Frame {
     let version = if coded == Coded::Batch {
         Version::Two
@@ -72,7 +74,7 @@ fn data_frame(i: u32, packet: Packet, coded: Coded) -> Frame {
     }
 }
 
-/// Updates of many heights.
+/// The first `BATCH` updates; `None` if memory runs out.
 fn updates(alloc: Global) -> Option<Vec<Packet>> {
     let mut packets = Vec::new(alloc);
     for i in 0..BATCH {
@@ -81,7 +83,7 @@ fn updates(alloc: Global) -> Option<Vec<Packet>> {
     Some(packets)
 }
 
-/// A number that depends on the destination and the height of an update.
+/// A number that depends on the destination of an update and on tau of its height; 0 for a query, 1 for a clear.
 fn told(packet: &Packet) -> u64 {
     match packet {
         Packet::Qry(_) => 0,
@@ -90,7 +92,7 @@ fn told(packet: &Packet) -> u64 {
     }
 }
 
-/// The updates, encoded and decoded until `steps` are done.
+/// Encodes and decodes the first `BATCH` updates `steps / BATCH` times, and returns what `Coded::run` does.
 fn run_packets(alloc: Global, steps: u32) -> Option<u64> {
     let packets = updates(alloc)?;
     let mut wires = Vec::new(alloc);
@@ -111,8 +113,8 @@ fn run_packets(alloc: Global, steps: u32) -> Option<u64> {
     Some(sum)
 }
 
-/// DATA frames with the updates, encoded and decoded until `steps` are done, by the calls that a link's thread makes:
-/// the buffers for the bytes and the list for the packets are reused.
+/// Encodes and decodes `BATCH` DATA frames `steps / BATCH` times, and returns what `Coded::run` does. The calls are
+/// those of a link's thread: the buffers for the bytes and the list for the packets are reused.
 fn run_frames(alloc: Global, steps: u32, coded: Coded) -> Option<u64> {
     let mut frames = Vec::new(alloc);
     let mut wires = Vec::new(alloc);

@@ -7,18 +7,18 @@ use tora_core::{Core, Input};
 use tora_height::{Height, Id};
 use tora_packet::{Clear, LONGEST_PACKET, Packet, Update, encode};
 
-/// The neighbours and the destinations of the mixes.
+/// The neighbours of a small core, whose destinations are `DESTINATIONS`.
 const NEIGHBOURS: [Id; 8] = [1, 2, 3, 4, 5, 6, 7, 8];
 
 const DESTINATIONS: [Id; 16] = [5, 6, 7, 8, 9, 10, 11, 12, 13, 14, 15, 16, 17, 18, 19, 20];
 
-/// The most neighbours that a core may have.
+/// The neighbours of a large core: as many as the standard limits allow.
 const MOST_NEIGHBOURS: [Id; 32] = [
     1, 2, 3, 4, 5, 6, 7, 8, 9, 10, 11, 12, 13, 14, 15, 16, 17, 18, 19, 20, 21, 22, 23, 24, 25, 26,
     27, 28, 29, 30, 31, 32,
 ];
 
-/// The most destinations that a core may have.
+/// The destinations of a large core and of a core of a pair: as many as the limits allow.
 pub const MOST_DESTINATIONS: [Id; 64] = [
     17, 18, 19, 20, 21, 22, 23, 24, 25, 26, 27, 28, 29, 30, 31, 32, 33, 34, 35, 36, 37, 38, 39, 40,
     41, 42, 43, 44, 45, 46, 47, 48, 49, 50, 51, 52, 53, 54, 55, 56, 57, 58, 59, 60, 61, 62, 63, 64,
@@ -51,7 +51,7 @@ impl Size {
         }
     }
 
-    /// The name of a mix at this size.
+    /// The name of a mix at this size: `large` for a large core, otherwise `small`.
     pub fn name(self, small: &'static str, large: &'static str) -> &'static str {
         match self {
             Size::Least | Size::Small => small,
@@ -59,7 +59,7 @@ impl Size {
         }
     }
 
-    /// The first destination.
+    /// The first destination of a small or large core. For `Least` it is not used.
     fn first_destination(self) -> Id
         ensures { (1 ≤ result) × (result ≤ 17) }
     {
@@ -111,7 +111,7 @@ impl Random {
     }
 }
 
-/// A core with no link up.
+/// The core of node 100 with this size and no link up; `None` if memory runs out.
 pub fn fresh_core(alloc: Global, size: Size) -> Option<Core> {
     match size {
         Size::Least => Core::new(alloc, 100, &[1], &[17]).ok(),
@@ -120,7 +120,8 @@ pub fn fresh_core(alloc: Global, size: Size) -> Option<Core> {
     }
 }
 
-/// A core of a node with one neighbour and the most destinations.
+/// The core of node `me` with the neighbour `peer` and the destinations `MOST_DESTINATIONS`. `None` if memory runs out
+/// or `me` is `peer`.
 pub fn core_of_a_pair(alloc: Global, me: Id, peer: Id) -> Option<Core>
     requires me { 0 < me }
     requires peer { 0 < peer }
@@ -128,7 +129,8 @@ pub fn core_of_a_pair(alloc: Global, me: Id, peer: Id) -> Option<Core>
     Core::new(alloc, me, &[peer], &MOST_DESTINATIONS).ok()
 }
 
-/// A core with one destination and all links up that needs a route.
+/// The core of node 100 with 8 neighbours, all links up, and the one destination 20, to which it requires a route.
+/// `None` if memory runs out.
 pub fn small_core(alloc: Global) -> Option<Core> {
     let mut core = Core::new(alloc, 100, &NEIGHBOURS, &[20]).ok()?;
     for k in NEIGHBOURS {
@@ -138,12 +140,13 @@ pub fn small_core(alloc: Global) -> Option<Core> {
     Some(core)
 }
 
-/// The update of a neighbour.
+/// An update from neighbour `k` with this height for a destination; `None` if `height` is `None`.
 fn update(k: Id, destination: Id, height: Option<Height>) -> Option<Input> {
     Some(Input::Packet(k, Packet::Upd(Update::new(destination, height?).ok()?)))
 }
 
-/// A core with all links up. Its destinations that are not neighbours have a route by neighbour 1.
+/// A core with all links up. Its destinations that are not neighbours have a route by neighbour 1. `None` if memory
+/// runs out.
 pub fn routed_core(alloc: Global, size: Size) -> Option<Core> {
     let mut core = fresh_core(alloc, size)?;
     let last = u32::from(size.last_neighbour());
@@ -158,7 +161,7 @@ pub fn routed_core(alloc: Global, size: Size) -> Option<Core> {
     Some(core)
 }
 
-/// An update that leaves the height as it is.
+/// The `i`th update that leaves the height of a small or large `routed_core` as it is.
 pub fn quiet_update(size: Size, i: u32) -> Option<Input> {
     let (k, d) = match size {
         Size::Least => (1, 17),
@@ -181,14 +184,16 @@ pub fn quiet_bytes(alloc: Global) -> Option<Vec<(Id, ArrayVec<u8, LONGEST_PACKET
     Some(found)
 }
 
-/// An update of one of two neighbours whose heights alternate: every second update removes the last downstream link.
+/// The `i`th update for a `small_core`, of neighbours 1 and 2 in turn, whose heights rise: every second update removes
+/// the last downstream link.
 pub fn reacting_update(i: u32) -> Option<Input> {
     let k = 1 + i % 2;
     let height = Height::new(1 + u64::from(i), 1 + i % 3, 0, 0, k).ok();
     update(k, 20, height)
 }
 
-/// A packet of neighbour `k` for destination `d` at about tick `now`.
+/// A packet of neighbour `k` for destination `d` at about tick `now`: for a `choice` below 22 a query, below 30 a
+/// clear, otherwise an update. `None` if the packet would be invalid.
 fn mixed_packet(random: &mut Random, now: u64, k: Id, d: Id, choice: u32) -> Option<Input> {
     let tau = now.saturating_sub(u64::from(random.up_to(11)));
     let number = 1 + random.up_to(8);
@@ -208,8 +213,9 @@ fn mixed_packet(random: &mut Random, now: u64, k: Id, d: Id, choice: u32) -> Opt
     update(k, d, height.ok())
 }
 
-/// Mixed inputs for a core of a size: about one in twenty is a change of a link, one in twenty a need, and the others
-/// are packets of neighbours whose links are up.
+/// Mixed inputs for a core of a size, each with its tick. First all links come up. Of at most `count` further inputs,
+/// about one in twenty is a change of a link, one in twenty a need, and the others are packets of neighbours whose
+/// links are up.
 pub fn mixed_inputs(
     alloc: Global,
     size: Size,

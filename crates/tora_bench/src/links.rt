@@ -30,7 +30,7 @@ impl Kept {
         }
     }
 
-    /// Passes a frame to an end.
+    /// Passes a frame to an end, as it is or encoded and decoded, at tick 0.
     fn pass(&mut self, frame: &BorrowedFrame<'_>, to: &mut LinkEnd, passed: Passed) {
         if passed == Passed::Frame {
             let _verdict = to.on_borrowed_frame(frame, 0);
@@ -43,7 +43,7 @@ impl Kept {
     }
 }
 
-/// Passes the frames due at one end to the other.
+/// Passes the frames due at one end, at most four, to the other, and returns their count.
 fn exchange(from: &mut LinkEnd, to: &mut LinkEnd, packets: &mut Packets) -> u64 {
     let mut count = 0u64;
     for _ in 0..4 {
@@ -68,7 +68,8 @@ fn count_events(end: &mut LinkEnd) -> u64 {
     count
 }
 
-/// Passes the frames due at one end to the other, and polls the events of the other after each, as a node does.
+/// Passes the frames due at one end to the other, and polls the events of the other after each, as a node does. Returns
+/// the count of frames and events.
 fn exchange_all(from: &mut LinkEnd, to: &mut LinkEnd, kept: &mut Kept, passed: Passed) -> u64 {
     let mut packets = Packets::new();
     let mut count = 0u64;
@@ -111,8 +112,8 @@ fn bound_link(alloc: Global, version: Version) -> Option<Link> {
     Some(Link { one, two, life })
 }
 
-/// Sends queries from one end to the other, each delivered and acknowledged before the next. Returns the count of
-/// events and frames.
+/// Sends `packets` queries from one end to the other, each delivered and acknowledged before the next. Returns the
+/// count of events and frames; `None` if memory runs out.
 pub fn run_link(alloc: Global, packets: u32) -> Option<u64> {
     let Link {
         mut one,
@@ -134,7 +135,8 @@ pub fn run_link(alloc: Global, packets: u32) -> Option<u64> {
     Some(sum)
 }
 
-/// Updates of node 1 in memory, as many as a window holds.
+/// Updates of one height of node 1, for as many destinations as a window holds packets, from 2 on. `None` if memory
+/// runs out.
 fn window_of_updates(alloc: Global) -> Option<Vec<Packet>> {
     let height = Height::new(0, 0, 0, 1, 1).ok()?;
     let mut updates = Vec::new(alloc);
@@ -146,8 +148,9 @@ fn window_of_updates(alloc: Global) -> Option<Vec<Packet>> {
     Some(updates)
 }
 
-/// Sends updates of 32 bytes from one end to the other, a window at a time: in version 1 as that many frames, in
-/// version 2 as two frames of sixteen, with one ACK. Returns the count of events and frames.
+/// Sends `packets` updates of 32 bytes, rounded down to whole windows of 32, from one end to the other: a window is 32
+/// frames in version 1, and two frames of sixteen, with one ACK, in version 2. Returns the count of events and frames;
+/// `None` if memory runs out.
 pub fn run_window(alloc: Global, packets: u32, version: Version, passed: Passed) -> Option<u64> {
     let Link {
         mut one,

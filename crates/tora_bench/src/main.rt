@@ -1,21 +1,22 @@
 //! Times calls of the crates, for the scripts under `bench/`. With no words it prints nothing.
 //!
 //! `tora_bench hold-least N`, `hold-small N` and `hold-large N` hold N cores at once. `tora_bench core N` times N steps
-//! of a core on mixes of inputs, four with 8 neighbours and 16 destinations, three with 32 and 64, `tora_bench link N`
-//! N packets that go from one link end to another and are acknowledged, one at a time and a window at a time: in frames
-//! of one and in batches, and each of them as frames and as bytes. `tora_bench codec N` encodes and decodes N updates,
-//! then N DATA frames of version 1 with an update each, and then N DATA frames of version 2 with sixteen updates each.
-//! `tora_bench node N` passes N datagrams as bytes between two nodes, each with a core and a link end.
-//! Each line is a name, nanoseconds an operation (the best of seven runs), and a number that depends on every result.
+//! of a core on mixes of inputs: four with 8 neighbours and 16 destinations, three with 32 and 64, and one with 8 and
+//! one. `tora_bench link N` times N packets that go from one link end to another and are acknowledged, one at a time
+//! and a window at a time: in frames of one and in batches, and each of them as frames and as bytes.
+//! `tora_bench codec N` encodes and decodes N updates, then N DATA frames of version 1 with an update each, and then N
+//! DATA frames of version 2 with sixteen updates each. `tora_bench node N` passes about N datagrams as bytes between
+//! two nodes, each with a core and a link end. Each line is a name, nanoseconds an operation (the best of seven runs),
+//! and a number that depends on the results; for nodes it is the number of datagrams.
 //!
 //! `tora_bench lanes N` puts N items from each of three threads into the queue into the core, while the core takes
 //! them, and sends N outbound messages from one thread to another through one queue. Each line has a name, nanoseconds
 //! an operation (the best of seven runs), and the number of operations.
 //!
 //! `tora_bench udp N` binds two sockets of the loopback, runs `run_neighbour` at each end, and passes N updates of 32
-//! bytes from one end to the other, each in a DATA frame of 76 bytes, with at most 32 unacknowledged. It prints
-//! nanoseconds a packet, from the first submission to the last delivery, and the number of delivered packets. With
-//! `udp-keyed` the wires have a key.
+//! bytes from one end to the other, in DATA frames of version 2 with up to sixteen updates each, with at most 32
+//! unacknowledged. It prints nanoseconds a packet, from the first submission to the last delivery, and the number of
+//! delivered packets. With `udp-keyed` the wires have a key.
 #![tactic(auto)]
 
 mod codec;
@@ -42,7 +43,7 @@ use tora_packet::{Packet, decode};
 /// How many times each mix is run; the best run counts.
 const RUNS: u32 = 7;
 
-/// The steps of one run if no number is given.
+/// The number N if none, or none from 0 to 2^32 - 1, is given: the steps of one run, or the cores to hold.
 const STEPS: u32 = 200_000;
 
 /// Folds a result into a running number.
@@ -50,7 +51,8 @@ fn folded(sum: u64, value: u64) -> u64 {
     (sum ^ value).wrapping_mul(0x100000001b3)
 }
 
-/// A number that depends on every part of a packet.
+/// A number that depends on the destination of a packet, on tau and id of an update's height, and on tau and oid of a
+/// clear.
 fn told(packet: &Packet) -> u64 {
     let parts = match packet {
         Packet::Qry(_) => 1,
@@ -99,7 +101,7 @@ fn run_quiet(size: Size, core: &mut Core, steps: u32) -> u64 {
     sum
 }
 
-/// As `run_quiet` with a small core, by the bytes of the updates, which are decoded.
+/// As `run_quiet` with a small core, but each update is decoded from bytes; `None` if memory runs out.
 fn run_quiet_bytes(alloc: Global, core: &mut Core, steps: u32) -> Option<u64> {
     let updates = quiet_bytes(alloc)?;
     let mut sends = Sends::new();
@@ -136,12 +138,12 @@ fn run_links(core: &mut Core, steps: u32) -> u64 {
     sum
 }
 
-/// What is timed.
+/// A mix of inputs, packets or frames that is timed.
 #[derive(Clone, Copy)]
 enum Mix {
     Mixed(Size),
     Quiet(Size),
-    /// The same of a small core, by bytes that are decoded.
+    /// `Quiet` with a small core, each update decoded from bytes.
     QuietBytes,
     Reacting,
     Links(Size),
@@ -170,7 +172,7 @@ impl Mix {
         }
     }
 
-    /// A new core for a run, if the mix needs one.
+    /// A new core for a run; for a mix that uses none, the least one. `None` if memory runs out.
     fn core(self, alloc: Global) -> Option<Core> {
         match self {
             Mix::Mixed(size) => fresh_core(alloc, size),
@@ -194,7 +196,8 @@ impl Mix {
         }
     }
 
-    /// How many operations a run has.
+    /// The number of operations by which the time of a run is divided: the inputs of `Mixed`, the updates or frames of
+    /// `Codec`, and `steps` of any other mix.
     fn count(self, inputs: &[(u64, Input)], steps: u32) -> u64 {
         match self {
             Mix::Mixed(_) => inputs.len() as u64,
@@ -205,7 +208,8 @@ impl Mix {
     }
 }
 
-/// Times a mix, and prints its line.
+/// Times a mix, and prints its line: the best of `RUNS` runs. If memory runs out, prints a message on standard error
+/// instead.
 fn time(rt: &HostRuntime, mix: Mix, inputs: &[(u64, Input)], steps: u32) -> io::Result<()> {
     let mut best: Option<Duration> = None;
     let mut sum = 0u64;
@@ -221,7 +225,8 @@ fn time(rt: &HostRuntime, mix: Mix, inputs: &[(u64, Input)], steps: u32) -> io::
     print(rt, mix.name(), best, mix.count(inputs, steps), sum)
 }
 
-/// Times two nodes, and prints the line.
+/// Times two nodes, and prints the line: the best of `RUNS` runs. If memory runs out, prints a message on standard
+/// error instead.
 fn time_nodes(rt: &HostRuntime, talk: Talk, steps: u32) -> io::Result<()> {
     let mut best: Option<Duration> = None;
     let mut datagrams = 0u64;
@@ -249,7 +254,7 @@ fn print(
     println!(rt; "{name} {whole}.{part:02} ns/op check {sum:016x}")
 }
 
-/// The size of the cores that `hold-least`, `hold-small` and `hold-large` make.
+/// The size of the cores that the word `hold-least`, `hold-small` or `hold-large` makes; `None` for any other word.
 fn size_named(word: &str) -> Option<Size> {
     match word {
         "hold-least" => Some(Size::Least),
@@ -272,7 +277,7 @@ fn hold(rt: &HostRuntime, size: Size, count: u32) -> io::Result<()> {
     println!(rt; "{held} cores")
 }
 
-/// Times the mixes of both sizes whose names begin with a word.
+/// Times, of the mixes that have a small and a large size, those whose names begin with a word.
 fn time_sizes(rt: &HostRuntime, word: &str, steps: u32) -> io::Result<()> {
     for size in [Size::Small, Size::Large] {
         let inputs = mixed_inputs(rt.alloc(), size, steps)?;
@@ -285,7 +290,7 @@ fn time_sizes(rt: &HostRuntime, word: &str, steps: u32) -> io::Result<()> {
     Ok(())
 }
 
-/// Times the other mixes whose names begin with a word.
+/// Times the other mixes, and the exchanges of two nodes, whose names begin with a word.
 fn time_others(rt: &HostRuntime, word: &str, steps: u32) -> io::Result<()> {
     for mix in [
         Mix::QuietBytes,

@@ -58,7 +58,8 @@ impl Node {
         }
     }
 
-    /// Passes the frames that are due to another node, as bytes. Returns how many there were.
+    /// Passes the frames that are due at this node to the node `to`, as bytes, and steps the core of `to` after each.
+    /// Returns how many there were.
     fn send(&mut self, to: &mut Node, now: u64) -> u64 {
         let mut count = 0u64;
         for _ in 0..PLACES_OF_A_FRAME {
@@ -116,7 +117,8 @@ impl Pair {
         count
     }
 
-    /// Asks for a route to each destination, and passes all frames after each.
+    /// Makes node 1 need a route to each destination, and passes all frames after each need. Returns how many frames
+    /// there were.
     fn ask(&mut self) -> u64 {
         let mut count = 0u64;
         for d in MOST_DESTINATIONS {
@@ -144,8 +146,9 @@ impl Talk {
         }
     }
 
-    /// Exchanges at least `steps` datagrams. Returns how many, and how long that takes without making the nodes; `None`
-    /// for lack of memory.
+    /// Exchanges about `steps` datagrams: rounded down to whole rounds of HELLOs, or to whole runs of 192 for
+    /// `Queries`. Returns how many, and how long that took without making the nodes; `None` for lack of memory. An
+    /// error of the clock is passed on.
     pub fn run(self, rt: &HostRuntime, steps: u32) -> io::Result<Option<(u64, Duration)>> {
         match self {
             Talk::Hellos => time_hellos(rt, steps),

@@ -1,4 +1,4 @@
-//! Times the lanes of a node and a link between two neighbours' threads.
+//! Times the queues (lanes) of a node and a link between two neighbours' threads.
 mod lane_runs;
 mod lanes;
 mod link;
@@ -23,7 +23,7 @@ pub enum Timed {
 }
 
 impl Timed {
-    /// The bench that a word names.
+    /// The bench that a word names; `None` for a word other than `lanes`, `udp` and `udp-keyed`.
     pub fn named(word: &str) -> Option<Timed> {
         match word {
             "lanes" => Some(Timed::Lanes),

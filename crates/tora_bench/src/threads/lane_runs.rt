@@ -1,4 +1,5 @@
-//! Threads over the queues (lanes) of a node with two links.
+//! Threads over the queues (lanes) of a node: with two links for the queue into the core, with one for the queue to a
+//! neighbour.
 use std::alloc::Global;
 use std::sync::Wait;
 use std::thread;
@@ -6,7 +7,7 @@ use std::thread::{Threads, join};
 use tora_arq::Life;
 use tora_lane::{Cargo, CorePort, InPort, Lanes, OutPut, OutTake, What, lanes};
 
-/// Puts items of one seat, and returns how many were put.
+/// Puts `count` items of one seat, and stops if a put returns `Gone`. Returns how many were put.
 fn put_all<R: Wait>(rt: &R, port: InPort, count: u32) -> u64 {
     let mut port = port;
     let mut put = 0u64;
@@ -36,7 +37,7 @@ fn take_all<R: Wait>(rt: &R, core: CorePort) -> u64 {
     taken
 }
 
-/// Three threads put items, and one takes them. Returns how many were taken.
+/// Three threads put `count` items each, and one takes them. Returns how many were taken; 0 if memory runs out.
 pub fn run_core_lane<R: Threads + Wait + Sync>(rt: &R, alloc: Global, count: u32) -> u64 {
     let Ok(made) = lanes(rt, alloc, 2) else {
         return 0;
@@ -69,7 +70,7 @@ pub fn run_core_lane<R: Threads + Wait + Sync>(rt: &R, alloc: Global, count: u32
     taken
 }
 
-/// Sends outbound messages, and sends one again if the queue returns it.
+/// Sends `count` outbound messages, and sends one again if the queue returns it.
 fn send_all<R: Wait>(rt: &R, put: OutPut, count: u32) {
     let mut put = put;
     let mut number = 0u32;
@@ -88,7 +89,7 @@ fn send_all<R: Wait>(rt: &R, put: OutPut, count: u32) {
     }
 }
 
-/// Receives `count` outbound messages.
+/// Receives `count` outbound messages, waits for each, and returns their count.
 fn receive_all<R: Wait>(rt: &R, take: OutTake, count: u32) -> u64 {
     let mut take = take;
     let mut taken = 0u32;
@@ -104,7 +105,8 @@ fn receive_all<R: Wait>(rt: &R, take: OutTake, count: u32) -> u64 {
     u64::from(taken)
 }
 
-/// One thread sends outbound messages, and another receives them. Returns how many were received.
+/// One thread sends `count` outbound messages, and another receives them. Returns how many were received; 0 if memory
+/// runs out.
 pub fn run_out_lane<R: Threads + Wait + Sync>(rt: &R, alloc: Global, count: u32) -> u64 {
     let Ok(made) = lanes(rt, alloc, 1) else {
         return 0;

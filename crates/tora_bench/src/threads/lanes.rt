@@ -10,7 +10,7 @@ use std::time::{Duration, Instant};
 /// How many times each run is made; the best one counts.
 const RUNS: u32 = 7;
 
-/// Prints the line of a run: its name, the least time that it took, and how many operations it had.
+/// Prints the line of a bench: its name, nanoseconds an operation in the best run, and how many operations a run had.
 fn line<R: Print>(rt: &R, name: &str, best: Option<Duration>, count: u64) -> io::Result<()> {
     let nanoseconds = best.map_or(0, |least| least.as_nanos());
     let hundredths = nanoseconds.saturating_mul(100) / u128::from(count.max(1));
@@ -33,7 +33,7 @@ impl Lane {
         }
     }
 
-    /// How many operations a run had.
+    /// Makes a run, and returns how many operations it had: items taken, or messages received; 0 if memory runs out.
     fn run<R: Threads + Wait + Sync>(self, rt: &R, alloc: Global, count: u32) -> u64 {
         match self {
             Lane::IntoCore => run_core_lane(rt, alloc, count),

@@ -26,7 +26,7 @@ pub struct Course {
 }
 
 impl Course {
-    /// Nanoseconds from `base` to now.
+    /// Nanoseconds from `base` to now; 0 if the clock cannot be read.
     fn passed<C: Clock>(&self, clock: &C) -> u64 {
         match self.base.elapsed(clock) {
             Ok(passed) => u64::try_from(passed.as_nanos()).unwrap_or(0),
@@ -41,7 +41,7 @@ impl Course {
 }
 
 /// A hub that gives its end outbound messages once the session has begun, while fewer than `MOST_AHEAD` are
-/// undelivered, and that returns `Gone` once all were delivered.
+/// undelivered, and that returns `Gone` once all were delivered or its list has no room for an item.
 #[derive(Drop)]
 pub struct PacedHub<'a, C> {
     /// The outbound messages to give, and the items that were put.
@@ -59,7 +59,8 @@ pub struct PacedHub<'a, C> {
 }
 
 impl<C: Clock> PacedHub<'_, C> {
-    /// Notes an item that is put.
+    /// Records from an item that was put that the link is up, or that a packet was delivered, and when the last one
+    /// was.
     fn note(&mut self, what: &What)
         ensures list { self.new.list ≡ self.old.list }
         ensures over { self.new.over ≡ self.old.over }
@@ -77,7 +78,7 @@ impl<C: Clock> PacedHub<'_, C> {
         }
     }
 
-    /// Whether the next cargo may be given.
+    /// Whether the next outbound message may be given: the link is up, and fewer than `MOST_AHEAD` are undelivered.
     fn may_give(&self) -> bool {
         let delivered = self.course.delivered.load(Ordering::SeqCst);
         self.is_up && self.given < delivered.saturating_add(MOST_AHEAD)

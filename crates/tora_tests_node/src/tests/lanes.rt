@@ -14,7 +14,7 @@ mod most_links;
 mod threads;
 mod two_links;
 
-/// The outbound message with this number, from 1 on.
+/// An outbound message that the tests recognize by its number: the cut of the session {`number`, 1}.
 fn cargo(number: u64) -> Cargo {
     Cargo::Cut(Life {
         own: number,
@@ -22,7 +22,7 @@ fn cargo(number: u64) -> Cargo {
     })
 }
 
-/// Checks the result of a put at this tick.
+/// Puts `what` at the tick `now`, and checks the result.
 fn put_is<R: Wait + Abort>(
     rt: &R,
     port: &mut InPort,
@@ -35,17 +35,18 @@ fn put_is<R: Wait + Abort>(
     same_at(rt, &port.put(rt, now, what), &wanted, "a put", &now);
 }
 
-/// Checks that the core's port reports that the seats have ended, at two calls.
+/// Takes twice from the core's port, and checks that each call returns `Gone`: the ports of all seats have ended, and
+/// no item is left.
 fn seats_have_ended<R: Wait + Abort>(rt: &R, core: &mut CorePort) {
     for at in 0..2 {
         same_at(rt, &core.take(rt), &Err(Gone), "the seats have ended", &at);
     }
 }
 
-/// Numbers of links, and whether there can be queues for them.
+/// Numbers of links, and whether `lanes` makes queues for that many.
 const LINKS: &[(usize, bool)] = &[(0, false), (1, true), (32, true), (33, false)];
 
-/// Checks for which of these numbers of links there are queues.
+/// Checks for each number of links that `lanes` makes queues for that many links, or returns `TooMany`, error number 2.
 fn each_has_lanes<R: Wait + Abort>(rt: &R, alloc: Global, rows: &[(usize, bool)]) {
     for (links, wanted) in rows {
         let is_so = match lanes(rt, alloc, *links) {
@@ -63,7 +64,7 @@ fn node_has_one_to_32_links(rt: HostRuntime) {
     same(&rt, &number, &1, "the number of an error");
 }
 
-/// Puts an item of this link, and checks that the core takes it.
+/// Puts a beat at tick 7 at the new port of this seat, and checks that the core takes it as the seat's item number 1.
 fn use_port<R: Wait + Abort>(rt: &R, port: &mut InPort, core: &mut CorePort, seat: usize) {
     put_is(rt, port, 7, What::Beat, Ok(()));
     let item = there(rt, core.take(rt).ok(), "the item");
@@ -71,7 +72,7 @@ fn use_port<R: Wait + Abort>(rt: &R, port: &mut InPort, core: &mut CorePort, sea
     same(rt, &found, &(seat, 1, 7), "the item");
 }
 
-/// Sends a message, and checks that the link takes it and no other.
+/// Sends message 1 through a new queue, and checks that the link takes it, and none before or after it.
 fn use_out(rt: &impl Abort, out: &mut OutPut, take: &mut OutTake) {
     same(rt, &take.take(), &None, "no cargo at first");
     same(rt, &out.send(cargo(1)), &Ok(()), "a send");
@@ -79,7 +80,8 @@ fn use_out(rt: &impl Abort, out: &mut OutPut, take: &mut OutTake) {
     same(rt, &take.take(), &None, "no cargo behind it");
 }
 
-/// Uses the new queues of a node, in one thread: an item and a message of the last link.
+/// Uses the new queues of a node, in one thread. Checks that there are `links` ports of links and as many queues to
+/// links, and that an item and a message of the last link arrive.
 fn use_lanes<R: Wait + Abort>(rt: &R, lanes: Lanes, links: usize) {
     let Lanes {
         mut core,

@@ -40,7 +40,8 @@ fn clock_of(step: u64) -> Leaping {
     Leaping { now: 0, step }
 }
 
-// The bytes of a frame, by the table of formats.
+// The bytes of a frame of version 1 to node 1, by the table of formats. `kind` is 1 for HELLO, 2 for DATA and 3 for
+// ACK; `life` is the sender's session number, and `heard` the one that it has heard, 0 for none.
 fn frame_bytes(
     alloc: Global,
     kind: u8,
@@ -61,7 +62,7 @@ fn frame_bytes(
     Ok(bytes)
 }
 
-// A HELLO of node 2 to node 1.
+// A HELLO of node 2 to node 1, with the sender's session number and the one that it has heard, 0 for none.
 fn hello(alloc: Global, life: u64, heard: u64) -> Result<Vec<u8>, AllocError> {
     frame_bytes(alloc, 1, 2, life, heard, &[])
 }
@@ -82,7 +83,7 @@ fn file_of(rt: &impl Abort, disk: MemDisk) -> LifeFile<MemDisk> {
     }
 }
 
-// An open end without an event to poll.
+// The end of node `me` to node `peer`, opened at tick 0 with the session number `life`. It has no event to poll.
 fn open_end(rt: &impl Abort, alloc: Global, me: Id, peer: Id, life: u64) -> LinkEnd
     requires me { 0 < me }
     requires peer { 0 < peer }
@@ -96,7 +97,7 @@ fn open_end(rt: &impl Abort, alloc: Global, me: Id, peer: Id, life: u64) -> Link
     end
 }
 
-// Checks how an end counts a datagram.
+// Passes a datagram to an end at tick 0, and checks that the result of `take_in` is `wanted`.
 fn takes(
     rt: &impl Abort,
     end: &mut LinkEnd,
@@ -108,7 +109,7 @@ fn takes(
     same(rt, &take_in(end, tally, datagram, 0), &wanted, what);
 }
 
-// The number of datagrams that were counted.
+// The number of datagrams that were counted, under all verdicts and as bad frames.
 pub(super) fn total(tally: &Tally) -> u64 {
     let mut sum = 0u64;
     for verdict in [

@@ -1,27 +1,29 @@
 //! The checks of the tests. Each check is a call of a function here, which is proved once. An assertion inside a test
-//! would be proved there, with the text that it prints. A failure names a line of this module, so each call passes a
-//! text that says what it checks.
+//! would be proved there, with the text that it prints. A failure names a line of this module, so most calls pass a
+//! text that says what they check.
 ghost use Rattle.std.specs.Prelude.{◌≡◌, Some};
 
 use std::fmt::Debug;
 use std::process::Abort;
 
-/// Checks that a condition holds.
+/// Checks that `is_so` is true; `what` says what is checked, and is printed if it is false.
 pub fn sees(rt: &impl Abort, is_so: bool, what: &str) {
     assert!(rt; is_so, "{what}");
 }
 
-/// Checks that a condition holds for one row of a table or one turn of a loop.
+/// Checks that `is_so` is true. `what` says what is checked, and `place` names the row of a table or the turn of a
+/// loop; both are printed if it is false.
 pub fn sees_at<P: Debug>(rt: &impl Abort, is_so: bool, what: &str, place: &P) {
     assert!(rt; is_so, "{what} at {place:?}");
 }
 
-/// Checks that a value is the wanted one.
+/// Checks that `got` equals `wanted`; `what` says what is checked.
 pub fn same<T: PartialEq + Debug>(rt: &impl Abort, got: &T, wanted: &T, what: &str) {
     assert_eq!(rt; *got, *wanted, "{what}");
 }
 
-/// Checks a value for one row of a table or one turn of a loop.
+/// Checks that `got` equals `wanted`. `what` says what is checked, and `place` names the row of a table or the turn of
+/// a loop.
 pub fn same_at<T: PartialEq + Debug, P: Debug>(
     rt: &impl Abort,
     got: &T,
@@ -32,12 +34,12 @@ pub fn same_at<T: PartialEq + Debug, P: Debug>(
     assert_eq!(rt; *got, *wanted, "{what} at {place:?}");
 }
 
-/// Checks that a text is the wanted one.
+/// Checks that the text `got` equals `wanted`; `what` says what is checked.
 pub fn same_text(rt: &impl Abort, got: &str, wanted: &str, what: &str) {
     assert_eq!(rt; got, wanted, "{what}");
 }
 
-/// Checks that the count is the number of links, as the calls after it require.
+/// Checks that `count` equals `links`, the number of links, as the calls after it require.
 pub fn as_many(rt: &impl Abort, count: usize, links: usize)
     ensures { count ≡ links }
 {
@@ -54,7 +56,7 @@ pub fn there<T: Drop>(rt: &impl Abort, value: Option<T>, what: &str) -> T
     }
 }
 
-/// Fails the test: something was not refused that should be, or the other way round.
+/// Fails the test, and prints `what`: for a case that must not come.
 pub fn ends(rt: &impl Abort, what: &str) -> ! {
     panic!(rt; "{what}")
 }

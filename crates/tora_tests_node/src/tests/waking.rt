@@ -11,7 +11,7 @@ use tora_neighbour::{NodeClock, SocketWaker, Wake, WakingWire, Wire, WireError};
 pub(super) type Woken<'a, R> = (WakingWire<'a, &'a R>, SocketWaker<'a, &'a R>);
 
 /// Two wires to each other with these clocks, on two free ports of this address: one of the 500 ports from `from` on,
-/// and the port 500 above it.
+/// and the port 500 above it. `None` if no such two ports can be bound.
 pub(super) fn woken_pair<'a, R: Net + Clock>(
     rt: &'a R,
     alloc: Global,
@@ -33,7 +33,8 @@ pub(super) fn woken_pair<'a, R: Net + Clock>(
     None
 }
 
-/// Checks the results of receives, one after another.
+/// Receives once for each row, into 4 bytes, and checks the result: the length of the datagram, at most 4, or `None` if
+/// there is none.
 fn receives<W: Wire>(
     rt: &impl Abort,
     wire: &mut W,
@@ -46,7 +47,8 @@ fn receives<W: Wire>(
     }
 }
 
-/// Checks that three waiting datagrams are returned by one receive each, and that the next receive returns none.
+/// Sends datagrams of 3, 0 and 6 bytes from the first wire. Checks that the second returns them by one receive each,
+/// the last one cut to 4 bytes, and then none twice. Then the same for one datagram in the other direction.
 fn three_come<R: Clock + Abort>(rt: &R, (first, second): (Woken<'_, R>, Woken<'_, R>)) {
     let (mut first, _waker) = first;
     let (mut second, _other) = second;
@@ -59,7 +61,8 @@ fn three_come<R: Clock + Abort>(rt: &R, (first, second): (Woken<'_, R>, Woken<'_
     receives(rt, &mut first, &[Ok(Some(1)), Ok(None)], "what came back");
 }
 
-/// The second address is skipped if the system does not have it.
+/// One receive returns one datagram, over 127.0.0.1 and over ::1. The second address is skipped if no ports of it can
+/// be bound, as in a system without it.
 #[test]
 fn datagrams_that_came_are_given_one_a_receive(rt: HostRuntime) {
     let alloc = rt.alloc();

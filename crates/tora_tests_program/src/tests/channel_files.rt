@@ -27,27 +27,28 @@ const CHANNEL_LINES: &str = "0 1 2 loss=0.1\n300 2 1 loss=0.25,delay=0-1\n600 1 
 
 const BROKEN_LINES: &str = "0 1 2 loss=0.1\n300 2 1 loss=25%\n";
 
-/// The trace of all lines, with the last round 1.
+/// The trace of `LINES` if 1 is the last round: all lines have an effect.
 const LAST_ROUND: &str =
     "0 trace 1 10 50 5 8 0 0 0 0 0 0 1 -\n0 part 1 2\n0 need 1 2\n0 qry 1 2 0\n\
     0 end 4114bfe19002c726291e51542d4c6c2a68c4ff93e949bc510031bcfb0d3e22fe\n";
 
-/// The trace of no line, with the last round 0.
+/// The trace of `LINES` if 0 is the last round: no line has an effect.
 const NO_ROUND: &str = "0 trace 1 10 50 5 8 0 0 0 0 0 0 0 -\n\
     0 end 4114bfe19002c726291e51542d4c6c2a68c4ff93e949bc510031bcfb0d3e22fe\n";
 
-/// The trace of all lines, over the channel file.
+/// The trace of `LINES` over the channel file, whose digest ends the first record; all lines have an effect.
 const OVER_FILE: &str =
     "0 trace 1 10 50 5 8 0 0 0 0 0 0 - 0984e32aaf385429c24dd0c6b6237c10e10166ca96fb09baea4ea861489f3134\n\
     0 part 1 2\n0 need 1 2\n0 qry 1 2 0\n\
     0 end 4114bfe19002c726291e51542d4c6c2a68c4ff93e949bc510031bcfb0d3e22fe\n";
 
-/// The trace of no line, over the channel file and with a seed.
+/// The trace of `LINES` over the channel file, with seed 7, if 0 is the last round: no line has an effect.
 const BOTH: &str =
     "0 trace 1 10 50 5 8 0 0 0 0 7 0 0 0984e32aaf385429c24dd0c6b6237c10e10166ca96fb09baea4ea861489f3134\n\
     0 end 4114bfe19002c726291e51542d4c6c2a68c4ff93e949bc510031bcfb0d3e22fe\n";
 
 /// The words for a simulation: the path of the channel file, the seed, the last round, and the path of the trace.
+/// `None` for an option that is not given.
 type Asked = (
     Option<&'static str>,
     Option<&'static str>,
@@ -55,7 +56,8 @@ type Asked = (
     Option<&'static str>,
 );
 
-/// The words for a simulation, its status, its output, and its trace.
+/// The words for a simulation, its exit status, its output, and the text of the file `TRACE` afterwards; `None` if
+/// there is no such file.
 const ASKED: &[(Asked, u8, &str, Option<&str>)] = &[
     (
         (None, None, Some("1"), Some(TRACE)),
@@ -86,7 +88,8 @@ const ASKED: &[(Asked, u8, &str, Option<&str>)] = &[
     ((None, Some("7"), None, None), USAGE, "", None),
 ];
 
-/// Simulates the file once.
+/// Simulates `FILE` once with these words, with a progress bar if `has_bar`. Writes the output to `writer`, and returns
+/// the exit status.
 fn simulated_once<T: Files + AllocGlobal + Eprint + Clock>(
     rt: &T,
     (channel_file, seed, until, trace): Asked,
@@ -110,7 +113,8 @@ fn simulated_once<T: Files + AllocGlobal + Eprint + Clock>(
     simulate_file(rt, words, FILE, trace, shown, writer)
 }
 
-/// Simulates the file, and checks the status and the output. If memory runs out, it simulates once more.
+/// Simulates `FILE`, and checks that the exit status is `wanted` and the output is `text`. If memory runs out, it
+/// simulates once more.
 fn expect_simulated<T: Files + AllocGlobal + Eprint + Clock + Abort>(
     rt: &T,
     asked: Asked,
@@ -128,7 +132,8 @@ fn expect_simulated<T: Files + AllocGlobal + Eprint + Clock + Abort>(
     expect_written(rt, (FILE, "", 0, ""), writer.text(), text);
 }
 
-/// Whether a file has this text; without a text, whether there is no such file.
+/// Whether the file at `path` has exactly this text, of at most 256 bytes; if `text` is `None`, whether it cannot be
+/// opened.
 fn holds<R: Files<File = File>>(rt: &R, path: &str, text: Option<&str>) -> bool {
     let mut bytes = [0; 256];
     let Ok(mut file) = fs::open(rt, path) else {
@@ -143,7 +148,7 @@ fn holds<R: Files<File = File>>(rt: &R, path: &str, text: Option<&str>) -> bool 
     }
 }
 
-/// Makes the folder anew, with its files and without a trace.
+/// Makes the directory anew, with the simulation file and both channel files, and without a trace.
 fn make_folder<R: Files<File = File> + AllocGlobal>(rt: &R) -> Result<(), Fail> {
     let _ = fs::remove_dir_all(rt, FOLDER);
     fs::create_dir(rt, FOLDER)?;
@@ -153,7 +158,8 @@ fn make_folder<R: Files<File = File> + AllocGlobal>(rt: &R) -> Result<(), Fail> 
     Ok(())
 }
 
-/// Simulates each row, with a bar or without, and checks the trace and the channel file afterwards.
+/// Simulates each row of `ASKED`, with a progress bar if `has_bar`. Checks the status, the output and the trace, and
+/// that the channel file is unchanged.
 fn expect_all<T: Files<File = File> + AllocGlobal + Eprint + Clock + Abort>(
     rt: &T,
     has_bar: bool,
@@ -167,8 +173,9 @@ fn expect_all<T: Files<File = File> + AllocGlobal + Eprint + Clock + Abort>(
     Ok(())
 }
 
-/// The channel file is read before the simulation file, and neither is written. The trace has the digest of the channel
-/// file and the last round. All this is the same with a bar.
+/// If the channel file is missing or faulty, nothing is simulated and no trace is made. A trace at the path of the
+/// channel file is refused, and the file stays. A trace has the file's digest and the last round. All this is the same
+/// with a bar.
 #[test]
 fn channel_files_are_read(rt: HostRuntime) -> Result<(), Fail> {
     expect_all(&rt, false)?;

@@ -14,7 +14,8 @@ use tora_sim::Sim;
 const LINES: &str =
     "5 2 1 loss=0.2\n0 1 2 loss=0.1\n3 3 1 delay=4-6,repeat=1\n5 1 2 loss=0.3\n9 2 3 loss=1";
 
-/// The channel of links that no line names.
+/// The channel of a link before the round of its first line, and of a link without a line: losses and repetitions are
+/// per million datagrams, delays in rounds.
 const BASE: Channel = Channel {
     seed: 5,
     loss: 7,
@@ -23,8 +24,8 @@ const BASE: Channel = Channel {
     most: 2,
 };
 
-/// A round and two nodes; then, of their channel, how many of a million datagrams are lost, the least delay in rounds,
-/// and how many of a million arrive twice.
+/// A round, a sender and a receiver; then, of their channel in `LINES` over `BASE`, how many of a million datagrams are
+/// lost, the least delay in rounds, and how many of a million arrive twice.
 const LOOKS: &[((u64, u32, u32), (u32, u32, u32))] = &[
     ((0, 1, 2), (100_000, 0, 0)),
     ((4, 2, 1), (100_000, 0, 0)),
@@ -59,7 +60,8 @@ fn table_of(alloc: Global, text: &str) -> Result<ChannelTable, TableError> {
     }
 }
 
-/// The loss, the least delay and the repetitions of a link in a round, by a table.
+/// The loss, the least delay and the repetitions that a table over `BASE` has for a round, a sender and a receiver, in
+/// the order of `LOOKS`.
 fn looked_up(table: &ChannelTable, (round, sender, receiver): (u64, u32, u32)) -> (u32, u32, u32) {
     let place = Place {
         round,
@@ -71,8 +73,8 @@ fn looked_up(table: &ChannelTable, (round, sender, receiver): (u64, u32, u32)) -
     (found.loss, found.least, found.repeat)
 }
 
-/// A line holds from its round on, the later of two lines for one round holds, and links without a line have the given
-/// channel.
+/// A line holds in both directions from its round on, the later of two lines for one round holds, and links without a
+/// line for the round or an earlier one have the given channel.
 #[test]
 fn lines_hold_from_their_rounds(rt: HostRuntime) {
     let table = table_of(rt.alloc(), LINES).unwrap_or(ChannelTable::none());
@@ -102,7 +104,7 @@ const FOUND: &str = "node 1 (0,0,0,1,1) hop 2\nnode 2 (0,0,0,0,2) hop -\n";
 
 const LOST: &str = "node 1 - hop -\nnode 2 (0,0,0,0,2) hop -\n";
 
-/// A channel file, the last round, a simulation file, its output, and its status.
+/// A channel file, the last round (`None`: no limit), a simulation file, its output, and its exit status.
 const RUNS: &[(&str, Option<u64>, &str, &str, u8)] = &[
     ("", None, FIVE, FOUND, 0),
     ("0 2 1 loss=1\n", None, FIVE, LOST, 0),
@@ -127,7 +129,8 @@ const RUNS: &[(&str, Option<u64>, &str, &str, u8)] = &[
     ),
 ];
 
-/// Simulates once over a channel file, up to a last round.
+/// Simulates `lines` once over the channel file `file`, up to the last round `until` (`None`: no limit). Writes the
+/// output to `writer`, and returns the exit status.
 fn simulated<T: AllocGlobal + Eprint>(
     rt: &T,
     (file, until, lines): (&str, Option<u64>, &'static str),
@@ -165,7 +168,8 @@ fn runs_so<T: AllocGlobal + Eprint + Abort>(
     ended == ExitCode::from(status) && writer.text() == text.as_bytes()
 }
 
-/// A channel file changes which datagrams arrive, and nothing happens after the last round.
+/// A channel file changes which datagrams arrive. Once the last round is made, lines have no effect, and are not
+/// faults.
 #[test]
 fn files_and_last_rounds(rt: HostRuntime) {
     for row in RUNS {

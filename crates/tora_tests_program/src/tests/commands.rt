@@ -38,7 +38,8 @@ enum Run {
 }
 
 impl Run {
-    /// Runs lines, writes to these writers, and returns the status.
+    /// Runs `lines` by this command: writes the output to `writer`, and only for `Traced` a trace to `out`. Returns the
+    /// exit status.
     fn status<T: AllocGlobal + Eprint>(
         self,
         rt: &T,
@@ -83,7 +84,7 @@ fn is_status(status: ExitCode, wanted: u8) -> bool {
     status == ExitCode::from(wanted)
 }
 
-/// The results of the run of a row: its status, its output, and whether its trace is lost.
+/// Runs a row once. Returns the exit status, the output, and whether the trace is reported lost.
 fn left<T: AllocGlobal + Eprint>(
     rt: &T,
     (run, lines, _, (output, trace), _): Row,
@@ -95,8 +96,8 @@ fn left<T: AllocGlobal + Eprint>(
     (status, writer, out.failure().is_some())
 }
 
-/// Checks that a run prints its text, ends with its status, and loses its trace if that fails. If memory runs out, it
-/// runs once more.
+/// Runs a row, and checks the output, the exit status, and that the trace is reported lost exactly if its writer fails.
+/// If memory runs out, it runs once more.
 fn expect_status<T: AllocGlobal + Eprint + Abort>(rt: &T, row: Row, is_verbose: bool) {
     let (_, lines, text, (output, trace), wanted) = row;
     let (mut status, mut writer, mut is_lost) = left(rt, row, is_verbose);
@@ -184,7 +185,8 @@ const FAILED_OUTPUTS: &[Row] = &[
     ),
 ];
 
-/// The status is 1 if a write fails, or if only the last flush fails, after which all output is written.
+/// The status is 1 if the first write fails, and then nothing is written; it is also 1 if only the last flush fails,
+/// and then all output is written.
 #[test]
 fn statuses_of_failed_outputs(rt: HostRuntime) {
     expect_statuses(&rt, FAILED_OUTPUTS);
@@ -233,14 +235,15 @@ const LINES: &str = "dests 2\nlink 1 2\nneed 1 2\nturn 1\nneed 3 2\n";
 const RECORDS: &str =
     "0 trace 1 10 50 5 8 0 0 0 0 0 0\n0 need 1 2\n0 qry 1 2 0\n0 end 652b4c0ca01d6f1b2dfde35446f8e556bd5a6cf9edd9c63af90c38f5fea5dde8\n";
 
-/// The words for a simulation: times and a channel, the path of its file, and the path of its trace.
+/// The words for a simulation: times and a channel, the path of its file, and the path of its trace. `None` for an
+/// option that is not given.
 type Asked = (
     (Option<&'static str>, Option<&'static str>),
     &'static str,
     Option<&'static str>,
 );
 
-/// Simulates a file once.
+/// Simulates a file once with these words, writes the output to `writer`, and returns the exit status.
 fn simulated_once<T: Files + AllocGlobal + Eprint + Clock>(
     rt: &T,
     ((times, channel), path, trace): Asked,
@@ -263,7 +266,8 @@ fn simulated_once<T: Files + AllocGlobal + Eprint + Clock>(
     simulate_file(rt, words, path, trace, shown, writer)
 }
 
-/// Simulates a file, and checks the status and the output. If memory runs out, it simulates once more.
+/// Simulates a file, and checks that the exit status is `wanted` and the output is `text`. If memory runs out, it
+/// simulates once more.
 fn expect_simulated<T: Files + AllocGlobal + Eprint + Clock + Abort>(
     rt: &T,
     asked: Asked,
@@ -280,7 +284,7 @@ fn expect_simulated<T: Files + AllocGlobal + Eprint + Clock + Abort>(
     expect_written(rt, (asked.1, "", 0, ""), writer.text(), text);
 }
 
-/// Whether a file holds a text.
+/// Whether the file at `path` has exactly this text, of at most 256 bytes; false if it cannot be read.
 fn holds<R: Files<File = File>>(rt: &R, path: &str, text: &str) -> bool {
     let mut bytes = [0; 256];
     let Ok(mut file) = fs::open(rt, path) else {
@@ -292,7 +296,7 @@ fn holds<R: Files<File = File>>(rt: &R, path: &str, text: &str) -> bool {
     }
 }
 
-/// Makes the folder anew, with only the simulation file.
+/// Makes the directory anew, with only the simulation file.
 fn make_folder<R: Files<File = File> + AllocGlobal>(rt: &R) -> Result<(), Fail> {
     let _ = fs::remove_dir_all(rt, FOLDER);
     fs::create_dir(rt, FOLDER)?;
@@ -300,7 +304,8 @@ fn make_folder<R: Files<File = File> + AllocGlobal>(rt: &R) -> Result<(), Fail> 
     Ok(())
 }
 
-/// The words for simulations, one after another, the status, the output, and whether there is a trace afterwards.
+/// The words for simulations that run one after another in one directory, the exit status, the output, and whether the
+/// file `TRACE` has the text `RECORDS` afterwards.
 const ASKED: &[(Asked, u8, &str, bool)] = &[
     (((None, None), FILE, None), SUCCESS, "refused 2\n", false),
     (
@@ -336,12 +341,13 @@ fn files_are_those_named(rt: HostRuntime) -> Result<(), Fail> {
     Ok(())
 }
 
-/// The status of a fault of usage.
+/// Prints help, the version or a fault of usage, and returns the exit status.
 fn status_of_fault<R: Print + Eprint>(rt: &R, error: &clap::Error) -> ExitCode {
     usage(rt, error)
 }
 
-/// The status of words that are not a command line or ask for help; `None` if they are a command line.
+/// The status of words that are not a command line or ask for help; `None` if they are a command line, or memory runs
+/// out.
 fn status_of_words<R: AllocGlobal + Print + Eprint>(rt: &R, words: &[&str]) -> Option<ExitCode> {
     match parsed(rt.alloc(), words)? {
         Ok(_) => None,

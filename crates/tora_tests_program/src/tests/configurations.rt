@@ -1,4 +1,4 @@
-//! The worked configuration, and each way in which one is refused.
+//! The worked configuration of a node, and each way in which a configuration is refused.
 use reading::Wanted::{
     Accepted, Erases, NoToml, Peers, Refused, Says, TooMany, UnknownKey, Worked,
 };
@@ -15,7 +15,7 @@ const HEAD: &str = "node = 1\ndests = [4]\nlife_dir = \"n1\"\n";
 
 const LINK: &str = "[[link]]\npeer = 2\nlocal = 4012\nremote = 4021\n";
 
-/// The beginning of a configuration with no destination and an empty folder name.
+/// The beginning of a configuration with no destination and an empty name of the directory for life files.
 const BARE: &str = "node = 1\ndests = []\nlife_dir = \"\"\n";
 
 const ACCEPTED_AND_REFUSED: &[(&[&str], Wanted)] = &[
@@ -238,7 +238,8 @@ fn keys_of_a_link(rt: HostRuntime) {
     each_is_read(&rt, rt.alloc(), KEYS_OF_A_LINK);
 }
 
-/// A key that occurs twice is not TOML.
+/// Texts with a key that occurs twice, which are not TOML, and one with an unknown key of a link, which the error
+/// names.
 const REPEATED_AND_UNKNOWN: &[(&[&str], Wanted)] = &[
     (&["node = 1\n", WORKED], NoToml),
     (&["dests = []\n", WORKED], NoToml),

@@ -102,7 +102,7 @@ const OWN_LINES: &[Row] = &[
          refused 3\n",
         Ended::Whole,
     ),
-    // A silent end sends nothing in a step. In the first step after its silence, it sends what was due.
+    // An end that `far` makes silent sends nothing in a step. In the first step after `near`, it sends what was due.
     (
         &["dests 2\nlink 1 2\nfar 1 2\nfar 1 2\nfar 2 3\nnear 3 1\nstep\nnear 1 2\nstep\n"],
         NOTHING,
@@ -159,7 +159,7 @@ const LONG: &[Files] = &[
         text: "fault 1 the first line is `dests LIST`, the destinations\nok\n",
         ended: Ended::Whole,
     },
-    // The world does not change.
+    // The long line does not change the world: `needs` answers as before it.
     Files {
         front: STEPPED,
         middles: &["xxxxxxxx", "notice 1"],
@@ -237,7 +237,7 @@ fn own_lines_are_answered(rt: HostRuntime) {
     expect_rows(&rt, Way::Drive, OWN_LINES);
 }
 
-/// Lines of 4,096 bytes, of 4,097, and of a MiB.
+/// A line of 4,096 bytes is taken; lines of 4,097 bytes and of a MiB are faults.
 #[test]
 fn long_lines_are_faults_of_a_drive(rt: HostRuntime) {
     expect_files(&rt, Way::Drive, LONG);

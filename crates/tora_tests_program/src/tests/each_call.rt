@@ -18,7 +18,8 @@ struct Recorder {
     events: Vec<Event>,
 }
 
-/// Stores an event `often` times. Each event that sends a frame makes a datagram, unless a send is armed to fail.
+/// Appends `event` to `events`, `often` times. `Recorder::transmit` passes the number of new datagrams: each event that
+/// sends a frame makes one, unless a send is armed to fail.
 fn keep_often(events: &mut Vec<Event>, event: Event, often: u64) -> Result<(), AllocError> {
     for _ in 0..often {
         events.push(event)?;
@@ -144,14 +145,15 @@ impl Simulator for Recorder {
     }
 }
 
-/// A row of four nodes.
+/// The links of a row of four nodes.
 const LINKS: [(Id, Id); 3] = [(1, 2), (2, 3), (3, 4)];
 
 const NODES: [Id; 4] = [1, 2, 3, 4];
 
 const ENDS: [(Id, Id); 6] = [(1, 2), (2, 1), (2, 3), (3, 2), (3, 4), (4, 3)];
 
-/// Makes rounds over a channel, with no nodes parted.
+/// Makes `count` rounds of the row of four nodes over `channel`, with no nodes parted. `in_flight` has the delayed
+/// datagrams before and after.
 fn rounds_over<S: Simulator>(
     sim: &mut S,
     count: u64,
@@ -169,7 +171,7 @@ fn rounds_over<S: Simulator>(
     make_rounds(sim, count, &network, in_flight)
 }
 
-/// Makes rounds over a channel that delivers every datagram at once.
+/// Makes `count` rounds over a channel that delivers every datagram at once.
 fn clear_rounds<S: Simulator>(sim: &mut S, alloc: Global, count: u64) -> Result<(), AllocError> {
     let mut in_flight = InFlight::new(alloc);
     rounds_over(sim, count, Channel::CLEAR, &mut in_flight)
@@ -195,7 +197,8 @@ fn recorded(rt: &impl Abort, alloc: Global) -> Vec<Event> {
     events
 }
 
-/// Whether the node's height and next hop are those of the route to node 4.
+/// Whether node `n` has, for destination 4, the height (0,0,0,`delta`,`n`) and the next hop `hop`; `None` for no next
+/// hop.
 fn has_route(sim: &Sim, n: Id, delta: i32, hop: Option<Id>) -> bool {
     sim.height(n, 4) == Some(Height::new(0, 0, 0, delta, n).ok()) && sim.next_hop(n, 4) == hop
 }
@@ -207,8 +210,8 @@ fn has_routes(sim: &Sim) -> bool {
         && has_route(sim, 4, 0, None)
 }
 
-/// Makes the events happen, with a call armed to fail before one of them. Refused events are skipped. Then makes 60
-/// rounds.
+/// Makes `events` happen one after another, and before the one at `place`, counted from 0, the event `arm`, which arms
+/// a call to fail. Refused events are skipped. Then makes 60 rounds.
 fn run_armed(rt: &impl Abort, alloc: Global, events: &[Event], place: usize, arm: &Event) -> Sim {
     let topology = Topology::new(alloc, &LINKS, &[4]).expect(rt, "a topology");
     let mut sim = Sim::new(alloc, &topology).expect(rt, "a simulator");
@@ -223,7 +226,8 @@ fn run_armed(rt: &impl Abort, alloc: Global, events: &[Event], place: usize, arm
     sim
 }
 
-/// If any call of any node fails, at any place among the events, the route is found again.
+/// Whichever node's send or receive is armed to fail, before whichever event, the route to node 4 is there after 60
+/// further rounds.
 #[test]
 fn each_call(rt: HostRuntime) {
     let events = recorded(&rt, rt.alloc());

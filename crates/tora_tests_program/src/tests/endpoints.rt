@@ -5,8 +5,8 @@ use std::net::SocketAddr;
 use std::process::Abort;
 use tora_commands::configuration::{ConfigError, LinkEndpoint, read_endpoints};
 
-/// The two addresses of a link, its other keys, and the result of reading it as a text: its peer, addresses and key
-/// file, or the fault.
+/// The values of `local` and `remote` of a link to peer 2, the lines of its other keys, and the wanted text for the
+/// result of reading it: peer, addresses and key file (`-` for none), or the fault.
 type Row = (&'static str, &'static str, &'static str, &'static str);
 
 const NO_NUMBER: &str = "`local` of link 1 is no whole number";
@@ -49,7 +49,7 @@ const WAYS: &[Row] = &[
     ("0", "7002", "", "`local` of link 1 is not from 1 to 65535"),
 ];
 
-/// The text for the addresses and the key file of a link.
+/// The text for the peer, the two addresses and the key file of a link; `-` for no key file.
 fn said(rt: &impl Abort, alloc: Global, endpoint: &LinkEndpoint) -> String {
     let (peer, local, remote) = (endpoint.peer, endpoint.local, endpoint.remote);
     let key = match &endpoint.key_file {
@@ -70,7 +70,8 @@ fn words(
     format!(in alloc; "{peer} {local} {remote} {key}").expect(rt, "memory")
 }
 
-/// The text for the result of reading a configuration.
+/// The text for the result of reading a configuration: its one link, or the fault; empty if it does not have exactly
+/// one link.
 fn read(rt: &impl Abort, alloc: Global, text: &str) -> String {
     match read_endpoints(alloc, text) {
         Ok(endpoints) => match endpoints.as_slice() {

@@ -30,10 +30,11 @@ const LAST_ROUND: &str =
     "0 trace 1 10 50 5 8 0 0 0 0 0 0 1 - remembered\n0 part 1 2\n0 need 1 2\n0 qry 1 2 0\n\
     0 end 4114bfe19002c726291e51542d4c6c2a68c4ff93e949bc510031bcfb0d3e22fe\n";
 
-/// The words for a simulation: the erasure, and the last round.
+/// The words for a simulation: the erasure, and the last round. `None` for an option that is not given.
 type Asked = (Option<&'static str>, Option<&'static str>);
 
-/// The words for a simulation, its status, its output, and its trace.
+/// The words for a simulation, its exit status, its output, and the text of the file `TRACE` afterwards; `None` if
+/// there is no such file.
 const ASKED: &[(Asked, u8, &str, Option<&str>)] = &[
     ((None, None), 0, "refused 2\n", Some(PLAIN)),
     ((Some("plain"), None), 0, "refused 2\n", Some(PLAIN)),
@@ -54,7 +55,7 @@ const ASKED: &[(Asked, u8, &str, Option<&str>)] = &[
     ((Some("remember"), None), USAGE, "", None),
 ];
 
-/// Simulates the file once.
+/// Simulates `FILE` once with these words and a trace, writes the output to `writer`, and returns the exit status.
 fn simulated_once<T: Files + AllocGlobal + Eprint + Clock>(
     rt: &T,
     (erasure, until): Asked,
@@ -77,7 +78,8 @@ fn simulated_once<T: Files + AllocGlobal + Eprint + Clock>(
     simulate_file(rt, words, FILE, Some(TRACE), shown, writer)
 }
 
-/// Simulates the file, and checks the status and the output. If memory runs out, it simulates once more.
+/// Simulates `FILE`, and checks that the exit status is `wanted` and the output is `text`. If memory runs out, it
+/// simulates once more.
 fn expect_simulated<T: Files + AllocGlobal + Eprint + Clock + Abort>(
     rt: &T,
     asked: Asked,
@@ -94,7 +96,8 @@ fn expect_simulated<T: Files + AllocGlobal + Eprint + Clock + Abort>(
     expect_written(rt, (FILE, "", 0, ""), writer.text(), text);
 }
 
-/// Whether a file has this text; without a text, whether there is no such file.
+/// Whether the file at `path` has exactly this text, of at most 256 bytes; if `text` is `None`, whether it cannot be
+/// opened.
 fn holds<R: Files<File = File>>(rt: &R, path: &str, text: Option<&str>) -> bool {
     let mut bytes = [0; 256];
     let Ok(mut file) = fs::open(rt, path) else {
@@ -136,7 +139,8 @@ const CHOSEN: &[Row] = &[(
     Ended::Whole,
 )];
 
-/// Lines that are faults: with another word, with a node that does not exist, or before a link.
+/// Lines `erasure N WORD` directly after the links that are faults: with another word, with too few or too many words,
+/// or with a node that does not exist.
 const FAULTS: &[Row] = &[(
     &["dests 3\nlink 1 2\n"],
     &[

@@ -5,7 +5,8 @@ use std::io::{Error, ErrorKind as IoErrorKind, Read, Write};
 /// A file of lines: its front, a middle, how often the middle is repeated, and its end.
 pub type Lines<'a> = (&'a str, &'a str, usize, &'a str);
 
-/// A reader of a file of lines that returns a few bytes at a time, and fails at one of its calls, counted from 1.
+/// A reader of a file of lines that returns at most `size` bytes at a time. It fails once, with `kind`, at the call
+/// numbered `until_failure`, from 1; never if that is 0.
 #[derive(Drop)]
 pub struct LinesReader<'a> {
     /// The unread rest of the present part.
@@ -20,7 +21,7 @@ pub struct LinesReader<'a> {
 }
 
 impl<'a> LinesReader<'a> {
-    /// A reader that returns as many bytes as are requested, and never fails.
+    /// A reader that returns as many bytes as are requested and left in the present part, and never fails.
     pub fn new((front, middle, times, end): Lines<'a>) -> LinesReader<'a> {
         LinesReader {
             bytes: front.as_bytes(),
@@ -33,7 +34,7 @@ impl<'a> LinesReader<'a> {
         }
     }
 
-    /// Moves to the next part if one is at its end.
+    /// Moves to the next part if the present one has been read.
     fn turn_page(&mut self) {
         if self.bytes.is_empty() {
             if self.times > 0 {
@@ -69,13 +70,13 @@ pub enum Fails {
     Never,
     /// A write with this number, counted from 1, and all later ones.
     Write(u64),
-    /// A flush.
+    /// Each flush.
     Flush,
 }
 
 const ROOM: usize = 0x2000;
 
-/// A writer that allocates no memory.
+/// A writer into an array of `ROOM` bytes, which allocates no memory. Once the array is full, a write accepts 0 bytes.
 #[derive(Drop)]
 pub struct ArrayWriter {
     bytes: [u8; ROOM],

@@ -88,7 +88,8 @@ const LINES: &str = "[WARN  tora_keyed::noticed_wire] link 2 unauthenticated dat
 [WARN  tora_keyed::noticed_wire] link 2 unauthenticated datagrams 5\n\
 [INFO  tora_keyed::noticed_wire] link 2 unauthenticated datagrams 6\n";
 
-/// A datagram arrives at each turn; a forged one is not delivered.
+/// Receives once at the tick of each row of `TURNS`, and checks that a forged datagram is not delivered, and that any
+/// other is.
 fn turn_each<L: Log>(
     rt: &impl Abort,
     wire: &mut LinkWire<'_, GivingWire<'_>, SetClock<'_>, L>,
@@ -104,7 +105,8 @@ fn turn_each<L: Log>(
     }
 }
 
-/// Each log line is written at its tick, the count is right, and no datagram is delivered under a cleared key.
+/// Receives over `TURNS` on a wire with a key, and checks that it counts 6 datagrams. Then closes it, which clears the
+/// key, and checks that no datagram is delivered any more. The caller checks the log lines in `desk`.
 fn minutes_pass(rt: &impl Abort, desk: &Desk) {
     let (tick, is_forged) = (Cell::new(0), Cell::new(false));
     let log = Logged::new(desk, LevelFilter::Info, LogLines::new(desk, false));
@@ -122,7 +124,8 @@ fn minutes_pass(rt: &impl Abort, desk: &Desk) {
     same_at(rt, &given, &Ok(None), &"a cleared key");
 }
 
-/// A link without a key delivers every datagram, counts nothing, and logs nothing at its end.
+/// Receives a forged datagram on a wire without a key, and closes the wire. Checks that all 26 bytes are delivered and
+/// that nothing is counted. The caller checks that nothing is logged in `desk`.
 fn plain_link_ends(rt: &impl Abort, desk: &Desk) {
     let (tick, is_forged) = (Cell::new(0), Cell::new(true));
     let log = Logged::new(desk, LevelFilter::Info, LogLines::new(desk, false));

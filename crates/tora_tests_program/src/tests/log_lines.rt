@@ -59,15 +59,15 @@ impl Clock for Desk {
     }
 }
 
-/// Three records of different levels.
+/// Logs three records: `one` as a warning, `link 2 up` as information, and `three` for debugging.
 fn log_three<L: Log>(log: &L) {
     warn!(log; target: "a", "one");
     info!(log; target: "a", "link {} up", 2);
     debug!(log; target: "a", "three");
 }
 
-/// The reading of the clock in milliseconds since 1970, whether lines have the time, the last level that is logged, and
-/// the text.
+/// The reading of the clock in milliseconds since 1970 (`None`: it cannot be read), whether lines have the time, the
+/// most detailed level that is logged, and the text.
 type Row = (Option<u64>, bool, LevelFilter, &'static str);
 
 const ROWS: &[Row] = &[
@@ -93,7 +93,7 @@ const ROWS: &[Row] = &[
     (Some(0), true, LevelFilter::Off, ""),
 ];
 
-/// Checks the text of a row's records.
+/// Logs the three records of `log_three` as a row says, and checks the text.
 fn expect_lines<T: Abort>(rt: &T, row: &Row) {
     let (now, has_time, level, wanted) = *row;
     let desk = Desk::new(now);

@@ -8,7 +8,8 @@ use tora_arq::Times;
 use tora_commands::asked_times;
 use tora_lines::Ended;
 
-/// A row of four nodes, of which those in each set are old: the same route is found and lost.
+/// A row of four nodes, once for each of the 16 sets of old nodes, which speak only version 1 of frames. The output is
+/// always that of a route to node 4 that is found and then lost.
 const OLD_NODES: &[Files] = &[Files {
     front: FOUR,
     middles: &[
@@ -41,7 +42,7 @@ fn route_is_found_whatever_nodes_are_old(rt: HostRuntime) {
     expect_files(&rt, Way::Simulation, OLD_NODES);
 }
 
-/// Old nodes in two orders.
+/// Lines `old N` that are not in ascending order, or name a node twice; a route to node 4 is found.
 const ORDERS: &[Row] = &[(
     &[FOUR],
     &[
@@ -58,7 +59,8 @@ fn old_nodes_in_any_order(rt: HostRuntime) {
     expect_rows(&rt, Way::Simulation, ORDERS);
 }
 
-/// Two nodes, and which of their HELLOs are refused.
+/// Two nodes, of which none or one is old, and what `SAID` prints: `refused 4` for a `transmit` when no frame is due,
+/// `refused 3` for a datagram that does not exist.
 const HELLOS: &[Row] = &[
     (
         &["dests 2\nlink 1 2\n", "dests 2\nlink 1 2\nold 2\n"],
@@ -83,7 +85,8 @@ fn old_node_says_hello_once(rt: HostRuntime) {
     expect_rows(&rt, Way::Simulation, HELLOS);
 }
 
-/// Lines after `FOUR`, and whole inputs in two parts.
+/// Inputs of two parts: `FOUR` or another beginning, and then lines with `old`. One of these lines, or a link after
+/// one, is the fault.
 const NO_OLD: &[Row] = &[
     (
         &[FOUR],
@@ -141,7 +144,8 @@ const NO_OLD: &[Row] = &[
     ),
 ];
 
-/// A line `old N` is a fault if no link names the node, if it is not directly after the links, or if it is malformed.
+/// A line `old N` is a fault if no link names the node, if it follows neither a link nor a line `old` or `erasure`, if
+/// the links are refused, or if it is malformed. A link after it is a fault.
 #[test]
 fn old_nodes_that_are_faults(rt: HostRuntime) {
     expect_rows(&rt, Way::Simulation, NO_OLD);
@@ -155,7 +159,8 @@ fn input_ends_behind_an_old_node(rt: HostRuntime) {
     expect_rows(&rt, Way::Simulation, LAST_OLD);
 }
 
-/// A route that is found, and the heights 30 rounds after the loss of a link.
+/// Lines after `FOUR`: a route to node 4 is found, and the link of nodes 3 and 4 is parted. The heights are printed
+/// before that, and 30 rounds later.
 const THIRTY_ROUNDS: &str = "need 1 4\nrounds 3\nheights 4\npart 3 4\nrounds 30\nheights 4\n";
 
 const LOST: &[Row] = &[(&[FOUR], &[THIRTY_ROUNDS], FOUND_AND_LOST, Ended::Whole)];
@@ -170,14 +175,15 @@ const NOT_LOST: &[Row] = &[(
     Ended::Whole,
 )];
 
-/// A link is silent after the number of ticks in the times.
+/// Within 30 rounds after `part 3 4`, the route to node 4 is lost if a link end is silent after 20 ticks, and not if it
+/// is silent after 50, the standard number.
 #[test]
 fn route_is_lost_after_the_silence_asked_for(rt: HostRuntime) {
     expect_rows(&rt, Way::StandardTimes, NOT_LOST);
     expect_rows(&rt, Way::ShortSilence, LOST);
 }
 
-/// Checks the times for each of these words after `--times`.
+/// Checks the times that `asked_times` reads from the word of each row, as in `TIMES`.
 fn expect_times(rt: &impl Abort, rows: &[(Option<&str>, Option<Times>)]) {
     for (word, times) in rows {
         same_at(rt, &asked_times(*word), times, word);
@@ -191,7 +197,8 @@ const LONGEST_RETRY: Times = Times {
     tries: 1000,
 };
 
-/// Words after `--times`, and the times in them.
+/// Words after `--times`, and the times in them. The word `None` stands for a missing option, the times `None` for a
+/// malformed word.
 const TIMES: &[(Option<&str>, Option<Times>)] = &[
     (None, Some(Times::STANDARD)),
     (Some("10,50,5,8"), Some(Times::STANDARD)),
@@ -218,20 +225,21 @@ const TIMES: &[(Option<&str>, Option<Times>)] = &[
     (Some("18446744073709551616,50,5,8"), None),
 ];
 
-/// Words after `--times`, and the times in them.
+/// Checks `asked_times` for each row of `TIMES`: a word is four numbers from 1 to 2^64 - 1 with commas, and any other
+/// word is malformed. Without a word the times are the standard ones.
 #[test]
 fn times_are_asked_for(rt: HostRuntime) {
     expect_times(&rt, TIMES);
 }
 
-/// The words after `--times` in `TIMES_ON_COMMAND_LINES`, and the times in them.
+/// The words after `--times` in `TIMES_ON_COMMAND_LINES`, and the times in them, with `None` as in `TIMES`.
 const WORDS_OF_TIMES: &[(Option<&str>, Option<Times>)] = &[
     (None, Some(Times::STANDARD)),
     (Some("10,20,5,8"), Some(SHORT_SILENCE)),
     (Some("10,20,5"), None),
 ];
 
-/// Command lines, and the simulations that they request.
+/// Command lines, and the simulation that each requests; `Nothing` for words that are not a command line.
 const TIMES_ON_COMMAND_LINES: &[(&[&str], Asked)] = &[
     (&["tora", "sim", "a.sim"], Asked::Sim("a.sim", None, None)),
     (

@@ -29,7 +29,7 @@ fn pairs_of_nodes(rt: HostRuntime) {
     sees(&rt, parted.is_parted(7, 7), "a pair that stays");
 }
 
-/// Node 1,023 is the last with a bit for each pair. Pairs with higher nodes are parted and mended, too.
+/// `Parted` has a bit for each pair of nodes up to 1,023. Pairs with a higher node are parted and mended, too.
 #[test]
 fn pairs_behind_the_bits(rt: HostRuntime) {
     let mut parted = Parted::of(rt.alloc(), &[]).expect(&rt, "no pairs");
@@ -48,7 +48,7 @@ fn pairs_behind_the_bits(rt: HostRuntime) {
     sees(&rt, parted.is_parted(1_023, 0), "the second stays");
 }
 
-/// A simulator of a line of three nodes after a need of node 1.
+/// A simulator of nodes 1, 2 and 3 in a row, after a need of node 1 for a route to node 3.
 fn needing(rt: &impl Abort, alloc: Global) -> Sim {
     let topology = Topology::new(alloc, &[(1, 2), (2, 3)], &[3]).expect(rt, "a topology");
     let mut sim = Sim::new(alloc, &topology).expect(rt, "a simulator");
@@ -56,7 +56,8 @@ fn needing(rt: &impl Abort, alloc: Global) -> Sim {
     sim
 }
 
-/// Makes sixty rounds, and returns the next hop of node 1.
+/// Makes sixty rounds with these pairs of nodes parted, and returns the next hop of node 1 to node 3; `None` if it has
+/// none.
 fn hop_behind(rt: &impl Abort, alloc: Global, sim: &mut Sim, parted: &[(Id, Id)]) -> Option<Id> {
     let mut in_flight = InFlight::new(alloc);
     let parted = Parted::of(alloc, parted).expect(rt, "the parted pairs");

@@ -19,7 +19,7 @@ struct Terminal {
 }
 
 impl Terminal {
-    /// A terminal with an empty text.
+    /// A terminal with an empty text, whose clock advances by `step` milliseconds at each reading.
     fn new(step: u64) -> Terminal {
         Terminal {
             told: RefCell::new(ArrayWriter::new(Fails::Never)),
@@ -57,7 +57,7 @@ impl Clock for Terminal {
     }
 }
 
-/// Checks the text of a terminal.
+/// Checks that the text of a terminal is `wanted`; `place` names the case.
 fn expect_told<T: Abort, P: Debug>(rt: &T, terminal: Terminal, wanted: &str, place: &P) {
     let told = terminal.told.into_inner();
     same_at(
@@ -68,7 +68,7 @@ fn expect_told<T: Abort, P: Debug>(rt: &T, terminal: Terminal, wanted: &str, pla
     );
 }
 
-/// Rounds done, rounds in all, milliseconds, and the text for them.
+/// Rounds done, rounds in all (`None`: not known), milliseconds so far, and the text for them.
 const TEXTS: &[((u64, Option<u64>, u64), &str)] = &[
     (
         (0, Some(100), 0),
@@ -106,7 +106,8 @@ const TEXTS: &[((u64, Option<u64>, u64), &str)] = &[
     ((7, None, 2000), "7 rounds, 3 a second"),
 ];
 
-/// The bar has a mark for each tenth, and the remaining time is computed from the rounds so far.
+/// The bar has a mark for each tenth of the rounds, and the remaining seconds are computed from the time of the rounds
+/// so far. If the rounds in all are not known, there is neither.
 #[test]
 fn texts_of_a_bar(rt: HostRuntime) {
     for ((done, total, millis), wanted) in TEXTS {
@@ -136,7 +137,7 @@ const COUNTS: &[(&str, u64)] = &[
     ),
 ];
 
-/// Only lines `rounds R` count, also a last one without LF.
+/// Only valid lines `rounds R` count, with R at most 10,000; also a last one without LF.
 #[test]
 fn rounds_of_lines(rt: HostRuntime) {
     for (text, wanted) in COUNTS {
@@ -147,7 +148,7 @@ fn rounds_of_lines(rt: HostRuntime) {
     }
 }
 
-/// Reads all bytes of a reader.
+/// Reads from a reader until its end or its first error, at most 64 times.
 fn read_all<R: Input>(reader: &mut R) {
     let mut bytes = [0u8; 64];
     for _ in 0..64u64 {
@@ -160,7 +161,8 @@ fn read_all<R: Input>(reader: &mut R) {
 
 const FILE: &str = "dests 2\nlink 1 2\nrounds 10\nheights 2\nrounds 30\nheights 2\n";
 
-/// The milliseconds between two readings of the clock, the rounds of the file, the last round, and what is drawn.
+/// The milliseconds between two readings of the clock, the rounds of `FILE` (`None`: not known), the last round
+/// (`None`: no limit), and what is drawn.
 const DRAWN: &[(u64, Option<u64>, Option<u64>, &str)] = &[
     (
         1,
@@ -188,7 +190,8 @@ const DRAWN: &[(u64, Option<u64>, Option<u64>, &str)] = &[
     (1, None, None, "\r\x1b[K40 rounds, 6666 a second\n"),
 ];
 
-/// The bar is drawn each tenth of a second, for the lines that were read before, and at the end.
+/// The bar is drawn at most each tenth of a second, for the lines that were read before, and once at the end of the
+/// file.
 #[test]
 fn bars_are_drawn(rt: HostRuntime) {
     for (step, total, until, wanted) in DRAWN {

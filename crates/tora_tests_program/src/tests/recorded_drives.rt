@@ -31,8 +31,8 @@ const STEPPED: Row = (
     "node 1 - hop -\nnode 2 (0,0,0,0,2) hop -\n",
 );
 
-/// A line of each kind. A line that is refused or a fault, or that does not change the world, has no line in the
-/// record; a `take` has the line of the delivery.
+/// Lines of many kinds. Those that are refused or faults have no line in the record, nor have `far`, `near`, `needs`,
+/// `bytes` and `forget`; `step` has the lines of its events, and `take` that of the delivery.
 const EACH_KIND: Row = (
     "dests 2\nlink 1 2\nold 2\nneed 1 2\nfar 1 2\nstep\nneeds\nbytes 1\nturn 1\nforget 0\ndeliver 2\n\
      take 1 2 01010000000000020000000100000000000000010000000000000000\n\
@@ -111,8 +111,8 @@ fn recorded<T: AllocGlobal>(rt: &T, lines: &str, fails: Fails) -> Left {
     left
 }
 
-/// Checks the answers to the lines of a row, with a writer of the record that fails in this way, and returns the
-/// record.
+/// Drives the lines of a row, with a writer of the record that fails in this way. Checks the answers, and that the
+/// record is reported lost exactly if its writer fails. Returns the record.
 fn expect_answers<T: AllocGlobal + Abort>(
     rt: &T,
     (lines, answers, _, _): Row,
@@ -127,13 +127,13 @@ fn expect_answers<T: AllocGlobal + Abort>(
     out.writer
 }
 
-/// Checks the record of a row.
+/// Drives the lines of a row, and checks the answers and the record.
 fn expect_record<T: AllocGlobal + Abort>(rt: &T, row: Row) {
     let record = expect_answers(rt, row, Fails::Never);
     expect_written(rt, (row.0, "", 0, ""), record.text(), row.2);
 }
 
-/// Checks the output of a simulation of the record.
+/// Simulates the record of a row, and checks the output.
 fn expect_simulated<T: AllocGlobal + Eprint + Abort>(rt: &T, (_, _, record, text): Row) {
     let lines = (record, "", 0, "");
     expect_run(
@@ -146,7 +146,7 @@ fn expect_simulated<T: AllocGlobal + Eprint + Abort>(rt: &T, (_, _, record, text
     );
 }
 
-/// The record has lines for each accepted line, and nothing for any other.
+/// The record has the lines that repeat the drive in a simulation, and nothing for a line that is refused or a fault.
 #[test]
 fn taken_lines_are_recorded(rt: HostRuntime) {
     for row in ROWS {
@@ -178,7 +178,8 @@ const RECORD: &str = "tora_record_test/driven.sim";
 
 const MISSING: &str = "tora_record_test/none/driven.sim";
 
-/// Drives once and records to a path; returns the status and the answers.
+/// Drives the lines of `STEPPED` once with the word `times` (`None`: the standard times), and records to the file at
+/// `path`. Returns the exit status and the output.
 fn command_once<T: Files + AllocGlobal + Eprint>(
     rt: &T,
     times: Option<&str>,
@@ -195,8 +196,8 @@ fn command_once<T: Files + AllocGlobal + Eprint>(
     (status, writer)
 }
 
-/// Records a drive to a path, and checks the status and the answers after the greeting. If memory runs out, it drives
-/// once more.
+/// Drives the lines of `STEPPED` as `command_once` does, and checks that the exit status is `wanted` and the output,
+/// with the greeting, is `answers`. If memory runs out, it drives once more.
 fn expect_command<T: Files + AllocGlobal + Eprint + Abort>(
     rt: &T,
     (times, path): (Option<&'static str>, &'static str),
@@ -211,7 +212,7 @@ fn expect_command<T: Files + AllocGlobal + Eprint + Abort>(
     expect_written(rt, (path, "", 0, ""), writer.text(), answers);
 }
 
-/// Whether a file holds the record of the first row.
+/// Whether the file at `path` is the record of `STEPPED`; false if it cannot be read.
 fn holds_record<R: Files<File = File>>(rt: &R, path: &str) -> bool {
     let mut bytes = [0; 512];
     let Ok(mut file) = fs::open(rt, path) else {
@@ -223,7 +224,7 @@ fn holds_record<R: Files<File = File>>(rt: &R, path: &str) -> bool {
     }
 }
 
-/// The answers of the first row, after the greeting.
+/// The greeting of a drive, followed by the answers of `STEPPED`.
 const GREETED: &str =
     "tora drive 1\nok\nok\nok\nsent 1 2 1 28\nsent 1 2 2 28\nsent 2 1 3 28\nsent 2 1 4 28\nok\n\
      node 1 - hop -\nnode 2 (0,0,0,0,2) hop -\nok\n";

@@ -88,7 +88,7 @@ pub const TWO_DESTINATIONS: &[Row] = &[(
     Ended::Whole,
 )];
 
-/// First lines that are taken.
+/// First lines that are accepted.
 const ACCEPTED: &[&str] = &[
     "node 3 links - dests -",
     "node 3 links - dests -\n",
@@ -136,7 +136,7 @@ const REFUSED: &[&str] = &[
     "1 show",
 ];
 
-/// First lines without a further line.
+/// Accepted and faulty first lines, without a further line.
 pub const FIRST_LINES: &[Row] = &[
     (ACCEPTED, NOTHING, "", Ended::Whole),
     (REFUSED, NOTHING, "fault 1\n", Ended::Fault(1)),
@@ -190,7 +190,7 @@ const NO_LINES: &[&str] = &[
 
 pub const FAULTS: &[Row] = &[(&[FIRST], NO_LINES, "fault 2\n", Ended::Fault(2))];
 
-/// Lines after a first line, with their output.
+/// Lines after `FIRST` with the least or greatest numbers, or with digits of both cases, and their output.
 pub const ENDS_OF_RANGES: &[(&str, &str)] = &[
     ("0 show", "to 4 height - flag 0 hop -\n"),
     (
@@ -210,7 +210,7 @@ pub const EMPTY_LINE: &[Row] = &[(
     Ended::Fault(3),
 )];
 
-/// A line of 4,096 bytes, and a longer one.
+/// A line of 4,096 bytes, which is read, and one of 4,097, which is a fault.
 pub const LONGEST_LINES: &[Files] = &[
     Files {
         front: "node 3 links 2 dests 4\n12 from 2 ",
@@ -250,7 +250,7 @@ pub const CAUSES: &[(Option<&str>, ReplayCause)] = &[
     (Some("1 show 4"), ReplayCause::Show),
 ];
 
-/// First lines, and why they are faults.
+/// First lines (`None`: the input is empty), and why they are faults.
 pub const FIRST_CAUSES: &[(Option<&str>, ReplayCause)] = &[
     (None, ReplayCause::Missing),
     (Some("1 show"), ReplayCause::Header),

@@ -67,8 +67,8 @@ fn longest_line(rt: HostRuntime) {
     expect_files(&rt, Way::Replay, LONGEST_LINES);
 }
 
-/// Checks that the line with this number is a fault for this cause. If another cause is found, it checks once more,
-/// since memory may have run out.
+/// Checks that the line with this number (`None`: there is no such line) is a fault for this cause. If another cause is
+/// found, it checks once more, since memory may have run out.
 fn expect_cause(
     rt: &impl Abort,
     alloc: Global,

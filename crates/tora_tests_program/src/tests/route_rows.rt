@@ -2,7 +2,7 @@
 use super::runs::{Files, NOTHING, Row};
 use tora_lines::Ended;
 
-/// A row of four nodes.
+/// The first line, with the destination 4, and the links of a row of four nodes.
 pub const FOUR: &str = "dests 4\nlink 1 2\nlink 2 3\nlink 3 4\n";
 
 /// The heights and next hops of the nodes in `FOUR`, with a route to 4.
@@ -29,7 +29,7 @@ pub const MENDED_FILE: &[Row] = &[(
     Ended::Whole,
 )];
 
-/// A call of a node that is armed to fail.
+/// Lines that arm a call of a node to fail: both kinds of a failing send, and a receive, of each of four nodes.
 const ARMS: &[&str] = &[
     "arm 1 send-lost\n",
     "arm 1 send-gone\n",
@@ -45,7 +45,8 @@ const ARMS: &[&str] = &[
     "arm 4 receive\n",
 ];
 
-/// Each call of `ARMS`, at five places between the rounds.
+/// Each line of `ARMS` at five places: before the need, after it, and after one, two and three rounds. At least 60
+/// rounds follow, and the route is found.
 pub const ARMED: &[Files] = &[
     Files {
         front: "dests 4\nlink 1 2\nlink 2 3\nlink 3 4\n",
@@ -154,7 +155,8 @@ pub const STAR_FOUND: &str = "node 1 (0,0,0,1,1) hop 2\nnode 2 (0,0,0,0,2) hop -
     node 28 - hop 1\nnode 29 - hop 1\nnode 30 - hop 1\nnode 31 - hop 1\nnode 32 - hop 1\n\
     node 33 (0,0,0,2,33) hop 1\n";
 
-/// A leaf of the largest star asks for a route to another leaf; the second row has one leaf more.
+/// A leaf of a star with 32 leaves, the most, asks for a route to another leaf; the second star has 33 and is refused
+/// at the line after the links.
 pub const STARS: &[Files] = &[
     Files {
         front: "dests 2\n",

@@ -37,7 +37,7 @@ pub enum Way {
     LargeDrive,
 }
 
-/// Ends of a link that are silent after 20 ticks.
+/// The standard times, except that a link end is silent after 20 ticks and not 50.
 pub const SHORT_SILENCE: Times = Times {
     hello: 10,
     silent: 20,
@@ -45,7 +45,7 @@ pub const SHORT_SILENCE: Times = Times {
     tries: 8,
 };
 
-/// Drives a world within the limits by the lines of a reader.
+/// Drives a world within these limits by the lines of `reader`, and writes the answers to `writer`.
 fn driven(
     alloc: Global,
     limits: Limits,
@@ -160,7 +160,7 @@ pub type Row = (
     Ended,
 );
 
-/// An end without lines.
+/// The empty text alone, as the front or the end of a row's files.
 pub const NOTHING: &[&str] = &[""];
 
 /// Checks the output of each file, and how it ends.
@@ -175,8 +175,8 @@ pub fn expect_rows<T: AllocGlobal + Eprint + Abort>(rt: &T, way: Way, rows: &[Ro
     }
 }
 
-/// Files of three parts with the same output that end in the same way: each middle is repeated between the front and
-/// the end.
+/// Files with the same output `text` that end in the same way, one for each of `middles`: `front`, the middle `times`
+/// times, and `end`.
 pub struct Files {
     pub front: &'static str,
     pub middles: &'static [&'static str],

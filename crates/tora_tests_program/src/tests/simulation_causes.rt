@@ -9,7 +9,7 @@ use tora_lines::{FileKind, LONGEST_LINE};
 use tora_script::{Setup, Simulation, SimulationCause, simulation_cause};
 use tora_sim::Sim;
 
-/// Takes a line. Returns false if it is a fault, or if memory runs out.
+/// Passes a line to the simulation `state`. Returns false if it is a fault, or if memory runs out.
 fn is_taken(alloc: Global, state: &mut Simulation<Sim>, line: &str) -> bool {
     let mut text = String::new(alloc);
     line.len() <= LONGEST_LINE && state.take(alloc, line.as_bytes(), &mut text).is_ok()
@@ -26,7 +26,7 @@ fn state_behind(alloc: Global, lines: &[&str]) -> Option<Simulation<Sim>> {
     Some(state)
 }
 
-/// Why a line after these lines is a fault.
+/// Why `line` after `lines` is a fault; `None` if one of `lines` is a fault or memory runs out.
 fn cause_behind(alloc: Global, lines: &[&str], line: &str) -> Option<SimulationCause> {
     let state = state_behind(alloc, lines)?;
     Some(simulation_cause(&state.stage, line.as_bytes()))
@@ -52,7 +52,7 @@ fn expect_causes(rt: &impl Abort, alloc: Global, groups: &[Causes]) {
     }
 }
 
-/// First lines.
+/// First lines, and why each is a fault.
 const FIRST_CAUSES: &[(&str, SimulationCause)] = &[
     ("", SimulationCause::Empty),
     ("dests 4\r", SimulationCause::CarriageReturn),
@@ -63,7 +63,7 @@ const FIRST_CAUSES: &[(&str, SimulationCause)] = &[
     ("dests 4,", SimulationCause::List),
 ];
 
-/// Lines after a first line.
+/// Second lines after an accepted first line, and why each is a fault.
 const LINK_CAUSES: &[(&str, SimulationCause)] = &[
     ("tick", SimulationCause::NoLink),
     ("link 1 2 ", SimulationCause::TrailingBlank),
@@ -71,14 +71,14 @@ const LINK_CAUSES: &[(&str, SimulationCause)] = &[
     ("link 1 0", SimulationCause::Pair),
 ];
 
-/// Lines after two links.
+/// Lines directly after two links, and why each is a fault.
 const SECOND_LINK_CAUSES: &[(&str, SimulationCause)] = &[
     ("link 3", SimulationCause::Pair),
     ("link 3 4 ", SimulationCause::TrailingBlank),
     ("turns", SimulationCause::Word),
 ];
 
-/// First lines, links, and the line after them.
+/// Lines before a simulation runs, and further lines each of which is a fault after them, with the cause.
 const EARLY_CAUSES: &[Causes] = &[
     (&[], FIRST_CAUSES),
     (&["dests 4"], LINK_CAUSES),
@@ -147,13 +147,13 @@ const EARLY_CAUSES: &[Causes] = &[
     (&["dests 4", "link 1 2", "link 2 3"], SECOND_LINK_CAUSES),
 ];
 
-/// Why a first line or a link is a fault, as `-v` reports it.
+/// Why a first line, a link or the line after the links is a fault, as `-v` reports it.
 #[test]
 fn causes_of_faults_before_a_simulation_runs(rt: HostRuntime) {
     expect_causes(&rt, rt.alloc(), EARLY_CAUSES);
 }
 
-/// Lines `old N` and `erasure N WORD` after two links.
+/// Lines directly after two links, most of them `old` or `erasure`, and why each is a fault.
 const OLD_CAUSES: &[(&str, SimulationCause)] = &[
     ("old 4", SimulationCause::NoSuchNode),
     ("old 0", SimulationCause::Old),
@@ -170,7 +170,7 @@ const OLD_CAUSES: &[(&str, SimulationCause)] = &[
     ("erasures 1 plain", SimulationCause::Word),
 ];
 
-/// Lines after a line `old N` or `erasure N WORD`.
+/// Lines directly after a line `old N` or `erasure N WORD`, and why each is a fault.
 const LATE_CAUSES: &[(&str, SimulationCause)] = &[
     ("old 3", SimulationCause::NoSuchNode),
     ("erasure 3 plain", SimulationCause::NoSuchNode),
@@ -179,7 +179,8 @@ const LATE_CAUSES: &[(&str, SimulationCause)] = &[
     ("dests 4", SimulationCause::LateDests),
 ];
 
-/// Lines `old N` after links, after another such line, and at a wrong place.
+/// Faulty lines after the links and after a line `old N` or `erasure N WORD`, and such lines at a wrong place, with the
+/// causes.
 const CAUSES_OF_OLD_NODES: &[Causes] = &[
     (&["dests 4", "link 1 2", "link 2 3"], OLD_CAUSES),
     (&["dests 4", "link 1 2", "old 2"], LATE_CAUSES),
@@ -201,13 +202,13 @@ const CAUSES_OF_OLD_NODES: &[Causes] = &[
     ),
 ];
 
-/// Why a line `old N` is a fault, as `-v` reports it.
+/// Why a line `old N` or `erasure N WORD`, or a line after one, is a fault, as `-v` reports it.
 #[test]
 fn causes_of_faults_of_old_nodes(rt: HostRuntime) {
     expect_causes(&rt, rt.alloc(), CAUSES_OF_OLD_NODES);
 }
 
-/// Lines of a running simulation.
+/// Lines of a running simulation, and why each is a fault.
 const RUNNING_CAUSES: &[(&str, SimulationCause)] = &[
     ("", SimulationCause::Empty),
     ("tick\r", SimulationCause::CarriageReturn),
@@ -240,7 +241,7 @@ const LATER_CAUSES: &[Causes] = &[(
     RUNNING_CAUSES,
 )];
 
-/// Why a line after the links is a fault.
+/// Why a line of a running simulation is a fault.
 #[test]
 fn causes_of_faults_of_a_simulation(rt: HostRuntime) {
     expect_causes(&rt, rt.alloc(), LATER_CAUSES);

@@ -3,7 +3,7 @@ use super::runs::{Files, NOTHING, Row};
 use super::simulation_rows::THREE;
 use tora_lines::Ended;
 
-/// Lines that name a link, a node or a destination that does not exist.
+/// Lines that name a link or a destination that does not exist in `THREE`.
 const OTHER_LINKS: &[&str] = &[
     "part 1 3",
     "part 1 1",
@@ -18,10 +18,10 @@ const OTHER_LINKS: &[&str] = &[
     "heights 4",
 ];
 
-/// The lines `OTHER_LINKS` directly after the links.
+/// Each of the lines `OTHER_LINKS` directly after the links: it is line 4, the fault.
 pub const OTHERS: &[Row] = &[(&[THREE], OTHER_LINKS, "fault 4\n", Ended::Fault(4))];
 
-/// The lines `OTHER_LINKS` between two ticks.
+/// Each of the lines `OTHER_LINKS` between two ticks: it is line 5, the fault.
 pub const OTHERS_BETWEEN_TICKS: &[Files] = &[Files {
     front: "dests 3,7\nlink 1 2\nlink 2 3\ntick\n",
     middles: OTHER_LINKS,
@@ -31,7 +31,7 @@ pub const OTHERS_BETWEEN_TICKS: &[Files] = &[Files {
     ended: Ended::Fault(5),
 }];
 
-/// Events of two numbers that are faults.
+/// Malformed lines of the events with two numbers: `need`, `open`, `pull`, `transmit` and `pump`.
 const NO_PAIRS: &[&str] = &[
     "need",
     "need ",
@@ -110,7 +110,7 @@ pub const EVENTS: &[Row] = &[
     (&[THREE], NO_EVENTS, "fault 4\n", Ended::Fault(4)),
 ];
 
-/// Calls and restarts that are faults.
+/// Malformed lines `arm` and `restart`.
 const NO_CALLS: &[&str] = &[
     "arm",
     "arm 1",
@@ -147,7 +147,8 @@ const NO_CALLS: &[&str] = &[
 
 pub const CALLS: &[Row] = &[(&[THREE], NO_CALLS, "fault 4\n", Ended::Fault(4))];
 
-/// Orders that are faults.
+/// Malformed lines `rounds`, `part`, `mend`, `heights`, `sent` and `taken`, and lines with a word that no simulation
+/// file has.
 const NO_ORDERS: &[&str] = &[
     "rounds",
     "rounds ",
@@ -206,7 +207,8 @@ const NO_ORDERS: &[&str] = &[
 
 pub const ORDERS: &[Row] = &[(&[THREE], NO_ORDERS, "fault 4\n", Ended::Fault(4))];
 
-/// A line of 4,096 bytes, and a longer one.
+/// A first line of 4,096 bytes is read; it has too many destinations, which is a fault of line 3, after the link. A
+/// first line of 4,098 bytes is a fault itself.
 pub const LONGEST_LINES: &[Files] = &[
     Files {
         front: "dests 11",

@@ -3,7 +3,7 @@ use super::route_rows::{FOUR, STAR, STAR_OF_255};
 use super::runs::{Files, NOTHING, Row};
 use tora_lines::Ended;
 
-/// Lines `exact` and `walk` that name no node or no destination, or have too few words.
+/// Lines `exact` and `walk` that name a node or a destination that does not exist in `FOUR`, or have too few words.
 const NO_WALKS: &[&str] = &[
     "exact 3\n",
     "walk 5 4\n",
@@ -59,7 +59,8 @@ const NO_DESTINATIONS: &[&str] = &[
     "node 3 links 2 dests 4\n",
 ];
 
-/// First lines, and a link after them.
+/// Accepted first lines, with a link as line 2, and without one, which is a fault of line 2; and faulty first lines
+/// alone.
 pub const FIRST_LINES: &[Row] = &[
     (
         DESTINATIONS,
@@ -71,7 +72,8 @@ pub const FIRST_LINES: &[Row] = &[
     (NO_DESTINATIONS, NOTHING, "fault 1\n", Ended::Fault(1)),
 ];
 
-/// A first line and two links. A later line shows that the second link or the first line is refused.
+/// A first line and two links that are refused: the second link repeats the first or joins a node to itself, or the
+/// first line repeats a destination or has 65 of them.
 const TWO_LINKS: &[&str] = &[
     "dests 4\nlink 1 2\nlink 1 2",
     "dests 4\nlink 1 2\nlink 2 1",
@@ -84,10 +86,11 @@ const TWO_LINKS: &[&str] = &[
     65\nlink 1 2\nlink 2 3",
 ];
 
-/// The rest of an input after `TWO_LINKS`.
+/// The rest of an input after `TWO_LINKS`; its first line, whatever it is, is the fault, line 4.
 const BEHIND_LINKS: &[&str] = &["\ntick\n", "\n\n", "\nlink 5 0\n", "\nheights 4\ntick\n"];
 
-/// A refused topology is a fault of the line after the links, whatever that is, or of the last link.
+/// A refused topology is a fault of the line after the links, whatever that line is, or of the last link if the input
+/// ends there. A node with 32 neighbours is accepted, and one with 33 is refused.
 pub const TOPOLOGIES: &[Row] = &[
     (TWO_LINKS, NOTHING, "fault 3\n", Ended::Fault(3)),
     (TWO_LINKS, BEHIND_LINKS, "fault 4\n", Ended::Fault(4)),
@@ -100,7 +103,7 @@ pub const TOPOLOGIES: &[Row] = &[
     ),
 ];
 
-/// A row of 64 nodes, and one more node.
+/// A row of 64 nodes, which is accepted, and one of 65, which is a fault of its last link, line 65.
 pub const LINES_OF_NODES: &[Files] = &[
     Files {
         front: "dests 4\n",
@@ -120,7 +123,8 @@ pub const LINES_OF_NODES: &[Files] = &[
     },
 ];
 
-/// A row of 65 nodes, and stars with 33, 255 and 256 leaves, in a large world.
+/// In a large world: a row of 65 nodes, which is accepted, so that the fault is a later line, which names a node 66;
+/// stars with 33 and 255 leaves, which are accepted; and a star with 256, whose last link is the fault.
 pub const LARGE_WORLDS: &[Files] = &[
     Files {
         front: "dests 4\n",
@@ -172,7 +176,7 @@ pub const LINKS_OF_A_LINE: &str = "link 1 2\nlink 2 3\nlink 3 4\nlink 4 5\nlink 
 /// A first line with two destinations, and two links.
 pub const THREE: &str = "dests 3,7\nlink 1 2\nlink 2 3\n";
 
-/// Faulty lines after the links.
+/// Faulty lines directly after the links of `THREE`: malformed links, and a second line `dests`.
 const NO_LINKS: &[&str] = &[
     "link\n",
     "link \n",
@@ -225,7 +229,8 @@ pub const MOST_ROUNDS: &[Row] = &[
     ),
 ];
 
-/// Each kind of line after the links, and its output.
+/// Lines of each kind after the links of `THREE`, and their output: `refused 2` if there is no such node or link,
+/// `refused 3` if there is no such datagram, `refused 4` if the event is not possible now.
 pub const TAKEN: &[(&str, &str)] = &[
     ("need 1 3", ""),
     ("need 1 9", ""),

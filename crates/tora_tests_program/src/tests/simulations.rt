@@ -1,4 +1,4 @@
-//! Simulation files.
+//! Simulation files: their output, and how they end.
 use super::route_rows::*;
 use super::runs::{Way, expect_files, expect_lines, expect_rows};
 use super::simulation_faults::*;
@@ -15,7 +15,7 @@ fn restart_mends_a_life_file(rt: HostRuntime) {
     expect_rows(&rt, Way::Simulation, MENDED_FILE);
 }
 
-/// If any call of any node fails between two rounds, the route is found.
+/// Whichever node's send or receive is armed to fail, before the need or between rounds, the route to node 4 is found.
 #[test]
 fn route_is_found_whatever_call_fails(rt: HostRuntime) {
     expect_files(&rt, Way::Simulation, ARMED);
@@ -27,37 +27,40 @@ fn exact_entries_give_a_walk(rt: HostRuntime) {
     expect_rows(&rt, Way::Simulation, WALK);
 }
 
-/// A line `exact` or `walk` is a fault if it names a node or a destination that does not exist.
+/// A line `exact` or `walk` is a fault if it names a node or a destination that does not exist, or has too few words.
 #[test]
 fn walks_of_others_are_faults(rt: HostRuntime) {
     expect_rows(&rt, Way::Simulation, WALKS);
 }
 
-/// The number of packets that one core sent and another took in a session, as each end writes the session.
+/// `sent` prints how many packets one core sent to another in a session, and `taken` how many the other took. Each
+/// names the session with the number of its own node first.
 #[test]
 fn packets_are_counted_by_life(rt: HostRuntime) {
     expect_rows(&rt, Way::Simulation, COUNTED);
 }
 
-/// First lines, and a link after them.
+/// After an accepted first line, line 2 must be a link. Any other first line is a fault.
 #[test]
 fn destinations_accepted_and_refused(rt: HostRuntime) {
     expect_rows(&rt, Way::Simulation, FIRST_LINES);
 }
 
-/// A refused topology is a fault of the line after the links, whatever that is, or of the last link.
+/// A refused topology is a fault of the line after the links, whatever that line is, or of the last link if the input
+/// ends there.
 #[test]
 fn topologies_refused(rt: HostRuntime) {
     expect_rows(&rt, Way::Simulation, TOPOLOGIES);
 }
 
-/// A leaf of the largest star asks for a route to another leaf; the other leaves hear the answer.
+/// A leaf of a star with 32 leaves, the most, asks for a route to another leaf; the other leaves hear the answer. A
+/// star with 33 is refused.
 #[test]
 fn star_of_thirty_three(rt: HostRuntime) {
     expect_files(&rt, Way::Simulation, STARS);
 }
 
-/// More than 64 nodes are refused.
+/// 64 nodes are accepted, and 65 are refused.
 #[test]
 fn nodes_are_counted(rt: HostRuntime) {
     expect_files(&rt, Way::Simulation, LINES_OF_NODES);
@@ -74,7 +77,7 @@ fn links_taken_and_not(rt: HostRuntime) {
     expect_rows(&rt, Way::Simulation, LINKS);
 }
 
-/// Each kind of line after the links.
+/// Lines of each kind after the links are accepted, and print what `TAKEN` says.
 #[test]
 fn lines_taken(rt: HostRuntime) {
     expect_lines(&rt, Way::Simulation, THREE, TAKEN);
@@ -85,7 +88,8 @@ fn most_rounds(rt: HostRuntime) {
     expect_rows(&rt, Way::Simulation, MOST_ROUNDS);
 }
 
-/// Lines that name a link, a node or a destination that does not exist.
+/// A line that names a link or a destination that does not exist is a fault, directly after the links and between two
+/// ticks.
 #[test]
 fn lines_of_other_links(rt: HostRuntime) {
     expect_rows(&rt, Way::Simulation, OTHERS);
@@ -113,7 +117,7 @@ fn fault_comes_behind_what_was_printed(rt: HostRuntime) {
     expect_rows(&rt, Way::Simulation, PRINTED_BEFORE_A_FAULT);
 }
 
-/// A line of 4,096 bytes is read, and a longer one is a fault.
+/// A line of 4,096 bytes is read, and one of 4,098 is a fault.
 #[test]
 fn longest_simulation_line(rt: HostRuntime) {
     expect_files(&rt, Way::Simulation, LONGEST_LINES);

@@ -12,10 +12,12 @@ use tora_lines::{Ended, ReplayError};
 use tora_script::replay;
 use tora_simulate::Recent;
 
-/// How lines are run, the lines, their output, and a number.
+/// How lines are run, the lines, their output, and the bound of a test: it tries each number from 1 to below it.
 type Run = (Way, &'static str, &'static str, usize);
 
-/// Checks that the lines of a run are accepted, and their output, unless memory runs out. Returns false if it does.
+/// Runs the lines with reads of at most `size` bytes, of which the one numbered `interrupted_read`, from 1, is
+/// interrupted; 0 for none. Checks that all lines are accepted, and the output. Returns false, and checks nothing, if
+/// memory runs out.
 fn expect_whole<T: AllocGlobal + Eprint + Abort>(
     rt: &T,
     (way, lines, text, _): Run,
@@ -36,8 +38,9 @@ fn expect_whole<T: AllocGlobal + Eprint + Abort>(
     true
 }
 
-/// Checks that a run whose call fails ends with this error, or with `Memory` before, and that the text written is a
-/// prefix of the whole text.
+/// Runs the lines with reads of at most `size` bytes, of which the one numbered `failing_read`, from 1, fails (0 for
+/// none), and a writer that fails. Checks that the run ends with `error`, or with `Memory` before, and that what was
+/// written is a prefix of the whole output.
 fn expect_failure<T: AllocGlobal + Eprint + Abort>(
     rt: &T,
     (way, lines, text, _): Run,
@@ -54,25 +57,25 @@ fn expect_failure<T: AllocGlobal + Eprint + Abort>(
     sees_at(rt, is_told && begins, &("read", failing_read, fails));
 }
 
-/// Runs, and the number below which each size of pieces is tried, in bytes.
+/// Runs, each with a bound in bytes: the input is read in pieces of each size below it.
 const PIECES: &[Run] = &[
     (Way::Replay, ROUTE_AND_LOSS, LOSS_TEXT, 80),
     (Way::Simulation, FOUR_FOUND_AND_LOST, FOUND_AND_LOST, 40),
 ];
 
-/// Runs, and the number below which each read fails in turn.
+/// Runs, each with a bound: each read with a number below it fails, one in each try.
 const READS: &[Run] = &[
     (Way::Replay, ROUTE_AND_LOSS, LOSS_TEXT, 64),
     (Way::Simulation, FOUR_FOUND_AND_LOST, FOUND_AND_LOST, 20),
 ];
 
-/// Runs, and the number below which each read is interrupted in turn.
+/// Runs, each with a bound: each read with a number below it is interrupted, one in each try.
 const INTERRUPTED: &[Run] = &[
     (Way::Replay, ROUTE_AND_LOSS, LOSS_TEXT, 80),
     (Way::Simulation, FOUR_FOUND_AND_LOST, FOUND_AND_LOST, 20),
 ];
 
-/// Runs, and the number below which each write fails in turn.
+/// Runs, each with a bound: for each number below it, the write with that number and all later ones fail in one try.
 const WRITES: &[Run] = &[
     (Way::Replay, ROUTE_AND_LOSS, LOSS_TEXT, 6),
     (Way::Simulation, FOUR_FOUND_AND_LOST, FOUND_AND_LOST, 3),
@@ -183,13 +186,13 @@ const HANDED_SIMULATIONS: &[Handed] = &[(
     Ended::Whole,
 )];
 
-/// If the last flush fails, the result is `Write`, also after a fault; all output was written.
+/// If the last flush of a replay fails, the result is `Write`, also after a fault; all output was written.
 #[test]
 fn failed_flushes(rt: HostRuntime) {
     expect_handed(&rt, HANDED_REPLAYS);
 }
 
-/// If the last flush fails, the result is `Write`; all output was written.
+/// If the last flush of a simulation fails, the result is `Write`; all output was written.
 #[test]
 fn failed_flushes_of_a_simulation(rt: HostRuntime) {
     expect_handed(&rt, HANDED_SIMULATIONS);

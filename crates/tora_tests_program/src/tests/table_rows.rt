@@ -1,9 +1,9 @@
-//! Rows of the table of events that no law needs, each by a simulation file. Their output was worked out by hand from
-//! the document on the simulated world.
+//! Rows of the table of events on which no law depends, each tested by simulation files. Their output was worked out by
+//! hand from the document on the simulated world.
 use super::runs::{Files, Way, expect_files};
 use tora_lines::Ended;
 
-/// The link of two nodes is bound in the session {1, 1}, by the first two datagrams.
+/// Lines that open both ends of the link of nodes 1 and 2, and bind it by the first two datagrams.
 const BOUND: &str = "open 1 2\nopen 2 1\ntransmit 1 2\ndeliver 1\ntransmit 2 1\ndeliver 2\n";
 
 const TORN: &[Files] = &[Files {
@@ -16,8 +16,8 @@ const TORN: &[Files] = &[Files {
     ended: Ended::Whole,
 }];
 
-/// A slot that was written and not synced has the torn bytes after a crash. It counts if they are a slot: the next
-/// number is 901, one above its bound.
+/// A slot of a life file that was written and not synced has, after `restart`, the bytes that this line gives. It
+/// counts if they form a slot: its bound is 900, so the next session number is 901.
 #[test]
 fn torn_slot_counts(rt: HostRuntime) {
     expect_files(&rt, Way::Simulation, TORN);
@@ -42,8 +42,8 @@ const ARMED: &[Files] = &[
     },
 ];
 
-/// An armed call stays armed over a restart, and fails when the life file is opened: the end stays closed until the
-/// next restart.
+/// An armed read or sync stays armed over a restart, and fails when a link end is opened, which uses its life file. The
+/// end then stays closed until the next restart, after which it opens.
 #[test]
 fn arms_outlive_a_restart(rt: HostRuntime) {
     expect_files(&rt, Way::Simulation, ARMED);
@@ -91,8 +91,8 @@ fn lost_send_is_a_try(rt: HostRuntime) {
 }
 
 /// Node 2 restarts, so its link has the session {1, 17}. Node 1 needs 51 destinations, which puts 51 queries into the
-/// lane to node 2; nothing is pulled from it. Each of four sessions with node 3 that come up does the same, so 255
-/// queries wait. Of the 51 queries of a fifth one, one is put, and the session with node 2 is cut.
+/// queue to node 2; nothing is pulled from it. Each of four sessions with node 3 that come up puts 51 more, so 255
+/// wait. Of the 51 queries of a fifth one, one is put, which fills the queue, and the session with node 2 is cut.
 const FILLED: &str = "dests 10,11,12,13,14,15,16,17,18,19,20,21,22,23,24,25,26,\
     27,28,29,30,31,32,33,34,35,36,37,38,39,40,41,42,43,\
     44,45,46,47,48,49,50,51,52,53,54,55,56,57,58,59,60\n\
@@ -131,7 +131,8 @@ const LAST_PLACE: &[Files] = &[Files {
     ended: Ended::Whole,
 }];
 
-/// The offers of one turn count in the lane, too: of 51 queries one takes the last place, and no other is put.
+/// The messages that one turn puts into a queue count at once: of its 51 queries, one takes the last of the 256 places,
+/// and no other is put.
 #[test]
 fn last_place_of_a_lane_is_taken_once(rt: HostRuntime) {
     expect_files(&rt, Way::Simulation, LAST_PLACE);
@@ -147,8 +148,8 @@ const CUT: &[Files] = &[Files {
     ended: Ended::Whole,
 }];
 
-/// The cut of the session {1, 17} is put by the next turn, after the queries. It ends the session: the end has an
-/// event, and no frame is due.
+/// The message that cuts the session {1, 17} is put by the next turn, here once the queries were pulled. When it is
+/// pulled, it ends the session: the link end has one event, and no frame is due.
 #[test]
 fn cut_ends_a_life_of_unequal_numbers(rt: HostRuntime) {
     expect_files(&rt, Way::Simulation, CUT);
@@ -164,8 +165,8 @@ const LATE_ITEM: &[Files] = &[Files {
     ended: Ended::Whole,
 }];
 
-/// An item has the tick of its pump: the session ended at tick 60 at the latest, its end was pumped at tick 62 and
-/// served at tick 64, and the new level has tick 62. Node 3, which is lower now, is the next hop.
+/// An item has the tick of its pump: the session ended at tick 60 at the latest, the item `Down` was pumped at tick 62
+/// and taken by the core at tick 64, and the new level has tick 62. Node 3, which is lower now, is the next hop.
 #[test]
 fn item_has_the_tick_of_its_pump(rt: HostRuntime) {
     expect_files(&rt, Way::Simulation, LATE_ITEM);

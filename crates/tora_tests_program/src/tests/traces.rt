@@ -21,7 +21,8 @@ type Left = (
     TraceOut<ArrayWriter>,
 );
 
-/// Simulates once, and flushes the trace.
+/// Simulates the lines `front` and then `end` once, with writers of the output and the trace that fail in this way, and
+/// flushes the trace.
 fn traced_once<'a, T: AllocGlobal + Eprint>(
     rt: &T,
     (front, end): (&'a str, &'a str),
@@ -52,7 +53,7 @@ fn traced<'a, T: AllocGlobal + Eprint>(rt: &T, lines: (&'a str, &'a str), how: H
     left
 }
 
-/// The text that a writer got: an output, or the records of a trace.
+/// The text that was written: an output, or the records of a trace; empty if it is not UTF-8.
 fn text_of(writer: &ArrayWriter) -> &str {
     str::from_utf8(writer.text()).unwrap_or("")
 }
@@ -66,7 +67,8 @@ type Row = (
     Ended,
 );
 
-/// Traces the lines of a row, and checks their output, how they end, and whether the trace is lost. Returns the trace.
+/// Traces the lines of a row, and checks their output, that they end as the row says, or with `Write` if the output
+/// fails, and that the trace is reported lost exactly if its writer fails. Returns the trace.
 fn expect_trace_so<T: AllocGlobal + Eprint + Abort>(
     rt: &T,
     (front, end, text, _, ended): Row,
@@ -101,7 +103,7 @@ fn expect_traces<T: AllocGlobal + Eprint + Abort>(rt: &T, rows: &[Row]) {
     }
 }
 
-/// The words of a line; after the last word, empty ones.
+/// The first six words of a line, separated by single spaces; empty words after the last one.
 fn words(line: &str) -> [&str; 6] {
     let mut words = line.split(' ');
     [
@@ -114,7 +116,8 @@ fn words(line: &str) -> [&str; 6] {
     ]
 }
 
-/// The last height and next hop that a trace has for a node, as written there.
+/// The height and next hop in the last record `route` of a trace for node `n` and destination `d`, as written there;
+/// `None` without such a record.
 fn told<'a>(trace: &'a str, n: &str, d: &str) -> Option<(&'a str, &'a str)> {
     let mut last = None;
     for line in trace.lines() {
@@ -126,8 +129,8 @@ fn told<'a>(trace: &'a str, n: &str, d: &str) -> Option<(&'a str, &'a str)> {
     last
 }
 
-/// Whether a trace agrees with a printed line `node N H hop K`. Without a record of the route, it is that of a new
-/// node.
+/// Whether a trace agrees with a printed line `node N H hop K` for destination `d`. Without a record of the route, the
+/// line must be that of a new node: (0,0,0,0,N) at the destination and `-` elsewhere, with no next hop.
 fn tells(trace: &str, line: &str, d: &str) -> bool {
     let [_, n, height, _, hop, _] = words(line);
     match told(trace, n, d) {
@@ -140,7 +143,8 @@ fn tells(trace: &str, line: &str, d: &str) -> bool {
 /// The front of a simulation, a destination, the line that prints the heights for it, and how many nodes it prints.
 type Run = (&'static str, &'static str, &'static str, usize);
 
-/// Checks that the trace agrees with each height and next hop that the line prints, and that it prints so many nodes.
+/// Simulates a run, and checks that the trace agrees with each height and next hop that is printed, and that `count`
+/// nodes are printed.
 fn expect_told<T: AllocGlobal + Eprint + Abort>(rt: &T, (front, d, end, count): Run) {
     let (found, writer, out) = traced(rt, (front, end), FINE);
     expect_ended(rt, (front, "", 0, end), found, Ok(Ended::Whole));
@@ -191,8 +195,8 @@ const PARTED: &[Row] = &[(
     Ended::Fault(8),
 )];
 
-/// Over a parted link datagrams are sent and not delivered, and each line `part` and `mend` has its record, with the
-/// clock.
+/// Over a parted link datagrams are sent and not delivered, and each line `part` and `mend` has its record, with its
+/// tick.
 #[test]
 fn trace_of_a_parted_link(rt: HostRuntime) {
     expect_traces(&rt, PARTED);
@@ -296,7 +300,7 @@ fn trace_tells_each_height(rt: HostRuntime) {
 /// A route that is found and lost.
 const LOST: Row = (FOUR_FOUND_AND_LOST, "", FOUND_AND_LOST, "", Ended::Whole);
 
-/// A writer of the trace that does not fail, and others that do.
+/// How the writer of the trace fails: never, at the flush, or from its first, second or third write on.
 const TRACES: &[Fails] = &[
     Fails::Never,
     Fails::Flush,
@@ -324,7 +328,7 @@ const STOPPED: &[Row] = &[
     ("dests 2\n", "need 1 2\n", "fault 2\n", "", Ended::Fault(2)),
 ];
 
-/// A simulation whose first write fails.
+/// A simulation, and its trace if the first write of the output fails, which is that of `heights 2`.
 const UNWRITTEN: Row = (
     "dests 2\nlink 1 2\nneed 1 2\nturn 1\n",
     "heights 2\nneed 1 2\n",
@@ -333,7 +337,7 @@ const UNWRITTEN: Row = (
     Ended::Whole,
 );
 
-/// A simulation that stops early has the records of what happened.
+/// A simulation that stops at a fault, or because its output fails, has the records of what happened before.
 #[test]
 fn trace_of_a_simulation_that_stops(rt: HostRuntime) {
     expect_traces(&rt, STOPPED);

@@ -20,7 +20,7 @@ pub fn parsed<'a>(
 pub enum Asked {
     /// None: the words are not a command line.
     Nothing,
-    /// A command with `-v` among its words, or without.
+    /// A command line with `-v` among its words, if true, or without it.
     Verbose(bool),
     /// A simulation of a file, with times and a trace, without `-v`.
     Sim(&'static str, Option<&'static str>, Option<&'static str>),
@@ -56,7 +56,8 @@ fn asks_for(alloc: Global, words: &[&str], wanted: Asked) -> Option<bool> {
     })
 }
 
-/// Checks the request of the words of each row.
+/// Checks that the words of each row have their request. For at most one row, parsing may fail, since one request for
+/// memory may fail.
 pub fn expect_words(rt: &impl Abort, alloc: Global, rows: &[(&[&str], Asked)]) {
     let mut refused = 0u64;
     for (words, wanted) in rows {
@@ -78,7 +79,7 @@ const VERBOSE: &[(&[&str], Asked)] = &[
     (&["tora"], Asked::Verbose(false)),
 ];
 
-/// `-v` comes before or after the word.
+/// `-v` or `--verbose` comes before or after the subcommand, or without one.
 #[test]
 fn verbose_words(rt: HostRuntime) {
     expect_words(&rt, rt.alloc(), VERBOSE);

@@ -12,7 +12,7 @@ use tora_lane::*;
 /// How many items each seat puts, and how many messages go to each link.
 const EACH: u64 = 1000;
 
-/// How many items all seats put.
+/// How many items the 33 seats put in all: 32 links and the commands.
 const ALL: u64 = 33_000;
 
 /// The port of a link, its end of the queue from the core, and how many items were put and messages taken as expected.
@@ -32,7 +32,7 @@ struct CoreSide {
     taken: u64,
 }
 
-/// The work of a link's thread: it puts all items, and then takes the messages.
+/// The work of a link's thread: it puts `EACH` items, and then takes `EACH` messages.
 fn run_side<R: Wait>(rt: &R, side: &mut LinkSide, seat: usize) {
     side.put = put_all(rt, &mut side.port, seat, EACH);
     side.taken = take_all(rt, &mut side.take, EACH);
@@ -50,7 +50,7 @@ fn run_sides<R: Threads + Wait + Sync>(rt: &R, sides: Vec<LinkSide>) -> Vec<Link
     sides
 }
 
-/// The work of the core's thread: it takes all items, and then sends the messages.
+/// The work of the core's thread: it takes `ALL` items, and then sends `EACH` messages to each link.
 fn run_core<R: Wait>(rt: &R, side: CoreSide) -> CoreSide {
     let CoreSide {
         mut core,
@@ -66,7 +66,8 @@ fn run_core<R: Wait>(rt: &R, side: CoreSide) -> CoreSide {
     CoreSide { core, outs, taken }
 }
 
-/// Runs the seat of the commands and the core. Returns how many items that seat put, and the core's side.
+/// Runs the seat of the commands and the core, each in a thread of its own. Returns how many items that seat put, and
+/// the core's side.
 fn run_rest<R: Threads + Wait + Sync>(rt: &R, command: InPort, core: CoreSide) -> (u64, CoreSide) {
     join(
         rt,

@@ -16,7 +16,7 @@ fn told(seat: usize, number: u64) -> What {
     })
 }
 
-/// Puts this many items, and returns how many were put.
+/// Puts `count` items at tick 7, with the contents `told` of the numbers from 1 on. Returns how many were put.
 pub fn put_all<R: Wait>(rt: &R, port: &mut InPort, seat: usize, count: u64) -> u64
     ensures { port.new.lane ≡ port.old.lane }
 {
@@ -29,7 +29,7 @@ pub fn put_all<R: Wait>(rt: &R, port: &mut InPort, seat: usize, count: u64) -> u
     put
 }
 
-/// Puts this many items at a port that is passed by value, and returns the port and how many were put.
+/// Does the same as `put_all` with a port that is passed by value. Returns the port, and how many items were put.
 pub fn put_from<R: Wait>(rt: &R, port: InPort, seat: usize, count: u64) -> (InPort, u64)
     ensures { result.0.lane ≡ port.lane }
 {
@@ -38,7 +38,8 @@ pub fn put_from<R: Wait>(rt: &R, port: InPort, seat: usize, count: u64) -> (InPo
     (port, put)
 }
 
-/// Takes this many messages, and returns how many were the expected ones, in order.
+/// Takes the messages `cargo` of the numbers from 1 to `count`, in order, and waits for each. Stops at a message that
+/// is not the next one. Returns how many came in order.
 pub fn take_all<R: Wait>(rt: &R, take: &mut OutTake, count: u64) -> u64
     ensures { take.new.ring ≡ take.old.ring }
 {
@@ -75,7 +76,7 @@ pub fn send_again<R: Wait>(rt: &R, put: &mut OutPut, cargo: Cargo)
     unreachable!()
 }
 
-/// Takes this many items, and returns how many have the content that their seat put with that number.
+/// Takes `count` items, and returns how many have tick 7 and the content that their seat put with that number.
 pub fn take_items<R: Wait>(rt: &R, core: &mut CorePort, count: u64) -> u64
     ensures { core.new.lane ≡ core.old.lane }
 {

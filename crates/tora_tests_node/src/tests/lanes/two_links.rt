@@ -46,7 +46,7 @@ struct CoreSide {
     taken: u64,
 }
 
-/// The work of a link's thread: it puts all items, and then takes the messages.
+/// The work of a link's thread: it puts `puts` items, and then takes `cargoes` messages.
 fn run_link<R: Wait>(rt: &R, side: LinkSide, seat: usize, run: Run) -> LinkSide
     ensures { (result.port.lane ≡ side.port.lane) × (result.take.ring ≡ side.take.ring) }
 {
@@ -66,7 +66,7 @@ fn run_link<R: Wait>(rt: &R, side: LinkSide, seat: usize, run: Run) -> LinkSide
     }
 }
 
-/// The work of the core's thread: it takes all items, and then sends the messages.
+/// The work of the core's thread: it takes `takes` items, and then sends `cargoes` messages to each link.
 fn run_core<R: Wait>(rt: &R, side: CoreSide, run: Run) -> CoreSide
     ensures { (result.core.lane ≡ side.core.lane) × (result.first.ring ≡ side.first.ring)
         × (result.second.ring ≡ side.second.ring) }
@@ -90,7 +90,7 @@ fn run_core<R: Wait>(rt: &R, side: CoreSide, run: Run) -> CoreSide
     }
 }
 
-/// Runs two links.
+/// Runs the two links, each in a thread of its own, and returns their sides.
 fn run_links<R: Threads + Wait + Sync>(
     rt: &R,
     first: LinkSide,
@@ -111,7 +111,8 @@ fn run_links<R: Threads + Wait + Sync>(
     )
 }
 
-/// Runs the seat of the commands and the core.
+/// Runs the seat of the commands and the core, each in a thread of its own. Returns that seat's port, how many items it
+/// put, and the core's side.
 fn run_others<R: Threads + Wait + Sync>(
     rt: &R,
     command: InPort,
@@ -193,7 +194,8 @@ fn two_links<R: Wait + Abort>(rt: &R, alloc: Global) -> (CoreSide, LinkSide, Lin
     (core, first, second, command)
 }
 
-/// Checks that a seat has put this many items, and that all of them were taken.
+/// Closes the port of a seat, and checks that it has put `put` items, of which the core has taken `taken` and the
+/// others are left.
 fn seat_is_settled<R: Wait + Abort>(
     rt: &R,
     core: &mut CorePort,
@@ -214,7 +216,7 @@ fn seat_is_settled<R: Wait + Abort>(
     same_at(rt, &core.settle(rt, port), &wanted, "the items", &seat);
 }
 
-/// Checks that this many messages of a queue were sent and received.
+/// Closes a queue to a link, and checks that `count` messages were sent and received, and that none is left.
 fn lane_is_settled(rt: &impl Abort, put: OutPut, take: OutTake, count: u64)
     requires { AreEndsOf put take }
 {
@@ -278,7 +280,7 @@ fn full_lane_is_drained(rt: HostRuntime) {
     run_all(&rt, rt.alloc(), FULL);
 }
 
-/// Checks that a port reports that the core has ended.
+/// Puts an item, drops the core's port, and checks that each of two further puts returns `Gone`.
 fn core_has_ended<R: Wait + Abort>(rt: &R, alloc: Global) {
     let (lanes, first, second, command) = two_links(rt, alloc);
     let mut port = first.port;

@@ -24,7 +24,9 @@ const VECTORS: [&str; 7] = [
      0200000001010000000000040103000000000004000000000000000700000003",
 ];
 
-/// How an end of node 1 to node 2, bound to {5, 9} with no event to poll, counts a datagram.
+/// Datagrams, in hexadecimal digits, and the result of `take_in` for each at the end of node 1 to node 2, bound to
+/// {5, 9} with no event to poll. In the comments, (a,b) are the session numbers in the frame: the sender's, and the one
+/// that it has heard.
 const HOSTILE: [(&str, Intake); 11] = [
     ("", Intake::Bad(FrameError::Short)),
     // A HELLO (9,5) with one more byte.
@@ -42,7 +44,7 @@ const HOSTILE: [(&str, Intake); 11] = [
         "01010000000000030000000100000000000000090000000000000005",
         Intake::Seen(Verdict::Foreign),
     ),
-    // An update of node 3.
+    // A DATA frame of node 2 with an update whose height is that of node 3.
     (
         "0102003000000002000000010000000000000009000000000000000500000000000000010000000000000000\
          0102000000000004000000000000000700000003000000000000000000000003",
@@ -83,7 +85,8 @@ const HOSTILE: [(&str, Intake); 11] = [
     ),
 ];
 
-/// The bytes of a text of hexadecimal digits, at most 76, and their number.
+/// The bytes that a text of hexadecimal digits spells, followed by zeros, and their number, at most 76. The test fails
+/// for any other text.
 fn bytes_of(rt: &impl Abort, text: &str) -> ([u8; 76], usize)
     ensures { result.1 ≤ 76 }
 {
@@ -94,7 +97,7 @@ fn bytes_of(rt: &impl Abort, text: &str) -> ([u8; 76], usize)
     (bytes, size)
 }
 
-/// Checks the next event of an end.
+/// Polls an event of an end, and checks that it is `wanted`; `None` if there is none.
 fn event_is(rt: &impl Abort, end: &mut LinkEnd, wanted: Option<LinkEvent>, what: &str) {
     same(rt, &end.poll_event(), &wanted, what);
 }
@@ -132,7 +135,8 @@ fn counted_once(rt: &impl Abort, tally: &Tally, intake: Intake) {
     same(rt, &count, &1, "those of this kind");
 }
 
-/// Passes one datagram to a bound end, and checks that exactly one count is then 1.
+/// Passes one datagram to a bound end. Checks the result, that it is counted once, under this result, and the next
+/// event: the end of the session by `NewPeer` if the datagram is accepted, otherwise none.
 fn take_one(rt: &impl Abort, alloc: Global, datagram: &str, expected: Intake) {
     let mut end = bound(rt, alloc);
     let mut tally = Tally::new();
@@ -148,7 +152,7 @@ fn take_one(rt: &impl Abort, alloc: Global, datagram: &str, expected: Intake) {
     event_is(rt, &mut end, event, datagram);
 }
 
-/// Passes each datagram of a table to an end of its own.
+/// Runs `take_one` for each row: each datagram has a bound end of its own.
 fn take_each(rt: &impl Abort, alloc: Global, rows: &[(&str, Intake)]) {
     for (datagram, expected) in rows {
         take_one(rt, alloc, datagram, *expected);
@@ -160,7 +164,7 @@ fn verdicts_of_hostile_frames(rt: HostRuntime) {
     take_each(&rt, rt.alloc(), &HOSTILE);
 }
 
-/// Passes a DATA frame of the bound session with the query for 4 to an end.
+/// Passes to an end DATA frame `number` of the bound session, with the query for destination 4, and checks the verdict.
 fn take_data(rt: &impl Abort, end: &mut LinkEnd, tally: &mut Tally, number: u8, verdict: Verdict) {
     let (mut bytes, size) = bytes_of(
         rt,
@@ -187,7 +191,8 @@ fn busy_end_takes_in_no_more(rt: HostRuntime) {
     same(&rt, &total(&tally), &33, "all datagrams");
 }
 
-/// Passes each proper prefix of the vector to an end: each is too short.
+/// Passes each proper prefix of `vector` to one bound end. Checks that each counts as too short, and that the end stays
+/// bound.
 fn take_cut(rt: &impl Abort, alloc: Global, vector: &str) {
     let mut end = bound(rt, alloc);
     let mut tally = Tally::new();
@@ -206,12 +211,12 @@ fn take_cut(rt: &impl Abort, alloc: Global, vector: &str) {
     life_stays(rt, &end);
 }
 
-/// Checks that the end is bound as before.
+/// Checks that the end is bound to the session {5, 9}, as `bound` makes it.
 fn life_stays(rt: &impl Abort, end: &LinkEnd) {
     same(rt, &end.life(), &Some(LIFE), "the life that is bound");
 }
 
-/// Passes each proper prefix of these vectors to an end.
+/// Runs `take_cut` for each vector, with a bound end of its own.
 fn cut_each(rt: &impl Abort, alloc: Global, vectors: &[&str]) {
     for vector in vectors {
         take_cut(rt, alloc, vector);
@@ -223,13 +228,14 @@ fn vectors_cut_at_every_length(rt: HostRuntime) {
     cut_each(&rt, rt.alloc(), &VECTORS);
 }
 
-/// Checks that decoding the bytes fails for the reason for which they were counted as bad, or succeeds if there is
-/// none.
+/// Checks that decoding the bytes fails with the error `bad`, with which they were counted, or succeeds if `bad` is
+/// `None`.
 fn is_read_so(rt: &impl Abort, bytes: &[u8], bad: Option<FrameError>) {
     same(rt, &decode(bytes).err(), &bad, "what the bytes spell");
 }
 
-/// Passes bytes to a bound end: they are bad exactly if they are not a frame, and then do not change the end.
+/// Passes bytes to a bound end. Checks that they are counted once, and as bad exactly if they are not a frame, and that
+/// the end stays bound to its session if they are bad.
 fn take_any(rt: &impl Abort, alloc: Global, bytes: &[u8]) {
     let mut end = bound(rt, alloc);
     let mut tally = Tally::new();
@@ -243,7 +249,7 @@ fn take_any(rt: &impl Abort, alloc: Global, bytes: &[u8]) {
     same(rt, &total(&tally), &1, "the datagrams");
 }
 
-/// Passes the vector to an end, with each byte in turn changed to this one.
+/// Runs `take_any` for the vector with one byte at a time set to `byte`, and the other bytes as they are.
 fn take_changed(rt: &impl Abort, alloc: Global, vector: &str, byte: u8) {
     let (bytes, size) = bytes_of(rt, vector);
     for place in 0..size {
@@ -253,7 +259,7 @@ fn take_changed(rt: &impl Abort, alloc: Global, vector: &str, byte: u8) {
     }
 }
 
-/// Passes these vectors to an end, with each byte in turn changed to this one.
+/// Runs `take_changed` with `byte` for each vector.
 fn change_each(rt: &impl Abort, alloc: Global, vectors: &[&str], byte: u8) {
     for vector in vectors {
         take_changed(rt, alloc, vector, byte);

@@ -1,8 +1,8 @@
-//! Runs over a life file from which no number can be drawn.
+//! Runs over a life file that cannot give a session number, which end with its fault.
 use super::runs::run_over;
 use super::*;
 
-/// The fault of a run over this file, in which nothing is put.
+/// Runs the link over this file, checks that nothing is put, and returns the fault.
 fn fault_of<R: Wait + Abort>(
     rt: &R,
     alloc: Global,
@@ -16,7 +16,7 @@ fn fault_of<R: Wait + Abort>(
 }
 
 /// Checks the fault of a run over the file of each row: the bytes of its disk, the call of the disk that is armed to
-/// fail, whether a draw before the run used up that failure, and the reason.
+/// fail (`None` for none), whether a draw before the run meets that failure, and the wanted error of the file.
 fn each_ends<R: Wait + Abort>(
     rt: &R,
     alloc: Global,

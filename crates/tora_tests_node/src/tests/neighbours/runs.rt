@@ -1,4 +1,4 @@
-//! Runs over memory: a session is bound, and the run ends in each possible way.
+//! Runs of a neighbour's thread over a life file and a wire in memory, which end in each possible way.
 use super::super::sees::same_text;
 use super::*;
 
@@ -8,13 +8,14 @@ const LIFE: Life = Life { own: 1, peer: 9 };
 struct Run {
     /// The ticks by which the clock advances each time it is read.
     step: u64,
-    /// How many calls of the wire succeed before one fails, or all do. `None` for a wire without a fuse.
+    /// How many calls of the wire pass, and whether then one call fails or all following ones do. `None`: no call is
+    /// made to fail.
     fuse: Option<(u64, FuseMode)>,
-    /// How many messages arrive, each of which cuts the session.
+    /// How many outbound messages the hub has for the link, each of which cuts the session if it is bound.
     cuts: u16,
     /// How many items the hub takes before it ends the run.
     room: usize,
-    /// The fault with which the run ends.
+    /// The fault with which the run ends; `None` if the hub ends it.
     fault: Option<LinkFault>,
     /// The numbers of accepted datagrams and of all received ones; `None` if they are not checked.
     tally: Option<(u64, u64)>,
@@ -47,14 +48,14 @@ fn put_of(told: &Told) -> Put {
     Put { now, what }
 }
 
-/// One datagram, which binds the first session of node 1.
+/// One datagram: a HELLO of node 2 with the session number 9, which binds the first session of node 1, number 1.
 fn one_hello(alloc: Global) -> Result<Vec<Vec<u8>>, AllocError> {
     let mut datagrams = Vec::new(alloc);
     datagrams.push(hello(alloc, 9, 1)?)?;
     Ok(datagrams)
 }
 
-/// Runs the link of node 1 to node 2, with a clock that advances by a number of ticks at each turn.
+/// Runs the link of node 1 to node 2, with a clock that starts at 0 and advances by `step` ticks each time it is read.
 pub fn run_over<R: Wait + Abort, W: Wire>(
     rt: &R,
     alloc: Global,
@@ -97,7 +98,7 @@ fn see_over<R: Wait + Abort, W: Wire + Drop>(
     }
 }
 
-/// The result of a run.
+/// Makes a run, and returns its result.
 fn see_run<R: Wait + Abort>(rt: &R, alloc: Global, run: &Run) -> Result<Seen, AllocError> {
     let mut cargoes = Vec::new(alloc);
     for _ in 0..run.cuts {
@@ -115,12 +116,12 @@ fn see_run<R: Wait + Abort>(rt: &R, alloc: Global, run: &Run) -> Result<Seen, Al
     Ok(seen)
 }
 
-/// Checks the fault with which a run ended.
+/// Checks that the fault with which a run ended is `wanted`; `None` for no fault.
 fn fault_is(rt: &impl Abort, fault: Option<LinkFault>, wanted: Option<LinkFault>) {
     same(rt, &fault, &wanted, "the fault");
 }
 
-/// Checks the number of items that were put, and the first of them.
+/// Checks that `count` items were put, and that the first of them are `wanted`, which may be fewer.
 fn puts_are(rt: &impl Abort, hub: &ListHub, count: usize, wanted: &[Told]) {
     let kept = hub.kept();
     same(rt, &kept.len(), &count, "how much was put");
@@ -129,7 +130,7 @@ fn puts_are(rt: &impl Abort, hub: &ListHub, count: usize, wanted: &[Told]) {
     }
 }
 
-/// Checks how many datagrams were accepted, and how many there were.
+/// Checks that `wanted` is the number of accepted datagrams and the number of all received ones.
 fn tally_is(rt: &impl Abort, tally: &Tally, wanted: (u64, u64)) {
     let counted = (tally.of_verdict(Verdict::Accepted), total(tally));
     same(rt, &counted, &wanted, "those accepted, and all");
@@ -162,7 +163,7 @@ fn a_link_comes_up_and_the_hub_ends_it(rt: HostRuntime) {
 }
 
 /// Each turn reads the clock, so the link is silent 50 ticks after its one datagram, and a beat is put every ten ticks.
-/// If a tick serves several turns, the fuse ends the run.
+/// If several turns used one reading, the wire would fail first: after 200 calls, each call fails.
 const SILENT: Run = Run {
     step: 1,
     fuse: Some((200, FuseMode::Always)),
@@ -257,12 +258,12 @@ fn a_wire_that_fails_once_binds_a_life(rt: HostRuntime) {
     runs(&rt, rt.alloc(), &FAILING_ONCE);
 }
 
-/// Checks the result of a send.
+/// Sends a datagram of one byte, and checks the result.
 fn sends<W: Wire>(rt: &impl Abort, wire: &mut W, byte: u8, wanted: Result<(), WireError>) {
     same_at(rt, &wire.send(&[byte]), &wanted, "the send", &byte);
 }
 
-/// Checks the result of a receive.
+/// Receives once into 64 bytes, and checks the result: the length of a datagram, or `None` if there is none.
 fn receives<W: Wire>(
     rt: &impl Abort,
     wire: &mut W,
@@ -310,8 +311,8 @@ fn faults_say_what_they_are(rt: HostRuntime) {
     each_says(&rt, rt.alloc(), FAULTS);
 }
 
-// A run allocates memory only before it starts, and reports if that fails. After that it ends as it does with ample
-// memory.
+// Memory is allocated only for the parts of a run, before it starts, and it is reported if that fails. The run itself
+// ends as it does with ample memory.
 #[test]
 fn want_of_memory_is_answered(rt: HostRuntime) {
     let alloc = rt.alloc();

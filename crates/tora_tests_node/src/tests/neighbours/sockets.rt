@@ -1,7 +1,8 @@
 // The clock of the system.
 use super::*;
 
-// The first tick is in or after the year 2020.
+// The first reading is after the beginning of 2020, in ticks of 100 ms since 1970, and the second is not before the
+// first.
 #[test]
 fn the_clock_of_the_system_goes_on(rt: HostRuntime) {
     let mut clock = UnixClock::new(&rt);

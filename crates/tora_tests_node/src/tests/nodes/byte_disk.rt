@@ -1,9 +1,10 @@
-//! A disk whose bytes are not known to contracts.
+//! A disk of whose bytes contracts say nothing.
 ghost use Rattle.std.specs.Prelude.{◌≤◌};
 
 use tora_life::{Disk, DiskError};
 
-/// A disk of 64 bytes that never fails, and whose bytes are not known to contracts.
+/// A disk of at most 80 bytes that never fails, and of whose bytes contracts say nothing. A write that does not fit
+/// into 80 bytes has no effect.
 #[derive(Drop)]
 pub struct ByteDisk {
     bytes: [u8; 80],
@@ -12,7 +13,7 @@ pub struct ByteDisk {
 }
 
 impl ByteDisk {
-    /// A disk with a number of zero bytes.
+    /// A disk of `length` zero bytes.
     pub fn of_zeros(length: usize) -> ByteDisk
         requires { length ≤ 80 }
     {
@@ -22,7 +23,7 @@ impl ByteDisk {
         }
     }
 
-    /// A disk with two slots of zeros and this tag.
+    /// A disk of 64 bytes: two slots of zeros, and then this tag.
     pub fn of_tag(tag: &[u8; 32]) -> ByteDisk {
         let mut bytes = [0; 80];
         bytes[32..64].copy_from_slice(tag);

@@ -64,7 +64,8 @@ fn put_one<R: Wait + Abort>(rt: &R, ports: &mut [InPort], now: u64, seat: usize,
     sees_at(rt, is_put, "an item is put", &now);
 }
 
-/// Puts the first items and these last ones.
+/// Puts `FIRST_ITEMS` at ticks 5 to 7, the query of node 2 for destination 4 at tick 8, and the items `last` from tick
+/// 9 on.
 fn put_all<R: Wait + Abort>(rt: &R, ports: &mut [InPort], last: &[(usize, What)]) {
     let asks = there(rt, Packet::qry(4).ok(), "a query");
     for (at, (seat, what)) in FIRST_ITEMS.iter().enumerate() {
@@ -76,7 +77,8 @@ fn put_all<R: Wait + Abort>(rt: &R, ports: &mut [InPort], last: &[(usize, What)]
     }
 }
 
-/// Runs the core of node 3 over the items in these queues, and checks its output.
+/// Puts all items into these queues, runs the core of node 3 over them, and returns its fault. Without a fault, checks
+/// that the output is `TEXT`. Returns `None` also if memory runs out before the core runs.
 fn is_told<R: Wait + Abort>(
     rt: &R,
     alloc: Global,
@@ -110,8 +112,8 @@ fn is_told<R: Wait + Abort>(
     end.fault
 }
 
-/// Checks what the core of node 3 prints after `watch` and `json` if `FIRST_ITEMS`, a query of node 2 and then the items
-/// `last` are put. If memory runs out, only the fault is checked.
+/// Checks what the core of node 3 prints after `watch` and `json` if `FIRST_ITEMS`, a query of node 2 and then the
+/// items `last` are put. If memory runs out, only the fault is checked.
 fn is_told_of<R: Wait + Abort>(rt: &R, alloc: Global, last: &[(usize, What)]) {
     if let (Ok(core), Ok(made)) = (Core::new(alloc, 3, &[2, 4], &[4]), lanes(rt, alloc, 2)) {
         match is_told(rt, alloc, core, made, last) {

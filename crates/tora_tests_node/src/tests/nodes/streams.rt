@@ -7,7 +7,7 @@ use std::time::Duration;
 use std::{thread, time};
 use tora_neighbour::{Wire, WireError};
 
-/// The line of a core that has a route.
+/// The line that `show` prints if the core of node 3 has a route to node 4, its neighbour.
 const FOUND: &[u8] = b"to 4 height (0,0,0,1,3) flag 0 hop 4";
 
 /// What the two nodes of a test share.
@@ -39,7 +39,8 @@ impl Write for Screen<'_> {
     }
 }
 
-/// Commands: a first one, and then `show` every 100 ms until the route is found, at most a hundred times.
+/// Commands: the lines `first`, and then `show` every 100 ms until the route is found, at most a hundred times. Then
+/// the input ends.
 #[derive(Drop)]
 pub struct Asking<'a, R> {
     pub rt: &'a R,
@@ -67,7 +68,8 @@ impl<R: time::Clock> Read for Asking<'_, R> {
     }
 }
 
-/// A wire on which nothing arrives. Its first `receive` checks whether another wire is in its own first `receive`.
+/// A wire on which nothing arrives. Its first `receive` sets `own` to 1 and waits until `other` is 1, at most 10 s: the
+/// other wire's first `receive` has begun. If so, `met` rises by 1.
 #[derive(Drop)]
 pub struct Meeting<'a, R> {
     pub rt: &'a R,
@@ -109,7 +111,7 @@ impl<R: time::Clock> Wire for Meeting<'_, R> {
     }
 }
 
-/// Commands that end once both neighbours have met, or after ten seconds.
+/// An input without commands, which ends once both wires have met (`met` is 2), or after ten seconds.
 #[derive(Drop)]
 pub struct Waiting<'a, R> {
     pub rt: &'a R,
@@ -128,7 +130,7 @@ impl<R: time::Clock> Read for Waiting<'_, R> {
     }
 }
 
-/// An output of at most 640 bytes.
+/// An output of at most 640 bytes. Once they are full, a write accepts 0 bytes.
 #[derive(Drop)]
 pub struct Page {
     pub bytes: [u8; 640],

@@ -1,4 +1,4 @@
-//! The wanted result of reading each text of a table, and the function that checks a table.
+//! The wanted result of reading each text of a table, and the functions that check a table.
 use super::super::sees::{same_at, sees_at};
 use std::alloc::Global;
 use std::process::Abort;
@@ -7,9 +7,10 @@ use tora_core::{CoreError, Erasure};
 
 /// The wanted result of reading a text.
 pub enum Wanted {
-    /// A configuration.
+    /// A configuration, whatever its values are.
     Accepted,
-    /// The worked configuration.
+    /// The worked configuration: node 1, destination 4, the directory `n1`, plain erasure, and one link, to peer 2 from
+    /// port 4012 to port 4021.
     Worked,
     /// A configuration with links to these peers, in this order.
     Peers(&'static [u32]),
@@ -27,7 +28,7 @@ pub enum Wanted {
     Says(&'static str),
 }
 
-/// Checks the result of reading the text of each row; the text consists of these parts.
+/// Reads the text of each row, whose parts are joined, and checks that the result is the wanted one.
 pub fn each_is_read(rt: &impl Abort, alloc: Global, rows: &[(&[&str], Wanted)]) {
     for (parts, wanted) in rows {
         let text = joined(rt, alloc, parts);
@@ -38,7 +39,7 @@ pub fn each_is_read(rt: &impl Abort, alloc: Global, rows: &[(&[&str], Wanted)]) 
     }
 }
 
-/// Checks the result for each text, which may also be that memory ran out.
+/// Reads the text of each row, and checks that the result is the wanted one or the error `Memory`.
 pub fn each_is_read_or_wants_memory(rt: &impl Abort, alloc: Global, rows: &[(&str, Wanted)]) {
     for (text, wanted) in rows {
         match read(alloc, text) {
@@ -49,13 +50,13 @@ pub fn each_is_read_or_wants_memory(rt: &impl Abort, alloc: Global, rows: &[(&st
     }
 }
 
-/// Checks the text of an error.
+/// Checks that the error `fault` prints the text `wanted`; `what` names the case.
 pub fn says(rt: &impl Abort, alloc: Global, fault: &ConfigError, wanted: &str, what: &str) {
     let text = format!(in alloc; "{fault}").expect(rt, "memory");
     same_at(rt, &text.as_str(), &wanted, &what);
 }
 
-/// The text of these parts.
+/// The parts, joined to one text; the test fails if memory runs out.
 fn joined(rt: &impl Abort, alloc: Global, parts: &[&str]) -> String {
     let mut text = String::new(alloc);
     for part in parts {
@@ -64,12 +65,13 @@ fn joined(rt: &impl Abort, alloc: Global, parts: &[&str]) -> String {
     text
 }
 
-/// The result of reading a text, of which contracts state nothing.
+/// Reads a configuration from a text. This function has no contract, so the proofs of its callers leave that of
+/// `read_config` out.
 fn read(alloc: Global, text: &str) -> Result<NodeConfig, ConfigError> {
     read_config(alloc, text)
 }
 
-/// Checks that the wanted result is this configuration.
+/// Checks that `wanted` allows this configuration. Fails with `text` if an error is wanted.
 fn is_accepted(rt: &impl Abort, config: &NodeConfig, wanted: &Wanted, text: &str) {
     match wanted {
         Wanted::Accepted => {}
@@ -80,7 +82,7 @@ fn is_accepted(rt: &impl Abort, config: &NodeConfig, wanted: &Wanted, text: &str
     }
 }
 
-/// Checks that the wanted result is this error.
+/// Checks that `wanted` is this error. Fails with `text` if it is another error or a configuration.
 fn is_refused(rt: &impl Abort, alloc: Global, fault: &ConfigError, wanted: &Wanted, text: &str) {
     let is_so = match wanted {
         Wanted::NoToml => matches!(fault, ConfigError::Syntax(_)),
@@ -108,7 +110,7 @@ fn has_unknown_key(fault: &ConfigError, wanted: &str) -> bool {
     }
 }
 
-/// The key whose value is refused, and the reason.
+/// The key whose value is refused, and the reason; `None` for an error of another kind.
 fn value_in(fault: &ConfigError) -> Option<(Place, Reason)> {
     match fault {
         ConfigError::Value(place, reason) => Some((*place, *reason)),
@@ -132,7 +134,7 @@ fn is_worked(rt: &impl Abort, config: &NodeConfig) {
     same_at(rt, &links, &[link].as_slice(), &"the links");
 }
 
-/// Checks the peers of the links.
+/// Checks that the peers of the links are `wanted`, in this order.
 fn peers_are(rt: &impl Abort, config: &NodeConfig, wanted: &[u32]) {
     same_at(rt, &config.links.len(), &wanted.len(), &"how many links");
     for (at, (link, peer)) in config.links.iter().zip(wanted).enumerate() {

@@ -20,8 +20,8 @@ fn wait_for<R: time::Clock>(rt: &R, settled: &AtomicU64, count: u64) {
     }
 }
 
-/// A wrapper of a wire that reports once when the wire is idle or broken: no datagram was there, or a hundred of its
-/// calls in a row failed.
+/// A wrapper of a wire that adds 1 to `settled` once, when the wire is idle or broken: a receive found no datagram, or
+/// a hundred of its calls in a row failed.
 #[derive(Drop)]
 pub struct Settling<'a, R, W: Wire> {
     pub rt: &'a R,
@@ -40,7 +40,8 @@ impl<'a, R: time::Clock, W: Wire> Settling<'a, R, W> {
         wait_for(self.rt, self.settled, self.after);
     }
 
-    /// Records whether a call failed, and whether it returned no datagram.
+    /// Records a call: whether it failed, and whether it was a receive that found no datagram. After the latter it
+    /// sleeps for 1 ms.
     fn note(&mut self, has_failed: bool, is_empty: bool)
         ensures { self.new.wire ≡ self.old.wire }
     {
@@ -89,7 +90,8 @@ impl<R: time::Clock, W: Wire> Wire for Settling<'_, R, W> {
     }
 }
 
-/// Commands that arrive 50 ms after this many wires are idle or broken. A node that ends by itself has ended by then.
+/// The bytes `commands`, which arrive 50 ms after `count` wires are idle or broken, and then the end of the input. A
+/// node that ends by itself has ended by then.
 #[derive(Drop)]
 pub struct Settled<'a, R> {
     pub rt: &'a R,
