@@ -276,9 +276,5 @@ fn routes_over_channels(rt: HostRuntime) {
     };
     let (sim, in_flight) = over_channel(&rt, rt.alloc(), lost);
     sees(&rt, !has_routes(&sim), "no route is found");
-    sees(
-        &rt,
-        in_flight.later.is_empty(),
-        "nothing is in the in_flight",
-    );
+    sees(&rt, in_flight.later.is_empty(), "nothing is in flight");
 }
