@@ -101,6 +101,8 @@ fn words_of(rt: &HostRuntime) -> Result<Vec<String>, ExitCode> {
     }
 }
 
+/// Runs the command that the words of the command line name: `node`, `sim`, `drive` or `key`, and otherwise `replay`.
+/// Returns the exit status.
 fn main(rt: HostRuntime) -> ExitCode {
     let words = match words_of(&rt) {
         Ok(words) => words,

@@ -36,12 +36,14 @@ impl HeldPackets {
         Ok(HeldPackets { ring })
     }
 
+    /// Whether there is no place; then no packet is held.
     pub fn is_empty(&self) -> bool
         ensures { result ≡ (length self.now.items == 0) }
     {
         self.ring.is_empty()
     }
 
+    /// Removes all places and their packets; the room for them stays.
     pub fn clear(&mut self)
         ensures { self.new ≡ buffer [] self.old.capacity }
     {

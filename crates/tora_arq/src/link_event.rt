@@ -17,7 +17,7 @@ pub enum LinkEvent {
 }
 
 impl LinkEvent {
-    /// The session of the event.
+    /// The session of the event. This is for hosts of link ends; no crate here calls it.
     pub fn life(&self) -> Life
         ensures { result ≡ event_life self.now }
     {

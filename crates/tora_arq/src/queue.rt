@@ -42,6 +42,7 @@ impl SendQueue {
         Ok(SendQueue { ring })
     }
 
+    /// How many packets are in the queue.
     #[inline(always)]
     pub fn len(&self) -> usize
         ensures len { result ≡ length self.now.items }
@@ -81,6 +82,7 @@ impl SendQueue {
         rings::remove_first(&mut self.ring, count);
     }
 
+    /// Removes all packets; the room for them stays.
     pub fn clear(&mut self)
         ensures { self.new ≡ buffer [] self.old.capacity }
     {

@@ -177,6 +177,8 @@ impl State {
         }
     }
 
+    /// Receives a frame at an end that is not bound. If it carries the end's number `own`, it binds the session, unless
+    /// it acknowledges a packet (`Foreign`) or its sender's number is below one heard before (`Stale`).
     #[tactic(auto, unfolding(crate::specs::LinkEnd::on_frame_in))]
     fn on_unbound_frame(&mut self, own: u64, frame: &BorrowedFrame<'_>, now: u64) -> Verdict
         requires place { length self.old.events.items < self.old.events.capacity }
@@ -206,6 +208,8 @@ impl State {
         self.on_matched(life, true, now, body)
     }
 
+    /// Receives a frame at an end bound in the session `life`. If the sender's number is higher, the session ends. The
+    /// verdict is `Stale` for a lower one or another heard number, `Foreign` for a count above the packets sent.
     #[tactic(auto, unfolding(crate::specs::LinkEnd::on_frame_in))]
     fn on_bound_frame(&mut self, life: Life, frame: &BorrowedFrame<'_>, now: u64) -> Verdict
         requires place { length self.old.events.items < self.old.events.capacity }

@@ -60,6 +60,7 @@ fn is_update_of_another(sender: Id, packet: &Packet) -> bool
     }
 }
 
+/// Whether one of the packets is an update with the height of a node other than the sender.
 fn is_any_of_another(sender: Id, packets: &[Packet]) -> bool
     ensures { result ≡ list_any (is_update_of_another sender) packets.now }
 {
@@ -71,6 +72,7 @@ fn is_any_of_another(sender: Id, packets: &[Packet]) -> bool
     false
 }
 
+/// Whether a frame has an update with the height of a node other than the sender; `false` for HELLO and ACK.
 fn has_update_of_another(sender: Id, body: BorrowedBody<'_>) -> bool
     ensures { result ≡ has_update_of_another sender (body_of body.entry) }
 {

@@ -29,6 +29,7 @@ pub enum Coded {
 }
 
 impl Coded {
+    /// The name that the printed line begins with.
     pub fn name(self) -> &'static str {
         match self {
             Coded::Packet => "codec-packet",

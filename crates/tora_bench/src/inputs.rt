@@ -89,10 +89,12 @@ pub struct Random {
 }
 
 impl Random {
+    /// A generator with this seed. An even seed counts as the next odd number, so that the state is never 0.
     pub fn new(seed: u64) -> Random {
         Random { state: seed | 1 }
     }
 
+    /// The next number of 64 bits.
     fn next(&mut self) -> u64 {
         let mut x = self.state;
         x ^= x.wrapping_shl(13);

@@ -23,6 +23,7 @@ struct Kept {
 }
 
 impl Kept {
+    /// Empty buffers.
     fn new() -> Kept {
         Kept {
             bytes: ArrayVec::new(),
@@ -90,6 +91,8 @@ struct Link {
     life: Life,
 }
 
+/// The ends of a link of nodes 1 and 2, both of this version, bound by frames at tick 0. `None` if memory runs out, or
+/// if the session is not bound after three exchanges each way.
 fn bound_link(alloc: Global, version: Version) -> Option<Link> {
     let (mut one, mut two) = match version {
         Version::One => (

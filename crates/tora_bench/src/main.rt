@@ -62,12 +62,15 @@ fn told(packet: &Packet) -> u64 {
     folded(parts, u64::from(packet.destination()))
 }
 
+/// Folds the number of each packet into a running number.
 fn folded_sends(sum: u64, sends: &Sends) -> u64 {
     sends
         .iter()
         .fold(sum, |sum, packet| folded(sum, told(packet)))
 }
 
+/// Steps the core by each input at its tick. Returns a number that depends on the broadcast packets and on the
+/// refusals.
 fn run_mixed(core: &mut Core, inputs: &[(u64, Input)]) -> u64 {
     let mut sends = Sends::new();
     let mut sum = 0xcbf29ce484222325u64;
@@ -92,6 +95,7 @@ fn sent(core: &mut Core, input: &Option<Input>, now: u64, sends: &mut Sends) -> 
     }
 }
 
+/// Makes `steps` steps, each by a `quiet_update` at tick 1. Returns the sum of the results of `sent`.
 fn run_quiet(size: Size, core: &mut Core, steps: u32) -> u64 {
     let mut sends = Sends::new();
     let mut sum = 0u64;
@@ -118,6 +122,7 @@ fn run_quiet_bytes(alloc: Global, core: &mut Core, steps: u32) -> Option<u64> {
     Some(sum)
 }
 
+/// Makes `steps` steps, each by a `reacting_update` at tick 1. Returns the sum of the results of `sent`.
 fn run_reacting(core: &mut Core, steps: u32) -> u64 {
     let mut sends = Sends::new();
     let mut sum = 0u64;
@@ -127,6 +132,7 @@ fn run_reacting(core: &mut Core, steps: u32) -> u64 {
     sum
 }
 
+/// Takes the link to neighbour 8 down and up again, `steps / 2` times. Returns the sum of the results of `sent`.
 fn run_links(core: &mut Core, steps: u32) -> u64 {
     let mut sends = Sends::new();
     let mut sum = 0u64;
@@ -156,6 +162,7 @@ enum Mix {
 }
 
 impl Mix {
+    /// The name that the printed line begins with.
     fn name(self) -> &'static str {
         match self {
             Mix::Mixed(size) => size.name("core-mixed", "core-large-mixed"),
@@ -183,6 +190,8 @@ impl Mix {
         }
     }
 
+    /// Makes one run: over `inputs` for `Mixed`, and with about `steps` operations for another mix. Returns a number
+    /// that depends on the results; 0 if memory runs out.
     fn run(self, alloc: Global, core: &mut Core, inputs: &[(u64, Input)], steps: u32) -> u64 {
         match self {
             Mix::Mixed(_) => run_mixed(core, inputs),
@@ -316,6 +325,8 @@ fn time_others(rt: &HostRuntime, word: &str, steps: u32) -> io::Result<()> {
     Ok(())
 }
 
+/// Times what the first word names; without a word nothing happens. N is the second word, or `STEPS` if it is missing
+/// or no number below 2^32. Errors are passed on.
 fn main(rt: HostRuntime) -> io::Result<()> {
     let words = std::env::args(&rt)?.collect::<Vec<String>>(rt.alloc())?;
     let Some(word) = words.get(1) else {

@@ -20,6 +20,7 @@ struct Node {
 }
 
 impl Node {
+    /// A node with empty buffers.
     fn new(core: Core, end: LinkEnd) -> Node {
         Node {
             core,
@@ -85,6 +86,7 @@ struct Pair {
 }
 
 impl Pair {
+    /// Makes the nodes and passes HELLOs at tick 0 until none is due; `None` if memory runs out.
     fn new(alloc: Global) -> Option<Pair> {
         let mut first = LinkEnd::new(alloc, 1, 2, Times::STANDARD).ok()?;
         let mut second = LinkEnd::new(alloc, 2, 1, Times::STANDARD).ok()?;
@@ -139,6 +141,7 @@ pub enum Talk {
 }
 
 impl Talk {
+    /// The name that the printed line begins with.
     pub fn name(self) -> &'static str {
         match self {
             Talk::Hellos => "node-hello",
@@ -157,6 +160,8 @@ impl Talk {
     }
 }
 
+/// Makes `steps / 2` rounds, each a HELLO interval after the one before. Returns how many frames there were, and how
+/// long the rounds took; `None` if memory runs out. An error of the clock is passed on.
 fn time_hellos(rt: &HostRuntime, steps: u32) -> io::Result<Option<(u64, Duration)>> {
     let Some(mut pair) = Pair::new(rt.alloc()) else {
         return Ok(None);
@@ -170,6 +175,8 @@ fn time_hellos(rt: &HostRuntime, steps: u32) -> io::Result<Option<(u64, Duration
     Ok(Some((count, start.elapsed(rt)?)))
 }
 
+/// Makes `steps / 192` pairs and calls `ask` on each. Returns how many frames there were, and how long the calls took;
+/// `None` if memory runs out. An error of the clock is passed on.
 fn time_queries(rt: &HostRuntime, steps: u32) -> io::Result<Option<(u64, Duration)>> {
     let mut count = 0u64;
     let mut passed = Duration::ZERO;

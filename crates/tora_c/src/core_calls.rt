@@ -86,6 +86,8 @@ pub extern "C" fn tora_core_clone(alloc: Global, core: &mut CoreHandle, out: &mu
     }
 }
 
+/// Steps the core with an input at the tick `now`, and returns `OK` or the code of the refusal (`refused_code`); `NULL`
+/// for a null handle. A refused input changes nothing.
 fn step(alloc: Global, core: &mut CoreHandle, input: Input, now: u64) -> u32
     ensures code { result ≡ held_code core.old.held input }
     ensures held { core.new.held ≡ held_after core.old.held input now }

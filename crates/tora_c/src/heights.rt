@@ -21,6 +21,7 @@ pub struct HeightParts {
     pub id: u32,
 }
 
+/// The five parts of a height.
 fn parts_of(height: &Height) -> HeightParts
     ensures { result ≡ parts_of height.now }
 {

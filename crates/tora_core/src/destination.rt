@@ -101,18 +101,21 @@ impl Destination {
         })
     }
 
+    /// The destination of the view.
     pub fn destination(&self) -> Id
         ensures { result ≡ self.now.view.destination }
     {
         self.destination
     }
 
+    /// The node's own height; `None` for NULL.
     pub fn height(&self) -> Entry
         ensures { result ≡ self.now.view.height }
     {
         self.links.own()
     }
 
+    /// Whether a route to the destination is required.
     pub fn flag(&self) -> bool
         ensures { result ≡ self.now.view.flag }
     {

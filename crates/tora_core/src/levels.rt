@@ -57,6 +57,8 @@ impl Destination {
         self.broadcast_update()
     }
 
+    /// The height that `join` sets: the least entry with delta + 1 and the own number. NULL if every entry is NULL or
+    /// the height is out of range.
     fn joined_height(&self) -> Entry
         ensures { result ≡ joined_height self.now.view }
     {

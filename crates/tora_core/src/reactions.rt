@@ -84,6 +84,7 @@ impl Destination {
         }
     }
 
+    /// Reacts to a packet from the neighbour `k`, which is at `place` among the neighbours, by the rule of its kind.
     fn on_packet(&mut self, k: Id, place: usize, packet: &Packet, now: u64) -> Option<Broadcast>
         requires place { IsOnlyPlace k place self.old.neighbours }
         requires up { has_number k (up_neighbours self.old.view) ≡ true }
@@ -98,6 +99,7 @@ impl Destination {
         }
     }
 
+    /// Broadcasts a query if every entry is NULL and no route is required yet; otherwise nothing changes.
     fn on_need(&mut self) -> Option<Broadcast>
         ensures view { self.new.view ≡ (on_need self.old.view).view }
         ensures broadcast { result ≡ (on_need self.old.view).broadcast }
@@ -110,6 +112,8 @@ impl Destination {
         }
     }
 
+    /// Reacts to a query from `k`. Without a downstream neighbour: broadcasts a query, unless a route is already
+    /// required. With one: joins if the height is NULL; otherwise broadcasts the height, unless `k` has the mark.
     fn on_query(&mut self, k: Id, place: usize) -> Option<Broadcast>
         requires place { IsOnlyPlace k place self.old.neighbours }
         requires up { has_number k (up_neighbours self.old.view) ≡ true }
@@ -132,6 +136,8 @@ impl Destination {
         }
     }
 
+    /// Reacts to an update with this height from `k`: by `on_outdated` if the height is outdated, and otherwise by
+    /// `on_taken_update`.
     fn on_update(&mut self, k: Id, place: usize, height: Height, now: u64) -> Option<Broadcast>
         requires place { IsOnlyPlace k place self.old.neighbours }
         requires up { has_number k (up_neighbours self.old.view) ≡ true }
@@ -162,6 +168,8 @@ impl Destination {
         }
     }
 
+    /// Stores the height as the entry of `k`. Then joins if a route is required; if not, and if there is a height and
+    /// no neighbour is downstream, reacts by `after_update_loss`.
     fn on_taken_update(
         &mut self,
         k: Id,
@@ -185,6 +193,7 @@ impl Destination {
         }
     }
 
+    /// Reacts to a clear of a level from `k`: notes it by `hear_clear`, and then applies `on_heard_clear`.
     fn on_clear(&mut self, k: Id, level: Level, now: u64) -> Option<Broadcast>
         ensures view { self.new.view ≡ (on_clear self.old.view k level now).view }
         ensures broadcast { result ≡ (on_clear self.old.view k level now).broadcast }
@@ -194,6 +203,8 @@ impl Destination {
         self.on_heard_clear(level, now)
     }
 
+    /// Reacts by `erase` if the own height is at the level. Otherwise removes the entries at it, except that of the
+    /// destination; if there is a height and then no neighbour is downstream, reacts as to a link failure.
     fn on_heard_clear(&mut self, level: Level, now: u64) -> Option<Broadcast>
         ensures view { self.new.view ≡ (on_heard_clear self.old.view level now).view }
         ensures broadcast { result ≡ (on_heard_clear self.old.view level now).broadcast }

@@ -48,6 +48,7 @@ pub fn is_downstream(own: Entry, entry: Entry) -> bool
     }
 }
 
+/// The greater of `best` and the level of the height; that level if `best` is `None`.
 fn higher_level_of(best: Option<Level>, height: Height) -> Option<Level>
     requires { IfSome best IsLevel }
     ensures value { result ≡ higher_level_of best height }
@@ -79,6 +80,7 @@ pub fn greatest_level(rows: &[Row]) -> Option<Level>
     best
 }
 
+/// Whether the height is at the level.
 pub fn is_at(level: Level, height: Height) -> bool
     ensures { result ≡ is_at level height }
 {
@@ -103,6 +105,7 @@ pub fn time_after_all(rows: &[Row]) -> u64
         .fold(0, |time, height| time.max(height.tau() + 1))
 }
 
+/// The lesser of `best` and `delta`; `delta` if `best` is `None`.
 fn lower_delta_of(best: Option<i32>, delta: i32) -> Option<i32>
     ensures { result ≡ lower_delta_of best delta }
 {
@@ -134,6 +137,7 @@ pub fn least_delta(level: Level, rows: &[Row]) -> Option<i32>
     best
 }
 
+/// Sets the mark of a row.
 fn tell_row(row: &mut Row)
     ensures { row.new ≡ told_row row.old }
 {
@@ -165,6 +169,7 @@ pub fn put_entry(place: usize, height: Height, rows: &mut [Row])
     rows[place].entry = Some(height);
 }
 
+/// Sets the entry of a row to NULL, unless the neighbour is the destination.
 fn erase_row(destination: Id, row: &mut Row)
     ensures { row.new ≡ erased_row destination row.old }
 {
@@ -182,6 +187,7 @@ pub fn erase_all(destination: Id, rows: &mut [Row])
     }
 }
 
+/// Whether the entry is at the level; `false` for NULL.
 pub fn is_entry_at(level: Level, entry: Entry) -> bool
     ensures { result ≡ is_entry_at level entry }
 {

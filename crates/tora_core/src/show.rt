@@ -45,12 +45,14 @@ impl fmt::Display for HopText {
     }
 }
 
+/// The text of a flag: `1` for true, `0` for false.
 fn flag_text(flag: bool) -> &'static str
     ensures { result.now ≡ flag_text flag }
 {
     if flag { "1" } else { "0" }
 }
 
+/// The word of a direction: `up`, `down`, or `none` for `Undirected`.
 fn direction_text(direction: Direction) -> &'static str
     ensures { result.now ≡ direction_text direction }
 {
@@ -61,6 +63,8 @@ fn direction_text(direction: Direction) -> &'static str
     }
 }
 
+/// Appends the line `to D height H flag F hop K` of a view to a text; `-` stands for the height NULL and for no next
+/// hop. The error says that memory ran out.
 #[tactic(auto, unfolding(crate::specs::ShowText::to_line))]
 fn write_to_line(out: &mut String, view: &Destination) -> Result<(), AllocError>
     ensures { OnOk result (string_bytes out.new ≡ string_bytes out.old ++ to_line view.now.view) }
@@ -75,6 +79,8 @@ fn write_to_line(out: &mut String, view: &Destination) -> Result<(), AllocError>
     )
 }
 
+/// Appends the line `via K H DIRECTION` of a row to a text, where H is the entry, `-` for NULL. The error says that
+/// memory ran out.
 #[tactic(auto, unfolding(crate::specs::ShowText::via_line))]
 fn write_via_line(out: &mut String, view: &Destination, row: &Row) -> Result<(), AllocError>
     ensures { OnOk result (string_bytes out.new ≡ string_bytes out.old ++ via_line view.now.view.height row.now) }
@@ -85,6 +91,8 @@ fn write_via_line(out: &mut String, view: &Destination, row: &Row) -> Result<(),
     writeln!(out, "via {neighbour} {entry} {direction}")
 }
 
+/// Appends the `to` line of a view and the `via` line of each of its rows to a text. The error says that memory ran
+/// out.
 fn write_view(alloc: Global, out: &mut String, view: &Destination) -> Result<(), AllocError>
     ensures { OnOk result (string_bytes out.new ≡ string_bytes out.old ++ view_text view.now.view) }
 {

@@ -28,6 +28,7 @@ impl Links {
     }
 }
 
+/// Sets the entry of a row to NULL if it is the row of neighbour `k` and `k` is not the destination.
 fn withdraw_row(destination: Id, k: Id, row: &mut Row)
     ensures { row.new ≡ withdrawn_row destination k row.old }
 {
@@ -36,6 +37,7 @@ fn withdraw_row(destination: Id, k: Id, row: &mut Row)
     }
 }
 
+/// Sets the entry of neighbour `k` to NULL, unless `k` is the destination.
 fn withdraw(destination: Id, k: Id, rows: &mut [Row])
     ensures { rows.new ≡ without_entry destination k rows.old }
 {
@@ -44,6 +46,7 @@ fn withdraw(destination: Id, k: Id, rows: &mut [Row])
     }
 }
 
+/// Removes the mark of a row if it is the row of neighbour `k`.
 fn untell_row(k: Id, row: &mut Row)
     ensures { row.new ≡ untold_row k row.old }
 {
@@ -52,6 +55,7 @@ fn untell_row(k: Id, row: &mut Row)
     }
 }
 
+/// Removes the mark of neighbour `k`.
 fn untell(k: Id, rows: &mut [Row])
     ensures { rows.new ≡ without_told k rows.old }
 {

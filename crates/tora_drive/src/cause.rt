@@ -28,6 +28,7 @@ pub enum Cause {
 }
 
 impl Cause {
+    /// The cause in words, as it is printed.
     #[tactic(auto, unfolding(crate::specs::DriveText::cause_words))]
     fn words(self) -> &'static str
         ensures { result.now ≡ cause_words self }
@@ -43,6 +44,7 @@ impl Cause {
     }
 }
 
+/// The cause for a line after the links: `Name` if the line has a known form, otherwise `Word`.
 fn cause_of_line(line: &[u8]) -> Cause
     ensures { result ≡ cause_of_line line.now }
 {
@@ -52,6 +54,8 @@ fn cause_of_line(line: &[u8]) -> Cause
     }
 }
 
+/// The cause for a line after `dests LIST`, before the drive begins: `NoLink` if no link was read, `Topology` if the
+/// links and destinations are refused, and otherwise that of `cause_of_line`.
 fn cause_behind_links(limits: Limits, lines: &LinkLines, line: &[u8]) -> Cause
     ensures { result ≡ cause_behind_links limits lines.now.dests.items lines.now.links.items line.now }
 {

@@ -22,6 +22,7 @@ fn write_number(out: &mut String, word: &str, n: u64) -> Result<(), AllocError>
     write!(out, "{word}{n}")
 }
 
+/// The word CALL of `arm N CALL` for a call.
 fn call_text(call: Call) -> &'static str
     ensures { result.now ≡ call_text call }
 {

@@ -19,6 +19,8 @@ fn write_need<S: Driven>(out: &mut String, sim: &S, n: Id, d: Id) -> Result<(), 
     }
 }
 
+/// Appends a line `need N D` for each of the destinations to which node `n` requires a route. The error says that
+/// memory ran out.
 fn write_needs_of<S: Driven>(
     out: &mut String,
     sim: &S,

@@ -204,6 +204,7 @@ pub fn routes_before<S: Driven>(
     }
 }
 
+/// Whether two next hops are the same node, or both are none.
 fn is_same_hop(a: Option<Id>, b: Option<Id>) -> bool
     ensures { result ≡ is_same_hop a b }
 {

@@ -26,6 +26,8 @@ fn is_sent_so(frame: &Frame, sender: Id, receiver: Id, bytes: &[u8]) -> bool
         && is_word(bytes, encode(frame).as_slice())
 }
 
+/// Whether datagram `i`, counted from 1, was sent from one node to another and has these bytes; `false` if there is no
+/// datagram `i`.
 fn is_sent_at<S: Driven>(sim: &S, i: u64, sender: Id, receiver: Id, bytes: &[u8]) -> bool
     ensures { result ≡ is_sent_at (S.world sim.now) sender receiver bytes.now i }
 {

@@ -19,6 +19,7 @@ use crate::{
 };
 use tora_packet::{SHORTEST_PACKET, is_packet_length};
 
+/// The number in the two bytes from the index `at` on, most significant byte first.
 #[tactic(auto, unfolding(crate::specs::FrameGrammar::u16_at))]
 fn u16_at(bytes: &[u8], at: usize) -> u16
     requires { at + 2 ≤ length bytes.now }
@@ -28,6 +29,7 @@ fn u16_at(bytes: &[u8], at: usize) -> u16
     u16::from_be_bytes([two[0], two[1]])
 }
 
+/// The number in the four bytes from the index `at` on, most significant byte first.
 #[tactic(auto, unfolding(tora_packet::specs::PacketGrammar::u32_at))]
 fn u32_at(bytes: &[u8], at: usize) -> u32
     requires { at + 4 ≤ length bytes.now }
@@ -37,6 +39,7 @@ fn u32_at(bytes: &[u8], at: usize) -> u32
     u32::from_be_bytes([four[0], four[1], four[2], four[3]])
 }
 
+/// The number in the eight bytes from the index `at` on, most significant byte first.
 #[tactic(auto, unfolding(tora_packet::specs::PacketGrammar::u64_at))]
 fn u64_at(bytes: &[u8], at: usize) -> u64
     requires { at + 8 ≤ length bytes.now }
@@ -59,6 +62,8 @@ fn version_of(number: u8) -> Option<Version>
     }
 }
 
+/// Whether a DATA frame of this version may have a payload of this many bytes: in version 1, 16 more than a packet; in
+/// version 2, from `SHORTEST_BATCH` to `LONGEST_BATCH`.
 fn is_data_length(version: Version, len: usize) -> bool
     ensures { result ≡ is_data_length (version_number version) len }
 {
@@ -68,6 +73,8 @@ fn is_data_length(version: Version, len: usize) -> bool
     }
 }
 
+/// Whether a frame of this version and kind may have a payload of this many bytes: 0 for HELLO, as `is_data_length`
+/// says for DATA, and 8 for ACK. A number that is no kind counts as ACK.
 fn is_payload_length(version: Version, kind: u8, len: usize) -> bool
     ensures { result ≡ is_payload_length (version_number version) kind len }
 {
@@ -208,6 +215,7 @@ fn read_body<'a>(
     }
 }
 
+/// Decodes a frame as `decode_into` does, with the same errors.
 fn read_frame<'a>(bytes: &[u8], packets: &'a mut Packets) -> Result<BorrowedFrame<'a>, FrameError>
     ensures exact { MatchOption (frame_fault bytes.now) (result ≡ Ok (frame_at bytes.now)) (λ e. result ≡ Err e) }
     ensures valid { IfOk result IsFrame }

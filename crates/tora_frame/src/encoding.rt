@@ -22,6 +22,7 @@ pub const LONGEST_FRAME: usize = HEADER_LENGTH + LONGEST_BATCH;
 /// The bytes of a frame that were written so far.
 type Bytes = ArrayVec<u8, LONGEST_FRAME>;
 
+/// Appends bytes. There must be room for them.
 fn put(out: &mut Bytes, bytes: &[u8])
     requires { array_vec_len out.old + length bytes.now ≤ LONGEST_FRAME }
     ensures { out.new.items ≡ out.old.items ++ bytes.now }

@@ -118,6 +118,7 @@ fn digest_behind(hasher: &Sha256, message: &[u8]) -> [u8; 32]
     hasher.finalize()
 }
 
+/// The exclusive or of each byte of the block and `pad`.
 fn masked_block(block: &[u8; BLOCK], pad: u8) -> [u8; BLOCK]
     ensures { result ≡ masked pad block.now }
 {

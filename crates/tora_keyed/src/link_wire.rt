@@ -85,6 +85,7 @@ impl<'a, W: Wire, C: Clock, L: Log> LinkWire<'a, W, C, L> {
         }
     }
 
+    /// Adds 1 to the count of failures, at most 2^64 - 1.
     fn count(&mut self)
         ensures { self.new ≡ record self.old { failures = min (self.old.failures + 1) (2 ^ 64 - 1) } }
     {

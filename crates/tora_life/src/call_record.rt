@@ -17,6 +17,7 @@ impl Model for CallRecord {
 }
 
 impl CallRecord {
+    /// A record of no states.
     pub fn new() -> CallRecord
         ensures { result.states ≡ [] }
     {

@@ -49,6 +49,7 @@ impl<D: Disk> FuseDisk<D> {
         disk
     }
 
+    /// Adds 1 to the count of failures, at most 2^64 - 1.
     fn count(&mut self)
         ensures { self.new ≡ record self.old { failures = min (self.old.failures + 1) (2 ^ 64 - 1) } }
     {

@@ -69,6 +69,8 @@ impl State {
         }
     }
 
+    /// Reads the bytes of the file from the offset `at` into the front of `buf`, and returns how many there were; 0
+    /// from the end of the file on. Fails once, with `buf` unchanged, if a read is armed.
     pub fn read(&mut self, at: usize, buf: &mut [u8]) -> Result<usize, DiskError>
         requires { IsWhole self.old }
         ensures answer { result ≡ read_answer self.old at buf.old }
@@ -87,6 +89,8 @@ impl State {
         Ok(count)
     }
 
+    /// Writes bytes at an offset. Fails, and changes no byte, if they do not fit into `DISK_LENGTH`, or if a write is
+    /// armed: then a crash may tear them. After a failure no write is armed.
     pub fn write(&mut self, at: usize, bytes: &[u8]) -> Result<(), DiskError>
         requires whole { IsWhole self.old }
         requires place { at ≤ self.old.len }
@@ -111,6 +115,8 @@ impl State {
         Ok(())
     }
 
+    /// Syncs the file: a crash cannot lose or tear what was written before. Fails once, with no effect on the bytes, if
+    /// a sync is armed.
     pub fn sync(&mut self) -> Result<(), DiskError>
         ensures answer { result ≡ sync_answer self.old }
         ensures after { self.new ≡ after_sync self.old }
@@ -127,6 +133,7 @@ impl State {
         Ok(())
     }
 
+    /// Arms the next call of this kind to fail.
     pub fn arm(&mut self, call: DiskCall)
         ensures { self.new ≡ armed call self.old }
     {
@@ -137,6 +144,8 @@ impl State {
         }
     }
 
+    /// Crashes the disk. `None`: the file becomes what it was at the last sync. `Some`: it also extends to `reach`, and
+    /// each byte written since is replaced by the torn byte at its offset modulo 16.
     pub fn crash(&mut self, torn: Option<[u8; 16]>)
         requires { IsWhole self.old }
         ensures { self.new ≡ after_crash torn self.old }

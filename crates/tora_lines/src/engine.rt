@@ -23,6 +23,7 @@ pub const MOST_READS: u64 = 0x1_0000_0000;
 /// The size in bytes of the buffer for one read.
 pub const CHUNK: usize = 0x1_0000;
 
+/// Writes a whole text. Any error of the writer becomes `Write`.
 fn put<W: Output>(writer: &mut W, text: &[u8]) -> Result<(), ReplayError>
     ensures ok { OnOk result (Appends (W.contents writer.old) (W.contents writer.new) text.now) }
     ensures err { IfErr result (λ e. e ≡ ReplayError.Write) }

@@ -55,6 +55,7 @@ pub fn cut(separator: u8, text: &[u8]) -> Option<(&[u8], &[u8])>
     Some((&text[..at], &text[at + 1..]))
 }
 
+/// The number that decimal digits spell, 0 for no digits; `None` if it is 2^64 or more.
 fn value(text: &[u8]) -> Option<u64>
     requires { list_all is_ascii_digit text.now ≡ true }
     ensures { result ≡ (if nat_lt (value_from 0 text.now) (2 ^ 64) then Some (value_from 0 text.now) else None) }
@@ -67,6 +68,7 @@ fn value(text: &[u8]) -> Option<u64>
     Some(value)
 }
 
+/// Whether each byte of the text is a decimal digit; also `true` for an empty text.
 fn is_all_digits(text: &[u8]) -> bool
     ensures { result ≡ list_all is_ascii_digit text.now }
 {

@@ -54,6 +54,7 @@ impl<W: Wire> FuseWire<W> {
         wire
     }
 
+    /// Adds 1 to the count of failures, at most 2^64 - 1.
     fn count(&mut self)
         ensures { self.new ≡ record self.old { failures = min (self.old.failures + 1) (2 ^ 64 - 1) } }
     {

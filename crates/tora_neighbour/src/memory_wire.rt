@@ -32,6 +32,7 @@ impl Default for Sent {
     }
 }
 
+/// A copy of a datagram of at most `LONGEST` bytes.
 fn kept(bytes: &[u8]) -> Sent
     requires { length bytes.now ≤ LONGEST }
     ensures { sent_of result ≡ bytes.now }

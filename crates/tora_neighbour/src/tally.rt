@@ -102,6 +102,7 @@ impl Tally {
         }
     }
 
+    /// Adds 1 to the count of frames with this verdict, at most 2^64 - 1.
     fn add_verdict(&mut self, verdict: Verdict)
         ensures { self.new ≡ with_verdict verdict self.old }
     {
@@ -115,6 +116,7 @@ impl Tally {
         }
     }
 
+    /// Adds 1 to the count of datagrams with this error, at most 2^64 - 1. All errors of a packet have one count.
     fn add_fault(&mut self, error: FrameError)
         ensures { self.new ≡ with_fault error self.old }
     {

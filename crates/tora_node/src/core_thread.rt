@@ -35,6 +35,7 @@ pub struct CoreEnd<O> {
     pub fault: Option<NodeError>,
 }
 
+/// Writes a text and flushes the writer. The error is `Output` if one of the two fails.
 fn write<W: Write>(writer: &mut W, text: &[u8]) -> Result<(), NodeError>
     ensures ok { OnOk result (Appends (W.contents writer.old) (W.contents writer.new) text.now) }
     ensures err { IfErr result (λ e. e ≡ NodeError.Output) }
@@ -208,6 +209,7 @@ fn reply<W: Write>(
     }
 }
 
+/// Whether the content of an item is `Quit`.
 fn is_quit(what: &What) -> bool
     ensures quit { result ≡ true → what.now ≡ What.Quit }
     ensures other { result ≡ false → what.now ≢ What.Quit }

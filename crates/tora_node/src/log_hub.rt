@@ -18,6 +18,8 @@ pub struct LogHub<L, H> {
 }
 
 impl<L: Log, H: Hub> LogHub<L, H> {
+    /// Logs `link K up OWN PEER` for a session that begins, with its two numbers, or `link K down N` for one that
+    /// ended, with the number of the reason. For any other content of an item nothing happens.
     fn tell(&self, what: &What) {
         match what {
             What::Up(life) => {
@@ -32,6 +34,7 @@ impl<L: Log, H: Hub> LogHub<L, H> {
         }
     }
 
+    /// Logs `link K WHAT` as information, where K is the neighbour.
     fn note<D: Display + Drop>(&self, what: D) {
         let peer = self.peer;
         info!(&self.log; "link {peer} {what}");

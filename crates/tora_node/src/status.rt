@@ -39,6 +39,7 @@ fn entry_height(core: &Core, d: Id, k: Id) -> Entry
     or_null(core.entry(d, k))
 }
 
+/// The word of JSON for a flag: `true` or `false`.
 fn truth(flag: bool) -> &'static str
     ensures { result.now ≡ truth_json flag }
 {

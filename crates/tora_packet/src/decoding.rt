@@ -12,6 +12,7 @@ ghost use Rattle.tora_packet.specs.declared.Packet.TheVariants.{Upd};
 use crate::{CLEAR_LENGTH, Clear, Packet, PacketError, QUERY_LENGTH, Query, UPDATE_LENGTH, Update};
 use tora_height::Height;
 
+/// The number in the four bytes from the index `at` on, most significant byte first.
 #[tactic(auto, unfolding(crate::specs::PacketGrammar::u32_at))]
 fn u32_at(bytes: &[u8], at: usize) -> u32
     requires { at + 4 ≤ length bytes.now }
@@ -21,6 +22,7 @@ fn u32_at(bytes: &[u8], at: usize) -> u32
     u32::from_be_bytes([four[0], four[1], four[2], four[3]])
 }
 
+/// The number in the eight bytes from the index `at` on, most significant byte first.
 #[tactic(auto, unfolding(crate::specs::PacketGrammar::u64_at))]
 fn u64_at(bytes: &[u8], at: usize) -> u64
     requires { at + 8 ≤ length bytes.now }
@@ -32,6 +34,7 @@ fn u64_at(bytes: &[u8], at: usize) -> u64
     ])
 }
 
+/// Whether the reserved bytes of a packet are 0: those at 2 and 3, and in an update also those from 21 to 23.
 fn is_reserved_zero(bytes: &[u8]) -> bool
     requires short { 4 ≤ length bytes.now }
     requires update { kind_of bytes.now ≡ 2 → UPDATE_LENGTH ≤ length bytes.now }
@@ -43,6 +46,8 @@ fn is_reserved_zero(bytes: &[u8]) -> bool
     bytes[1] != 2 || (bytes[21] == 0 && bytes[22] == 0 && bytes[23] == 0)
 }
 
+/// The update in 32 bytes; its version, kind and reserved bytes are not checked. The error is `Height` if its height is
+/// invalid, or if `Update::new` refuses it.
 #[inline(always)]
 #[tactic(auto, unfolding(crate::specs::PacketParts::is_bad_update))]
 fn update_at(bytes: &[u8]) -> Result<Packet, PacketError>
@@ -62,6 +67,7 @@ fn update_at(bytes: &[u8]) -> Result<Packet, PacketError>
     }
 }
 
+/// Decodes a packet as `decode` does, with the same errors.
 #[inline(always)]
 fn packet_at(bytes: &[u8]) -> Result<Packet, PacketError>
     ensures exact { MatchOption (packet_fault bytes.now) (result ≡ Ok (packet_at bytes.now)) (λ e. result ≡ Err e) }

@@ -9,6 +9,7 @@ use crate::{CLEAR_LENGTH, Clear, LONGEST_PACKET, Packet, UPDATE_LENGTH, Update};
 use arrayvec::ArrayVec;
 use tora_height::{Height, Id};
 
+/// Appends bytes. There must be room for them.
 fn put<const N: usize>(out: &mut ArrayVec<u8, N>, bytes: &[u8])
     requires { array_vec_len out.old + length bytes.now ≤ N }
     ensures items { out.new.items ≡ out.old.items ++ bytes.now }
@@ -29,6 +30,7 @@ fn begin<const N: usize>(kind: u8, destination: Id, out: &mut ArrayVec<u8, N>)
     put(out, &destination.to_be_bytes());
 }
 
+/// Appends the four bytes of a height's delta. There must be room for them.
 fn put_delta<const N: usize>(height: &Height, out: &mut ArrayVec<u8, N>)
     requires { array_vec_len out.old + 4 ≤ N }
     ensures items { out.new.items ≡ out.old.items ++ to_be_bytes w32 (cast_unsigned w32 height.now.delta) }
@@ -37,6 +39,7 @@ fn put_delta<const N: usize>(height: &Height, out: &mut ArrayVec<u8, N>)
     put(out, &height.delta().to_be_bytes());
 }
 
+/// Appends the 32 bytes of an update. There must be room for them.
 fn append_update<const N: usize>(update: &Update, out: &mut ArrayVec<u8, N>)
     requires { array_vec_len out.old + UPDATE_LENGTH ≤ N }
     ensures { out.new.items ≡ out.old.items ++ packet_spelling (Upd update.now) }
@@ -50,6 +53,7 @@ fn append_update<const N: usize>(update: &Update, out: &mut ArrayVec<u8, N>)
     put(out, &height.id().to_be_bytes());
 }
 
+/// Appends the 20 bytes of a clear. There must be room for them.
 fn append_clear<const N: usize>(clear: &Clear, out: &mut ArrayVec<u8, N>)
     requires { array_vec_len out.old + CLEAR_LENGTH ≤ N }
     ensures { out.new.items ≡ out.old.items ++ packet_spelling (Clr clear.now) }

@@ -36,6 +36,7 @@ impl Tally {
         }
     }
 
+    /// Adds 1 to the count of frames with this verdict, at most 2^64 - 1.
     fn count_verdict(&mut self, verdict: Verdict)
         ensures { self.new ≡ counted (Intake.Seen verdict) self.old }
     {

@@ -147,6 +147,8 @@ pub fn counted_copies<S: Simulator>(
     Ok(copies_behind(moment, direction, before))
 }
 
+/// How many copies arrive in the pass in which they are sent, for the delay of one copy: 1 for `Some(0)`, 0 for a
+/// longer delay, and 0 for `None`, no copy.
 fn is_now(delay: Option<u64>) -> u64
     ensures value { result ≡ is_now delay }
     ensures bound { result < 2 }

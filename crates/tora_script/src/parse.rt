@@ -43,6 +43,7 @@ pub fn pair(text: &[u8]) -> Option<(Id, Id)>
     Some((n, k))
 }
 
+/// Reads a number of a session, from 1 to 2^62; `None` for any other text.
 #[tactic(auto, unfolding(crate::specs::SimulationLines::life_number_of))]
 fn life_number(text: &[u8]) -> Option<u64>
     ensures { result ≡ life_number_of text.now }
@@ -79,6 +80,8 @@ fn lane(text: &[u8]) -> Option<(Id, Id, Life)>
     Some((n, k, life))
 }
 
+/// Reads the word CALL of `arm N CALL`: `send-lost`, `send-gone`, `receive`, `read`, `write` or `sync`; `None` for any
+/// other text.
 #[tactic(auto, unfolding(crate::specs::SimulationLines::call_of))]
 fn call(text: &[u8]) -> Option<Call>
     ensures { result ≡ call_of text.now }
@@ -124,6 +127,7 @@ fn torn(text: &[u8]) -> Option<Option<[u8; 16]>>
     }
 }
 
+/// Reads `N CALL`, the rest of a line after `arm `; `None` for any other text.
 #[tactic(auto, unfolding(crate::specs::SimulationLines::arm_of))]
 fn arm(text: &[u8]) -> Option<Event>
     ensures { result ≡ arm_of text.now }
@@ -134,6 +138,7 @@ fn arm(text: &[u8]) -> Option<Event>
     Some(Event::Arm(n, call))
 }
 
+/// Reads `N T`, the rest of a line after `restart `; `None` for any other text.
 #[tactic(auto, unfolding(crate::specs::SimulationLines::restart_of))]
 fn restart(text: &[u8]) -> Option<Event>
     ensures { result ≡ restart_of text.now }
@@ -193,6 +198,7 @@ fn node_event(text: &[u8]) -> Option<Event>
     }
 }
 
+/// Reads R, the rest of a line after `rounds `, a number from 0 to `MOST_ROUNDS`; `None` for any other text.
 #[tactic(auto, unfolding(crate::specs::SimulationLines::rounds_of))]
 fn rounds(text: &[u8]) -> Option<SimulationLine>
     ensures { result ≡ rounds_of text.now }
@@ -304,6 +310,7 @@ pub fn erasure_word(text: &[u8]) -> Option<Erasure>
     }
 }
 
+/// Reads `N WORD`, the rest of a line after `erasure `; `None` for any other text.
 #[tactic(auto, unfolding(crate::specs::SimulationLines::erases_of))]
 fn erases(text: &[u8]) -> Option<Mark>
     ensures { result ≡ erases_of text.now }

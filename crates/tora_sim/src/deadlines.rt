@@ -63,6 +63,7 @@ pub fn no_deadlines(alloc: Global, count: usize) -> Result<Deadlines, SimError>
     Ok(Deadlines { ends, blocks, tops })
 }
 
+/// A list of `count` zeros. The error is `Memory`.
 fn zeros(alloc: Global, count: usize) -> Result<Vec<u32>, SimError>
     ensures { MatchResult result (λ zeros. zeros.items ≡ replicate count 0) (λ e. e ≡ SimError.Memory) }
 {
@@ -217,6 +218,7 @@ pub fn keep_tops(deadlines: &mut Deadlines, now: u64)
     keep_firsts(&mut deadlines.tops, &deadlines.blocks, now);
 }
 
+/// Renews each deadline of `tops` that has come at the tick `now`: it becomes the earliest of its blocks' deadlines.
 fn keep_firsts(tops: &mut Vec<u32>, blocks: &Vec<u32>, now: u64)
     requires { AreBlocks tops.old.items blocks.now.items }
     ensures { AreBlocks tops.new.items blocks.now.items }

@@ -32,12 +32,14 @@ fn some_link_stands_again(links: &[(Id, Id)]) -> bool
     false
 }
 
+/// Whether the link `x` is among the links, either way round.
 fn has_link(x: (Id, Id), links: &[(Id, Id)]) -> bool
     ensures { result ≡ has_link (link_in x) (links_in links.now) }
 {
     links.iter().any(|link| is_same_link(x, *link))
 }
 
+/// Whether two links have the same two nodes, either way round.
 fn is_same_link(x: (Id, Id), y: (Id, Id)) -> bool
     ensures { result ≡ is_same_link (link_in x) (link_in y) }
 {

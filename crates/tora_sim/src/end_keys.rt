@@ -77,6 +77,7 @@ fn stands_at(keys: &[(Id, Id)], at: usize, n: Id, k: Id) -> Option<usize>
     }
 }
 
+/// The index of the end of node `n` towards `k`, found by a binary search; `None` if there is no such end.
 fn search(keys: &[(Id, Id)], n: Id, k: Id) -> Option<usize>
     requires { AreRisingKeys keys.now }
     ensures first { IfSome result (λ i. slice_get keys.now i ≡ Some (n, k)) }

@@ -313,6 +313,7 @@ fn near(nodes: &[NodeSlot], place: usize, n: Id) -> Option<usize>
     }
 }
 
+/// The index of node `n`, found by a binary search; `None` if there is no such node.
 fn search(nodes: &[NodeSlot], n: Id) -> Option<usize>
     requires { AreRising nodes.now }
     ensures first { IfSome result (λ i. IsFirst (is_of n) nodes.now i) }

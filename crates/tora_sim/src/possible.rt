@@ -37,6 +37,7 @@ impl Sim {
     }
 }
 
+/// As `Sim::may_happen`, on the parts of a simulator.
 #[inline(always)]
 fn may_be(
     nodes: &Vec<NodeSlot>,
@@ -63,6 +64,7 @@ fn may_be(
     }
 }
 
+/// `false` if node `n` is at the index `place` and no item waits for its core; otherwise `true`.
 #[inline(always)]
 fn may_turn(nodes: &[NodeSlot], place: usize, n: Id) -> bool
     ensures { result ≡ node_may n (slice_get nodes.now place) }
@@ -83,6 +85,7 @@ fn stands_there(_links: &[LinkSlot], keys: &[(Id, Id)], place: usize, n: Id, k: 
     is_key(keys[place], n, k)
 }
 
+/// `false` if the end of node `n` towards `k` is at the index `place` and is not closed; otherwise `true`.
 #[inline(always)]
 fn may_open(links: &[LinkSlot], keys: &[(Id, Id)], place: usize, n: Id, k: Id) -> bool
     requires { keys.now ≡ map key_of links.now }
@@ -94,6 +97,8 @@ fn may_open(links: &[LinkSlot], keys: &[(Id, Id)], place: usize, n: Id, k: Id) -
     }
 }
 
+/// `false` if the end of node `n` towards `k` is at the index `place` and no outbound message waits for it; otherwise
+/// `true`.
 #[inline(always)]
 fn may_pull(links: &[LinkSlot], keys: &[(Id, Id)], place: usize, n: Id, k: Id) -> bool
     requires { keys.now ≡ map key_of links.now }
@@ -105,6 +110,8 @@ fn may_pull(links: &[LinkSlot], keys: &[(Id, Id)], place: usize, n: Id, k: Id) -
     }
 }
 
+/// `false` if the end of node `n` towards `k` is at the index `place` and has no frame due at the tick `clock`;
+/// otherwise `true`.
 #[inline(always)]
 fn may_transmit(
     links: &[LinkSlot],
@@ -124,6 +131,7 @@ fn may_transmit(
     }
 }
 
+/// `false` if the end of node `n` towards `k` is at the index `place` and has no event; otherwise `true`.
 #[inline(always)]
 fn may_pump(links: &[LinkSlot], keys: &[(Id, Id)], place: usize, n: Id, k: Id) -> bool
     requires { keys.now ≡ map key_of links.now }

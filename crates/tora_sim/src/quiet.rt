@@ -41,6 +41,7 @@ impl Sim {
     }
 }
 
+/// Whether no item waits for any core.
 fn are_idle(nodes: &Vec<NodeSlot>) -> bool
     ensures { result ≡ list_all is_idle nodes.now.items }
 {

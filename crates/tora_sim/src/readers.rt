@@ -269,6 +269,7 @@ fn put_ends(ends: &mut Vec<(Id, Id)>, n: Id, neighbours: &[Id]) -> Result<(), Al
     Ok(())
 }
 
+/// The sender and the receiver of datagram `i`, counted from 1; `None` if there is no such datagram.
 #[inline(always)]
 fn way_of_numbered(datagrams: &Datagrams, i: u64) -> Option<(Id, Id)>
     ensures { result ≡ option_map way_of (numbered i datagrams.now.items) }

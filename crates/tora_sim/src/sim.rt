@@ -27,6 +27,7 @@ pub(crate) struct Buffers {
 }
 
 impl Buffers {
+    /// Empty buffers.
     pub(crate) fn new() -> Buffers {
         Buffers {
             packets: Packets::new(),

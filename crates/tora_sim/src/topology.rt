@@ -317,6 +317,7 @@ fn some_has_many_neighbours(limits: Limits, nodes: &[Id], links: &[(Id, Id)]) ->
     nodes.iter().any(|n| has_many_neighbours(limits.most_neighbours(), *n, links))
 }
 
+/// Whether some link joins a node to itself.
 fn has_own_link(links: &[(Id, Id)]) -> bool
     ensures { result ≡ has_own_link (links_in links.now) }
 {

@@ -26,6 +26,7 @@ enum Lane {
 }
 
 impl Lane {
+    /// The name that the printed line begins with.
     fn name(self) -> &'static str {
         match self {
             Lane::IntoCore => "lane-core",

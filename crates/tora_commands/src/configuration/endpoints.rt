@@ -87,6 +87,8 @@ fn endpoint_beside(
     endpoint_of(alloc, before.len() + 1, value)
 }
 
+/// Reads the addresses and the key file of each link, in order. The error is `Missing` or `NoList` at the list of
+/// links, the first error of a link, or `Memory`.
 #[tactic(auto, unfolding(crate::specs::ConfigEndpoints::endpoints_in))]
 fn endpoints_of(alloc: Global, table: &Table) -> Result<Vec<LinkEndpoint>, ConfigError>
     ensures { Gives (λ endpoints. map said_endpoint endpoints.items) result (endpoints_in (table_view table.now)) }

@@ -34,6 +34,8 @@ fn is_key(key: &str) -> bool
     matches!(key, "node" | "dests" | "life_dir" | "erasure" | "link")
 }
 
+/// Checks that each key of the table is a key of a configuration. The error is `UnknownKey` with the first other key,
+/// or `Memory`.
 #[tactic(auto, using(crate::proofs::ConfigKeys::keys_in_view))]
 fn check_keys(alloc: Global, table: &Table) -> Result<(), ConfigError>
     ensures { Gives (λ u. u) result (only_known keys_of_configuration unknown_key (keys_in (table_view table.now))) }
@@ -54,6 +56,8 @@ fn is_link_key(key: &str) -> bool
     matches!(key, "peer" | "local" | "remote" | "key_file")
 }
 
+/// Checks that each key of the table is a key of a link. The error is `UnknownLinkKey` with the number `n` of the link
+/// and the first other key, or `Memory`.
 #[tactic(auto, using(crate::proofs::ConfigKeys::keys_in_view))]
 fn check_link_keys(alloc: Global, n: usize, table: &Table) -> Result<(), ConfigError>
     ensures { Gives (λ u. u) result (only_known keys_of_link (unknown_link_key n) (keys_in (table_view table.now))) }
@@ -86,6 +90,8 @@ fn dest_of(before: &[Id], value: &Value) -> Result<Id, ConfigError>
     }
 }
 
+/// Reads the destinations, in order; there may be none. The error is `Missing` or `NoList` at the list, the first error
+/// of a destination, or `Memory`.
 #[tactic(auto, unfolding(crate::specs::ConfigReading::dests_in))]
 fn dests_in(alloc: Global, table: &Table) -> Result<Vec<Id>, ConfigError>
     ensures above { IfOk result (λ dests. All (λ d. 0 < d) dests.items) }
@@ -123,12 +129,14 @@ fn link_of(alloc: Global, n: usize, value: &Value) -> Result<LinkConfig, ConfigE
     })
 }
 
+/// Whether one of the links has this peer.
 fn has_peer(links: &[LinkConfig], peer: Id) -> bool
     ensures { result ≡ has_peer peer links.now }
 {
     links.iter().any(|link| link.peer == peer)
 }
 
+/// Whether one of the links has this local port.
 fn has_local(links: &[LinkConfig], local: u16) -> bool
     ensures { result ≡ has_local local links.now }
 {
@@ -205,6 +213,7 @@ fn links_in(alloc: Global, table: &Table, node: Id) -> Result<Vec<LinkConfig>, C
     Ok(links)
 }
 
+/// The peers of the links, in order. The error says that memory ran out.
 fn peers_of(alloc: Global, links: &[LinkConfig]) -> Result<Vec<Id>, AllocError>
     ensures { IfOk result (λ peers. peers.items ≡ peers_of links.now) }
 {

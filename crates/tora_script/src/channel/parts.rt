@@ -31,6 +31,7 @@ fn digit(text: &[u8], place: usize) -> u32
     u32::from(text.get(place).copied().unwrap_or(48).saturating_sub(48))
 }
 
+/// Whether each byte of the text is a decimal digit; also `true` for an empty text.
 fn is_all_digits(text: &[u8]) -> bool
     ensures { result ≡ list_all is_ascii_digit text.now }
 {

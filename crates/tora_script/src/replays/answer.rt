@@ -17,6 +17,8 @@ fn send_digits(out: &mut String, digits: &str) -> Result<(), AllocError>
     writeln!(out, "send {digits}")
 }
 
+/// Appends a line `send HEX` to a text, where HEX is the bytes of the packet in lower case. The error says that memory
+/// ran out.
 fn send(out: &mut String, packet: &Packet) -> Result<(), AllocError>
     ensures { OnOk result (string_bytes out.new ≡ string_bytes out.old ++ send_line packet.now) }
 {
@@ -61,6 +63,7 @@ fn step(
     }
 }
 
+/// Appends the table of the core to a text. The error says that memory ran out.
 fn show(core: &Core, out: &mut String) -> Result<(), AllocError>
     ensures { OnOk result (string_bytes out.new ≡ string_bytes out.old ++ show_text core.now) }
 {

@@ -25,6 +25,7 @@ fn reading(digits: &[u8], room: &mut [u8]) -> Option<Result<Packet, PacketError>
     }
 }
 
+/// As `reading`, for a word of at most `2 * LONGEST_PACKET` digits.
 fn short_reading(digits: &[u8]) -> Option<Result<Packet, PacketError>>
     requires some { 0 < length digits.now }
     requires plain { is_dash digits.now ≡ false }
@@ -34,6 +35,7 @@ fn short_reading(digits: &[u8]) -> Option<Result<Packet, PacketError>>
     reading(digits, &mut [0; LONGEST_PACKET])
 }
 
+/// As `reading`, for a word of up to 4,096 digits.
 fn long_reading(digits: &[u8]) -> Option<Result<Packet, PacketError>>
     requires some { 0 < length digits.now }
     requires plain { is_dash digits.now ≡ false }

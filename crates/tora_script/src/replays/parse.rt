@@ -16,6 +16,7 @@ use tora_height::Id;
 use tora_lines::words::LineError;
 use tora_lines::{after, behind, words};
 
+/// The parts of the text before and after the first blank. The error is `Fault` if there is none.
 fn word(text: &[u8]) -> Result<(&[u8], &[u8]), LineError>
     ensures { Gives (λ parts. (parts.0.now, parts.1.now)) result (cut 32 text.now) }
 {
@@ -25,6 +26,7 @@ fn word(text: &[u8]) -> Result<(&[u8], &[u8]), LineError>
     }
 }
 
+/// Reads a node number, from 1 to 2^32 - 1. The error is `Fault` for any other text.
 fn id(text: &[u8]) -> Result<Id, LineError>
     ensures value { Gives (λ n. n) result (id_of text.now) }
     ensures positive { IfOk result (λ n. 0 < n) }
@@ -64,6 +66,7 @@ fn from(text: &[u8]) -> Option<Order>
     Some(Order::From(neighbour, read))
 }
 
+/// Whether the text is `show`.
 #[tactic(auto, unfolding(crate::specs::ReplayLines::is_show))]
 fn is_show(text: &[u8]) -> bool
     ensures { result ≡ is_show text.now }
@@ -71,6 +74,7 @@ fn is_show(text: &[u8]) -> bool
     text.len() == 4 && after(b"show", text).is_some()
 }
 
+/// Reads the order of a line: `from K HEX`, `up K`, `down K`, `need D` or `show`; `None` for any other text.
 #[tactic(auto, unfolding(crate::specs::ReplayLines::order_of, crate::specs::ReplayLines::with_id))]
 fn order(text: &[u8]) -> Option<Order>
     requires { length text.now ≤ LONGEST_LINE }

@@ -64,6 +64,8 @@ impl Model for Replaying {
 }
 
 impl Replaying {
+    /// Carries out a line after the first, and writes its output to an empty text. The error is `Fault`, with no
+    /// change, for a text that is no such line, and `Memory` if memory ran out.
     fn next(&mut self, line: &[u8], text: &mut String) -> Result<(), LineError>
         requires short { length line.now ≤ LONGEST_LINE }
         requires empty { string_bytes text.old ≡ [] }

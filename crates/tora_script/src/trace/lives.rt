@@ -53,6 +53,8 @@ pub fn note_lives(
     }
 }
 
+/// Appends the record `T up N K X Y` to a text, where X and Y are the numbers of the session; nothing for `None`. The
+/// error says that memory ran out.
 #[tactic(auto, unfolding(crate::specs::TraceRecords::up_record))]
 fn write_up(out: &mut String, now: u64, n: Id, k: Id, life: Option<Life>) -> Result<(), AllocError>
     ensures { OnOk result (string_bytes out.new ≡ string_bytes out.old ++ up_of now n k life) }
@@ -66,6 +68,8 @@ fn write_up(out: &mut String, now: u64, n: Id, k: Id, life: Option<Life>) -> Res
     }
 }
 
+/// Appends the record `T down N K X Y` to a text, where X and Y are the numbers of the session; nothing for `None`. The
+/// error says that memory ran out.
 #[tactic(auto, unfolding(crate::specs::TraceRecords::down_record))]
 fn write_down(
     out: &mut String,

@@ -48,6 +48,7 @@ impl Names {
     }
 }
 
+/// Whether `a` is less than `b`.
 pub fn is_less(a: Id, b: Id) -> bool
     ensures { result ≡ nat_lt a b }
 {

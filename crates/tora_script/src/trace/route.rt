@@ -30,6 +30,7 @@ fn known_height(height: Option<Entry>) -> Entry
     }
 }
 
+/// Whether two heights are equal, or both are NULL.
 fn is_same_height(a: Entry, b: Entry) -> bool
     ensures { result ≡ is_same_height a b }
 {
@@ -45,6 +46,7 @@ fn is_same_height(a: Entry, b: Entry) -> bool
     }
 }
 
+/// Whether two next hops are the same node, or both are none.
 fn is_same_hop(a: Option<Id>, b: Option<Id>) -> bool
     ensures { result ≡ is_same_hop a b }
 {

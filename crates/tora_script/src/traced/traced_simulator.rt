@@ -40,6 +40,7 @@ struct Before {
     life: Option<Life>,
 }
 
+/// The session that the content of an item reports as up; `None` for any other content.
 fn life_of_what(what: &What) -> Option<Life>
     ensures { result ≡ life_of_what what.now }
 {

@@ -74,6 +74,8 @@ const VECTORS: &[Row] = &[
     ),
 ];
 
+/// Checks for each row that the HMAC of the message under the key begins with the wanted bytes, and that the tag of the
+/// message is the first 16 of them.
 fn each_has_its_hmac(rt: &impl Abort, rows: &[Row]) {
     for (row, (key, message, wanted)) in rows.iter().enumerate() {
         let whole = hmac(key, message);

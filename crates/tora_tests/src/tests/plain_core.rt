@@ -40,6 +40,7 @@ pub fn told_by(packet: &Packet) -> Told {
     }
 }
 
+/// The parts of the height in an update.
 fn parts_of(update: &Update) -> Parts {
     let height = update.height();
     let level = (height.tau(), height.oid(), height.r());
@@ -67,6 +68,7 @@ impl Plain {
         Ok(Plain { links, views })
     }
 
+    /// Whether the table has the destination.
     fn knows(&self, destination: Id) -> bool {
         for view in self.views.iter() {
             if view.destination == destination {
@@ -86,6 +88,7 @@ impl Plain {
         None
     }
 
+    /// Sets whether the link to neighbour `k` is up. Nothing happens if there is no such neighbour.
     fn set_up(&mut self, k: Id, up: bool) {
         for (neighbour, is_up) in self.links.iter_mut() {
             if *neighbour == k {
@@ -94,6 +97,8 @@ impl Plain {
         }
     }
 
+    /// Why the input is refused: `UnknownDestination` for a need, and otherwise the first of `UnknownNeighbour`,
+    /// `NotUp`, `AlreadyUp` and `WrongSender` that applies; `None` if it is not refused.
     fn refusal(&self, input: &Input) -> Option<StepError> {
         let (k, wants_up) = match input {
             Input::Need(d) if self.knows(*d) => return None,

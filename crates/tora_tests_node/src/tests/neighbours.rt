@@ -36,6 +36,7 @@ impl Clock for Leaping {
     }
 }
 
+/// A clock at tick 0 that advances by `step` ticks each time it is read.
 fn clock_of(step: u64) -> Leaping {
     Leaping { now: 0, step }
 }
@@ -67,6 +68,7 @@ fn hello(alloc: Global, life: u64, heard: u64) -> Result<Vec<u8>, AllocError> {
     frame_bytes(alloc, 1, 2, life, heard, &[])
 }
 
+/// A new end of node `me` to node `peer`, closed, with the standard times. The test fails if memory runs out.
 fn end_of(rt: &impl Abort, alloc: Global, me: Id, peer: Id) -> LinkEnd
     requires me { 0 < me }
     requires peer { 0 < peer }
@@ -76,6 +78,7 @@ fn end_of(rt: &impl Abort, alloc: Global, me: Id, peer: Id) -> LinkEnd
     LinkEnd::new(alloc, me, peer, Times::STANDARD).expect(rt, "memory")
 }
 
+/// Opens the life file of node 1 and peer 2 on a disk. The test fails if it does not open.
 fn file_of(rt: &impl Abort, disk: MemDisk) -> LifeFile<MemDisk> {
     match LifeFile::open(disk, 1, 2) {
         Ok(file) => file,

@@ -203,6 +203,8 @@ fn has_route(sim: &Sim, n: Id, delta: i32, hop: Option<Id>) -> bool {
     sim.height(n, 4) == Some(Height::new(0, 0, 0, delta, n).ok()) && sim.next_hop(n, 4) == hop
 }
 
+/// Whether nodes 1 to 4 have the route along the row to node 4: the deltas 3, 2, 1 and 0, and the next hops 2, 3, 4 and
+/// none.
 fn has_routes(sim: &Sim) -> bool {
     has_route(sim, 1, 3, Some(2))
         && has_route(sim, 2, 2, Some(3))

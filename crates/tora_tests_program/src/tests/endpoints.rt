@@ -59,6 +59,7 @@ fn said(rt: &impl Abort, alloc: Global, endpoint: &LinkEndpoint) -> String {
     words(rt, alloc, peer, local, remote, key)
 }
 
+/// The text `PEER LOCAL REMOTE KEY` with these values. The test fails if memory runs out.
 fn words(
     rt: &impl Abort,
     alloc: Global,
@@ -82,10 +83,12 @@ fn read(rt: &impl Abort, alloc: Global, text: &str) -> String {
     }
 }
 
+/// The text of an error. The test fails if memory runs out.
 fn fault(rt: &impl Abort, alloc: Global, error: &ConfigError) -> String {
     format!(in alloc; "{error}").expect(rt, "memory")
 }
 
+/// The text of a configuration with one link, to peer 2, with the values of a row. The test fails if memory runs out.
 fn text_of(rt: &impl Abort, alloc: Global, row: &Row) -> String {
     let (local, remote, more, _) = *row;
     format!(in alloc; "[[link]]\npeer = 2\nlocal = {local}\nremote = {remote}\n{more}\n").expect(

@@ -86,6 +86,7 @@ pub struct ArrayWriter {
 }
 
 impl ArrayWriter {
+    /// An empty writer that fails as `fails` says; `Write(0)` never fails.
     pub fn new(fails: Fails) -> ArrayWriter {
         ArrayWriter {
             bytes: [0; ROOM],

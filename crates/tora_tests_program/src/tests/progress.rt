@@ -28,6 +28,7 @@ impl Terminal {
         }
     }
 
+    /// Appends a value and `end` to the text. It fails if the array of the text is full, or the text is in use.
     fn tell<D: Display + Drop>(&self, value: D, end: &str) -> io::Result<()> {
         match self.told.try_borrow_mut() {
             Ok(mut told) => write!(told, "{value}{end}"),

@@ -16,6 +16,7 @@ struct Random {
 }
 
 impl Random {
+    /// The next number of 64 bits.
     fn next(&mut self) -> u64 {
         let mut x = self.state;
         x ^= x.wrapping_shl(13);

@@ -19,6 +19,7 @@ const LOCKED_FOLDER: &str = "tora_life_locked_test";
 
 const LOCKED_PATH: &str = "tora_life_locked_test/life-2";
 
+/// Opens the life file at `PATH` for node 1 and peer 2. An error ends the test.
 fn opened<R: Files<File = File>>(rt: &R) -> Result<LifeFile<FileDisk>, Fail> {
     Ok(LifeFile::open(FileDisk::open(rt, PATH)?, 1, 2)?)
 }

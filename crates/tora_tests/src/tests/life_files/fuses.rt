@@ -16,6 +16,7 @@ const FUSED: &[(u64, Option<u64>)] = &[
     (6, Some(16)),
 ];
 
+/// A new disk in memory of which `k` calls succeed; then one fails, or all following ones, by `mode`.
 fn fused(k: u64, mode: FuseMode) -> FuseDisk<MemDisk> {
     FuseDisk::new(MemDisk::new(), k, mode)
 }

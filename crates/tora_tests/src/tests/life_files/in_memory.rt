@@ -8,6 +8,8 @@ use super::steps::{file_in, not_opened};
 use std::test::Fail;
 use tora_life::{LifeError, LifeFile, MemDisk, OpenFault};
 
+/// Opens a life file. Its contract states that the result and the state of the disk afterwards depend only on the owner
+/// and the state of the disk before.
 fn open_in_memory(
     disk: MemDisk,
     me: u32,
@@ -25,6 +27,8 @@ fn open_in_memory(
     LifeFile::open(disk, me, peer)
 }
 
+/// Draws a number. Its contract states that the result, the numbers and the state of the disk afterwards depend only on
+/// the numbers and the state of the disk before.
 fn draw_in_memory(file: &mut LifeFile<MemDisk>) -> Result<u64, LifeError>
     ensures answer { result ≡ draw_answer file.old.numbers file.old.disk.state }
     ensures owner { file.new.owner ≡ file.old.owner }

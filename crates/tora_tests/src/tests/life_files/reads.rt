@@ -40,6 +40,7 @@ impl ReadFrom for Dripping {
     }
 }
 
+/// A reader of the bytes 1 to 5 that fails from its call `fails_from` on, counted from 1.
 fn five_bytes(fails_from: u64) -> Dripping {
     Dripping {
         bytes: [1, 2, 3, 4, 5],

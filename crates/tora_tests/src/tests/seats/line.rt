@@ -22,6 +22,7 @@ struct Node {
 }
 
 impl Node {
+    /// Node `me` with these neighbours, no link up, and the destination 4. An error ends the test.
     fn new(rt: &impl Abort, alloc: Global, me: Id, neighbours: &[Id]) -> Result<Node, Fail> {
         let core = core_of(rt, alloc, me, neighbours, &[4])?;
         Ok(Node {

@@ -10,6 +10,7 @@ use tora_sim::{SimError, Topology};
 /// A node's choice and the result, and then how nodes 1 to 3 treat erased levels.
 type Row = (Id, Erasure, Result<(), SimError>, [Erasure; 3]);
 
+/// Makes the choice of each row in turn, and checks the result and then how nodes 1 to 3 treat erased levels.
 fn chooses(rt: &impl Abort, topology: &mut Topology, rows: &[Row]) {
     for row in rows {
         let (n, erasure, answer, made) = row;
