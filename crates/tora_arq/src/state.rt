@@ -107,7 +107,7 @@ impl State {
         }
     }
 
-    /// As `LinkEnd::resume`.
+    /// Writes the fields of an idle end, which calls of `Steady` may have changed, back into it (`LinkEnd::resume`).
     pub fn resume(&mut self, steady: &Steady)
         ensures state { state_in self.new ≡ resumed steady.now (state_in self.old) }
         ensures rooms { rooms_in self.new ≡ rooms_in self.old }

@@ -139,7 +139,7 @@ Exit statuses:
   4  a life file cannot be opened or draws no number
   5  out of memory";
 
-/// `--erasure` of `replay`, `sim` and `drive`.
+/// `--erasure` of `replay`, `sim` and `drive`. The program reads its word by the name `erasure`.
 fn erasure<'a>(alloc: Global) -> Arg<'a> {
     Arg::new(alloc, "erasure")
         .long("erasure")

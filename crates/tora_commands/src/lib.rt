@@ -1,8 +1,10 @@
 //! The commands of the program `tora`, over any readers and writers, and their exit statuses.
 //!
 //! They are the command line (`command`), the replay of a reader (`replay_command`), the simulation of a file
-//! (`simulate_file`), and the running node (`node_command`) with its configuration file (`configuration`). This crate
-//! does not use the program's standard input and output; `main` passes them in.
+//! (`simulate_file`), also with a trace (`traced_command`), a simulated world that another program drives
+//! (`drive_command`, `record_command`), a new key (`key_command`), and the running node (`node_command`) with its
+//! configuration file (`configuration`). This crate does not use the program's standard input and output; `main` passes
+//! them in.
 #![tactic(auto)]
 
 ghost use Rattle.std.specs.Prelude.{◌≡◌, ◌≢◌, ◌⊎◌, [], true, None, is_ok, option_map, IfSome, IfOk, IfErr};

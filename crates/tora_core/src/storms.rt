@@ -1,4 +1,4 @@
-// Nodes with `Erasure::Plain` may never come to rest.
+//! Nodes with `Erasure::Plain` may never come to rest.
 ghost use Rattle.std.specs.Prelude.{◌≡◌, ℕ, ◌^◌, ℤ, pos, neg_ℤ, ◌+ℤ◌, ◌≤ℤ◌};
 ghost use Rattle.tora_core.specs.Storms.{GoesOn};
 

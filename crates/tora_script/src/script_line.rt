@@ -10,9 +10,9 @@ pub enum SimulationLine {
     Happens(Event),
     /// Makes this many rounds; a line that is read has at most 10,000.
     Rounds(u64),
-    /// Rounds stop delivering datagrams between two nodes.
+    /// Parts two nodes that are linked: rounds deliver no datagram between them, and such datagrams are lost.
     Part(Id, Id),
-    /// Rounds deliver datagrams between two nodes again.
+    /// Mends what `Part` parted: rounds deliver datagrams between the two nodes again, except those that were lost.
     Mend(Id, Id),
     /// Prints the height for a destination, and the next hop, of each node.
     Heights(Id),

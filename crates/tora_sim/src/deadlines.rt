@@ -104,7 +104,7 @@ pub fn end_count(deadlines: &Deadlines) -> usize
     deadlines.ends.len()
 }
 
-/// The number of blocks.
+/// The number of blocks of link ends; blocks of blocks do not count.
 pub fn block_count(deadlines: &Deadlines) -> usize
     ensures all { length deadlines.now ≤ 16 * result }
     ensures each { 16 * result < length deadlines.now + 16 }

@@ -16,8 +16,8 @@ use crate::unready::{EndsWithoutRoom, Unready, unready_range};
 use std::marker::Model;
 use tora_seat::{Cargo, OutLanes, Stepped};
 
-/// The outbound queues of one node, among all link ends: the node's ends are adjacent, in the order of its neighbours.
-/// The queues and the pool have memory for all that one item of the node can put.
+/// The outbound queues of one node. It holds all link ends; those of the node are adjacent, in the order of its
+/// neighbours. The queues and the pool have memory for all that one item of the node can put.
 #[derive(Drop)]
 pub struct NodeLanes {
     links: Vec<LinkSlot>,

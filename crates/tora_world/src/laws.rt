@@ -1,4 +1,4 @@
-// The laws of all schedules. Each is the contract of a function that has no parameters and does nothing.
+//! The laws of all schedules. Each is the contract of a function that has no parameters and does nothing.
 ghost use Rattle.std.specs.Prelude.{◌≡◌, ◌↔◌, ℕ, suc, ◌≤◌, true, List, [], ◌∷◌, length, Some, None};
 ghost use Rattle.tora_height.specs.Height.{Quintuple};
 ghost use Rattle.tora_packet.specs.declared.Packet.TheVariants.{Qry};

@@ -1,4 +1,4 @@
-// The laws of worlds at rest. Each is the contract of a function that has no parameters and does nothing.
+//! The laws of worlds at rest. Each is the contract of a function that has no parameters and does nothing.
 ghost use Rattle.std.specs.Prelude.{◌≡◌, ◌≢◌, ◌↔◌, ℕ, true, List, [], Some};
 ghost use Rattle.tora_height.specs.Height.{Quintuple};
 ghost use Rattle.tora_world.specs.Rest.{IsAtRest, rests, LacksHeight, EntriesAreHeights, FollowsHops, HopsDown};

@@ -33,7 +33,7 @@ pub fn routers_keep_the_prefix_law()
     running_nodes_keep_the_prefix_law();
 }
 
-/// Each core of an embedded router has the state that TORA's rules give for the inputs that it accepted since the
+/// The core of each embedded router has the state that TORA's rules give for the inputs that it accepted since the
 /// router was made.
 pub fn router_cores_follow()
     ensures { AllHosts (λ t times hosts. CoresFollow t hosts) }

@@ -59,7 +59,8 @@ const READS: &[(u64, usize, usize, Option<(usize, &[u8])>)] = &[
     (4, 0, 3, None),
 ];
 
-/// Checks the result of each read.
+/// Makes each read of `rows`, whose fields are as in `READS`, by `read_whole` from a new reader of five bytes, and
+/// checks its result.
 fn each_reads(rt: &impl Abort, rows: &[(u64, usize, usize, Option<(usize, &[u8])>)]) {
     for (at, (fails_from, place, size, wanted)) in rows.iter().enumerate() {
         let mut buffer = [9u8; 7];
