@@ -167,11 +167,12 @@ class Hosts:
 
     def path(self) -> list[int] | None:
         """The hosts from the source to the destination by the routes of the kernels; None where there is no such
-        path."""
+        path. Of several routes of one cost a kernel chooses by both addresses, so both are asked for."""
         found, here = [self.network.source], self.network.source
-        target = f"10.99.0.{self.network.destination}"
+        ends = [f"10.99.0.{self.network.destination}", "from", f"10.99.0.{self.network.source}"]
         while here != self.network.destination:
-            words = run([*self.at(here), "ip", "route", "get", target], check=False).split()
+            came = ["iif", f"e{found[-2]}"] if len(found) > 1 else []
+            words = run([*self.at(here), "ip", "route", "get", *ends, *came], check=False).split()
             name = words[words.index("dev") + 1] if "dev" in words else ""
             if not name.startswith("e") or int(name[1:]) in found:
                 return None
