@@ -61,7 +61,8 @@ pub fn simulate_and_flush<S: Simulator, R: Input, W: Output>(
     flushed(writer, result)
 }
 
-/// Simulates as `simulate_and_flush` does, and reports refused events on standard error.
+/// Simulates as `simulate_and_flush` does, and reports on standard error why events are refused, and why a line is a
+/// fault, unless the line has more than 4,096 bytes.
 pub fn simulate_with_reports_and_flush<S: Simulator, T: Eprint, R: Input, W: Output>(
     rt: &T,
     alloc: Global,

@@ -25,7 +25,7 @@ use tora_packet::{Clear, Packet, Query, Update};
 pub enum Broadcast {
     /// A route is required.
     Query,
-    /// The node's own height.
+    /// The node reports its own height.
     Update(Height),
     /// The time tag and the originator of the reflected level that is erased.
     Clear(u64, Id),

@@ -154,7 +154,8 @@ fn turn_of<S: Simulator>(
     }
 }
 
-/// Gives each link end its turn, and returns whether an event happened.
+/// Gives each link end its turn of this kind, except that silent ends send nothing, and returns whether an event
+/// happened. If the ends are known, those with nothing to do are skipped.
 #[inline(always)]
 fn turn_ends<S: Simulator>(
     sim: &mut S,

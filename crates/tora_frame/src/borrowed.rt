@@ -41,7 +41,7 @@ impl<'a> Model for BorrowedFrame<'a> {
 }
 
 impl<'a> BorrowedFrame<'a> {
-    /// The frame of a header and a body, without checks: the caller ensures their ranges.
+    /// The frame of a header and a body, without checks: the caller ensures that they make a valid frame.
     pub(crate) fn of(header: Header, body: BorrowedBody<'a>) -> BorrowedFrame<'a>
         requires { IsFrame (frame_of header (body_of body)) }
         ensures { result ≡ frame_of header (body_of body.entry) }

@@ -79,7 +79,7 @@ fn place_among(numbers: &[Id], is_rising: bool, n: Id) -> Option<usize>
     }
 }
 
-/// The index of a number in an ascending list; `None` if it does not occur.
+/// The index of a number in a list in which each number is less than the next; `None` if it does not occur.
 fn place_by_halves(numbers: &[Id], n: Id) -> Option<usize>
     requires { IsStrictlyIncreasing numbers.now }
     ensures { result ≡ position (λ m. m == n) numbers.now }

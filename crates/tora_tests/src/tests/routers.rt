@@ -39,8 +39,8 @@ fn loses(rt: &impl Abort, pair: &mut Pair) {
     same(rt, &pair.one.next_life(), &6, "one number was given");
 }
 
-/// Checks that a router with this configuration, these neighbours and the destination 2 is refused with `wanted`, or
-/// made if that is `None`.
+/// Checks that a router with this configuration, these neighbours, the destination 2 and this first session number is
+/// refused with `wanted`, or made if that is `None`.
 fn refused(
     rt: &impl Abort,
     alloc: Global,

@@ -15,15 +15,14 @@ use std::thread::Threads;
 use std::time::Duration;
 use std::{thread, time};
 use streams::{Asking, Course, Meeting, Page, Screen, Waiting};
-use tora_core::CoreError;
 use tora_height::Id;
 use tora_life::{Disk, LifeError};
 use tora_neighbour::{NodeClock, UnixClock};
 use tora_node::*;
-use tora_seat::Status;
 
 mod byte_disk;
 mod faults;
+mod inputs;
 mod quitting;
 mod statuses;
 mod streams;
@@ -308,75 +307,9 @@ fn a_life_file_of_another_link_starts_no_thread(rt: HostRuntime) {
     fault_is(&rt, rt.alloc(), ByteDisk::of_tag(&TAG), LifeError::Foreign);
 }
 
-/// Lines, and the command of each.
-const LINES: &[(&[u8], Command)] = &[
-    (b"show", Command::Show),
-    (b"json", Command::Status(Status::Json)),
-    (b"watch", Command::Status(Status::Watch)),
-    (b"quit", Command::Quit),
-    (b"need 4", Command::Need(4)),
-    (b"need 4294967295", Command::Need(4_294_967_295)),
-    (b"cut 4", Command::Cut(4)),
-    (b"cut 4294967295", Command::Cut(4_294_967_295)),
-    (b"cut", Command::Unknown),
-    (b"cut ", Command::Unknown),
-    (b"cut 0", Command::Unknown),
-    (b"cut 04", Command::Unknown),
-    (b"cut +4", Command::Unknown),
-    (b"cut 4 ", Command::Unknown),
-    (b"cut  4", Command::Unknown),
-    (b"cut 4294967296", Command::Unknown),
-    (b"Cut 4", Command::Unknown),
-    (b"", Command::Unknown),
-    (b"need", Command::Unknown),
-    (b"need ", Command::Unknown),
-    (b"need 0", Command::Unknown),
-    (b"need 04", Command::Unknown),
-    (b"need +4", Command::Unknown),
-    (b"need 4 ", Command::Unknown),
-    (b"need  4", Command::Unknown),
-    (b"need 4294967296", Command::Unknown),
-    (b"need 99999999999", Command::Unknown),
-    (b"Show", Command::Unknown),
-    (b"json ", Command::Unknown),
-    (b"watch 4", Command::Unknown),
-    (b"show ", Command::Unknown),
-    (b"quit\r", Command::Unknown),
-];
-
-/// Checks the command of each line.
-fn each_is_command(rt: &impl Abort, rows: &[(&[u8], Command)]) {
-    for (line, wanted) in rows {
-        same_at(rt, &command_of(line), wanted, "the command", line);
-    }
-}
-
-#[test]
-fn lines_that_are_commands(rt: HostRuntime) {
-    each_is_command(&rt, LINES);
-}
-
 /// Checks that the neighbours are 2 and 3.
 fn peers_are(rt: &impl Abort, peers: &[u32]) {
     same(rt, &peers, &[2, 3].as_slice(), "the neighbours");
-}
-
-#[test]
-fn documented_configuration(rt: HostRuntime) {
-    let config = config_of(&rt, rt.alloc(), 1, &[3, 2]);
-    peers_are(&rt, config.peers());
-    each_is_command(&rt, &[(b"need 4", Command::Need(4))]);
-}
-
-#[test]
-fn want_of_memory_refuses_a_configuration(rt: HostRuntime) {
-    match Config::new(rt.alloc(), 1, &[3, 2], &[4]) {
-        Err(error) => same(&rt, &error, &CoreError::Memory, "no memory"),
-        Ok(config) => {
-            peers_are(&rt, config.peers());
-            same(&rt, &config.into_core().me(), &1, "the node");
-        }
-    }
 }
 
 /// Runs node 1 between nodes 2 and 3, with these commands, over wires on which no datagram arrives.
