@@ -145,7 +145,9 @@ fn erasure<'a>(alloc: Global) -> Arg<'a> {
         .long("erasure")
         .value_name("WORD")
         .help(
-            "How nodes treat erased reference levels: `plain`, or `remembered`: a node then ignores updates of the level that it erased last. The default is plain",
+            "How nodes treat erased reference levels: `plain`, or `remembered`: a node then \
+             takes no height from an update of the level that it erased last. The default is \
+             plain",
         )
 }
 
@@ -163,7 +165,9 @@ fn times<'a>(alloc: Global) -> Arg<'a> {
         .long("times")
         .value_name("HELLO,SILENCE,RETRY,TRIES")
         .help(
-            "The times of each link end, in ticks of 100 ms, each at least 1: between two HELLOs, the silence that ends a session, between two tries of a packet, and the number of tries. The default is 10,50,5,8",
+            "The times of each link end, in ticks of 100 ms, each at least 1: between two \
+             HELLOs, the silence that ends a session, between two tries of a packet, and the \
+             number of tries. The default is 10,50,5,8",
         )
 }
 
@@ -173,7 +177,8 @@ fn channel<'a>(alloc: Global) -> Arg<'a> {
         .long("channel")
         .value_name("PARTS")
         .help(
-            "What happens to datagrams in rounds, such as loss=0.1,delay=1-3,repeat=0.01: the share that is lost, the delay in rounds, the share that arrives twice",
+            "What happens to datagrams in rounds, such as loss=0.1,delay=1-3,repeat=0.01: the \
+             share that is lost, the delay in rounds, the share that arrives twice",
         )
 }
 
@@ -207,7 +212,8 @@ fn channel_file<'a>(alloc: Global) -> Arg<'a> {
         .long("channel-file")
         .value_name("PATH")
         .help(
-            "A file of lines `T A B PARTS`: from round T on, the datagrams between A and B have these PARTS, as in `--channel`",
+            "A file of lines `T A B PARTS`: from round T on, the datagrams between A and B have \
+             these PARTS, as in `--channel`",
         )
 }
 

@@ -60,7 +60,9 @@ impl SetupFault<'_> {
             SetupFault::Until => "`--until` takes a number of rounds below 2^64",
             SetupFault::Erasure => "`--erasure` takes `plain` or `remembered`",
             SetupFault::Part(_) => {
-                "not a part of a channel: the parts are loss=SHARE and repeat=SHARE, from 0 to 1 with up to six digits after the point, and delay=ROUNDS or delay=LEAST-MOST, up to 10000, each at most once"
+                "not a part of a channel: the parts are loss=SHARE and repeat=SHARE, from 0 to 1 \
+                 with up to six digits after the point, and delay=ROUNDS or delay=LEAST-MOST, up \
+                 to 10000, each at most once"
             }
         }
     }

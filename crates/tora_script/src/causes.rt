@@ -69,11 +69,15 @@ impl SimulationCause {
                 "a list is node numbers, from 1 to 4294967295 without leading zeros, separated by commas, or `-`",
             Self::NoLink => "after the first line a line `link A B` is required",
             Self::TooMany =>
-                "the links and destinations are refused: there are more than 64 nodes, 32 neighbours of a node or 64 destinations",
+                "the links and destinations are refused: there are more than 64 nodes, 32 \
+                 neighbours of a node or 64 destinations",
             Self::TooManyStandard =>
-                "the links and destinations are refused: there are more than 64 nodes, 32 neighbours of a node or 64 destinations; with `--large` there may be 1024 nodes and 255 neighbours of a node",
+                "the links and destinations are refused: there are more than 64 nodes, 32 \
+                 neighbours of a node or 64 destinations; with `--large` there may be 1024 nodes \
+                 and 255 neighbours of a node",
             Self::TooManyAtAll =>
-                "the links and destinations are refused: there are more than 1024 nodes, 255 neighbours of a node or 64 destinations",
+                "the links and destinations are refused: there are more than 1024 nodes, 255 \
+                 neighbours of a node or 64 destinations",
             Self::Repeated =>
                 "the links and destinations are refused: a link, in either direction, or a destination occurs twice",
             Self::RepeatedLink(_, _) => "the links and destinations are refused: ",
@@ -84,7 +88,8 @@ impl SimulationCause {
             Self::NoSuchNode => "no link names this node",
             Self::LateOld => "a line `old N` comes directly after the links, before any other line",
             Self::Erasure =>
-                "`erasure` takes a node number, from 1 to 4294967295 without leading zeros, and `plain` or `remembered`",
+                "`erasure` takes a node number, from 1 to 4294967295 without leading zeros, and \
+                 `plain` or `remembered`",
             Self::LateErasure =>
                 "a line `erasure N WORD` comes directly after the links, before any other line",
             _ => self.words_behind_links(),
@@ -94,8 +99,9 @@ impl SimulationCause {
     /// The text of a cause of a line after the links.
     fn words_behind_links(self) -> &'static str {
         match self {
-            Self::Word =>
-                "its first word is none of `need`, `tick`, `open`, `pull`, `transmit`, `deliver`, `pump`, `turn`, `arm`, `restart`, `rounds`, `part`, `mend`, `heights`, `sent`, `taken`, `exact`, `walk` and `rest`",
+            Self::Word => "its first word is none of `need`, `tick`, `open`, `pull`, `transmit`, \
+                 `deliver`, `pump`, `turn`, `arm`, `restart`, `rounds`, `part`, `mend`, \
+                 `heights`, `sent`, `taken`, `exact`, `walk` and `rest`",
             Self::Pair =>
                 "this word takes two node numbers, from 1 to 4294967295 without leading zeros",
             Self::Id =>

@@ -38,7 +38,9 @@ impl Display for LineCause {
             }
             LineCause::OwnLink => "A and B are the same node",
             LineCause::Parts => {
-                "PARTS are loss=SHARE and repeat=SHARE, from 0 to 1 with up to six digits after the point, and delay=ROUNDS or delay=LEAST-MOST, up to 10000, each at most once"
+                "PARTS are loss=SHARE and repeat=SHARE, from 0 to 1 with up to six digits after \
+                 the point, and delay=ROUNDS or delay=LEAST-MOST, up to 10000, each at most \
+                 once"
             }
         })
     }

@@ -41,7 +41,8 @@ impl ReplayCause {
                 "the first line is `node I links LIST dests LIST`, with one blank between two words"
             }
             ReplayCause::HeaderNumber => {
-                "a node number is from 1 to 4294967295 without leading zeros; a list is such numbers separated by commas, or `-`"
+                "a node number is from 1 to 4294967295 without leading zeros; a list is such \
+                 numbers separated by commas, or `-`"
             }
             ReplayCause::Refused(_) => "the first line is refused: ",
             ReplayCause::Time =>
