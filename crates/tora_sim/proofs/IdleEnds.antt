@@ -15,7 +15,7 @@ use Rattle.tora_sim.specs.Links.{LinkView, ticked, AreChanged}
 use Rattle.tora_sim.specs.Nodes.{NodeView}
 use Rattle.tora_sim.specs.Possible.{has_cargo}
 use Rattle.tora_sim.specs.Quiet.{IsIdleUntil, IsDeadline, AreDeadlines, AreDeadlinesBut, AreForgotten, IsForgottenWhere, AreForgottenWhere}
-use Rattle.tora_sim.specs.Deadlines.{short}
+use Rattle.tora_sim.specs.Deadlines.{AreLater, short}
 use Rattle.tora_sim.specs.Store.{EachOf}
 use Rattle.tora_sim.specs.Turns.{IsNoted, Turns}
 use Rattle.tora_sim.proofs.Bared.{between_alike}
@@ -54,6 +54,14 @@ all_idle now until deadlines links h all i x there =
     let many = h.as_many in
     let at = all i (omega (arith, within, many)) in
     earlier (slice_index deadlines i) until x at.1 (h.idle i x at.0 there)
+
+-- the deadline of one more end has not come
+pub one_more_later : (now from at here : ℕ) (ends : List ℕ) → here ≡ slice_index ends at → now < here → AreLater now from at ends → AreLater now from (at + 1) ends
+one_more_later now from at here ends is less before i le lt within = go (below_next i at lt)
+  where
+    go : (i < at) ⊎ (i ≡ at) → now < slice_index ends i
+    go (inl l) = before i le l within
+    go (inr q) = let same : slice_index ends i ≡ here = ap (slice_index ends) q ∙ sym is in omega (arith, same, less)
 
 -- ---- the deadline of one end
 

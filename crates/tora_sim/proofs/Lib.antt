@@ -9,7 +9,6 @@ pub mod Bared
 pub mod Unchanged
 pub mod Sends
 pub mod Sendings
-pub mod PairSends
 pub mod Receives
 pub mod Pumps
 pub mod Runs
@@ -40,10 +39,8 @@ pub mod NodeReads
 pub mod Resting
 pub mod Quiets
 pub mod IdleEnds
-pub mod IdleBlocks
 pub mod DueBits
-pub mod ReadyEnds
-pub mod UnreadyEnds
+pub mod OtherEnds
 pub mod TickEnds
 pub mod TakenItems
 pub mod CoreEnds

@@ -1,8 +1,7 @@
 -- The turns of a node's core, one after another.
-use Rattle.std.proofs.Common.{◌≡◌, ℕ, suc, ◌+◌, ◌<◌, ◌≤◌, ◌-◌, ◌==◌, ◌⊎◌, inl, inr, Bool, true, false, not, List, [], ◌∷◌, ◌++◌, length, set, slice_get, is_some, Option, Some, None, Result, Ok, Err, MatchResult, refl, sym, ap, ◌∙◌, subst, arith, if◌then◌else◌}
+use Rattle.std.proofs.Common.{◌≡◌, ℕ, suc, ◌+◌, ◌<◌, ◌==◌, inl, inr, Bool, true, false, not, List, [], ◌∷◌, ◌++◌, length, set, is_some, Option, Some, None, Result, Ok, Err, MatchResult, refl, sym, ap, ◌∙◌, subst, arith, if◌then◌else◌}
 use Rattle.std.specs.Prelude.{slice_index_or, find}
 use Rattle.std.specs.declared.alloc.AllocError.{AllocError}
-use Rattle.std.proofs.lemmas.Bool.{cases_eq}
 use Rattle.std.proofs.lemmas.List.{length-set, get_or-set_same, set-set}
 use Rattle.tora_frame.specs.FrameParts.{FrameParts}
 use Rattle.tora_arq.specs.declared.times.Times.{Times}
@@ -15,9 +14,8 @@ use Rattle.tora_world.specs.declared.sim_error.SimError.{SimError}
 use Rattle.tora_world.specs.declared.sim_error.SimError.TheVariants as Refused
 use Rattle.tora_world.specs.Topology.{Topology, is_node}
 use Rattle.tora_world.specs.World.{World, refusal_of, is_empty, unless_possible, world_after, world_after_all}
-use Rattle.tora_sim.specs.declared.unready.Unready.{Unready}
 use Rattle.tora_sim.specs.Keyed.{IsFirst}
-use Rattle.tora_sim.specs.Lanes.{LanesView, lanes_of, DidOffer, after_offer_at, AreAlike, AreReady, AreReadyOutside, AreOthersKept, AreOthersSame, HasRoom, HasRoomAt, HaveRoom, HaveRoomBut, bare_between}
+use Rattle.tora_sim.specs.Lanes.{LanesView, lanes_of, DidOffer, after_offer_at, AreAlike, AreOthersKept, bare_between}
 use Rattle.tora_sim.specs.Links.{LinkView}
 use Rattle.tora_sim.specs.Nodes.{NodeView, is_of}
 use Rattle.tora_sim.specs.Steps.{IsDone, IsRefused, StopsWith, Happened, Repeats, repeats}
@@ -25,55 +23,18 @@ use Rattle.tora_sim.specs.Store.{SimState, IsStore, state_of, world_of}
 use Rattle.tora_sim.specs.Quiet.{AreDeadlinesBut}
 use Rattle.tora_sim.specs.Taking.{AreTaken, Takes}
 use Rattle.tora_sim.specs.Turns.{IsNoted, Turns}
-use Rattle.tora_sim.specs.Unready.{IsOutside}
 use Rattle.tora_sim.proofs.Bared.{between_alike}
 use Rattle.tora_sim.proofs.Needs.{same_nodes}
-use Rattle.tora_sim.proofs.ReadyEnds.{room_of}
 use Rattle.tora_sim.proofs.Rooms.{same_length}
 use Rattle.tora_sim.proofs.SameLinks.{same_alike, store_same}
 use Rattle.tora_sim.proofs.SameNodes.{no_node}
 use Rattle.tora_sim.proofs.Sendings.{Onward, begins, again, refused, starved_of, no_more, other_cause, still_first}
 use Rattle.tora_sim.proofs.IdleEnds as Idle
 use Rattle.tora_sim.proofs.Turning.{turn_refused, turn_starved, between_does, between_store}
-use Rattle.tora_sim.proofs.UnreadyEnds.{turned_place}
 
 -- a property of the index and the count of a node's ends holds for equal numbers
 pub placed : (P : ℕ → ℕ → Type 0) (first count f n : ℕ) → first ≡ f → count ≡ n → P f n → P first count
 placed P first count f n a b h = subst (λ (m : ℕ). P m count) (sym a) (subst (λ (m : ℕ). P f m) (sym b) h)
-
--- ---- the memory for one more item
-
--- there is room at each end, if there is at each but one, and that one is ready
-pub room_known : (links : List LinkView) (first count seat : ℕ) (range : Unready) → AreReadyOutside links first count range → IsOutside range seat → HaveRoomBut links first count seat → HaveRoom links first count
-room_known links first count seat range ready out room place link lt there = go (cases_eq place seat)
-  where
-    go : (place ≡ seat) ⊎ (place ≡ seat → ⊥) → HasRoom link
-    go (inl q) = room_of link (ready place link lt (subst (λ (m : ℕ). IsOutside range m) (sym q) out) there)
-    go (inr off) = room place link lt off there
-
--- there is room at each end, if the one without room is not an end of the node
-pub room_beyond : (links : List LinkView) (first count seat : ℕ) → count ≤ seat → HaveRoomBut links first count seat → HaveRoom links first count
-room_beyond links first count seat le room place link lt there = room place link lt (λ q. omega (arith, le, lt, q)) there
-
--- there is room at each end, if room was made at the one without it
-pub room_made : (links after : List LinkView) (first count seat : ℕ) → AreOthersSame links after (first + seat) → HasRoomAt after (first + seat) → HaveRoomBut links first count seat → HaveRoom after first count
-room_made links after first count seat others here room place link lt there = go (cases_eq place seat)
-  where
-    go : (place ≡ seat) ⊎ (place ≡ seat → ⊥) → HasRoom link
-    go (inl q) = here link (ap (λ (m : ℕ). slice_get after (first + m)) (sym q) ∙ there)
-    go (inr off) = room place link lt off (sym (others (first + place) (λ (e : first + place ≡ first + seat). off (omega (arith, e)))) ∙ there)
-
--- the others have their room still
-pub room_still : (links after : List LinkView) (first count seat : ℕ) → AreOthersSame links after (first + seat) → HaveRoomBut links first count seat → HaveRoomBut after first count seat
-room_still links after first count seat others room place link lt off there =
-    room place link lt off (sym (others (first + place) (λ (e : first + place ≡ first + seat). off (omega (arith, e)))) ∙ there)
-
-pub ready_still : (links after : List LinkView) (first count seat : ℕ) (range : Unready) → AreOthersSame links after (first + seat) → (IsOutside range seat → ⊥) → AreReadyOutside links first count range → AreReadyOutside after first count range
-ready_still links after first count seat range others inside ready place link lt out there =
-    ready place link lt out (sym (others (first + place) (λ (e : first + place ≡ first + seat). let q : place ≡ seat = omega (arith, e) in inside (subst (λ (m : ℕ). IsOutside range m) q out))) ∙ there)
-
-pub others_still : (links after : List LinkView) (first count seat : ℕ) → seat < count → AreOthersSame links after (first + seat) → AreOthersKept links after first count
-others_still links after first count seat lt others at away = others at (λ (q : at ≡ first + seat). away seat lt q)
 
 -- ---- the number of ends
 
@@ -99,37 +60,40 @@ turned_node : (x y : NodeView) (links after : List LinkView) (r : Result (Unit {
 turned_node x y links after (Ok u) d = (ap (λ (z : NodeView). z.node) d.served.node, ap length d.served.neighbours)
 turned_node x y links after (Err e) d = (ap (λ (z : NodeView). z.node) d.1, ap (λ (z : NodeView). length z.seat.core.neighbours) d.1)
 
+same_place : (x y after : NodeView) → y ≡ after → (after.first ≡ x.first) × (after.count ≡ x.count) → (y.first ≡ x.first) × (y.count ≡ x.count)
+same_place x y after e same = (ap (λ (z : NodeView). z.first) e ∙ same.0, ap (λ (z : NodeView). z.count) e ∙ same.1)
+
+turned_place : (x y : NodeView) (links after : List LinkView) (r : Result (Unit {0}) SimError) → Turns x links r y after → (y.first ≡ x.first) × (y.count ≡ x.count)
+turned_place x y links after (Ok u) d = (ap (λ (z : NodeView). z.first) d.served.node, ap (λ (z : NodeView). z.count) d.served.node)
+turned_place x y links after (Err e) d = same_place x y x d.1 (refl, refl)
+
 -- ---- facts on the node and the ends so far
 
-pub none_taken : (x : NodeView) (links : List LinkView) (range : Unready) (seat : ℕ) → length x.seat.core.neighbours ≡ x.count → AreReady (lanes_of links x.first x.count) range → AreTaken x links x links range seat
-none_taken x links range seat many ready = record {
+pub none_taken : (x : NodeView) (links : List LinkView) → length x.seat.core.neighbours ≡ x.count → AreTaken x links x links
+none_taken x links many = record {
   node = refl;
   first = refl;
   count = refl;
   neighbours = many;
   many = refl;
-  ready = ready.ready;
-  room = λ place link lt off there. ready.room place link lt there;
   others = λ at away. refl;
   idle = λ clock deadlines h. Idle.all_but clock deadlines links x.first x.count h;
 }
 
-module _ (x0 x : NodeView) (links0 links links1 : List LinkView) (range : Unready) (seat : ℕ) (h : AreTaken x0 links0 x links range seat) (alike : AreAlike links links1) (others : AreOthersKept links links1 x.first x.count) where
+module _ (x0 x : NodeView) (links0 links links1 : List LinkView) (h : AreTaken x0 links0 x links) (alike : AreAlike links links1) (others : AreOthersKept links links1 x.first x.count) where
   others_on : AreOthersKept links0 links1 x0.first x0.count
   others_on at away =
       others at (λ place lt q. let f = h.first in let n = h.count in away place (omega (arith, lt, n)) (omega (arith, q, f)))
       ∙ h.others at away
 
   -- memory was allocated
-  pub roomed : AreReadyOutside links1 x.first x.count range → HaveRoomBut links1 x.first x.count seat → AreTaken x0 links0 x links1 range seat
-  roomed ready room = record {
+  pub roomed : AreTaken x0 links0 x links1
+  roomed = record {
     node = h.node;
     first = h.first;
     count = h.count;
     neighbours = h.neighbours;
     many = same_length links links1 alike ∙ h.many;
-    ready = subst (λ (m : ℕ). AreReadyOutside links1 m x0.count range) h.first (subst (λ (m : ℕ). AreReadyOutside links1 x.first m range) h.count ready);
-    room = subst (λ (m : ℕ). HaveRoomBut links1 m x0.count seat) h.first (subst (λ (m : ℕ). HaveRoomBut links1 x.first m seat) h.count room);
     others = others_on;
     idle = λ clock deadlines each. Idle.alike_but clock deadlines links links1 x0.first x0.count alike (h.idle clock deadlines each);
   }
@@ -150,8 +114,8 @@ module _ (x0 x : NodeView) (links0 links links1 : List LinkView) (range : Unread
         ∙ h.many
 
     -- an item was served, or memory ran out for it
-    pub taken_on : (after : Unready) (but : ℕ) → AreReadyOutside links2 x.first x.count after → HaveRoomBut links2 x.first x.count but → AreOthersKept links1 links2 x.first x.count → AreTaken x0 links0 y links2 after but
-    taken_on after but ready room kept =
+    pub taken_on : AreOthersKept links1 links2 x.first x.count → AreTaken x0 links0 y links2
+    taken_on kept =
         let place = turned_place x y old new r d in
         let node = turned_node x y old new r d in
         record {
@@ -160,8 +124,6 @@ module _ (x0 x : NodeView) (links0 links links1 : List LinkView) (range : Unread
           count = place.1 ∙ h.count;
           neighbours = node.1 ∙ h.neighbours ∙ sym place.1;
           many = many_on;
-          ready = subst (λ (m : ℕ). AreReadyOutside links2 m x0.count after) h.first (subst (λ (m : ℕ). AreReadyOutside links2 x.first m after) h.count ready);
-          room = subst (λ (m : ℕ). HaveRoomBut links2 m x0.count but) h.first (subst (λ (m : ℕ). HaveRoomBut links2 x.first m but) h.count room);
           others = λ at away. kept at (λ place lt q. let f = h.first in let n = h.count in away place (omega (arith, lt, n)) (omega (arith, q, f))) ∙ others_on at away;
           idle = λ clock deadlines each.
               subst (λ (m : ℕ). AreDeadlinesBut clock deadlines links2 m x0.count) h.first
@@ -298,21 +260,11 @@ pub none_asked : (w : World) (most : ℕ) (event : Event) → most ≡ 0 → Hap
 unfolding repeats
 none_asked w most event none = subst (λ (m : ℕ). Happened w (repeats m event w) w false) (sym none) (record { after_is = refl; some_is = refl })
 
--- memory ran out for the first event
-pub starved_at_once : (w next : World) (most n : ℕ) → 0 < most → IsRefused w (CoreTurn n) Refused.Memory next → StopsWith w (repeats most (CoreTurn n) w) Refused.Memory next
-starved_at_once w next most n some r =
-    let left : most ≡ suc (most - 1) = omega (arith, some) in
-    starved_of w (repeats most (CoreTurn n) w) w next false (most - 1) (CoreTurn n) (subst (λ (m : ℕ). Onward w (repeats most (CoreTurn n) w) w false (repeats m (CoreTurn n) w)) left (begins w (repeats most (CoreTurn n) w))) (no_memory_turn w n next r) r
-
 -- the same events from an equal world, with equal worlds after them
-pub taken_between : (before : SimState) (other after last : SimState) (n most : ℕ) (r : Result Bool SimError) → world_of other ≡ world_of before → world_of last ≡ world_of after → Takes other after n most r
-    → MatchResult r (λ some. Happened (world_of before) (repeats most (CoreTurn n) (world_of before)) (world_of last) some) (λ error. StopsWith (world_of before) (repeats most (CoreTurn n) (world_of before)) Refused.Memory (world_of last))
-taken_between before other after last n most (Ok some) same end d =
-    subst (λ (w : World). Happened (world_of before) (repeats most (CoreTurn n) (world_of before)) w some) (sym end)
-    (subst (λ (w : World). Happened w (repeats most (CoreTurn n) w) (world_of after) some) same d.events)
-taken_between before other after last n most (Err e) same end d =
-    subst (λ (w : World). StopsWith (world_of before) (repeats most (CoreTurn n) (world_of before)) Refused.Memory w) (sym end)
-    (subst (λ (w : World). StopsWith w (repeats most (CoreTurn n) w) Refused.Memory (world_of after)) same d.events.1)
+pub taken_between : (before : SimState) (other after : SimState) (n most : ℕ) (r : Result Bool SimError) → world_of other ≡ world_of before → Takes other after n most r
+    → MatchResult r (λ some. Happened (world_of before) (repeats most (CoreTurn n) (world_of before)) (world_of after) some) (λ error. StopsWith (world_of before) (repeats most (CoreTurn n) (world_of before)) Refused.Memory (world_of after))
+taken_between before other after n most (Ok some) same d = subst (λ (w : World). Happened w (repeats most (CoreTurn n) w) (world_of after) some) same d.events
+taken_between before other after n most (Err e) same d = subst (λ (w : World). StopsWith w (repeats most (CoreTurn n) w) Refused.Memory (world_of after)) same d.events.1
 
 -- there is no such node
 pub no_turn : (s : SimState) → IsStore s → (n : ℕ) → find (is_of n) s.nodes ≡ None → is_some (refusal_of (world_of s) (CoreTurn n)) ≡ true

@@ -1,5 +1,5 @@
--- Deadlines of link ends, in blocks of sixteen that have a deadline each.
-use Rattle.std.specs.Prelude.{ℕ, ◌+◌, ◌*◌, ◌<◌, ◌≤◌, nat_le, List, length, map, min, slice_index}
+-- Deadlines of link ends.
+use Rattle.std.specs.Prelude.{ℕ, ◌<◌, ◌≤◌, nat_le, List, length, map, min, slice_index}
 use Rattle.std.specs.Simd.Lanes.{chunk, mask_l}
 
 -- a deadline as it is stored: the greatest number of four bytes for that and any later one
@@ -14,9 +14,3 @@ AreLater now from to ends = (at : ℕ) → from ≤ at → at < to → at < leng
 -- come
 abbrev pub due_bits : ℕ → ℕ → List ℕ → ℕ
 due_bits now first ticks = mask_l (map (λ tick. nat_le tick now) (chunk first 16 ticks))
-
--- each end is in a block, and the deadline of its block is at most its own
-pub record AreBlocks (blocks ends : List ℕ) : Type 0 where
-  pub enough : length ends ≤ 16 * length blocks
-  pub least : (block at : ℕ) → 16 * block ≤ at → at < 16 * block + 16 → at < length ends
-      → slice_index blocks block ≤ slice_index ends at

@@ -1,13 +1,10 @@
 -- The lanes from a node's core to its neighbours. The node's link ends are adjacent among all ends.
-use Rattle.std.specs.Prelude.{◌≡◌, ℕ, zero, suc, ◌+◌, ◌<◌, ◌≤◌, ◌⊎◌, nat_lt, Bool, true, false, List, [], ◌∷◌, ◌++◌}
+use Rattle.std.specs.Prelude.{◌≡◌, ℕ, zero, suc, ◌+◌, ◌<◌, ◌≤◌, ◌⊎◌, nat_lt, Bool, List, [], ◌∷◌, ◌++◌}
 use Rattle.std.specs.Prelude.{length, map, slice_get, slice_set, Some, if◌then◌else◌}
 use Rattle.tora_seat.specs.declared.cargo.Cargo.{Cargo}
 use Rattle.tora_seat.specs.declared.TheConstants.{MOST_CARGOES}
-use Rattle.tora_seat.specs.Serving.{Parcel}
-use Rattle.tora_sim.specs.declared.unready.Unready.{Unready}
 use Rattle.tora_sim.specs.Links.{LinkView, waiting}
 use Rattle.tora_sim.specs.Lane.{Fits}
-use Rattle.tora_sim.specs.Unready.{IsOutside}
 
 pub record LanesView : Type 0 where
   pub links : List LinkView  -- the ends of all links
@@ -45,41 +42,10 @@ pub record HasRoom (link : LinkView) : Type 0 where
 abbrev pub HasRoomAt : List LinkView → ℕ → Type 0
 HasRoomAt links at = (link : LinkView) → slice_get links at ≡ Some link → HasRoom link
 
--- no cargo waits in a lane, and it has the memory of `HasRoom`
-pub record IsReadyLane (put : List Cargo) (pulled room : ℕ) (steps : List Parcel) (step_room : ℕ) : Type 0 where
-  pub lane : nat_lt pulled (length put) ≡ false
-  pub cargoes : (room ≡ 0) ⊎ (pulled + MOST_CARGOES ≤ room)
-  pub step : length steps < step_room
-
-abbrev pub IsReady : LinkView → Type 0
-IsReady link = IsReadyLane link.put link.pulled link.room link.steps link.step_room
-
--- each marked link end is ready; a missing mark gives no information
-pub record AreReadyEach (marks : List Bool) (links : List LinkView) : Type 0 where
-  pub as_many : length marks ≡ length links
-  pub ready : (at : ℕ) (link : LinkView) → slice_get marks at ≡ Some true → slice_get links at ≡ Some link
-      → IsReady link
-
--- each of the `count` ends from the index `first` on is ready, except those of a range
-abbrev pub AreReadyOutside : List LinkView → ℕ → ℕ → Unready → Type 0
-AreReadyOutside links first count range = (place : ℕ) (link : LinkView) → place < count → IsOutside range place
-    → slice_get links (first + place) ≡ Some link → IsReady link
-
 -- each of the `count` ends from the index `first` on has room
 abbrev pub HaveRoom : List LinkView → ℕ → ℕ → Type 0
 HaveRoom links first count =
     (place : ℕ) (link : LinkView) → place < count → slice_get links (first + place) ≡ Some link → HasRoom link
-
--- each of the `count` ends from the index `first` on has room, except the one at the index `but`
-abbrev pub HaveRoomBut : List LinkView → ℕ → ℕ → ℕ → Type 0
-HaveRoomBut links first count but = (place : ℕ) (link : LinkView) → place < count → (place ≡ but → ⊥)
-    → slice_get links (first + place) ≡ Some link → HasRoom link
-
--- there is memory for all that one item can put into the lanes, and each end outside the range is ready
-pub record AreReady (lanes : LanesView) (range : Unready) : Type 0 where
-  pub within : lanes.first + lanes.count ≤ length lanes.links
-  pub room : HaveRoom lanes.links lanes.first lanes.count
-  pub ready : AreReadyOutside lanes.links lanes.first lanes.count range
 
 -- each of the `count` ends from the index `first` on has a list with room, or the pool has a whole list for it
 abbrev pub AreFitting : List LinkView → ℕ → ℕ → List ℕ → Type 0
@@ -105,10 +71,6 @@ bare_between (suc first) count (link ∷ links) = link ∷ bare_between first co
 -- the ends differ at most in their memory
 abbrev pub AreAlike : List LinkView → List LinkView → Type 0
 AreAlike before after = map bare after ≡ map bare before
-
--- each end but the one at an index is unchanged
-abbrev pub AreOthersSame : List LinkView → List LinkView → ℕ → Type 0
-AreOthersSame before after at = (i : ℕ) → (i ≡ at → ⊥) → slice_get after i ≡ slice_get before i
 
 -- each end is unchanged, except the `count` ends from the index `first` on
 abbrev pub AreOthersKept : List LinkView → List LinkView → ℕ → ℕ → Type 0

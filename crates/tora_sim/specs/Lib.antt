@@ -8,11 +8,9 @@ pub mod Topologies
 pub mod Store
 pub mod Steps
 pub mod Sending
-pub mod Pairs
 pub mod Readers
 pub mod Possible
 pub mod Firsts
-pub mod Unready
 pub mod Lanes
 pub mod Turns
 pub mod Restarts

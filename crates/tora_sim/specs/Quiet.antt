@@ -1,5 +1,5 @@
 -- Worlds in which nothing is to be done, and the deadlines of link ends.
-use Rattle.std.specs.Prelude.{◌≡◌, ℕ, ◌+◌, ◌<◌, ◌≤◌, ◌⊎◌, ◌==◌, Bool, true, false, is_some, List, length, slice_get}
+use Rattle.std.specs.Prelude.{◌≡◌, ℕ, ◌+◌, ◌<◌, ◌⊎◌, ◌==◌, Bool, true, false, is_some, List, length, slice_get}
 use Rattle.std.specs.Prelude.{slice_index, slice_set, Some}
 use Rattle.tora_arq.specs.Settings.{Settings}
 use Rattle.tora_arq.specs.LinkEnd.{EndState, is_closed, first_event, frame_due, after_tick}
@@ -55,11 +55,6 @@ pub record AreDeadlines (clock : ℕ) (deadlines : List ℕ) (links : List LinkV
   pub as_many : length deadlines ≡ length links
   pub idle : (at : ℕ) (link : LinkView) → clock < slice_index deadlines at → slice_get links at ≡ Some link
       → IsIdleUntil (slice_index deadlines at) link
-
--- `AreDeadlines` for the link ends from an index on
-abbrev pub AreDeadlinesFrom : ℕ → ℕ → List ℕ → List LinkView → Type 0
-AreDeadlinesFrom from clock deadlines links = (at : ℕ) (link : LinkView) → from ≤ at → clock < slice_index deadlines at
-    → slice_get links at ≡ Some link → IsIdleUntil (slice_index deadlines at) link
 
 -- the deadlines of the `count` ends from the index `first` on are 0; each other one is unchanged, or 0
 pub record AreForgotten (before deadlines : List ℕ) (first count : ℕ) : Type 0 where

@@ -6,27 +6,22 @@ use Rattle.tora_world.specs.declared.event.Event.TheVariants.{CoreTurn}
 use Rattle.tora_world.specs.declared.sim_error.SimError.{SimError}
 use Rattle.tora_world.specs.declared.sim_error.SimError.TheVariants as Refused
 use Rattle.tora_world.specs.Topology.{Topology}
-use Rattle.tora_sim.specs.declared.unready.Unready.{Unready}
 use Rattle.tora_sim.specs.Keyed.{IsFirst}
-use Rattle.tora_sim.specs.Lanes.{AreOthersKept, AreReadyOutside, HaveRoomBut}
+use Rattle.tora_sim.specs.Lanes.{AreOthersKept}
 use Rattle.tora_sim.specs.Links.{LinkView}
 use Rattle.tora_sim.specs.Nodes.{NodeView, is_of}
 use Rattle.tora_sim.specs.Quiet.{AreDeadlines, AreDeadlinesBut}
 use Rattle.tora_sim.specs.Steps.{Happened, StopsWith, repeats}
 use Rattle.tora_sim.specs.Store.{SimState, IsStore, state_of, world_of}
 
--- a node and all link ends after its core took items: the node's ends are at the same indexes, those outside `unready`
--- are ready, only the one at `seat` may lack memory, other ends are unchanged, and deadlines hold except at ends with a
--- cargo
-pub record AreTaken (x : NodeView) (links : List LinkView) (y : NodeView) (after : List LinkView) (unready : Unready)
-    (seat : ℕ) : Type 0 where
+-- a node and all link ends after its core took items: the node's ends are at the same indexes, other ends are unchanged,
+-- and deadlines hold except at ends with a cargo
+pub record AreTaken (x : NodeView) (links : List LinkView) (y : NodeView) (after : List LinkView) : Type 0 where
   pub node : y.node ≡ x.node
   pub first : y.first ≡ x.first
   pub count : y.count ≡ x.count
   pub neighbours : length y.seat.core.neighbours ≡ y.count
   pub many : length after ≡ length links
-  pub ready : AreReadyOutside after x.first x.count unready
-  pub room : HaveRoomBut after x.first x.count seat
   pub others : AreOthersKept links after x.first x.count
   pub idle : (clock : ℕ) (deadlines : List ℕ) → AreDeadlines clock deadlines links
       → AreDeadlinesBut clock deadlines after x.first x.count

@@ -48,7 +48,6 @@ impl Sim {
         if !self.links[at].pull() {
             return Err(SimError::Memory);
         }
-        self.make_ready_again(at);
         Ok(())
     }
 

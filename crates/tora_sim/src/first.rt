@@ -18,9 +18,8 @@ use crate::links::{LinkParts, end_of};
 use crate::nodes::{NodeSlot, Sending, no_counts};
 use crate::places::places_of;
 use crate::queue::Queue;
-use crate::ready::none_ready;
 use crate::sim::{Buffers, Sim};
-use crate::store::{Datagrams, KeptCargoes, Lane, Pool};
+use crate::store::{Datagrams, KeptCargoes, Lane};
 use crate::topology::Topology;
 use std::alloc::Global;
 use tora_arq::{Times, standard_times};
@@ -70,7 +69,6 @@ impl Sim {
         }
         let count = links.len();
         let deadlines = no_deadlines(alloc, count)?;
-        let ready = none_ready(alloc, count)?;
         let keys = keys_of(alloc, &links)?;
         let places = places_of(alloc, &keys, &nodes)?;
         Ok(Sim {
@@ -83,9 +81,7 @@ impl Sim {
             places,
             datagrams: Datagrams::new(alloc),
             deadlines,
-            ready,
-            pool: Pool::new(alloc),
-            buffers: Buffers::new(),
+            buffers: Buffers::new(alloc),
         })
     }
 }

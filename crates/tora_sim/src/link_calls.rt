@@ -6,7 +6,7 @@ ghost use Rattle.tora_arq.specs.LinkEnd.{after_poll_event, bound_life, first_end
 ghost use Rattle.tora_seat.specs.Between.{after_cut_of_bound};
 ghost use Rattle.tora_world.specs.Lists.{packets_of, parcels_in};
 ghost use Rattle.tora_sim.specs.Lane.{AreOthersAsWhole, Fits};
-ghost use Rattle.tora_sim.specs.Lanes.{HasRoom, IsReady, after_offer_at, bare, has_place};
+ghost use Rattle.tora_sim.specs.Lanes.{HasRoom, after_offer_at, bare, has_place};
 ghost use Rattle.tora_sim.specs.Links.{after_arm, after_open_at, after_pull_at, with_state};
 ghost use Rattle.tora_sim.specs.Resting.{is_idle};
 ghost use Rattle.tora_sim.specs.Restarts.{restarted};
@@ -114,29 +114,17 @@ impl LinkSlot {
         self.parts.pull()
     }
 
-    /// Allocates memory for all that one item of the node can put here, and returns whether the outbound queue is
-    /// empty.
+    /// Allocates memory for all that one item of the node can put here.
     ///
     /// # Errors
     /// `Memory`. The end does not change.
-    pub fn make_ready(&mut self) -> Result<bool, SimError>
+    #[inline(always)]
+    pub fn make_room(&mut self) -> Result<(), SimError>
         ensures same { bare self.new ≡ bare self.old }
         ensures room { OnOk result (HasRoom self.new) }
-        ensures ready { IfOk result (λ known. known ≡ true → IsReady self.new) }
         ensures memory { IfErr result (λ e. e ≡ SimError.Memory) }
     {
-        self.parts.make_ready()
-    }
-
-    /// Shortens a long list of the outbound queue, if a message waits. The long list goes to the pool at the index
-    /// `spare`.
-    #[inline(always)]
-    pub fn shorten(&mut self, pool: &mut Pool, spare: usize)
-        ensures { bare self.new ≡ bare self.old }
-    {
-        if self.has_cargo() {
-            self.parts.shorten(pool, spare);
-        }
+        self.parts.make_room()
     }
 
     /// Puts an outbound message at the back of the queue, unless `MOST_CARGOES` wait, and returns whether it did. If

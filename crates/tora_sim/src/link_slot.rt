@@ -4,15 +4,13 @@ ghost use Rattle.tora_arq.specs.LinkEnd.{after_frame, after_tick, after_transmit
 ghost use Rattle.tora_frame.specs.FrameParts.{IsHeader, frame_of};
 ghost use Rattle.tora_frame.specs.declared.parts.Body.{Body};
 ghost use Rattle.tora_sim.specs.Links.{with_state};
-ghost use Rattle.tora_sim.specs.Pairs.{IsPairSent};
 ghost use Rattle.tora_sim.specs.Quiet.{IsDeadline};
 ghost use Rattle.tora_sim.specs.SteadyLinks.{IsKept, is_none, shown};
 
 use crate::links::LinkParts;
-use crate::store::Datagrams;
 use std::marker::Model;
 use tora_arq::Steady;
-use tora_frame::{BorrowedBody, BorrowedFrame, Header, Packets, Version};
+use tora_frame::{BorrowedBody, BorrowedFrame, Header, Packets};
 
 /// One end of a link. An end is idle if it is open, has no event, no outbound message and no unacknowledged packet, and
 /// owes only regular HELLOs. The few fields of an idle end that a HELLO reads (its idle fields) may be stored here, and
@@ -128,59 +126,6 @@ impl LinkSlot {
             return None;
         }
         self.steady.send_hello(now)
-    }
-
-    /// Whether idle fields are stored and show that the next HELLO is sent in both versions, because the peer is not
-    /// known to speak version 2.
-    #[inline(always)]
-    pub fn says_both(&self) -> bool
-        ensures { result ≡ true → self.now.state.speaks_two ≡ false }
-    {
-        !self.steady.is_none()
-            && !self.steady.speaks_two
-            && !self.steady.owes_old_hello
-            && self.steady.version == Version::Two
-    }
-
-    /// Sends a HELLO in both versions and appends the two datagrams, if the idle fields show that they are due, the end
-    /// at the index `end` has sent the same two before, and `datagrams` has room. `far_end` is a guess at the index of
-    /// the receiving end.
-    ///
-    /// Returns the tick before which the end has nothing to do. `None` otherwise; nothing changes then.
-    #[inline(always)]
-    pub fn send_pair(
-        &mut self,
-        now: u64,
-        datagrams: &mut Datagrams,
-        end: usize,
-        far_end: u32,
-    ) -> Option<u64>
-        ensures sent { IfSome result (λ _. IsPairSent self.old now self.new datagrams.old.items datagrams.new.items) }
-        ensures idle { IfSome result (λ until. IsDeadline until self.new) }
-        ensures same { IfNone result (self.new ≡ self.old) }
-        ensures datagrams { IfNone result (datagrams.new ≡ datagrams.old) }
-    {
-        if self.steady.is_none() {
-            return None;
-        }
-        if !self.says_both() {
-            return None;
-        }
-        let mut behind = self.steady;
-        let Some(first) = behind.send_hello(now) else {
-            return None;
-        };
-        let Some(second) = behind.send_hello(now) else {
-            return None;
-        };
-        if !datagrams.push_pair(end, far_end, &first, &second) {
-            return None;
-        }
-        // Field by field, because each field that is written costs an instruction, and the others did not change.
-        self.steady.said = behind.said;
-        self.steady.heard = behind.heard;
-        self.steady.owes_old_hello = behind.owes_old_hello;
-        Some(self.steady.deadline())
     }
 
     /// Handles a frame, and returns the tick before which the end then has nothing to do; 0 if it has something to do

@@ -13,7 +13,7 @@ ghost use Rattle.tora_sim.specs.Restarts.{restarted};
 ghost use Rattle.tora_sim.specs.SteadyLinks.{IsSteadyLink};
 ghost use Rattle.tora_arq.specs.Steady.{resumed};
 ghost use Rattle.tora_sim.specs.Lane.{AreOthersAsWhole, Fits};
-ghost use Rattle.tora_sim.specs.Lanes.{after_offer_at, has_place, bare, HasRoom, IsReady};
+ghost use Rattle.tora_sim.specs.Lanes.{after_offer_at, has_place, bare, HasRoom};
 
 use crate::SimError;
 use crate::files::FileSlot;
@@ -231,7 +231,7 @@ impl LinkParts {
     ///
     /// # Errors
     /// `Memory`. The end does not change.
-    fn make_room(&mut self) -> Result<(), SimError>
+    pub fn make_room(&mut self) -> Result<(), SimError>
         ensures same { bare self.new ≡ bare self.old }
         ensures room { OnOk result (HasRoom self.new) }
         ensures memory { IfErr result (λ e. e ≡ SimError.Memory) }
@@ -243,29 +243,6 @@ impl LinkParts {
             return Err(SimError::Memory);
         }
         Ok(())
-    }
-
-    /// Allocates memory as `make_room` does, and returns whether the outbound queue is empty.
-    ///
-    /// # Errors
-    /// `Memory`. The end does not change.
-    pub fn make_ready(&mut self) -> Result<bool, SimError>
-        ensures same { bare self.new ≡ bare self.old }
-        ensures room { OnOk result (HasRoom self.new) }
-        ensures ready { IfOk result (λ known. known ≡ true → IsReady self.new) }
-        ensures memory { IfErr result (λ e. e ≡ SimError.Memory) }
-    {
-        self.make_room()?;
-        Ok(!self.has_cargo())
-    }
-
-    /// Shortens a long list of the outbound queue, as `Lane::shorten` does. The long list goes to the pool at the index
-    /// `spare`.
-    #[inline(always)]
-    pub fn shorten(&mut self, pool: &mut Pool, spare: usize)
-        ensures { bare self.new ≡ bare self.old }
-    {
-        self.lane.shorten(pool, spare);
     }
 
     /// Puts an outbound message at the back of the queue, unless `MOST_CARGOES` wait, and returns whether it did. If

@@ -6,7 +6,7 @@ ghost use Rattle.tora_sim.specs.Store.{world_of};
 ghost use Rattle.tora_world.specs.World.{refusal_of};
 ghost use Rattle.tora_world.specs.declared.event.Event.TheVariants.{CoreTurn};
 
-use crate::deadlines::deadline;
+use crate::deadlines::{end_count, next_due};
 use crate::looks::look_at_ends;
 use crate::nodes::NodeSlot;
 use crate::sim::Sim;
@@ -17,8 +17,7 @@ impl Sim {
     pub fn is_quiet(&self) -> bool
         ensures { result ≡ true → IsQuiet (world_of self.now) }
     {
-        let until = deadline(&self.deadlines, self.clock);
-        if self.clock >= until {
+        if next_due(&self.deadlines, self.clock, 0) < end_count(&self.deadlines) {
             return false;
         }
         are_idle(&self.nodes)

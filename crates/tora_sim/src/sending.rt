@@ -184,13 +184,8 @@ impl Sim {
         requires node { IsFirst (is_of n) self.old.nodes home }
         ensures { Repeats self.old most (Transmit n k) result self.new }
     {
-        let pair = self.transmit_pair(n, k, at, home, most);
-        let mut some = pair.is_some();
-        if let Some(true) = pair {
-            return Ok(true);
-        }
-        let first = if some { 2 } else { 0 };
-        for _ in first..most {
+        let mut some = false;
+        for _ in 0..most {
             if self.is_over(at, some) {
                 return Ok(some);
             }

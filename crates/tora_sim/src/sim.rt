@@ -10,16 +10,19 @@ use crate::store::{Datagrams, Pool};
 use crate::ticking::tick;
 use crate::topology::Topology;
 use crate::{Event, SimError};
+use std::alloc::Global;
 use std::marker::Model;
 use tora_arq::Times;
 use tora_core::Sends;
 use tora_frame::Packets;
 use tora_height::Id;
 
-/// Buffers for a step, whose contents mean nothing between two steps. They are kept because making new ones for each
-/// step takes time.
+/// Memory that steps use, whose contents mean nothing between two steps. It is kept because making it anew for each step
+/// takes time.
 #[derive(Drop)]
 pub(crate) struct Buffers {
+    /// Lists for outbound queues that are longer than their inline places.
+    pub(crate) pool: Pool,
     /// The packets of the frame that is being sent.
     pub(crate) packets: Packets,
     /// The packets that a core broadcasts.
@@ -28,8 +31,9 @@ pub(crate) struct Buffers {
 
 impl Buffers {
     /// Empty buffers.
-    pub(crate) fn new() -> Buffers {
+    pub(crate) fn new(alloc: Global) -> Buffers {
         Buffers {
+            pool: Pool::new(alloc),
             packets: Packets::new(),
             sends: Sends::new(),
         }
@@ -53,18 +57,12 @@ pub struct Sim {
     /// The deadline of each link end: before this tick it has nothing to do. A deadline that has come gives no
     /// information.
     pub(crate) deadlines: Deadlines,
-    /// Marks of the ends that are ready: the outbound queue is empty, and the end has memory for all that one item of
-    /// its node can put. A missing mark gives no information.
-    pub(crate) ready: Vec<bool>,
-    /// A pool of lists for outbound queues that are longer than their inline places.
-    pub(crate) pool: Pool,
     pub(crate) buffers: Buffers,
 }
 
 impl Model for Sim {
     ghost use Rattle.std.specs.Prelude.{◌≡◌};
     ghost use Rattle.tora_sim.specs.Store.{SimState, IsStore, state_of};
-    ghost use Rattle.tora_sim.specs.Lanes.{AreReadyEach};
     ghost use Rattle.tora_sim.specs.Quiet.{AreDeadlines};
     ghost use Rattle.tora_sim.specs.Readers.{ends_in};
 
@@ -73,8 +71,7 @@ impl Model for Sim {
     ghost view = { λ s. state_of s.topology s.times s.clock s.nodes.items s.links.items s.datagrams.items };
 
     ghost invariant = { λ s. IsStore (state_of s.topology s.times s.clock s.nodes.items s.links.items s.datagrams.items)
-        × AreDeadlines s.clock s.deadlines s.links.items × (s.keys.items ≡ ends_in s.topology)
-        × AreReadyEach s.ready.items s.links.items };
+        × AreDeadlines s.clock s.deadlines s.links.items × (s.keys.items ≡ ends_in s.topology) };
 }
 
 impl Sim {

@@ -5,7 +5,6 @@ ghost use Rattle.tora_sim.specs.Nodes.{is_of};
 ghost use Rattle.tora_sim.specs.Steps.{Repeats};
 ghost use Rattle.tora_world.specs.declared.event.Event.TheVariants.{CoreTurn};
 
-use crate::lanes::make_room;
 use crate::nodes::node_near;
 use crate::sim::Sim;
 use crate::turns::{forget_waiting, take_items};
@@ -14,8 +13,8 @@ use tora_height::Id;
 
 impl Sim {
     /// Repeats `CoreTurn` at node `n` until it is refused, at most `most` times. Returns whether an item was served;
-    /// `false` also if there is no such node. The node is looked up once, and the marks and deadlines of its link ends
-    /// are updated once.
+    /// `false` also if there is no such node. The node is looked up once, and the deadlines of its link ends are updated
+    /// once.
     ///
     /// `place` is the index of the node among `nodes`. If another node is there, the node is searched for.
     ///
@@ -45,37 +44,14 @@ impl Sim {
         }
         let first = self.nodes[home].first();
         let count = self.nodes[home].count();
-        let Ok(before) = make_room(
-            &mut self.links,
-            &mut self.ready,
-            &mut self.pool,
-            first,
-            count,
-        ) else {
-            return Err(AllocError);
-        };
-        let mut lacking = before;
         let taken = take_items(
             &mut self.nodes[home],
             &mut self.links,
-            &mut lacking,
-            &mut self.pool,
+            &mut self.buffers.pool,
             &mut self.buffers.sends,
             most,
         );
-        // the ends that the items may have changed, or that were not ready before
-        let after = lacking.unready.joined(before.unready).within(count);
-        let start = first + after.from;
-        forget_waiting(
-            &self.links,
-            &mut self.ready,
-            &mut self.deadlines,
-            start,
-            after.behind - after.from,
-            first.saturating_add(lacking.seat),
-        );
-        self.shorten_lanes(home, start, after.behind - after.from);
-        self.make_seat_ready(first, count, lacking.seat);
+        forget_waiting(&self.links, &mut self.deadlines, first, count);
         match taken {
             Ok(some) => Ok(some),
             Err(_) => Err(AllocError),

@@ -134,30 +134,6 @@ impl Datagrams {
         note_hello(&mut self.hellos, end, index);
     }
 
-    /// Appends two HELLOs with these headers from the link end at the index `end`, and returns true, if both repeat its
-    /// last HELLOs and there is room for two datagrams. Otherwise it changes nothing and returns false.
-    #[inline(always)]
-    pub fn push_pair(&mut self, end: usize, _far_end: u32, first: &Header, second: &Header) -> bool
-        requires first { IsHeader first.now }
-        requires second { IsHeader second.now }
-        ensures items { result ≡ true → self.new.items ≡ (self.old.items ++ frame_of first.now Body.Hello ∷ [])
-            ++ frame_of second.now Body.Hello ∷ [] }
-        ensures same { result ≡ false → self.new ≡ self.old }
-    {
-        if self.places.capacity() - self.places.len() < 2 {
-            return false;
-        }
-        let Some(one) = found_hello(&self.kept, &self.hellos, end, first) else {
-            return false;
-        };
-        let Some(two) = found_hello(&self.kept, &self.hellos, end, second) else {
-            return false;
-        };
-        self.places.push_reserved(one);
-        self.places.push_reserved(two);
-        true
-    }
-
     /// The datagram at the index `place`, counted from 0, without copying its packets; `None` if there is none.
     #[inline(always)]
     pub fn get(&self, place: usize) -> Option<BorrowedFrame<'_>>

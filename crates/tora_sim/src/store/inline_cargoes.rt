@@ -9,15 +9,11 @@ use crate::store::kept_cargoes::append;
 use crate::store::pool::Pool;
 use std::alloc::{AllocError, Global};
 use std::marker::Model;
-use std::mem;
 use tora_arq::Life;
 use tora_seat::{Cargo, MOST_CARGOES};
 
 /// The number of inline places.
 pub const INLINE_CARGOES: usize = 4;
-
-/// A list is long if it has memory for more than this many times its messages.
-const LONG: usize = 4;
 
 /// Outbound messages in the order in which they were put: up to `INLINE_CARGOES` inline, or all in a list. If there is
 /// none left before a turn of the core, the memory of the list is freed, and the next messages are stored inline.
@@ -130,29 +126,6 @@ impl InlineCargoes {
         self.list.reserve(needed)
     }
 
-    /// If the list has more than four times the memory that its messages need, moves them to a list of the right size,
-    /// and returns the old list to the pool `pool` at the index `place`. Nothing changes if the list is empty or memory
-    /// runs out.
-    #[inline(never)]
-    pub fn shorten(&mut self, pool: &mut Pool, place: usize)
-        ensures items { self.new.items ≡ self.old.items }
-    {
-        let many = self.list.len();
-        if many == 0 {
-            return;
-        }
-        if self.list.capacity() <= LONG * many {
-            return;
-        }
-        let alloc = *self.list.allocator();
-        let Ok(short) = copied(alloc, self.list.as_slice()) else {
-            return;
-        };
-        let mut long = mem::replace(&mut self.list, short);
-        long.clear();
-        pool.give(place, long);
-    }
-
     /// Appends an outbound message: inline or to the list. If the inline places are full, all messages move to the list
     /// that the pool `pool` has at the index `place`.
     #[inline(always)]
@@ -176,19 +149,6 @@ impl InlineCargoes {
         self.is_wide = true;
         append(&mut self.list, cargo);
     }
-}
-
-/// A list with these outbound messages and room for no more.
-///
-/// # Errors
-/// Memory ran out.
-fn copied(alloc: Global, cargoes: &[Cargo]) -> Result<Vec<Cargo>, AllocError>
-    ensures { IfOk result (λ list. list.items ≡ cargoes.now) }
-{
-    let mut list = Vec::new(alloc);
-    list.reserve_exact(cargoes.len())?;
-    list.extend_from_slice(cargoes)?;
-    Ok(list)
 }
 
 /// Replaces the outbound message at an index.

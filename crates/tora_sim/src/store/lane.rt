@@ -108,17 +108,6 @@ impl Lane {
         self.cargoes.reserve()
     }
 
-    /// If the list has more than four times the memory that its messages need, moves them to a list of the right size,
-    /// and returns the old list to the pool `pool` at the index `spare`. Nothing changes if the list is empty or memory
-    /// runs out.
-    #[inline(always)]
-    pub fn shorten(&mut self, pool: &mut Pool, spare: usize)
-        ensures put { self.new.put ≡ self.old.put }
-        ensures pulled { self.new.pulled ≡ self.old.pulled }
-    {
-        self.cargoes.shorten(pool, spare);
-    }
-
     /// Puts an outbound message at the back. Fewer than `MOST_CARGOES` must wait. The queue must have room in its list,
     /// or no list and a whole list in the pool `pool` at the index `spare`, which it takes when its inline places are
     /// full.

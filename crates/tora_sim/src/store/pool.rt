@@ -55,16 +55,13 @@ impl Spare {
 }
 
 /// Empty lists for the outbound queues of the node that is served, one for each neighbour. A queue that needs a list
-/// takes that of its neighbour. The queue returns the list when it is shortened, and frees it when it is empty before a
-/// turn of the core. Missing lists are allocated before the next turn, so serving an item needs no memory, and only
-/// queues that once held many messages have a list.
+/// takes that of its neighbour, and frees it when it is empty before a turn of the core. Missing lists are allocated
+/// before the next turn, so serving an item needs no memory, and only queues that held many messages have a list.
 #[derive(Drop)]
 pub struct Pool {
     lists: Vec<Spare>,
     /// This many of the first lists are known to have the room that `Spare::make_whole` allocates.
     whole: usize,
-    /// Whether a list was taken since `forget_taken` was last called.
-    is_taken: bool,
 }
 
 impl Model for Pool {
@@ -84,7 +81,6 @@ impl Pool {
         Pool {
             lists: Vec::new(alloc),
             whole: 0,
-            is_taken: false,
         }
     }
 
@@ -123,35 +119,7 @@ impl Pool {
         ensures others { AreOthersAsWhole self.old self.new place }
     {
         self.whole = self.whole.min(place);
-        self.is_taken = true;
         self.lists[place].take()
-    }
-
-    /// Whether a list was taken since `forget_taken` was last called. If not, no outbound queue has a longer list than
-    /// then.
-    #[inline(always)]
-    pub fn was_taken(&self) -> bool {
-        self.is_taken
-    }
-
-    /// Resets `was_taken` to false.
-    pub fn forget_taken(&mut self)
-        ensures { self.new ≡ self.old }
-    {
-        self.is_taken = false;
-    }
-
-    /// Puts a list at an index, in place of the one there. If the pool has no list there, the new one is freed.
-    pub fn give(&mut self, place: usize, list: Vec<Cargo>)
-        requires { list.items ≡ [] }
-    {
-        if place >= self.lists.len() {
-            return;
-        }
-        if place < self.whole {
-            self.whole = place;
-        }
-        self.lists[place].list = list;
     }
 }
 

@@ -1,7 +1,10 @@
-use Rattle.std.proofs.Common.{◌*◌}
+use Rattle.std.proofs.Common.{◌-◌, length}
 use Rattle.tora_sim.specs.Links.{ticked, AreChanged}
 use Rattle.tora_sim.proofs.ticking.tick.Given as goal
 
--- the ends of the blocks so far are ticked
-abbrev pub invariant-loop-block : goal.invariant-loop-block
-invariant-loop-block l = AreChanged (ticked l.now) l.initial.links.items l.links.items 0 (16 * l.block)
+-- the ends before `at` are ticked
+abbrev pub invariant-loop-at : goal.invariant-loop-at
+invariant-loop-at l = AreChanged (ticked l.now) l.initial.links.items l.links.items 0 l.at
+
+abbrev pub decreases-loop-at : goal.decreases-loop-at
+decreases-loop-at l = length l.deadlines - l.at

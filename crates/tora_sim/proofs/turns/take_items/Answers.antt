@@ -1,7 +1,7 @@
 use Rattle.std.proofs.Common.{◌≡◌, ◌∙◌, ℕ, suc, ◌+◌, ◌-◌, Bool, false, Result, Err, sym, ap, subst, arith}
 use Rattle.std.specs.Prelude.{slice_set}
 use Rattle.tora_world.specs.declared.sim_error.SimError.{SimError}
-use Rattle.tora_sim.specs.Lanes.{AreReadyOutside, AreOthersKept, HaveRoom, HaveRoomBut}
+use Rattle.tora_sim.specs.Lanes.{AreOthersKept, HaveRoom}
 use Rattle.tora_sim.specs.Store.{state_of}
 use Rattle.tora_sim.specs.Taking.{Takes}
 use Rattle.tora_sim.proofs.Rooms.{same_length}
@@ -10,7 +10,7 @@ use Rattle.tora_sim.proofs.turns.take_items.Goals as goal
 
 pub loop-init : goal.loop-init
 loop-init c = record {
-  taken = none_taken c.args.node.now c.args.links.now.items c.args.lacking.now.unready c.args.lacking.now.seat c.requires.neighbours c.requires.room;
+  taken = none_taken c.args.node.now c.args.links.now.items c.requires.neighbours;
   goes = λ t times clock nodes ds n home h first read.
       let all : c.args.most ≡ c.args.most - 0 = omega arith in
       subst (λ (m : ℕ). Goes t times clock nodes c.args.links.now.items ds n home c.args.most c.args.node.now c.args.links.now.items false m) all (none_gone t times clock nodes c.args.links.now.items ds n home c.args.most c.args.node.now h first read);
@@ -22,74 +22,65 @@ returns-then-waiting-eq0-clause-items c = λ t times clock nodes ds n home h fir
     let g = subst (λ (m : ℕ). Goes t times clock nodes c.args.links.now.items ds n home c.args.most c.loop.node c.loop.links.items c.loop.some m) left (c.loop.invariant.goes t times clock nodes ds n home h first read) in
     all_taken t times clock nodes c.args.links.now.items ds n home c.args.most c.args.node.now first read c.loop.node c.loop.invariant.taken.node c.loop.links.items c.loop.some (c.args.most - (c.loop.counter + 1)) g (sym c.waiting.ensures ∙ c.if-waiting-eq0.true)
 
-pub make_room_again-requires-clause-ready : goal.make_room_again-requires-clause-ready
-make_room_again-requires-clause-ready c =
+pub make_room-requires : goal.make_room-requires
+make_room-requires c =
     let h = c.loop.invariant.taken in
-    placed (λ f n. AreReadyOutside c.loop.links.items f n c.loop.lacking.unready) c.first-first.result c.count-count.result c.args.node.now.first c.args.node.now.count (c.first-first.ensures ∙ h.first) (c.count-count.ensures ∙ h.count) h.ready
+    let first = h.first in
+    let count = h.count in
+    let many = h.many in
+    omega (arith, c.requires.within, first, count, many, c.first-first.ensures, c.count-count.ensures)
 
-pub make_room_again-requires-clause-room : goal.make_room_again-requires-clause-room
-make_room_again-requires-clause-room c =
+pub turn-requires-clause-within : goal.turn-requires-clause-within
+turn-requires-clause-within c =
     let h = c.loop.invariant.taken in
-    placed (λ f n. HaveRoomBut c.loop.links.items f n c.loop.lacking.seat) c.first-first.result c.count-count.result c.args.node.now.first c.args.node.now.count (c.first-first.ensures ∙ h.first) (c.count-count.ensures ∙ h.count) h.room
+    let first = h.first in
+    let count = h.count in
+    let many = h.many in
+    let same = same_length c.loop.links.items c.make_room.new.links.items c.in-Ok.ensures.same in
+    omega (arith, c.requires.within, first, count, many, same)
+
+pub turn-requires-clause-room : goal.turn-requires-clause-room
+turn-requires-clause-room c =
+    placed (λ a b. HaveRoom c.make_room.new.links.items a b) c.loop.node.first c.loop.node.count c.first-first.result c.count-count.result (sym c.first-first.ensures) (sym c.count-count.ensures) c.in-Ok.ensures.room
 
 pub returns-in-Err-clause-taken : goal.returns-in-Err-clause-taken
 returns-in-Err-clause-taken c =
     let e = c.in-Err.ensures in
     let x = c.loop.node in
     let old = c.loop.links.items in
-    let new = c.make_room_again.new.links.items in
+    let new = c.make_room.new.links.items in
     let f = c.first-first.result in
     let n = c.count-count.result in
-    roomed c.args.node.now x c.args.links.now.items old new c.loop.lacking.unready c.loop.lacking.seat c.loop.invariant.taken e.same
+    roomed c.args.node.now x c.args.links.now.items old new c.loop.invariant.taken e.same
     (placed (λ a b. AreOthersKept old new a b) x.first x.count f n (sym c.first-first.ensures) (sym c.count-count.ensures) e.others)
-    (placed (λ a b. AreReadyOutside new a b c.loop.lacking.unready) x.first x.count f n (sym c.first-first.ensures) (sym c.count-count.ensures) e.ready)
-    (placed (λ a b. HaveRoomBut new a b c.loop.lacking.seat) x.first x.count f n (sym c.first-first.ensures) (sym c.count-count.ensures) e.but)
 
 pub returns-in-Err-clause-items : goal.returns-in-Err-clause-items
 returns-in-Err-clause-items c = λ t times clock nodes ds n home h first read.
     let e = c.in-Err.ensures in
     let x = c.loop.node in
     let old = c.loop.links.items in
-    let new = c.make_room_again.new.links.items in
+    let new = c.make_room.new.links.items in
     let left : c.args.most - c.loop.counter ≡ suc (c.args.most - (c.loop.counter + 1)) = omega (arith, c.loop-test.true) in
     let g = subst (λ (m : ℕ). Goes t times clock nodes c.args.links.now.items ds n home c.args.most x old c.loop.some m) left (c.loop.invariant.goes t times clock nodes ds n home h first read) in
     subst (λ (r : Result Bool SimError). Takes (state_of t times clock nodes c.args.links.now.items ds) (state_of t times clock (slice_set nodes home x) new ds) n c.args.most r) (sym (ap Err e.memory))
     (room_refused t times clock nodes c.args.links.now.items ds n home c.args.most c.args.node.now first read x c.loop.invariant.taken.node old c.loop.some (c.args.most - (c.loop.counter + 1)) g (omega (arith, c.waiting.ensures, c.if-waiting-eq0.false)) new e.same)
-
-pub turn-requires-clause-room : goal.turn-requires-clause-room
-turn-requires-clause-room c =
-    let e = c.in-Ok.ensures in
-    let h = c.loop.invariant.taken in
-    let x = c.loop.node in
-    let new = c.make_room_again.new.links.items in
-    let f = c.first-first.result in
-    let n = c.count-count.result in
-    let first = h.first in
-    let count = h.count in
-    let many = h.many in
-    let same = same_length c.loop.links.items new e.same in
-    record {
-      within = omega (arith, c.requires.room.within, first, count, many, same);
-      room = placed (λ a b. HaveRoom new a b) x.first x.count f n (sym c.first-first.ensures) (sym c.count-count.ensures) e.room;
-      ready = placed (λ a b. AreReadyOutside new a b c.loop.lacking.unready) x.first x.count f n (sym c.first-first.ensures) (sym c.count-count.ensures) e.ready;
-    }
 
 pub returns-in-Err-turn-clause-taken : goal.returns-in-Err-turn-clause-taken
 returns-in-Err-turn-clause-taken c =
     let e = c.in-Ok.ensures in
     let x = c.loop.node in
     let old = c.loop.links.items in
-    let new = c.make_room_again.new.links.items in
-    taken_on c.args.node.now x c.args.links.now.items old new c.loop.lacking.unready c.loop.lacking.seat c.loop.invariant.taken e.same
+    let new = c.make_room.new.links.items in
+    taken_on c.args.node.now x c.args.links.now.items old new c.loop.invariant.taken e.same
     (placed (λ a b. AreOthersKept old new a b) x.first x.count c.first-first.result c.count-count.result (sym c.first-first.ensures) (sym c.count-count.ensures) e.others)
-    c.turn.new.node c.turn.new.links.items c.turn.result c.turn.ensures.turned c.turn.new.lacking.unready c.turn.new.lacking.seat c.turn.ensures.ready c.turn.ensures.room c.turn.ensures.others
+    c.turn.new.node c.turn.new.links.items c.turn.result c.turn.ensures.turned c.turn.ensures.others
 
 pub returns-in-Err-turn-clause-items : goal.returns-in-Err-turn-clause-items
 returns-in-Err-turn-clause-items c = λ t times clock nodes ds n home h first read.
     let e = c.in-Ok.ensures in
     let x = c.loop.node in
     let old = c.loop.links.items in
-    let new = c.make_room_again.new.links.items in
+    let new = c.make_room.new.links.items in
     let left : c.args.most - c.loop.counter ≡ suc (c.args.most - (c.loop.counter + 1)) = omega (arith, c.loop-test.true) in
     let g = subst (λ (m : ℕ). Goes t times clock nodes c.args.links.now.items ds n home c.args.most x old c.loop.some m) left (c.loop.invariant.goes t times clock nodes ds n home h first read) in
     let d = c.in-Err-turn.ensures.turned in
@@ -101,11 +92,11 @@ loop-preserved c =
     let e = c.in-Ok.ensures in
     let x = c.loop.node in
     let old = c.loop.links.items in
-    let new = c.make_room_again.new.links.items in
+    let new = c.make_room.new.links.items in
     record {
-      taken = taken_on c.args.node.now x c.args.links.now.items old new c.loop.lacking.unready c.loop.lacking.seat c.loop.invariant.taken e.same
+      taken = taken_on c.args.node.now x c.args.links.now.items old new c.loop.invariant.taken e.same
           (placed (λ a b. AreOthersKept old new a b) x.first x.count c.first-first.result c.count-count.result (sym c.first-first.ensures) (sym c.count-count.ensures) e.others)
-          c.turn.new.node c.turn.new.links.items c.turn.result c.turn.ensures.turned c.turn.new.lacking.unready c.turn.new.lacking.seat c.turn.ensures.ready c.turn.ensures.room c.turn.ensures.others;
+          c.turn.new.node c.turn.new.links.items c.turn.result c.turn.ensures.turned c.turn.ensures.others;
       goes = λ t times clock nodes ds n home h first read.
           let left : c.args.most - c.loop.counter ≡ suc (c.args.most - (c.loop.counter + 1)) = omega (arith, c.loop-test.true) in
           let g = subst (λ (m : ℕ). Goes t times clock nodes c.args.links.now.items ds n home c.args.most x old c.loop.some m) left (c.loop.invariant.goes t times clock nodes ds n home h first read) in

@@ -5,7 +5,7 @@ use Rattle.tora_sim.specs.Lanes.{LanesView, lanes_of, bare_between}
 use Rattle.tora_sim.specs.Links.{LinkView}
 use Rattle.tora_sim.proofs.Bared.{lanes_before, same_between, others_between, others_stay, turned_from}
 use Rattle.tora_sim.proofs.Served.{seat_within}
-use Rattle.tora_sim.proofs.UnreadyEnds.{ready_turned, ready_same, room_turned, room_same, served_leaves}
+use Rattle.tora_sim.proofs.OtherEnds.{served_leaves}
 use Rattle.tora_sim.proofs.turns.turn.Goals as goal
 
 pub new-lanes-requires-clause-whole : goal.new-lanes-requires-clause-whole
@@ -23,7 +23,7 @@ returns-in-Ok-clause-turned c =
     let v = c.new-lanes.result in
     let old = c.args.links.now.items in
     let before : v ≡ lanes_of (bare_between x.first x.count old) x.first x.count = lanes_before v x c.first.result c.count.result c.replace-ends.result.items old c.new-lanes.ensures c.first.ensures c.count.ensures (ap (λ v. v.items) c.replace-ends.ensures.value) in
-    turned_from x c.serve.new.self v c.serve.new.lanes c.in-Ok.item old before c.in-Ok.ensures.served c.stepped.result c.into_links.result.items c.stepped.ensures c.into_links.ensures.noted
+    turned_from x c.serve.new.self v c.serve.new.lanes c.in-Ok.item old before c.in-Ok.ensures.served c.stepped.result c.into_links.result.items c.stepped.ensures c.into_links.ensures
 
 pub returns-in-Ok-clause-others : goal.returns-in-Ok-clause-others
 returns-in-Ok-clause-others c =
@@ -36,13 +36,7 @@ returns-in-Ok-clause-others c =
     let within : MatchOption c.stepped.result ⊤ (λ _. c.in-Ok.item.seat < c.serve.new.lanes.count) =
     seat_within x c.serve.new.self v c.serve.new.lanes c.in-Ok.item c.offers_are_their_own_answers.ensures (omega (arith, count, c.requires.neighbours)) c.in-Ok.ensures.served c.stepped.result c.stepped.ensures in
     others_stay x c.serve.new.self v c.serve.new.lanes c.in-Ok.item old before c.in-Ok.ensures.served c.into_links.result.items
-    (served_leaves x c.serve.new.self v c.serve.new.lanes c.in-Ok.item c.stepped.result (bare_between c.serve.new.lanes.first c.serve.new.lanes.count c.into_links.result.items) x.first x.count first count c.in-Ok.ensures.served within c.into_links.ensures.noted)
-
-pub returns-in-Ok-clause-ready : goal.returns-in-Ok-clause-ready
-returns-in-Ok-clause-ready c =
-    let first : c.new-lanes.result.first ≡ c.args.node.now.first = ap (λ (v : LanesView). v.first) c.new-lanes.ensures ∙ c.first.ensures in
-    let count : c.new-lanes.result.count ≡ c.args.node.now.count = ap (λ (v : LanesView). v.count) c.new-lanes.ensures ∙ c.count.ensures in
-    ready_turned c.args.node.now c.serve.new.self c.new-lanes.result c.serve.new.lanes c.in-Ok.item c.into_links.result.items c.args.node.now.first c.args.node.now.count c.into_links.new.unready first count c.in-Ok.ensures.served c.into_links.ensures.ready
+    (served_leaves x c.serve.new.self v c.serve.new.lanes c.in-Ok.item c.stepped.result (bare_between c.serve.new.lanes.first c.serve.new.lanes.count c.into_links.result.items) x.first x.count first count c.in-Ok.ensures.served within c.into_links.ensures)
 
 pub returns-in-Err-clause-turned : goal.returns-in-Err-clause-turned
 returns-in-Err-clause-turned c =
@@ -50,7 +44,7 @@ returns-in-Err-clause-turned c =
     let v = c.new-lanes.result in
     let old = c.args.links.now.items in
     let before : v ≡ lanes_of (bare_between x.first x.count old) x.first x.count = lanes_before v x c.first.result c.count.result c.replace-ends.result.items old c.new-lanes.ensures c.first.ensures c.count.ensures (ap (λ v. v.items) c.replace-ends.ensures.value) in
-    (c.in-Err.ensures.memory, c.in-Err.ensures.kept.0, same_between c.serve.new.lanes x old c.into_links-in-Err.result.items (c.in-Err.ensures.kept.1 ∙ before) c.into_links-in-Err.ensures.noted)
+    (c.in-Err.ensures.memory, c.in-Err.ensures.kept.0, same_between c.serve.new.lanes x old c.into_links-in-Err.result.items (c.in-Err.ensures.kept.1 ∙ before) c.into_links-in-Err.ensures)
 
 pub returns-in-Err-clause-others : goal.returns-in-Err-clause-others
 returns-in-Err-clause-others c =
@@ -58,23 +52,5 @@ returns-in-Err-clause-others c =
     let v = c.new-lanes.result in
     let old = c.args.links.now.items in
     let before : v ≡ lanes_of (bare_between x.first x.count old) x.first x.count = lanes_before v x c.first.result c.count.result c.replace-ends.result.items old c.new-lanes.ensures c.first.ensures c.count.ensures (ap (λ v. v.items) c.replace-ends.ensures.value) in
-    let same = same_between c.serve.new.lanes x old c.into_links-in-Err.result.items (c.in-Err.ensures.kept.1 ∙ before) c.into_links-in-Err.ensures.noted in
+    let same = same_between c.serve.new.lanes x old c.into_links-in-Err.result.items (c.in-Err.ensures.kept.1 ∙ before) c.into_links-in-Err.ensures in
     others_between x.first x.count old c.into_links-in-Err.result.items (λ at away. ap (λ (xs : List LinkView). slice_get xs at) same)
-
-pub returns-in-Err-clause-ready : goal.returns-in-Err-clause-ready
-returns-in-Err-clause-ready c =
-    let first : c.new-lanes.result.first ≡ c.args.node.now.first = ap (λ (v : LanesView). v.first) c.new-lanes.ensures ∙ c.first.ensures in
-    let count : c.new-lanes.result.count ≡ c.args.node.now.count = ap (λ (v : LanesView). v.count) c.new-lanes.ensures ∙ c.count.ensures in
-    ready_same c.new-lanes.result c.serve.new.lanes c.into_links-in-Err.result.items c.args.node.now.first c.args.node.now.count c.into_links-in-Err.new.unready first count c.in-Err.ensures.kept.1 c.into_links-in-Err.ensures.ready
-
-pub returns-in-Ok-clause-room : goal.returns-in-Ok-clause-room
-returns-in-Ok-clause-room c =
-    let first : c.new-lanes.result.first ≡ c.args.node.now.first = ap (λ (v : LanesView). v.first) c.new-lanes.ensures ∙ c.first.ensures in
-    let count : c.new-lanes.result.count ≡ c.args.node.now.count = ap (λ (v : LanesView). v.count) c.new-lanes.ensures ∙ c.count.ensures in
-    room_turned c.args.node.now c.serve.new.self c.new-lanes.result c.serve.new.lanes c.in-Ok.item c.into_links.result.items c.args.node.now.first c.args.node.now.count c.in-Ok.item.seat first count c.in-Ok.ensures.served c.into_links.ensures.room
-
-pub returns-in-Err-clause-room : goal.returns-in-Err-clause-room
-returns-in-Err-clause-room c =
-    let first : c.new-lanes.result.first ≡ c.args.node.now.first = ap (λ (v : LanesView). v.first) c.new-lanes.ensures ∙ c.first.ensures in
-    let count : c.new-lanes.result.count ≡ c.args.node.now.count = ap (λ (v : LanesView). v.count) c.new-lanes.ensures ∙ c.count.ensures in
-    room_same c.new-lanes.result c.serve.new.lanes c.into_links-in-Err.result.items c.args.node.now.first c.args.node.now.count 0 first count c.in-Err.ensures.kept.1 c.into_links-in-Err.ensures.room

@@ -1,4 +1,4 @@
-use Rattle.std.proofs.Common.{subst, arith}
+use Rattle.std.proofs.Common.{subst}
 use Rattle.std.specs.Prelude.{slice_set}
 use Rattle.tora_world.specs.declared.event.Event.TheVariants.{Arm}
 use Rattle.tora_sim.specs.Keyed.{IsFirst}
@@ -15,7 +15,6 @@ invariant_of-self c =
       sends_store s.topology s.times s.clock s.nodes.items s.links.items s.datagrams.items c.self.invariant.0 c.args.n c.in-Some.home c.index_mut.result.now c.in-Some.ensures.first c.index_mut.ensures.value Sends.IsLost c.arm_sending.new.self c.arm_sending.ensures,
       c.self.invariant.1,
       c.self.invariant.2,
-      c.self.invariant.3,
     )
 
 pub invariant_of-self-in-SendGone : goal.invariant_of-self-in-SendGone
@@ -24,7 +23,6 @@ invariant_of-self-in-SendGone c =
       sends_store s.topology s.times s.clock s.nodes.items s.links.items s.datagrams.items c.self.invariant.0 c.args.n c.in-Some.home c.index_mut-in-SendGone.result.now c.in-Some.ensures.first c.index_mut-in-SendGone.ensures.value Sends.IsGone c.arm_sending-in-SendGone.new.self c.arm_sending-in-SendGone.ensures,
       c.self.invariant.1,
       c.self.invariant.2,
-      c.self.invariant.3,
     )
 
 pub invariant_of-self-in-Receive : goal.invariant_of-self-in-Receive
@@ -33,7 +31,6 @@ invariant_of-self-in-Receive c =
       receive_store s.topology s.times s.clock s.nodes.items s.links.items s.datagrams.items c.self.invariant.0 c.args.n c.in-Some.home c.index_mut-in-Receive.result.now c.in-Some.ensures.first c.index_mut-in-Receive.ensures.value c.arm_receive.new.self c.arm_receive.ensures,
       c.self.invariant.1,
       c.self.invariant.2,
-      c.self.invariant.3,
     )
 
 pub returns-in-SendLost : goal.returns-in-SendLost

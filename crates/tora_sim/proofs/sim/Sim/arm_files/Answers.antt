@@ -2,7 +2,6 @@ use Rattle.std.proofs.Common.{◌≡◌, ℕ, nat_eq, map, ap, sym, subst, ◌�
 use Rattle.std.proofs.lemmas.Bool.{cond_both}
 use Rattle.tora_world.specs.declared.event.Event.TheVariants.{Arm}
 use Rattle.tora_sim.specs.Keyed.{IsFirst}
-use Rattle.tora_sim.specs.Lanes.{IsReady}
 use Rattle.tora_sim.specs.Links.{LinkView, AreChanged, after_arm}
 use Rattle.tora_sim.specs.Quiet.{IsIdleUntil}
 use Rattle.tora_sim.specs.Nodes.{NodeView, is_of}
@@ -12,7 +11,6 @@ use Rattle.tora_sim.proofs.Opens.{same_read}
 use Rattle.tora_sim.proofs.Arms.{armed_of, files_done, files_store, noded_at}
 use Rattle.tora_sim.proofs.NodeEnds.{ends_within, changed_is}
 use Rattle.tora_sim.proofs.IdleEnds.{mapped_idle}
-use Rattle.tora_sim.proofs.ReadyEnds.{mapped_ready}
 use Rattle.tora_sim.proofs.sim.Sim.arm_files.Goals as goal
 
 pub arm-requires : goal.arm-requires
@@ -43,8 +41,6 @@ invariant_of-self c =
       mapped_idle s.clock s.deadlines s.links.items c.arm.new.links.items (armed_of c.args.n c.args.call) (armed c)
           (λ until x h. cond_both (nat_eq x.node c.args.n) (after_arm x c.args.call) x (λ (z : LinkView). IsIdleUntil until z) (λ _. h) (λ _. h)) c.self.invariant.1,
       c.self.invariant.2,
-      mapped_ready s.ready.items s.links.items c.arm.new.links.items (armed_of c.args.n c.args.call) (armed c)
-          (λ x h. cond_both (nat_eq x.node c.args.n) (after_arm x c.args.call) x (λ (z : LinkView). IsReady z) (λ _. h) (λ _. h)) c.self.invariant.3,
     )
 
 pub returns : goal.returns

@@ -4,7 +4,6 @@ use Rattle.tora_sim.specs.Cuts.{after_cut_at}
 use Rattle.tora_sim.specs.Store.{SimState, state_of, world_of}
 use Rattle.tora_sim.proofs.Opens.{cut_done, cut_store}
 use Rattle.tora_sim.proofs.IdleEnds.{unknown_idle, one_forgotten, forgotten_idle}
-use Rattle.tora_sim.proofs.ReadyEnds.{kept_as}
 use Rattle.tora_sim.proofs.sim.Sim.cut_bound.Goals as goal
 
 pub place-requires-clause-keys : goal.place-requires-clause-keys
@@ -21,7 +20,6 @@ invariant_of-self c =
       unknown_idle s.clock c.forget.new.deadlines s.links.items c.in-Some.at c.cut_bound.new.self (one_forgotten s.deadlines c.forget.new.deadlines c.in-Some.at c.forget.ensures)
           (forgotten_idle s.clock s.deadlines c.forget.new.deadlines s.links.items c.in-Some.at 1 c.forget.ensures c.self.invariant.1),
       c.self.invariant.2,
-      kept_as s.ready.items s.links.items c.in-Some.at c.index_mut.result.now c.cut_bound.new.self _ c.in-Some.ensures.first.within c.index_mut.ensures.value c.cut_bound.ensures (λ h. h) c.self.invariant.3,
     )
 
 pub returns-in-Some : goal.returns-in-Some

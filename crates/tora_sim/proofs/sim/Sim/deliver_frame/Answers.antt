@@ -13,7 +13,6 @@ use Rattle.tora_sim.proofs.Opens.{same_read}
 use Rattle.tora_sim.proofs.Receives.{home_is_there, failed_done, failed_store, received_done, received_store}
 use Rattle.tora_sim.specs.Quiet.{IsDeadline}
 use Rattle.tora_sim.proofs.IdleEnds.{found_idle, short_idle}
-use Rattle.tora_sim.proofs.ReadyEnds.{kept_as}
 use Rattle.tora_sim.proofs.Quiets.{set_same}
 use Rattle.tora_sim.proofs.Unchanged.{links_stay}
 use Rattle.tora_sim.proofs.sim.Sim.deliver_frame.Goals as goal
@@ -43,7 +42,6 @@ invariant_of-self c =
           c.in-Some-node_near.home c.index_mut.result.now (first c) c.index_mut.ensures.value c.arm_receive.new.self c.arm_receive.ensures,
       c.self.invariant.1,
       c.self.invariant.2,
-      c.self.invariant.3,
     )
 
 pub returns-then-receive : goal.returns-then-receive
@@ -71,7 +69,7 @@ module _ (c : goal.In_default-receive_and_look) where
 pub invariant_of-self-in_default-receive_and_look : goal.invariant_of-self-in_default-receive_and_look
 invariant_of-self-in_default-receive_and_look c =
     let s = c.self.inside in
-    links_stay s.topology s.times s.clock s.nodes.items s.links.items s.datagrams.items s.keys.items s.deadlines s.ready.items c.self.invariant (slice_set s.links.items c.in-Some-place_near.at c.receive_and_look.new.self) (stays c)
+    links_stay s.topology s.times s.clock s.nodes.items s.links.items s.datagrams.items s.keys.items s.deadlines c.self.invariant (slice_set s.links.items c.in-Some-place_near.at c.receive_and_look.new.self) (stays c)
 
 pub returns-in_default-receive_and_look : goal.returns-in_default-receive_and_look
 returns-in_default-receive_and_look c =
@@ -99,7 +97,6 @@ invariant_of-self-2 c =
       found_idle s.clock s.deadlines c.set_deadline.new.deadlines s.links.items c.in-Some-place_near.at c.short.result c.receive_and_look.new.self c.in-Some-place_near.ensures.first.within c.set_deadline.ensures
           (subst (λ (n : ℕ). IsDeadline n c.receive_and_look.new.self) (sym c.short.ensures) (short_idle c.in-Some-receive_and_look.until c.receive_and_look.new.self c.in-Some-receive_and_look.ensures.idle)) c.self.invariant.1,
       c.self.invariant.2,
-      kept_as s.ready.items s.links.items c.in-Some-place_near.at c.index_mut-2.result.now c.receive_and_look.new.self _ c.in-Some-place_near.ensures.first.within c.index_mut-2.ensures.value c.in-Some-receive_and_look.ensures.state (λ h. h) c.self.invariant.3,
     )
 
 pub returns : goal.returns

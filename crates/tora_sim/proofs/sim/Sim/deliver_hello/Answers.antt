@@ -12,7 +12,6 @@ use Rattle.tora_sim.proofs.Quiets.{set_same}
 use Rattle.tora_sim.proofs.Receives.{received_done, received_store}
 use Rattle.tora_sim.specs.Quiet.{IsDeadline}
 use Rattle.tora_sim.proofs.IdleEnds.{found_idle, short_idle}
-use Rattle.tora_sim.proofs.ReadyEnds.{kept_as}
 use Rattle.tora_sim.proofs.Unchanged.{links_stay}
 use Rattle.tora_sim.proofs.sim.Sim.deliver_hello.Goals as goal
 
@@ -31,7 +30,7 @@ module _ (c : goal.In_default-receive_hello_and_look) where
 pub invariant_of-self : goal.invariant_of-self
 invariant_of-self c =
     let s = c.self.inside in
-    links_stay s.topology s.times s.clock s.nodes.items s.links.items s.datagrams.items s.keys.items s.deadlines s.ready.items c.self.invariant (slice_set s.links.items c.in-Some-place_near.at c.receive_hello_and_look.new.self) (stays c)
+    links_stay s.topology s.times s.clock s.nodes.items s.links.items s.datagrams.items s.keys.items s.deadlines c.self.invariant (slice_set s.links.items c.in-Some-place_near.at c.receive_hello_and_look.new.self) (stays c)
 
 pub returns-in_default-receive_hello_and_look-clause-same : goal.returns-in_default-receive_hello_and_look-clause-same
 returns-in_default-receive_hello_and_look-clause-same c _ =
@@ -50,7 +49,6 @@ invariant_of-self-2 c =
       found_idle s.clock s.deadlines c.set_deadline.new.deadlines s.links.items c.in-Some-place_near.at c.short.result c.receive_hello_and_look.new.self c.in-Some-place_near.ensures.first.within c.set_deadline.ensures
           (subst (λ (n : ℕ). IsDeadline n c.receive_hello_and_look.new.self) (sym c.short.ensures) (short_idle c.in-Some-receive_hello_and_look.until c.receive_hello_and_look.new.self c.in-Some-receive_hello_and_look.ensures.idle)) c.self.invariant.1,
       c.self.invariant.2,
-      kept_as s.ready.items s.links.items c.in-Some-place_near.at c.index_mut.result.now c.receive_hello_and_look.new.self _ c.in-Some-place_near.ensures.first.within c.index_mut.ensures.value c.in-Some-receive_hello_and_look.ensures.state (λ h. h) c.self.invariant.3,
     )
 
 pub returns-clause-done : goal.returns-clause-done

@@ -22,7 +22,6 @@ invariant_of-self c =
           (slice_get_read s.links.items (length s.links.items) c.args.at c.index.result.now refl within c.index.ensures)
           (subst (λ (n : ℕ). IsDeadline n c.index.result.now) (sym c.short.ensures) (short_idle c.deadline-until.result c.index.result.now c.deadline-until.ensures)) c.self.invariant.1,
       c.self.invariant.2,
-      c.self.invariant.3,
     )
 
 pub returns-clause-over : goal.returns-clause-over

@@ -1,4 +1,4 @@
-use Rattle.std.proofs.Common.{ap, sym, ◌∙◌, subst, arith}
+use Rattle.std.proofs.Common.{ap, sym, ◌∙◌, subst}
 use Rattle.std.proofs.lemmas.Bool.{both_ways}
 use Rattle.tora_world.specs.declared.event.Event.TheVariants.{Open}
 use Rattle.tora_world.specs.declared.sim_error.SimError.TheVariants as Refused
@@ -9,7 +9,6 @@ use Rattle.tora_sim.specs.Steps.{IsDone, IsRefused}
 use Rattle.std.specs.Prelude.{slice_set}
 use Rattle.tora_sim.proofs.Opens.{open_refused, open_done, open_store, same_read}
 use Rattle.tora_sim.proofs.IdleEnds.{possible_idle}
-use Rattle.tora_sim.proofs.ReadyEnds.{kept_as}
 use Rattle.tora_sim.proofs.sim.Sim.open.Goals as goal
 
 pub place-requires-clause-keys : goal.place-requires-clause-keys
@@ -31,7 +30,6 @@ invariant_of-self c =
           (λ until lt h. both_ways (is_closed c.index_mut.result.now.state) h.opened (ap (λ (x : LinkView). is_closed x.state) (same_read s.links.items c.in-Some.at c.index_mut.result.now c.index.result.now c.in-Some.ensures.first.within c.index_mut.ensures.value c.index.ensures)
           ∙ sym c.is_closed.ensures ∙ c.if-not-is_closed.false)) c.self.invariant.1,
       c.self.invariant.2,
-      kept_as s.ready.items s.links.items c.in-Some.at c.index_mut.result.now c.open.new.self _ c.in-Some.ensures.first.within c.index_mut.ensures.value c.open.ensures (λ h. h) c.self.invariant.3,
     )
 
 pub returns : goal.returns

@@ -14,7 +14,6 @@ use Rattle.tora_sim.proofs.Opens.{same_read}
 use Rattle.tora_sim.proofs.Sends.{at_home}
 use Rattle.tora_sim.proofs.Pumps.{pump_without, pump_full, pump_starved, pump_done, pump_store, seat_room}
 use Rattle.tora_sim.proofs.IdleEnds.{possible_idle}
-use Rattle.tora_sim.proofs.ReadyEnds.{kept_as}
 use Rattle.tora_sim.proofs.sim.Sim.pump.Goals as goal
 
 pub place_near-requires-clause-keys : goal.place_near-requires-clause-keys
@@ -82,7 +81,6 @@ invariant_of-self c =
       possible_idle s.clock s.deadlines s.links.items c.in-Some.at c.index.result.now c.take_event.new.self c.in-Some.ensures.first.within c.index.ensures
           (λ until lt h. both_ways (is_some (first_event c.index.result.now.state)) h.events (ap is_some (sym c.next_event.ensures ∙ c.in-Some-next_event.is))) c.self.invariant.1,
       c.self.invariant.2,
-      kept_as s.ready.items s.links.items c.in-Some.at c.index.result.now c.take_event.new.self _ c.in-Some.ensures.first.within c.index.ensures (link_is c) (λ h. h) c.self.invariant.3,
     )
 
 pub returns-in-Ok : goal.returns-in-Ok

@@ -13,7 +13,6 @@ use Rattle.tora_sim.proofs.Opens.{same_read}
 use Rattle.tora_sim.proofs.Turning.{ends_within}
 use Rattle.tora_sim.proofs.Restarting.{restart_starved, restart_done, restart_store}
 use Rattle.tora_sim.proofs.IdleEnds.{forgotten_idle, changed_idle}
-use Rattle.tora_sim.proofs.ReadyEnds.{changed_ready, restarted_ready}
 use Rattle.tora_sim.proofs.sim.Sim.restart.Goals as goal
 
 pub returns-in_default-new_seat : goal.returns-in_default-new_seat
@@ -80,7 +79,6 @@ invariant_of-self c =
           (λ place lt. let many = c.in-Ok-new_ends.ensures.as_many in c.forget.ensures.here place (omega (arith, lt, many))) c.restart_ends.ensures
           (forgotten_idle s.clock s.deadlines c.forget.new.deadlines s.links.items c.first-first.result c.count-count.result c.forget.ensures c.self.invariant.1),
       c.self.invariant.2,
-      changed_ready s.ready.items s.links.items c.restart_ends.new.links.items (restarted c.args.torn) c.first-first.result (length c.in-Ok-new_ends.ends.items) (restarted_ready c.args.torn) c.restart_ends.ensures c.self.invariant.3,
     )
 
 pub returns : goal.returns

@@ -1,11 +1,9 @@
-use Rattle.std.proofs.Common.{◌≡◌, ℕ, ◌+◌, ◌≤◌, sym, subst, arith}
+use Rattle.std.proofs.Common.{◌≡◌, ℕ, ◌+◌, ◌≤◌, subst, arith}
 use Rattle.tora_world.specs.declared.event.Event.TheVariants.{Tick}
-use Rattle.tora_sim.specs.Links.{ticked}
 use Rattle.tora_sim.specs.Store.{SimState, state_of, world_of}
 use Rattle.tora_sim.specs.Steps.{IsDone}
 use Rattle.tora_sim.proofs.Ticks.{tick_store, tick_done}
 use Rattle.tora_sim.proofs.IdleEnds.{later_idle, ticked_idle}
-use Rattle.tora_sim.proofs.ReadyEnds.{mapped_ready}
 use Rattle.tora_sim.proofs.sim.Sim.tick.Goals as goal
 
 on : (now clock : ℕ) → now ≡ clock + 1 → clock ≤ now
@@ -20,7 +18,6 @@ invariant_of-self c =
       tick_store s.topology s.times s.clock s.nodes.items s.links.items s.datagrams.items c.self.invariant.0 c.in-Some.now c.tick.new.links.items c.in-Some.ensures.1 c.tick.ensures,
       ticked_idle s.clock c.in-Some.now s.deadlines s.links.items c.tick.new.links.items (on c.in-Some.now s.clock c.in-Some.ensures.1) c.tick.ensures c.self.invariant.1,
       c.self.invariant.2,
-      mapped_ready s.ready.items s.links.items c.tick.new.links.items (ticked c.in-Some.now) c.tick.ensures (λ x h. h) c.self.invariant.3,
     )
 
 pub returns : goal.returns

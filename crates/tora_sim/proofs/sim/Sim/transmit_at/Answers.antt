@@ -1,4 +1,4 @@
-use Rattle.std.proofs.Common.{◌≡◌, ℕ, ◌<◌, List, Some, None, length, set, is_some, ap, sym, ◌∙◌, subst, arith}
+use Rattle.std.proofs.Common.{◌≡◌, ℕ, ◌<◌, List, Some, None, length, set, is_some, ap, sym, ◌∙◌, subst}
 use Rattle.std.specs.Prelude.{slice_set, slice_index_or}
 use Rattle.std.proofs.lemmas.Bool.{both_ways}
 use Rattle.tora_frame.specs.FrameParts.{FrameParts}
@@ -6,7 +6,6 @@ use Rattle.tora_arq.specs.LinkEnd.{frame_due, after_transmit}
 use Rattle.tora_world.specs.declared.event.Event.TheVariants.{Transmit}
 use Rattle.tora_world.specs.declared.sim_error.SimError.TheVariants as Refused
 use Rattle.tora_world.specs.World.{with_datagram}
-use Rattle.tora_sim.specs.Lanes.{AreReadyEach}
 use Rattle.tora_sim.specs.Links.{LinkView, with_state}
 use Rattle.tora_sim.specs.Nodes.{sending_of}
 use Rattle.tora_sim.specs.Quiet.{AreDeadlines}
@@ -16,7 +15,6 @@ use Rattle.tora_sim.proofs.Quiets.{set_same}
 use Rattle.tora_sim.proofs.Sendings.{end_of, node_of, still_end, still_node}
 use Rattle.tora_sim.proofs.Sends.{transmit_refused, transmit_starved, transmit_done, transmit_store}
 use Rattle.tora_sim.proofs.IdleEnds.{possible_idle}
-use Rattle.tora_sim.proofs.ReadyEnds.{kept_as}
 use Rattle.tora_sim.proofs.sim.Sim.transmit_at.Goals as goal
 
 -- an end with no due frame is unchanged
@@ -47,7 +45,6 @@ invariant_of-self c =
       subst (λ (ds : List FrameParts). IsStore (state_of s.topology s.times s.clock s.nodes.items s.links.items ds)) (sym c.reserve.ensures.items) c.self.invariant.0,
       c.self.invariant.1,
       c.self.invariant.2,
-      c.self.invariant.3,
     )
 
 -- no frame was due
@@ -67,7 +64,6 @@ invariant_of-self-in_default c =
           (subst (λ (xs : List LinkView). IsStore (state_of s.topology s.times s.clock s.nodes.items xs s.datagrams.items)) (sym (same c)) c.self.invariant.0),
       subst (λ (xs : List LinkView). AreDeadlines s.clock s.deadlines xs) (sym (same c)) c.self.invariant.1,
       c.self.invariant.2,
-      subst (λ (xs : List LinkView). AreReadyEach s.ready.items xs) (sym (same c)) c.self.invariant.3,
     )
 
 pub returns-in_default-clause-done : goal.returns-in_default-clause-done
@@ -97,7 +93,6 @@ invariant_of-self-2 c =
       possible_idle s.clock s.deadlines s.links.items c.args.at c.index_mut.result.now c.send.new.self (end_of c.args._n c.args._k c.args.at c.self.view_is c.requires.end).within c.index_mut.ensures.value
           (λ until lt h. both_ways (is_some (frame_due c.index_mut.result.now.settings c.index_mut.result.now.state s.clock)) (h.frames s.clock lt) (ap is_some (due c))) c.self.invariant.1,
       c.self.invariant.2,
-      kept_as s.ready.items s.links.items c.args.at c.index_mut.result.now c.send.new.self _ (end_of c.args._n c.args._k c.args.at c.self.view_is c.requires.end).within c.index_mut.ensures.value c.in-Some.ensures.state (λ h. h) c.self.invariant.3,
     )
 
 pub returns-clause-done : goal.returns-clause-done

@@ -1,36 +1,21 @@
-use Rattle.std.proofs.Common.{◌≡◌, ◌∙◌, suc, ◌+◌, ◌-◌, true, false, true≢false, ◌∷◌, [], ap, sym, subst, arith, Option, Bool, ◌≤◌}
-use Rattle.std.specs.Prelude.{IfSome}
-use Rattle.tora_sim.specs.Sending.{IsOver}
+use Rattle.std.proofs.Common.{◌≡◌, ◌∙◌, ℕ, suc, ◌+◌, ◌-◌, false, sym, subst, arith}
 use Rattle.tora_world.specs.declared.event.Event.TheVariants.{Transmit}
 use Rattle.tora_world.specs.declared.sim_error.SimError.{SimError}
 use Rattle.tora_world.specs.declared.sim_error.SimError.TheVariants as Refused
 use Rattle.tora_world.specs.World.{World}
 use Rattle.tora_sim.specs.Store.{SimState, world_of}
-use Rattle.tora_sim.specs.Steps.{AllAreDone, IsRefused, repeats, Happened}
-use Rattle.tora_sim.proofs.PairSends.{begun, none_case, over_behind, some_case}
-use Rattle.tora_sim.proofs.Sendings.{still_onward, end_of, node_of, other_cause, again, refused, starved, no_more}
+use Rattle.tora_sim.specs.Steps.{IsRefused, repeats, Happened}
+use Rattle.tora_sim.proofs.Sendings.{Onward, begins, still_onward, end_of, node_of, other_cause, again, refused, starved, no_more}
 use Rattle.tora_sim.proofs.sim.Sim.transmit_from.Goals as goal
-use Rattle.tora_sim.proofs.sim.Sim.transmit_from.Goals.{then-some, else-some}
-
-pub returns-in-Some-true : goal.returns-in-Some-true
-returns-in-Some-true c =
-    let p = c.transmit_pair-pair in
-    let w = world_of c.args.self.now in
-    over_behind w c.args.most (Transmit c.args.n c.args.k) (world_of p.new.self)
-    (subst (λ (r : Option Bool). IfSome r (λ _. (2 ≤ c.args.most) × AllAreDone w (Transmit c.args.n c.args.k ∷ Transmit c.args.n c.args.k ∷ []) (world_of p.new.self))) c.in-Some-true.is p.ensures.done)
-    (subst (λ (r : Option Bool). IfSome r (λ over. over ≡ true → IsOver p.new.self c.args.at)) c.in-Some-true.is p.ensures.over c.in-Some-true.field-0-test c.args.n c.args.k p.ensures.end)
 
 pub loop-init : goal.loop-init
 loop-init c =
-    let p = c.transmit_pair-pair in
     let w = world_of c.args.self.now in
-    let some = c.is_some-some.result in
-    let two : some ≡ true → c.if-some.first ≡ 2 = λ e. elim c.if-some.branch [ then-some b ↦ b.first-is | else-some b ↦ absurd (true≢false (sym e ∙ b.if-some.false)) ] in
-    let none : some ≡ false → c.if-some.first ≡ 0 = λ e. elim c.if-some.branch [ then-some b ↦ absurd (true≢false (sym b.if-some.true ∙ e)) | else-some b ↦ b.first-is ] in
+    let all : c.args.most ≡ c.args.most - 0 = omega arith in
     record {
-      sent = begun w c.args.most c.if-some.first (Transmit c.args.n c.args.k) (world_of p.new.self) some (λ e. some_case p.result p.ensures.done (sym c.is_some-some.ensures ∙ e)) (λ e. ap world_of (none_case p.result p.ensures.same (sym c.is_some-some.ensures ∙ e))) two none;
-      end = p.ensures.end;
-      node = p.ensures.node;
+      sent = subst (λ (left : ℕ). Onward w (repeats c.args.most (Transmit c.args.n c.args.k) w) w false (repeats left (Transmit c.args.n c.args.k) w)) all (begins w (repeats c.args.most (Transmit c.args.n c.args.k) w));
+      end = c.requires.end;
+      node = c.requires.node;
     }
 
 pub is_over-requires : goal.is_over-requires

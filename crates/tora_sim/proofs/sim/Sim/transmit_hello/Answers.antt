@@ -1,4 +1,4 @@
-use Rattle.std.proofs.Common.{◌≡◌, List, Some, is_some, ap, sym, ◌∙◌, subst, arith}
+use Rattle.std.proofs.Common.{◌≡◌, List, Some, is_some, ap, sym, ◌∙◌, subst}
 use Rattle.std.specs.Prelude.{slice_set}
 use Rattle.std.proofs.lemmas.Bool.{both_ways}
 use Rattle.tora_frame.specs.FrameParts.{FrameParts, frame_of}
@@ -15,7 +15,6 @@ use Rattle.tora_sim.proofs.Quiets.{set_same}
 use Rattle.tora_sim.proofs.Sendings.{end_of, node_of, still_end, still_node}
 use Rattle.tora_sim.proofs.Sends.{transmit_done, transmit_store}
 use Rattle.tora_sim.proofs.IdleEnds.{possible_idle}
-use Rattle.tora_sim.proofs.ReadyEnds.{kept_as}
 use Rattle.tora_sim.proofs.Unchanged.{datagrams_stay, links_stay}
 use Rattle.tora_sim.proofs.sim.Sim.transmit_hello.Goals as goal
 
@@ -24,7 +23,7 @@ use Rattle.tora_sim.proofs.sim.Sim.transmit_hello.Goals as goal
 pub invariant_of-self : goal.invariant_of-self
 invariant_of-self c =
     let s = c.self.inside in
-    datagrams_stay s.topology s.times s.clock s.nodes.items s.links.items s.datagrams.items s.keys.items s.deadlines s.ready.items c.self.invariant c.reserve.new.self.items c.reserve.ensures.items
+    datagrams_stay s.topology s.times s.clock s.nodes.items s.links.items s.datagrams.items s.keys.items s.deadlines c.self.invariant c.reserve.new.self.items c.reserve.ensures.items
 
 pub returns-then-is_err-clause-same : goal.returns-then-is_err-clause-same
 returns-then-is_err-clause-same c told =
@@ -46,8 +45,8 @@ pub invariant_of-self-in_default : goal.invariant_of-self-in_default
 invariant_of-self-in_default c =
     let s = c.self.inside in
     let links = slice_set s.links.items c.args.at c.send_hello.new.self in
-    datagrams_stay s.topology s.times s.clock s.nodes.items links s.datagrams.items s.keys.items s.deadlines s.ready.items
-    (links_stay s.topology s.times s.clock s.nodes.items s.links.items s.datagrams.items s.keys.items s.deadlines s.ready.items c.self.invariant links (stays c)) c.reserve.new.self.items c.reserve.ensures.items
+    datagrams_stay s.topology s.times s.clock s.nodes.items links s.datagrams.items s.keys.items s.deadlines
+    (links_stay s.topology s.times s.clock s.nodes.items s.links.items s.datagrams.items s.keys.items s.deadlines c.self.invariant links (stays c)) c.reserve.new.self.items c.reserve.ensures.items
 
 pub returns-in_default-clause-same : goal.returns-in_default-clause-same
 returns-in_default-clause-same c told =
@@ -80,7 +79,6 @@ invariant_of-self-2 c =
       possible_idle s.clock s.deadlines s.links.items c.args.at c.index_mut.result.now c.send_hello.new.self (end_of c.args._n c.args._k c.args.at c.self.view_is c.requires.end).within c.index_mut.ensures.value
           (λ until lt h. both_ways (is_some (frame_due c.index_mut.result.now.settings c.index_mut.result.now.state s.clock)) (h.frames s.clock lt) (ap is_some (due c))) c.self.invariant.1,
       c.self.invariant.2,
-      kept_as s.ready.items s.links.items c.args.at c.index_mut.result.now c.send_hello.new.self _ (end_of c.args._n c.args._k c.args.at c.self.view_is c.requires.end).within c.index_mut.ensures.value c.in-Some.ensures.state (λ h. h) c.self.invariant.3,
     )
 
 pub returns-clause-done : goal.returns-clause-done

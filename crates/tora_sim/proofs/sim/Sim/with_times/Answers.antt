@@ -1,4 +1,4 @@
-use Rattle.std.proofs.Common.{◌≡◌, ◌<◌, ℕ, List, [], map, take, length, get_or, sym, ap, ◌∙◌, subst, arith}
+use Rattle.std.proofs.Common.{◌≡◌, ◌<◌, ℕ, List, map, take, length, get_or, sym, ap, ◌∙◌, subst, arith}
 use Rattle.std.proofs.lemmas.List.{take_more, take_all}
 use Rattle.tora_frame.specs.FrameParts.{FrameParts}
 use Rattle.tora_world.specs.Topology.{Topology, nodes_in}
@@ -9,7 +9,6 @@ use Rattle.tora_sim.specs.Links.{key_of}
 use Rattle.tora_sim.proofs.Peers.{positive-node}
 use Rattle.tora_sim.proofs.FirstStore.{is-store, is-first}
 use Rattle.tora_sim.proofs.IdleEnds.{none_known}
-use Rattle.tora_sim.proofs.ReadyEnds.{none_known_ready}
 use Rattle.tora_sim.proofs.sim.Sim.with_times.Goals as goal
 
 pub add_node-requires-clause-me : goal.add_node-requires-clause-me
@@ -25,7 +24,7 @@ loop-n-preserved c =
     subst (λ (ns : List ℕ). AreMade c.args.topology.now c.args.times ns c.add_node.new.nodes.items c.add_node.new.links.items) (sym (take_more c.as_slice-n-items.result.now c.loop-n.n-index 0 c.loop-n-test.true))
     (more (take c.loop-n.n-index c.as_slice-n-items.result.now) c.loop-n.invariant)
 
-module _ (c : goal.After-new-3) where
+module _ (c : goal.After-new-2) where
   made : AreMade c.in-Ok.own c.args.times (nodes_in c.in-Ok.own.links) c.loop-n.nodes.items c.loop-n.links.items
   made =
       let same : c.as_slice-n-items.result.now ≡ nodes_in c.in-Ok.own.links = c.as_slice-n-items.ensures.value ∙ c.nodes-named.ensures.items in
@@ -40,7 +39,6 @@ invariant_of-result c =
       subst (λ (ds : List FrameParts). IsStore (state_of c.in-Ok.own c.args.times 0 c.loop-n.nodes.items c.loop-n.links.items ds)) (sym c.new.ensures) store,
       none_known 0 c.len-count.result c.in_ok-deadlines.deadlines c.loop-n.links.items c.in_ok-deadlines.ensures many,
       c.in_ok-keys.ensures ∙ ap (map key_of) c.deref.ensures.value ∙ store.keys,
-      none_known_ready c.len-count.result c.in_ok-ready.ready.items c.loop-n.links.items c.in_ok-ready.ensures many,
     )
 
 pub returns-clause-made : goal.returns-clause-made
