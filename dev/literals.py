@@ -73,7 +73,13 @@ def literals():
         name = path.relative_to(TOP / "crates").as_posix().removeprefix("tora_")
         if name.startswith(("tests", "bench")):
             continue
+        open_text = False  # a text in quotes goes on over a backslash at the end of a line
         for number, line in enumerate(path.read_text(encoding="utf-8").splitlines(), 1):
+            begun, open_text = open_text, line.endswith("\\")
+            if begun:
+                line = '"' + line
+            if open_text:
+                line = line[:-1] + '"'
             if re.match(r"\s*(//|--)", line) or DECLARED.match(line):
                 continue
             code = re.sub(r'"(?:[^"\\]|\\.)*"', '""', re.sub(r"\s(//|--) .*$", "", line))
